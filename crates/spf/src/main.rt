@@ -1,0 +1,33 @@
+// The program `spf`: runs programs whose loops look sequential but whose state is easy to guess.
+#![tactic(auto)]
+
+use spf_cli::spf_main;
+use spf_edge::{RealFiles, RealSink, StandardStream};
+use std::process::ExitCode;
+use std::{env, io};
+
+/// The status where there is too little memory for the words.
+const NO_MEMORY: u8 = 8;
+
+/// The words behind the program's name. Words that are no text are no words of a command, so there are none then.
+fn words(rt: &(impl env::Env + AllocGlobal)) -> io::Result<Vec<String>> {
+    let mut words = Vec::new(rt.alloc());
+    let args = match env::args(rt) {
+        Err(error) if error.kind() == io::ErrorKind::InvalidData => return Ok(words),
+        args => args?,
+    };
+    for word in args.skip(1) {
+        words.push(word)?;
+    }
+    Ok(words)
+}
+
+fn main(rt: HostRuntime) -> ExitCode {
+    let Ok(words) = words(&rt) else {
+        return ExitCode::from(NO_MEMORY);
+    };
+    let mut files = RealFiles::make(&rt);
+    let mut out = RealSink::make(StandardStream::Output(rt.stdout()));
+    let mut err = RealSink::make(StandardStream::Error(rt.stderr()));
+    ExitCode::from(spf_main(rt.alloc(), &words, &mut files, &mut out, &mut err))
+}

@@ -1,0 +1,169 @@
+-- Top constructs: runs of single blocks, and the real values with which the blocks of a plain run begin.
+use Rattle.std.specs.Prelude.{ℕ, zero, suc, Bool, true, false, if◌then◌else◌, nat_lt, nat_eq, List, [], ◌∷◌, length, Option, Some, None, ℤ, pos, ◌+ℤ◌}
+use Rattle.std.specs.Int.{int_gap}
+use Rattle.spf_ast.specs.declared.outcome.TrapKind.TheVariants as trap
+use Rattle.spf_ast.specs.declared.syntax.Part.{Part}
+use Rattle.spf_ast.specs.declared.syntax.Part.TheVariants.{Body, Producer, Consumer, Predictor}
+use Rattle.spf_ast.specs.Event.{Event}
+use Rattle.spf_ast.specs.Interaction.{Interaction, State, Ending, Value, Trapped, Meaning, ◌>>=◌, ◌>>◌}
+use Rattle.spf_ast.specs.Syntax.{Program, Statement, Fold, Pair, Block, end, on_line, FoldHead, PairHead, By, Host}
+use Rattle.spf_ast.specs.Syntax as syntax
+use Rattle.spf_ast.specs.Meaning.{Environment, expression_means, statement_means, block_means, sets, gives, traps, max_blocks, in_own_slots}
+use Rattle.spf_ast.specs.Plain.{plain_answer, plain_memory, IsPlainRun}
+use Rattle.spf_ast.specs.Program.{environment_of, start_of, zeros_of}
+
+-- a construct with its line: a fold with its body, or a pair with its producer and its consumer
+pub data Construct : Type 0 where
+  fold : ℕ → FoldHead → Block → Construct
+  pair : ℕ → PairHead → Block → Block → Construct
+
+-- the construct that a statement on this line is, where it is one
+abbrev pub construct_of : ℕ → Statement → Option Construct
+construct_of line (Fold head body) = Some (fold line head body)
+construct_of line (Pair head producer consumer) = Some (pair line head producer consumer)
+construct_of line _ = None
+
+-- the top constructs of a program: those that are direct statements of `main`, in the order of the text
+abbrev pub constructs_in : Block → List Construct
+constructs_in end = []
+constructs_in (on_line line (Fold head body) rest) = fold line head body ∷ constructs_in rest
+constructs_in (on_line line (Pair head producer consumer) rest) = pair line head producer consumer ∷ constructs_in rest
+constructs_in (on_line line _ rest) = constructs_in rest
+
+-- ---- blocks
+
+-- a predictor's guess; one that is handed in gives none here
+abbrev pub guess_means : Environment → ℕ → syntax.Predictor → Meaning ℤ
+guess_means g line (By guess) = expression_means g line guess
+guess_means g line (Host number) = gives (pos 0)
+
+-- One performance of a part, given the block number and the carried value: a body gives its next value, a producer what it gives, a consumer its carried value, and a predictor its guess. A part that the construct doesn't have gives 0.
+abbrev pub part_means : Environment → Construct → Part → ℤ → ℤ → Meaning ℤ
+part_means g (fold line head body) Body number carried = do
+  sets head.block number
+  sets head.carried carried
+  block_means g body
+  expression_means g head.next_line head.next
+part_means g (fold line head body) Predictor number carried = do
+  sets head.block number
+  guess_means g line head.predict
+part_means g (pair line head producer consumer) Producer number carried = do
+  block_means g producer
+  expression_means g head.give_line head.give
+part_means g (pair line head producer consumer) Consumer number carried = do
+  sets head.carried carried
+  block_means g consumer
+  gives carried
+part_means g (pair line head producer consumer) Predictor number carried = guess_means g line head.predict
+part_means g _ _ number carried = gives (pos 0)
+
+-- what a block run asks: a part, performed over a copy of the slots and with no output
+abbrev pub block_asks : Environment → Construct → Part → List ℤ → ℤ → ℤ → Interaction (Ending ℤ)
+block_asks g construct part slots number carried =
+    in_own_slots slots (part_means g construct part number carried) (record { slots = slots; output = [] })
+
+-- the block run of a part from these slots and this memory: its one list of events, and its answer
+abbrev pub IsBlockRun : Environment → Construct → Part → List ℤ → ℤ → ℤ → List ℤ → List Event → Ending ℤ → Type 0
+IsBlockRun g construct part slots number carried memory events answer =
+    IsPlainRun (block_asks g construct part slots number carried) memory events answer
+
+-- ---- real values
+
+-- a moment of a plain run: the state and the memory
+pub record Moment : Type 0 where
+  pub state : State
+  pub memory : List ℤ
+
+-- how a form ends that is run plainly from a moment on
+abbrev pub plainly : {A : Type 0} → Meaning A → Moment → Ending A
+plainly form m = plain_answer (form m.state) m.memory
+
+-- the moment after it, in this state
+abbrev pub moment_after : {A : Type 0} → Meaning A → Moment → State → Moment
+moment_after form m state = record { state = state; memory = plain_memory (form m.state) m.memory }
+
+-- a header that is done: the first block number, the number of blocks, and the value at which block 0 begins
+pub record Header : Type 0 where
+  pub low : ℤ
+  pub blocks : ℕ
+  pub start : ℤ
+
+-- the header of a fold with this start and range, where it doesn't have too many blocks
+abbrev pub fold_header : ℕ → ℤ → ℤ → ℤ → Meaning Header
+fold_header line start low high =
+    if nat_lt max_blocks (int_gap low high) then traps trap.Blocks line
+    else gives (record { low = low; blocks = int_gap low high; start = start })
+
+-- the header of a construct; that of a pair has two blocks, its producer and its consumer
+abbrev pub header_means : Environment → Construct → Meaning Header
+header_means g (fold line head body) = do
+  start ← expression_means g line head.start
+  low ← expression_means g line head.low
+  high ← expression_means g line head.high
+  fold_header line start low high
+header_means g (pair line head producer consumer) = gives (record { low = pos 0; blocks = 2; start = pos 0 })
+
+-- the part that a block runs, by its place
+abbrev pub part_of : Construct → ℕ → Part
+part_of (fold line head body) place = Body
+part_of (pair line head producer consumer) place = if nat_eq place 0 then Producer else Consumer
+
+-- the real values at which performed blocks begin, and whether the last of them trapped
+pub record RealValues : Type 0 where
+  pub values : List ℤ
+  pub trapped : Bool
+
+-- a block that began at this value, and the blocks after it where it gave one
+abbrev pub begun_at : ℤ → Ending ℤ → (ℤ → State → RealValues) → RealValues
+begun_at value (Value next state) others = record { values = value ∷ (others next state).values; trapped = (others next state).trapped }
+begun_at value (Trapped trap output) others = record { values = value ∷ []; trapped = true }
+
+-- so many blocks from a place on, with block number b and at value v
+abbrev pub blocks_from : Environment → Construct → ℕ → ℕ → ℤ → ℤ → Moment → RealValues
+blocks_from g construct place zero b v m = record { values = []; trapped = false }
+blocks_from g construct place (suc count) b v m =
+    begun_at v (plainly (part_means g construct (part_of construct place) b v) m) (λ next state.
+    blocks_from g construct (suc place) count (b +ℤ pos 1) next (moment_after (part_means g construct (part_of construct place) b v) m state))
+
+-- a top construct that a run reached, with its header done: the slots and the memory at its entry, the header, and its performed blocks
+pub record Reached : Type 0 where
+  pub slots : List ℤ
+  pub memory : List ℤ
+  pub header : Header
+  pub reals : RealValues
+
+-- the construct at this moment, where its header is done
+abbrev pub reached : Environment → Construct → Ending Header → Moment → List Reached → List Reached
+reached g construct (Trapped trap output) m later = later
+reached g construct (Value header state) m later =
+    let entry = moment_after (header_means g construct) m state in
+    record {
+      slots = state.slots;
+      memory = entry.memory;
+      header = header;
+      reals = blocks_from g construct 0 header.blocks header.low header.start entry;
+    }
+    ∷ later
+
+-- a statement that is a construct is reached; any other isn't
+abbrev pub reached_here : Environment → Option Construct → Moment → List Reached → List Reached
+reached_here g None m later = later
+reached_here g (Some construct) m later = reached g construct (plainly (header_means g construct) m) m later
+
+-- goes on where a statement didn't trap
+abbrev pub unless_trapped : Ending (Unit {0}) → (State → List Reached) → List Reached
+unless_trapped (Value done state) later = later state
+unless_trapped (Trapped trap output) later = []
+
+-- the top constructs that a run reaches from this moment on
+abbrev pub reached_from : Environment → Block → Moment → List Reached
+reached_from g end m = []
+reached_from g (on_line line first rest) m =
+    reached_here g (construct_of line first) m
+    (unless_trapped (plainly (statement_means g line first) m) (λ state.
+    reached_from g rest (moment_after (statement_means g line first) m state)))
+
+-- the top constructs that the run of a program on an input reaches, in order, with their real values
+abbrev pub reals : Program → List ℕ → List Reached
+reals p input =
+    reached_from (environment_of p input) p.main (record { state = start_of p; memory = zeros_of p (length input) })

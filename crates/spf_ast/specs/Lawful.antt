@@ -1,0 +1,240 @@
+-- Lawful programs: every name, array, function and slot has its place, and every slot is used only where its declaration shows it.
+use Rattle.std.specs.Prelude.{◌≡◌, Bool, true, false, ◌⊎◌, ℕ, ◌+◌, ◌<◌, ◌≤◌, ◌^◌, List, [], ◌∷◌, ◌++◌, length, map, Some, IfSome, ℤ, pos, ◌≤ℤ◌, ◌<ℤ◌, codes, slice_get}
+use Rattle.std.specs.List.{All, Contains, range_with_len}
+use Rattle.spf_ast.specs.Syntax.{Expression, Number, Local, Len, Input, Load, Call, Neg, Binary, Arguments, no_more, argument, Condition, Compare, Both, Either, Not, Predictor, By, Host}
+use Rattle.spf_ast.specs.Syntax.{Statement, Let, Assign, Store, Fill, Emit, Fail, If, For, While, Do, Fold, Pair, Block, end, on_line, Array, Function, Program}
+use Rattle.spf_ast.specs.Meaning.{count_of}
+use Rattle.spf_ast.specs.Interaction.{State}
+use Rattle.spf_ast.specs.Size.{IsWithinLimits}
+
+-- ---- names and numbers
+
+-- `A` to `Z`, `a` to `z` and `_`
+abbrev pub IsLetter : ℕ → Type 0
+IsLetter b = ((65 ≤ b) × (b ≤ 90)) ⊎ ((97 ≤ b) × (b ≤ 122)) ⊎ (b ≡ 95)
+
+-- a letter or a digit
+abbrev pub IsWordByte : ℕ → Type 0
+IsWordByte b = IsLetter b ⊎ ((48 ≤ b) × (b ≤ 57))
+
+-- the words that are no names
+abbrev pub reserved_words : List (List ℕ)
+reserved_words =
+    codes "array" ∷ codes "fn" ∷ codes "main" ∷ codes "let" ∷ codes "fill" ∷ codes "emit" ∷ codes "fail" ∷ codes "if" ∷ codes "else" ∷ codes "for" ∷ codes "in" ∷ codes "while" ∷ codes "max" ∷ codes "specfold" ∷ codes "spec" ∷ codes "predict" ∷ codes "host" ∷ codes "give" ∷ codes "next" ∷ codes "return" ∷ codes "len" ∷ codes "input" ∷ codes "break" ∷ codes "version" ∷ []
+
+-- a letter, and then letters and digits
+abbrev pub IsWord : List ℕ → Type 0
+IsWord [] = ⊥
+IsWord (b ∷ bytes) = IsLetter b × All IsWordByte bytes
+
+-- a name is a word that isn't reserved
+abbrev pub IsName : List ℕ → Type 0
+IsName bytes = IsWord bytes × (Contains reserved_words bytes → ⊥)
+
+-- a number that a text can hold: from 0 to 2^63 - 1
+abbrev pub IsNumber : ℤ → Type 0
+IsNumber n = (pos 0 ≤ℤ n) × (n <ℤ pos (2 ^ 63))
+
+-- all different
+abbrev pub AreDifferent : List (List ℕ) → Type 0
+AreDifferent [] = Unit {0}
+AreDifferent (x ∷ xs) = (Contains xs x → ⊥) × AreDifferent xs
+
+-- ---- scopes
+
+-- what a form may name: how many arrays there are, the functions with the place before which they may be called, the names of the arrays and functions, and the names of its own slots
+pub record Names : Type 0 where
+  pub arrays : ℕ
+  pub functions : List Function
+  pub place : ℕ
+  pub taken : List (List ℕ)
+  pub slots : List (List ℕ)
+
+-- at a place of the text: the slots that may be used, those of them that may not be assigned, and the slot of the next declaration
+pub record Scope : Type 0 where
+  pub visible : List ℕ
+  pub fixed : List ℕ
+  pub next : ℕ
+
+-- the scope behind so many declarations that can't be used any more
+abbrev pub behind : ℕ → Scope → Scope
+behind count scope = record scope { next = scope.next + count }
+
+-- the scope in which this slot may be used besides
+abbrev pub showing : ℕ → Scope → Scope
+showing slot scope = record scope { visible = slot ∷ scope.visible }
+
+-- the scope in which this slot may be used besides, but not assigned
+abbrev pub showing_fixed : ℕ → Scope → Scope
+showing_fixed slot scope = record { visible = slot ∷ scope.visible; fixed = slot ∷ scope.fixed; next = scope.next }
+
+-- the slot's name is a name of its own: no array, no function and no slot that may be used here has it
+abbrev pub IsNew : Names → Scope → ℕ → Type 0
+IsNew names scope slot =
+    IfSome (slice_get names.slots slot) (λ x. (Contains names.taken x → ⊥) × All (λ other. slice_get names.slots other ≡ Some x → ⊥) scope.visible)
+
+-- the next declaration has this slot, and its name is new
+abbrev pub Declares : Names → Scope → ℕ → Type 0
+Declares names scope slot = (slot ≡ scope.next) × IsNew names scope slot
+
+-- a function that stands before this place has so many parameters
+abbrev pub IsCallable : Names → ℕ → ℕ → Type 0
+IsCallable names f count = (f < names.place) × IfSome (slice_get names.functions f) (λ function. function.params ≡ count)
+
+-- ---- forms
+
+abbrev mutual
+  -- an expression is lawful in a scope
+  pub IsLawfulExpression : Names → Scope → Expression → Type 0
+  IsLawfulExpression names scope (Number n) = IsNumber n
+  IsLawfulExpression names scope (Local slot) = Contains scope.visible slot
+  IsLawfulExpression names scope Len = Unit {0}
+  IsLawfulExpression names scope (Input index) = IsLawfulExpression names scope index
+  IsLawfulExpression names scope (Load array index) = (array < names.arrays) × IsLawfulExpression names scope index
+  IsLawfulExpression names scope (Call f given) = IsCallable names f (count_of given) × AreLawfulArguments names scope given
+  IsLawfulExpression names scope (Neg inner) = IsLawfulExpression names scope inner
+  IsLawfulExpression names scope (Binary op a b) = IsLawfulExpression names scope a × IsLawfulExpression names scope b
+
+  -- arguments are lawful where each is
+  pub AreLawfulArguments : Names → Scope → Arguments → Type 0
+  AreLawfulArguments names scope no_more = Unit {0}
+  AreLawfulArguments names scope (argument first rest) = IsLawfulExpression names scope first × AreLawfulArguments names scope rest
+
+-- a condition
+abbrev pub IsLawfulCondition : Names → Scope → Condition → Type 0
+IsLawfulCondition names scope (Compare test a b) = IsLawfulExpression names scope a × IsLawfulExpression names scope b
+IsLawfulCondition names scope (Both c d) = IsLawfulCondition names scope c × IsLawfulCondition names scope d
+IsLawfulCondition names scope (Either c d) = IsLawfulCondition names scope c × IsLawfulCondition names scope d
+IsLawfulCondition names scope (Not c) = IsLawfulCondition names scope c
+
+-- a predictor
+abbrev pub IsLawfulPredictor : Names → Scope → Predictor → Type 0
+IsLawfulPredictor names scope (By guess) = IsLawfulExpression names scope guess
+IsLawfulPredictor names scope (Host number) = number < 2 ^ 63
+
+abbrev mutual
+  -- how many slots a statement declares
+  pub declared : Statement → ℕ
+  declared (Let slot value) = 1
+  declared (If test a b) = declared_in a + declared_in b
+  declared (For slot low high body) = 1 + declared_in body
+  declared (While test most body) = declared_in body
+  declared (Fold head body) = 2 + declared_in body
+  declared (Pair head producer consumer) = 1 + declared_in producer + declared_in consumer
+  declared _ = 0
+
+  -- how many slots a block declares
+  pub declared_in : Block → ℕ
+  declared_in end = 0
+  declared_in (on_line line first rest) = declared first + declared_in rest
+
+-- the slots that may be used behind a statement, and weren't before it
+abbrev pub shown_by : Statement → List ℕ
+shown_by (Let slot value) = slot ∷ []
+shown_by (Fold head body) = head.carried ∷ []
+shown_by (Pair head producer consumer) = head.carried ∷ []
+shown_by _ = []
+
+-- the scope behind a statement
+abbrev pub scope_after : Scope → Statement → Scope
+scope_after scope s =
+    record { visible = shown_by s ++ scope.visible; fixed = scope.fixed; next = scope.next + declared s }
+
+-- the scope at the end of a block
+abbrev pub scope_at_end : Scope → Block → Scope
+scope_at_end scope end = scope
+scope_at_end scope (on_line line first rest) = scope_at_end (scope_after scope first) rest
+
+-- the scope of a fold's predictor: its block number may be used
+abbrev pub in_predictor : Scope → ℕ → Scope
+in_predictor scope block = showing_fixed block scope
+
+-- the scope of a fold's body: its block number and its carried value may be used, and neither may be assigned
+abbrev pub in_body : Scope → ℕ → ℕ → Scope
+in_body scope carried block = behind 2 (showing_fixed block (showing_fixed carried scope))
+
+abbrev mutual
+  -- a statement is lawful in a scope; only `main` may emit
+  pub IsLawfulStatement : Names → Bool → Scope → Statement → Type 0
+  IsLawfulStatement names in_main scope (Let slot value) = IsLawfulExpression names scope value × Declares names scope slot
+  IsLawfulStatement names in_main scope (Assign slot value) =
+      Contains scope.visible slot × (Contains scope.fixed slot → ⊥) × IsLawfulExpression names scope value
+  IsLawfulStatement names in_main scope (Store array index value) =
+      (array < names.arrays) × IsLawfulExpression names scope index × IsLawfulExpression names scope value
+  IsLawfulStatement names in_main scope (Fill array low high value) =
+      (array < names.arrays) × IsLawfulExpression names scope low × IsLawfulExpression names scope high × IsLawfulExpression names scope value
+  IsLawfulStatement names in_main scope (Emit value) = (in_main ≡ true) × IsLawfulExpression names scope value
+  IsLawfulStatement names in_main scope (Fail number) = number < 2 ^ 8
+  IsLawfulStatement names in_main scope (If test a b) =
+      IsLawfulCondition names scope test × IsLawfulBlock names in_main scope a × IsLawfulBlock names in_main (behind (declared_in a) scope) b
+  IsLawfulStatement names in_main scope (For slot low high body) =
+      IsLawfulExpression names scope low × IsLawfulExpression names scope high × Declares names scope slot × IsLawfulBlock names in_main (behind 1 (showing_fixed slot scope)) body
+  IsLawfulStatement names in_main scope (While test most body) =
+      IsLawfulCondition names scope test × (most < 2 ^ 63) × IsLawfulBlock names in_main scope body
+  IsLawfulStatement names in_main scope (Do f given) = IsCallable names f (count_of given) × AreLawfulArguments names scope given
+  IsLawfulStatement names in_main scope (Fold head body) =
+      IsLawfulExpression names scope head.start
+      × IsLawfulExpression names scope head.low
+      × IsLawfulExpression names scope head.high
+      × Declares names scope head.carried
+      × Declares names (behind 1 (showing head.carried scope)) head.block
+      × IsLawfulPredictor names (in_predictor scope head.block) head.predict
+      × IsLawfulBlock names in_main (in_body scope head.carried head.block) body
+      × IsLawfulExpression names (scope_at_end (in_body scope head.carried head.block) body) head.next
+  IsLawfulStatement names in_main scope (Pair head producer consumer) =
+      Declares names scope head.carried
+      × IsLawfulBlock names in_main (behind 1 scope) producer
+      × IsLawfulExpression names (scope_at_end (behind 1 scope) producer) head.give
+      × IsLawfulPredictor names scope head.predict
+      × IsLawfulBlock names in_main (behind (1 + declared_in producer) (showing_fixed head.carried scope)) consumer
+
+  -- a block is lawful where each statement is, in the scope behind the ones before it
+  pub IsLawfulBlock : Names → Bool → Scope → Block → Type 0
+  IsLawfulBlock names in_main scope end = Unit {0}
+  IsLawfulBlock names in_main scope (on_line line first rest) =
+      IsLawfulStatement names in_main scope first × IsLawfulBlock names in_main (scope_after scope first) rest
+
+-- ---- programs
+
+-- the names of the arrays and functions, in order
+abbrev pub names_taken : Program → List (List ℕ)
+names_taken p = map (λ (a : Array). a.name) p.arrays ++ map (λ (f : Function). f.name) p.functions
+
+-- what the function at this place, or `main` behind all of them, may name
+abbrev pub names_at : Program → ℕ → List (List ℕ) → Names
+names_at p place slots =
+    record { arrays = length p.arrays; functions = p.functions; place = place; taken = names_taken p; slots = slots }
+
+-- the scope in which a function's body begins: its parameters may be used, and assigned
+abbrev pub parameters : ℕ → Scope
+parameters count = record { visible = range_with_len 0 count; fixed = []; next = count }
+
+-- the function at this place is lawful
+pub record IsLawfulFunction (p : Program) (place : ℕ) (f : Function) : Type 0 where
+  pub names : All IsName f.slots
+  pub parameters_are_new : (slot : ℕ) → slot < f.params → IsNew (names_at p place f.slots) (parameters slot) slot
+  pub body : IsLawfulBlock (names_at p place f.slots) false (parameters f.params) f.body
+  pub answer : IsLawfulExpression (names_at p place f.slots) (scope_at_end (parameters f.params) f.body) f.answer
+  pub slots : length f.slots ≡ f.params + declared_in f.body
+
+-- the scope in which `main` begins: nothing is declared
+abbrev pub nothing_declared : Scope
+nothing_declared = parameters 0
+
+-- a program is lawful
+pub record IsLawful (p : Program) : Type 0 where
+  pub taken_are_names : All IsName (names_taken p)
+  pub taken_are_different : AreDifferent (names_taken p)
+  pub sizes : All (λ (a : Array). IsNumber a.factor × IsNumber a.offset) p.arrays
+  pub functions : (place : ℕ) → IfSome (slice_get p.functions place) (IsLawfulFunction p place)
+  pub slots_are_names : All IsName p.slots
+  pub main : IsLawfulBlock (names_at p (length p.functions) p.slots) true nothing_declared p.main
+  pub slots : length p.slots ≡ declared_in p.main
+  pub limits : IsWithinLimits p
+
+-- ---- states
+
+-- two states agree on these slots: they hold the same words there, and the same output
+pub record Agree (visible : List ℕ) (one other : State) : Type 0 where
+  pub slots : (slot : ℕ) → Contains visible slot → slice_get one.slots slot ≡ slice_get other.slots slot
+  pub output : one.output ≡ other.output

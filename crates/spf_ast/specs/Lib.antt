@@ -1,0 +1,12 @@
+pub mod Word
+pub mod Event
+pub mod Interaction
+pub mod Syntax
+pub mod View
+pub mod Size
+pub mod Meaning
+pub mod Plain
+pub mod Program
+pub mod Construct
+pub mod Lawful
+pub mod Laws

@@ -1,0 +1,25 @@
+use Rattle.std.proofs.Common.{◌⊎◌, map, string_bytes, ◌∙◌}
+use Rattle.spf_edge.specs.Faults.{Rose}
+use Rattle.spf_cli.specs.Answering.{seen_answer}
+use Rattle.spf_cli.proofs.Steps.{put_failed, answered_without, put_not_file, put_fault, given_in_part}
+use Rattle.spf_cli.proofs.top.spf_main.Goals as goal
+
+pub returns-clause-answered : goal.returns-clause-answered
+returns-clause-answered g c told e =
+    answered_without _ told _ _ _ _ _ _ _ (put_failed _ c.in-Err.error _ c.in-Err.ensures.failed (c.number-in-Err.ensures ∙ c.put_status.ensures))
+
+pub returns-clause-file_fault : goal.returns-clause-file_fault
+returns-clause-file_fault g c s =
+    put_not_file _ _ (put_failed (Rose (g.S.Sink.faults c.args.out.now) (g.S.Sink.faults c.put.new.out) ⊎ Rose (g.S.Sink.faults c.args.err.now) (g.S.Sink.faults c.put.new.err)) c.in-Err.error c.number-in-Err.result c.in-Err.ensures.failed (c.number-in-Err.ensures ∙ c.put_status.ensures)) s
+
+pub returns-clause-put_fault : goal.returns-clause-put_fault
+returns-clause-put_fault g c s =
+    put_fault _ _ (put_failed (Rose (g.S.Sink.faults c.args.out.now) (g.S.Sink.faults c.put.new.out) ⊎ Rose (g.S.Sink.faults c.args.err.now) (g.S.Sink.faults c.put.new.err)) c.in-Err.error c.number-in-Err.result c.in-Err.ensures.failed (c.number-in-Err.ensures ∙ c.put_status.ensures)) s
+
+pub returns-in-Ok-put-clause-in_part : goal.returns-in-Ok-put-clause-in_part
+returns-in-Ok-put-clause-in_part g c told e =
+    given_in_part (map string_bytes c.args.words.now) told (Rose (g.F.Files.faults c.args.files.now) (g.F.Files.faults c.answer_words.new.files)) (seen_answer c.in-Ok.given) (g.S.Sink.taken c.args.out.now) (g.S.Sink.taken c.put.new.out) (g.S.Sink.taken c.args.err.now) (g.S.Sink.taken c.put.new.err) (c.in-Ok.ensures.whole told e) c.put.ensures.front
+
+pub returns-clause-in_part : goal.returns-clause-in_part
+returns-clause-in_part g c told e =
+    given_in_part (map string_bytes c.args.words.now) told (Rose (g.F.Files.faults c.args.files.now) (g.F.Files.faults c.answer_words.new.files)) (seen_answer c.in-Ok.given) (g.S.Sink.taken c.args.out.now) (g.S.Sink.taken c.put.new.out) (g.S.Sink.taken c.args.err.now) (g.S.Sink.taken c.put.new.err) (c.in-Ok.ensures.whole told e) c.put.ensures.front

@@ -1,0 +1,53 @@
+-- What the steps to an answer leave.
+use Rattle.std.specs.Prelude.{◌≡◌, ◌⊎◌, ℕ, List, Option, Some, Result, Ok, Err, string_bytes}
+use Rattle.spf_edge.specs.Entries.{Entry, IsMissing, IsLongerThan}
+use Rattle.spf_edge.specs.declared.sink.PutError.{PutError}
+use Rattle.spf_edge.specs.declared.sink.PutError.TheVariants.{Failed, OutOfMemory}
+use Rattle.spf_cli.specs.Answer as said
+use Rattle.spf_cli.specs.Answer.{no_program, file_failed, file_too_long}
+use Rattle.spf_cli.specs.Status.{status_number}
+use Rattle.spf_parse.specs.Grammar.{HasNoProgram}
+use Rattle.spf_cli.specs.declared.answer.Answer.{Answer}
+use Rattle.spf_cli.specs.declared.answer.Left.{Left}
+use Rattle.spf_cli.specs.declared.answer.Left.TheVariants.{Answered, NoMemory}
+
+-- what contracts see of an answer
+abbrev pub seen_answer : Answer → said.Answer
+seen_answer a = record { status = status_number a.status; out = a.output.items; err = string_bytes a.message }
+
+-- a fetch ended the run: a fault was met, the name is missing, or the file is too long
+abbrev pub FetchAnswer : Option (List Entry) → List ℕ → ℕ → Type 0 → said.Answer → Type 0
+FetchAnswer told name limit Fault answer =
+    (Fault × (answer ≡ file_failed name))
+    ⊎ (IsMissing told name × (answer ≡ file_failed name))
+    ⊎ (IsLongerThan limit told name × (answer ≡ file_too_long name limit))
+
+abbrev pub IsFetchLeft : Option (List Entry) → List ℕ → ℕ → Type 0 → Left → Type 0
+IsFetchLeft told name limit Fault (Answered a) = FetchAnswer told name limit Fault (seen_answer a)
+IsFetchLeft told name limit Fault NoMemory = Unit {0}
+
+-- the text is that of no program
+abbrev pub IsParseLeft : List ℕ → Left → Type 0
+IsParseLeft text (Answered a) = HasNoProgram text × (seen_answer a ≡ no_program)
+IsParseLeft text NoMemory = Unit {0}
+
+-- where the files are told, an answer is the whole one, or a fault of theirs was met
+abbrev pub IsWholeUnless : (List Entry → said.Answer → Type 0) → Option (List Entry) → Type 0 → said.Answer → Type 0
+IsWholeUnless Wanted told Fault answer =
+    (files : List Entry) → told ≡ Some files → Wanted files answer ⊎ (Fault × (answer.status ≡ 5))
+
+-- an answer has the status for a file only of a fault, or where the files are told, and never that for a put
+pub record IsCaused (told : Option (List Entry)) (Fault : Type 0) (answer : said.Answer) : Type 0 where
+  pub file : answer.status ≡ 5 → Fault ⊎ ((files : List Entry) × (told ≡ Some files))
+  pub put : answer.status ≡ 6 → ⊥
+
+-- the answer that stands, if memory wasn't short
+abbrev pub AnswersWith : (said.Answer → Type 0) → Result Answer Left → Type 0
+AnswersWith P (Ok a) = P (seen_answer a)
+AnswersWith P (Err (Answered a)) = P (seen_answer a)
+AnswersWith P (Err NoMemory) = Unit {0}
+
+-- a put failed only where a fault was met
+abbrev pub IsPutFault : Type 0 → PutError → Type 0
+IsPutFault Fault Failed = Fault
+IsPutFault Fault OutOfMemory = Unit {0}

@@ -1,0 +1,13 @@
+// The program: all that it does, over files and sinks that are handed in.
+#![tactic(auto)]
+
+mod answer;
+mod command;
+pub mod laws;
+mod message;
+mod status;
+#[cfg(test)]
+mod tests;
+mod top;
+
+pub use top::spf_main;

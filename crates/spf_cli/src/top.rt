@@ -1,0 +1,87 @@
+// The top call: all that the program does.
+
+ghost use Rattle.std.specs.Prelude.{◌≡◌, ◌⊎◌, ◌≤◌, List, Option, Some, map, string_bytes, OnOk, IfErr};
+ghost use Rattle.spf_edge.specs.Bytes.{Adds, AddsPrefix};
+ghost use Rattle.spf_edge.specs.Entries.{Entry};
+ghost use Rattle.spf_edge.specs.Faults.{Rose};
+ghost use Rattle.spf_cli.specs.Answering.{seen_answer, IsPutFault};
+ghost use Rattle.spf_cli.specs.Whole.{IsAnswered, IsAnsweredInPart, IsGiven, IsGivenInPart};
+ghost use Rattle.spf_cli.specs.Status.{status_number, put_status as put_status_of};
+
+use crate::answer::{Answer, answer_words};
+use crate::status::{Status, number};
+use spf_edge::{Files, PutError, Sink};
+use std::alloc::Global;
+
+/// How many bytes of output are put at once.
+const PIECE: usize = 4096;
+
+/// Puts bytes in pieces, of which only the last may be shorter, and none is empty.
+fn put_pieces<S: Sink>(sink: &mut S, bytes: &[u8]) -> Result<(), PutError>
+    ensures added { OnOk result (Adds (S.taken sink.old) (S.taken sink.new) bytes.now) }
+    ensures failed { IfErr result (IsPutFault (Rose (S.faults sink.old) (S.faults sink.new))) }
+    ensures front { AddsPrefix (S.taken sink.old) (S.taken sink.new) bytes.now }
+    ensures later { S.faults sink.old ≤ S.faults sink.new }
+{
+    let mut rest = bytes;
+    'pieces: while !rest.is_empty() {
+        let (piece, others) = rest.split_at(rest.len().min(PIECE));
+        sink.put(piece)?;
+        rest = others;
+    }
+    Ok(())
+}
+
+/// The status of a put that failed.
+fn put_status(error: PutError) -> Status
+    ensures { status_number result ≡ put_status_of error }
+{
+    match error {
+        PutError::Failed => Status::PutFailed,
+        PutError::OutOfMemory => Status::NoMemory,
+    }
+}
+
+/// Puts an answer: its output, and then its line. After a put that failed nothing more is put.
+fn put<S: Sink>(given: &Answer, out: &mut S, err: &mut S) -> Result<(), PutError>
+    ensures given { OnOk result (IsGiven (seen_answer given.now) (status_number given.now.status) (S.taken out.old) (S.taken out.new) (S.taken err.old) (S.taken err.new)) }
+    ensures failed { IfErr result (IsPutFault (Rose (S.faults out.old) (S.faults out.new) ⊎ Rose (S.faults err.old) (S.faults err.new))) }
+    ensures front { IsGivenInPart (seen_answer given.now) (S.taken out.old) (S.taken out.new) (S.taken err.old) (S.taken err.new) }
+{
+    put_pieces(out, &given.output)?;
+    put_pieces(err, given.message.as_bytes())
+}
+
+/// Does all that the program does: reads the words of its command line, fetches the files that they name, and puts the answer.
+///
+/// `words` are the words behind the program's name. The status is 0 where a program ran to its end, 1 where it trapped, 2 where the words aren't understood, 3 where the text is that of no program, 5 where a file can't be had, 6 where a sink failed, 7 where a limit was passed, and 8 where memory was short.
+pub fn spf_main<F: Files, S: Sink>(
+    alloc: Global,
+    words: &[String],
+    files: &mut F,
+    out: &mut S,
+    err: &mut S,
+) -> u8
+    // Where the files are told, the whole answer is given, unless a fault was met or memory was short.
+    ensures answered { (told : List Entry) → F.told files.old ≡ Some told → IsAnswered (map string_bytes words.now) told
+        (Rose (F.faults files.old) (F.faults files.new))
+        (Rose (S.faults out.old) (S.faults out.new) ⊎ Rose (S.faults err.old) (S.faults err.new))
+        result (S.taken out.old) (S.taken out.new) (S.taken err.old) (S.taken err.new) }
+
+    // With every status each sink took a front of what the whole answer has for it, unless a fault of the files was met.
+    ensures in_part { (told : List Entry) → F.told files.old ≡ Some told → IsAnsweredInPart (map string_bytes words.now) told
+        (Rose (F.faults files.old) (F.faults files.new))
+        (S.taken out.old) (S.taken out.new) (S.taken err.old) (S.taken err.new) }
+
+    // Whatever the files are, a fault of theirs or of a sink is answered only where there was one.
+    ensures file_fault { result ≡ 5 → Rose (F.faults files.old) (F.faults files.new) ⊎ ((told : List Entry) × (F.told files.old ≡ Some told)) }
+    ensures put_fault { result ≡ 6 → Rose (S.faults out.old) (S.faults out.new) ⊎ Rose (S.faults err.old) (S.faults err.new) }
+{
+    let Ok(given) = answer_words(alloc, words, files) else {
+        return number(Status::NoMemory);
+    };
+    match put(&given, out, err) {
+        Ok(()) => number(given.status),
+        Err(error) => number(put_status(error)),
+    }
+}

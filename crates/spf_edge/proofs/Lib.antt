@@ -1,0 +1,4 @@
+pub mod Fetching
+mod Finding
+mod Reading
+pub mod Taking

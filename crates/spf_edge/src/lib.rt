@@ -1,0 +1,15 @@
+// The edge of the program: where files come from and where output goes.
+#![tactic(auto)]
+
+mod files;
+mod memory;
+mod real;
+mod sink;
+
+pub use files::{FetchError, Files};
+pub use memory::{MemFiles, MemSink};
+pub use real::{RealFiles, RealSink, StandardStream};
+pub use sink::{PutError, Sink};
+
+#[cfg(test)]
+mod tests;

@@ -1,0 +1,5 @@
+pub mod MemoryLaws
+pub mod PlainMemory
+pub mod Performs
+pub mod Frame
+pub mod RunErrors

@@ -1,0 +1,70 @@
+// The arrays of a program, whose cells follow each other.
+
+ghost use Rattle.std.specs.Prelude.{◌≡◌, ◌<◌, ◌≤◌, length, map, IfOk, IfErr, IsErrAnd};
+ghost use Rattle.spf_ast.specs.View.{array as seen_array, program as seen_program};
+ghost use Rattle.spf_ast.specs.Program.{size_of, sizes, extents_from, extents_of, cell_count_of, max_cells};
+ghost use Rattle.spf_exec.specs.declared.layout.RunError.TheVariants.{OutOfMemory};
+ghost use Rattle.spf_exec.specs.RunErrors.{counted, IsTooMany};
+
+use crate::layout::{Layout, RunError};
+use spf_ast::syntax::{Array, Program};
+use std::alloc::{AllocError, Global};
+
+/// The number of an array's elements for an input of this length.
+fn size(array: &Array, len: u64) -> u128
+    ensures { result ≡ size_of len (seen_array array.now) }
+{
+    let size = array.factor as i128 * len as i128 + array.offset as i128;
+    if size < 0 { 0 } else { size as u128 }
+}
+
+/// The number of cells of all arrays, or the greatest number where there are more.
+fn cell_count(arrays: &[Array], len: u64) -> u128
+    ensures { result ≡ counted (sizes len (map seen_array arrays.now)) }
+{
+    let mut count: u128 = 0;
+    for array in arrays {
+        count = count.saturating_add(size(array, len));
+    }
+    count
+}
+
+/// The first cell and the number of elements of each array.
+fn extents(alloc: Global, arrays: &[Array], len: u64) -> Result<Vec<(u64, u64)>, AllocError>
+    requires few { sizes len (map seen_array arrays.now) ≤ max_cells }
+    ensures extents { IfOk result (λ v. v.items ≡ extents_from len 0 (map seen_array arrays.now)) }
+{
+    let mut extents = Vec::new(alloc);
+    let mut base: u64 = 0;
+    for array in arrays {
+        let size = size(array, len) as u64;
+        extents.push((base, size))?;
+        base += size;
+    }
+    Ok(extents)
+}
+
+/// Lays out the arrays of a program for an input of `len` bytes: their cells follow each other in the order of the arrays.
+///
+/// # Errors
+///
+/// `TooManyCells` where the arrays have more than 4,194,304 cells, and `OutOfMemory`.
+pub fn layout(alloc: Global, program: &Program, len: u64) -> Result<Layout, RunError>
+    ensures extents { IfOk result (λ l. l.extents.items ≡ extents_of (seen_program program.now) len) }
+    ensures cells { IfOk result (λ l. l.cells ≡ cell_count_of (seen_program program.now) len) }
+    ensures within { IfOk result (λ l. l.cells ≤ max_cells) }
+    ensures too_many { max_cells < cell_count_of (seen_program program.now) len
+        → IsErrAnd result (IsTooMany (cell_count_of (seen_program program.now) len)) }
+    ensures few { cell_count_of (seen_program program.now) len ≤ max_cells
+        → IfErr result (λ why. why ≡ OutOfMemory) }
+{
+    let count = cell_count(&program.arrays, len);
+    if count > 4194304 {
+        return Err(RunError::TooManyCells { count });
+    }
+    let extents = extents(alloc, &program.arrays, len)?;
+    Ok(Layout {
+        extents,
+        cells: count as u64,
+    })
+}

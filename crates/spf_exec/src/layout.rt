@@ -1,0 +1,32 @@
+// Where the arrays of a program lie among the cells of a run, and why there can't be a run.
+
+ghost use Rattle.std.specs.Prelude.{◌≡◌};
+ghost use Rattle.spf_exec.specs.declared.layout.RunError.TheVariants.{OutOfMemory};
+
+use std::alloc::AllocError;
+
+/// Where the arrays of a program lie among the cells of a run.
+#[derive(Drop)]
+pub struct Layout {
+    /// The first cell and the number of elements of each array, in their order.
+    pub extents: Vec<(u64, u64)>,
+    /// The number of cells of all arrays.
+    pub cells: u64,
+}
+
+/// Why a run can't be made.
+#[derive(Clone, Copy, PartialEq, Eq, Debug)]
+pub enum RunError {
+    /// All arrays together have more than 4,194,304 cells. `count` is their number, or 2^128 - 1 where it is greater than that.
+    TooManyCells { count: u128 },
+    /// There was no memory for the run.
+    OutOfMemory,
+}
+
+impl From<AllocError> for RunError {
+    ghost from_gives = { λ _ error. error ≡ OutOfMemory };
+
+    fn from(_: AllocError) -> Self {
+        RunError::OutOfMemory
+    }
+}

@@ -1,0 +1,16 @@
+//! The interpreter.
+//!
+//! A program is performed on a `memory::Memory`: cells, an output, and a poll at each turn. What the program asks of it, in which
+//! order, and how it ends is what the program means. `plain_run::run_plain` runs a whole program on a memory of its own.
+#![tactic(auto)]
+
+pub mod arrays;
+mod context;
+pub mod layout;
+pub mod memory;
+pub mod plain;
+pub mod plain_run;
+mod primitives;
+mod run;
+#[cfg(test)]
+mod tests;

@@ -1,0 +1,106 @@
+// Whole programs on a memory of their own.
+
+ghost use Rattle.std.specs.Prelude.{◌≡◌, ◌<◌, ◌≤◌, ◌+◌, ◌^◌, length, map, IfOk, IfErr, IsErrAnd, IfSome};
+ghost use Rattle.spf_ast.specs.View.{block as block_of, function as function_of, program as seen_program};
+ghost use Rattle.spf_ast.specs.Meaning.{block_means};
+ghost use Rattle.spf_ast.specs.Program.{cell_count_of, max_cells, outcome, seen_outcome};
+ghost use Rattle.spf_exec.specs.declared.layout.RunError.TheVariants.{OutOfMemory};
+ghost use Rattle.spf_exec.specs.Frame.{room_before};
+ghost use Rattle.spf_exec.specs.Performs.{AreWithin, environment, state};
+ghost use Rattle.spf_exec.specs.PlainMemory.{IsPlainOutcome};
+ghost use Rattle.spf_exec.specs.RunErrors.{IsTooMany};
+
+use crate::arrays::layout;
+use crate::context::Context;
+use crate::layout::RunError;
+use crate::memory::Halt;
+use crate::plain::Plain;
+use crate::run::exec_block;
+use spf_ast::outcome::Outcome;
+use spf_ast::syntax::{Function, Program, Stmt};
+use std::alloc::Global;
+
+/// The number of slots that `own` slots and the deepest call may need together, where it is one.
+fn frame_size(own: usize, functions: &[Function]) -> Option<usize>
+    ensures { IfSome result
+        (λ size. size ≡ own + room_before (map function_of functions.now) (length functions.now)) }
+{
+    let mut size = own;
+    for function in functions {
+        size = size.checked_add(function.slots.len())?;
+    }
+    Some(size)
+}
+
+/// Performs the statements of `main` on a memory of its own.
+fn run_main(
+    context: &Context,
+    main: &[Stmt],
+    slots: &mut [i64],
+    scratch: &mut [i64],
+    memory: &mut Plain,
+) -> Result<(), Halt>
+    requires within { AreWithin context.now.extents.now (length memory.old.cells.items) }
+    requires short { length context.now.input.now < 2 ^ 63 }
+    requires room { room_before (map function_of context.now.functions.now) (length context.now.functions.now)
+        ≤ length scratch.old }
+    ensures outcome { IsPlainOutcome result
+        (block_means (environment context.now (length context.now.functions.now))
+        (block_of main.now)
+        (state slots.old memory.old.output.items))
+        memory.old.cells.items memory.new.cells.items
+        (state slots.new memory.new.output.items) }
+{
+    exec_block(
+        context,
+        context.functions.len(),
+        main,
+        slots,
+        scratch,
+        memory,
+    )
+}
+
+/// Runs a whole program on an input: its plain meaning, in which predictors don't occur.
+///
+/// # Errors
+///
+/// `TooManyCells` where the arrays have more than 4,194,304 cells, and `OutOfMemory`.
+pub fn run_plain(alloc: Global, program: &Program, input: &[u8]) -> Result<Outcome, RunError>
+    requires short { length input.now < 2 ^ 63 }
+    ensures outcome { IfOk result (λ o. seen_outcome o ≡ outcome (seen_program program.now) input.now) }
+    ensures too_many { max_cells < cell_count_of (seen_program program.now) (length input.now)
+        → IsErrAnd result (IsTooMany (cell_count_of (seen_program program.now) (length input.now))) }
+    ensures few { cell_count_of (seen_program program.now) (length input.now) ≤ max_cells
+        → IfErr result (λ why. why ≡ OutOfMemory) }
+{
+    let layout = layout(alloc, program, input.len() as u64)?;
+    let own = program.slots.len();
+    let Some(size) = frame_size(own, &program.functions) else {
+        return Err(RunError::OutOfMemory);
+    };
+    let mut frame = vec![in alloc; 0i64; size]?;
+    let cells = vec![in alloc; 0i64; layout.cells as usize]?;
+    let mut memory = Plain {
+        cells,
+        output: Vec::new(alloc),
+    };
+    let context = Context {
+        functions: &program.functions,
+        extents: &layout.extents,
+        input,
+    };
+    let (slots, scratch) = frame.split_at_mut(own);
+    match run_main(&context, &program.main, slots, scratch, &mut memory) {
+        Ok(()) => Ok(Outcome::Done {
+            cells: memory.cells,
+            output: memory.output,
+        }),
+        Err(Halt::Trapped(trap)) => Ok(Outcome::Trapped {
+            trap,
+            output: memory.output,
+        }),
+        Err(Halt::Cancelled { .. }) => unreachable!(),
+        Err(Halt::NoMemory) => Err(RunError::OutOfMemory),
+    }
+}

@@ -1,0 +1,4 @@
+pub mod Alike
+pub mod Slots
+pub mod Primitives
+pub mod Forms

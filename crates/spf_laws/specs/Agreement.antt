@@ -1,0 +1,67 @@
+-- What programs see of the slots: from states that agree on the visible ones every form goes on alike.
+use Rattle.std.specs.Prelude.{◌≡◌, ℕ, Bool, List, length, Option, ℤ}
+use Rattle.spf_ast.specs.Event.{Event}
+use Rattle.spf_ast.specs.Interaction.{Performed, Ended, Stopped, Misfit, perform, State, Ending, Value, Trapped, Meaning}
+use Rattle.spf_ast.specs.Syntax.{Expression, Condition, Statement, Block, Function}
+use Rattle.spf_ast.specs.Meaning.{Extent, environment_before, expression_means, condition_means, statement_means, block_means}
+use Rattle.spf_ast.specs.Lawful.{Names, Scope, Agree, IsLawfulExpression, IsLawfulCondition, IsLawfulStatement, IsLawfulBlock, scope_after, scope_at_end}
+
+-- ---- states and what follows from them
+
+-- a relation between two states
+abbrev pub Relation : Type 1
+Relation = State → State → Type 0
+
+-- Two states agree on these slots, and have equally many slots. A slot that is set in both then has the same word in both, though it wasn't visible before; were one list shorter, the slot could be missing there.
+pub record LookAlike (visible : List ℕ) (one other : State) : Type 0 where
+  pub agree : Agree visible one other
+  pub slot_count : length one.slots ≡ length other.slots
+
+-- two endings are alike: the same value in related states, or the same trap with the same output
+abbrev pub EndAlike : {A : Type 0} → Relation → Ending A → Ending A → Type 0
+EndAlike After (Value a one) (Value b other) = (a ≡ b) × After one other
+EndAlike After (Trapped trap output) (Trapped other_trap other_output) = (trap ≡ other_trap) × (output ≡ other_output)
+EndAlike After _ _ = ⊥
+
+-- two performances are alike: both ended, and alike; both were stopped, by the same number; or the list fitted neither. The same events are left.
+abbrev pub GoAlike : {A : Type 0} → Relation → Performed (Ending A) → Performed (Ending A) → Type 0
+GoAlike After (Ended one rest) (Ended other other_rest) = EndAlike After one other × (rest ≡ other_rest)
+GoAlike After (Stopped number rest) (Stopped other_number other_rest) = (number ≡ other_number) × (rest ≡ other_rest)
+GoAlike After Misfit Misfit = Unit {0}
+GoAlike After _ _ = ⊥
+
+-- A form relates two states before it to two states after it: from states that are related by `Before` it performs each list of events alike, and its states after it are related by `After`.
+abbrev pub Relates : {A : Type 0} → Relation → Relation → Meaning A → Type 0
+Relates Before After form =
+    (one other : State) → Before one other → (shared : ℕ → Bool) (memory : List ℤ) (stop : Option ℕ) (events : List Event)
+    → GoAlike After (perform shared memory stop (form one) events) (perform shared memory stop (form other) events)
+
+-- ---- forms
+
+-- each lawful expression, on each input, over each layout of the arrays and whatever functions it calls
+abbrev pub ExpressionsSeeVisibleSlots : Type 0
+ExpressionsSeeVisibleSlots =
+    (names : Names) (scope : Scope) (e : Expression) → IsLawfulExpression names scope e
+    → (input : List ℕ) (extents : List Extent) (functions : List Function) (place line : ℕ)
+    → Relates (Agree scope.visible) (Agree scope.visible) (expression_means (environment_before input extents functions place) line e)
+
+-- each lawful condition
+abbrev pub ConditionsSeeVisibleSlots : Type 0
+ConditionsSeeVisibleSlots =
+    (names : Names) (scope : Scope) (c : Condition) → IsLawfulCondition names scope c
+    → (input : List ℕ) (extents : List Extent) (functions : List Function) (place line : ℕ)
+    → Relates (Agree scope.visible) (Agree scope.visible) (condition_means (environment_before input extents functions place) line c)
+
+-- each lawful statement, which may make a further slot visible
+abbrev pub StatementsSeeVisibleSlots : Type 0
+StatementsSeeVisibleSlots =
+    (names : Names) (in_main : Bool) (scope : Scope) (s : Statement) → IsLawfulStatement names in_main scope s
+    → (input : List ℕ) (extents : List Extent) (functions : List Function) (place line : ℕ)
+    → Relates (LookAlike scope.visible) (LookAlike (scope_after scope s).visible) (statement_means (environment_before input extents functions place) line s)
+
+-- each lawful block, so each body and each whole `main`
+abbrev pub BlocksSeeVisibleSlots : Type 0
+BlocksSeeVisibleSlots =
+    (names : Names) (in_main : Bool) (scope : Scope) (block : Block) → IsLawfulBlock names in_main scope block
+    → (input : List ℕ) (extents : List Extent) (functions : List Function) (place : ℕ)
+    → Relates (LookAlike scope.visible) (LookAlike (scope_at_end scope block).visible) (block_means (environment_before input extents functions place) block)

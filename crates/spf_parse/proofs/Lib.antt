@@ -1,0 +1,11 @@
+pub mod Steps
+pub mod Chains
+pub mod Expressions
+pub mod Shorter
+pub mod Measures
+pub mod Statements
+pub mod Programs
+pub mod Limits
+pub mod Wholes
+pub mod Counting
+pub mod Texts

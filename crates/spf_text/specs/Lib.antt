@@ -1,0 +1,4 @@
+pub mod Fronts
+pub mod Refusals
+pub mod Runs
+pub mod Tokens

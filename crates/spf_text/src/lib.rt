@@ -1,0 +1,11 @@
+// The scanner: from the bytes of a text to its tokens.
+#![tactic(auto)]
+
+mod bytes;
+mod front;
+mod scanner;
+mod signs;
+pub mod token;
+mod words;
+
+pub use scanner::{ScanError, scan};
