@@ -1,0 +1,11 @@
+pub mod Logs
+pub mod LaneRule
+pub mod LaneSteps
+pub mod Spans
+pub mod WardenRule
+pub mod WardenSteps
+pub mod Plans
+pub mod Opening
+pub mod WritingBack
+pub mod Finished
+pub mod Examples

@@ -1,0 +1,24 @@
+-- The plans of the tests, and lanes before and after steps.
+use Rattle.std.specs.Prelude.{◌≡◌, ℕ, ◌+◌, ◌<◌, length, slice_index_or, List, [], ◌∷◌}
+use Rattle.spf_region.specs.declared.span.Span.{Span}
+use Rattle.spf_cells.specs.Values.{LaneValue}
+
+-- the span of one cell
+abbrev cell : ℕ → Span
+cell c = record { from = c; to = c + 1 }
+
+-- block 0 with the cells 0 and 1, and block 1 with the cell 3
+abbrev pub two_blocks_spans : List (List Span)
+two_blocks_spans = (record { from = 0; to = 2 } ∷ []) ∷ (record { from = 3; to = 4 } ∷ []) ∷ []
+
+-- four blocks, of which the block n has the cells n and n + 4
+abbrev pub four_blocks_spans : List (List Span)
+four_blocks_spans = (cell 0 ∷ cell 4 ∷ []) ∷ (cell 1 ∷ cell 5 ∷ []) ∷ (cell 2 ∷ cell 6 ∷ []) ∷ (cell 3 ∷ cell 7 ∷ []) ∷ []
+
+-- the lane is the same one, perhaps with another log
+abbrev pub IsSameLane : LaneValue → LaneValue → Type 0
+IsSameLane old new = (new.table ≡ old.table) × (new.setting ≡ old.setting) × (new.block ≡ old.block)
+
+-- at each place the lanes are the same ones
+abbrev pub AreSameLanes : List LaneValue → List LaneValue → Type 0
+AreSameLanes old new = (length new ≡ length old) × ((i : ℕ) (d : LaneValue) → i < length old → IsSameLane (slice_index_or old i d) (slice_index_or new i d))

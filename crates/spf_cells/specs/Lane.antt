@@ -1,0 +1,38 @@
+-- What a lane's type shows and keeps.
+use Rattle.std.specs.Prelude.{◌≡◌, ℕ, ◌+◌, ◌^◌, ◌<◌, ◌≤◌, [], length, slice_index_or}
+use mathlib.Core.Option.{some}
+use lib.ListN.{get_elem?}
+use Rattle.spf_cells.specs.declared.view.Setting.{Setting}
+use Rattle.spf_cells.specs.declared.lane.Lane.TheInside.{Inside}
+use Rattle.spf_ast.specs.Event.{IsConsistent}
+use Rattle.spf_cells.specs.Log.{ArePossibleTurns, events}
+use Rattle.spf_cells.specs.Spans.{cells_with_blocks, cells_of, Covers}
+use Rattle.spf_cells.specs.Rule.{blocks, lane_view, log_of}
+use Rattle.spf_cells.specs.Values.{LaneValue}
+
+-- the setting that a lane's view has
+abbrev pub setting_of : Inside → Setting
+setting_of a = a.seat.me.0.setting
+
+-- what contracts see of a lane
+abbrev pub lane_value : Inside → LaneValue
+lane_value a = record { table = a.seat.table_id; setting = setting_of a; block = a.block; log = log_of a.seat.me.0.role }
+
+-- what every lane keeps
+pub record IsLane (a : Inside) : Type 0 where
+  -- its seat has the view of a lane of its block
+  pub seat : a.seat.me ≡ (lane_view (setting_of a) a.block (log_of a.seat.me.0.role), [])
+  -- its block is in the plan, and the table has a word for each flag and cell, so few that their numbers can be added
+  pub block : a.block < a.flags
+  pub flags : a.flags ≡ blocks (setting_of a)
+  pub words : a.seat.table_id.words ≡ a.flags + length (cells_with_blocks (setting_of a).plan)
+  pub small : a.seat.table_id.words < 2 ^ 63
+  -- its spans are those of its block, and their cells stand in the words behind those of the blocks before
+  pub spans : a.spans.items ≡ slice_index_or (setting_of a).plan a.block []
+  pub room : a.base + length (cells_of a.spans.items) ≤ length (cells_with_blocks (setting_of a).plan)
+  pub laid : (j c : ℕ) → get_elem? (cells_of a.spans.items) j ≡ some c → get_elem? (cells_with_blocks (setting_of a).plan) (a.base + j) ≡ some (a.block, c)
+  -- its cells lie in the entry
+  pub inside : (c : ℕ) → Covers a.spans.items c → c < length (setting_of a).entry
+  -- each load of its log gave its own content, and each turn a possible flag
+  pub consistent : IsConsistent (events (log_of a.seat.me.0.role)) (setting_of a).entry
+  pub turns : ArePossibleTurns (setting_of a) a.block (log_of a.seat.me.0.role)

@@ -1,0 +1,9 @@
+pub mod Examples
+pub mod Spans
+pub mod Log
+pub mod Rule
+pub mod Lane
+pub mod Values
+pub mod Warden
+pub mod Made
+pub mod Finish

@@ -1,0 +1,133 @@
+//! The warden takes all lanes over, and their contents go back into a memory.
+ghost use Rattle.std.specs.Prelude.{◌≡◌, ℕ, ◌+◌, ◌-◌, ◌^◌, ◌<◌, ◌≤◌, List, [], map, length, slice_index_or, pos};
+ghost use mathlib.Core.Option.{some};
+ghost use lib.ListN.{get_elem?};
+ghost use Rattle.spf_cells.specs.Spans.{consecutive, cells_of, cells_with_blocks, Covers};
+ghost use Rattle.spf_cells.specs.Values.{LaneValue, IsLaneOf, IsWardenOf, with_lane, content_at, spans_of};
+ghost use Rattle.spf_cells.specs.Finish.{write_back, HasTaken, StandFrom, AreAllLanes};
+
+use crate::cells::Cells;
+use crate::lane::Lane;
+use crate::rule::{ReadBack, TakeOver};
+use crate::warden::Warden;
+use spf_region::span::Span;
+use std::marker::Model;
+use std::snapshot::Snapshot;
+
+/// The logs of all lanes, which contracts alone see: one for each block, in the order of blocks.
+///
+/// Only `Cells::finish` makes one, so each event in it was a step on the cells' table.
+#[derive(Drop)]
+pub struct Trace {
+    // its view has the logs
+    warden: Warden,
+}
+
+impl Model for Trace {
+    ghost use Rattle.std.specs.Prelude.{List, map};
+    ghost use Rattle.spf_cells.specs.declared.view.LogEntry.{LogEntry};
+
+    ghost Value = { List (List LogEntry) };
+
+    ghost view = { λ t. map (λ x. x.log) t.warden.view.taken };
+}
+
+impl Warden {
+    // What the word of a cell of a lane that was taken over holds.
+    fn read_back(&mut self, cells: &Cells, lane: &Snapshot<Lane>, cell: u64, word: usize) -> i64
+        requires own { IsWardenOf cells.now self.old }
+        requires taken { HasTaken self.old lane.now.value }
+        requires setting { lane.now.value.setting ≡ cells.now.setting }
+        requires word { (i : ℕ) × (word ≡ length cells.now.setting.plan + i) × (get_elem? (cells_with_blocks cells.now.setting.plan) i ≡ some (lane.now.value.block, cell)) }
+        ensures same { self.new ≡ self.old }
+        ensures value { result ≡ content_at lane.now.value cell }
+    {
+        let shared = &cells.table.shared;
+        shared.load::<ReadBack>(&mut self.seat, word).cast_signed()
+    }
+
+    // Writes the contents of one span back; `first` is the word of its first cell.
+    fn write_back_span(
+        &mut self,
+        cells: &Cells,
+        lane: &Snapshot<Lane>,
+        first: usize,
+        span: Span,
+        into: &mut [i64],
+    )
+        requires own { IsWardenOf cells.now self.old }
+        requires taken { HasTaken self.old lane.now.value }
+        requires setting { lane.now.value.setting ≡ cells.now.setting }
+        requires words { StandFrom cells.now.setting lane.now.value.block first (consecutive span.from (span.to - span.from)) }
+        requires inside { (j c : ℕ) → get_elem? (consecutive span.from (span.to - span.from)) j ≡ some c → c < length into.old }
+        requires small { first + (span.to - span.from) < 2 ^ 63 }
+        ensures same { self.new ≡ self.old }
+        ensures into { into.new ≡ write_back (content_at lane.now.value) (consecutive span.from (span.to - span.from)) into.old }
+    {
+        for cell in span.from..span.to {
+            let word = first + (cell - span.from) as usize;
+            into[cell as usize] = self.read_back(cells, lane, cell, word);
+        }
+    }
+
+    // Writes the contents of all spans of a lane back; `first` is the word of their first cell.
+    fn write_back_spans(
+        &mut self,
+        cells: &Cells,
+        lane: &Snapshot<Lane>,
+        first: usize,
+        spans: &[Span],
+        into: &mut [i64],
+    )
+        requires own { IsWardenOf cells.now self.old }
+        requires taken { HasTaken self.old lane.now.value }
+        requires setting { lane.now.value.setting ≡ cells.now.setting }
+        requires words { StandFrom cells.now.setting lane.now.value.block first (cells_of spans.now) }
+        requires inside { (j c : ℕ) → get_elem? (cells_of spans.now) j ≡ some c → c < length into.old }
+        requires small { first + length (cells_of spans.now) < 2 ^ 63 }
+        ensures same { self.new ≡ self.old }
+        ensures into { into.new ≡ write_back (content_at lane.now.value) (cells_of spans.now) into.old }
+    {
+        let mut word = first;
+        for span in spans {
+            self.write_back_span(cells, lane, word, *span, into);
+            word += span.to.saturating_sub(span.from) as usize;
+        }
+    }
+
+    // Takes a lane over, and writes its contents back.
+    fn collect(&mut self, cells: &Cells, lane: Lane, into: &mut [i64])
+        requires own { IsWardenOf cells.now self.old }
+        requires lane { IsLaneOf cells.now lane }
+        requires inside { (j c : ℕ) → get_elem? (cells_of (spans_of lane)) j ≡ some c → c < length into.old }
+        ensures taken { self.new ≡ with_lane self.old lane }
+        ensures into { into.new ≡ write_back (content_at lane) (cells_of (spans_of lane)) into.old }
+    {
+        let taken = Snapshot::of(&lane);
+        let (seat, first, spans) = lane.into_parts();
+        let shared = &cells.table.shared;
+        shared.join_seat::<TakeOver>(&mut self.seat, seat);
+        self.write_back_spans(cells, &taken, first, spans.as_slice(), into);
+    }
+}
+
+impl Cells {
+    /// Ends all steps: each cell of a span takes its lane's content, and every other cell of `into` stays. `into` is as long as the entry was.
+    ///
+    /// `lanes` are the lanes of all blocks, in the order of blocks. The trace has their logs.
+    pub fn finish(self, mut warden: Warden, lanes: Vec<Lane>, into: &mut [i64]) -> Trace
+        requires warden { IsWardenOf self warden × (warden.view.taken ≡ []) }
+        requires lanes { AreAllLanes self lanes.items }
+        requires size { length into.old ≡ length self.setting.entry }
+        ensures trace { result ≡ map (λ l. l.log) lanes.items }
+        ensures size { length into.new ≡ length into.old }
+        ensures own { (i c : ℕ) (l : LaneValue) → get_elem? lanes.items i ≡ some l → Covers (spans_of l) c → slice_index_or into.new c (pos 0) ≡ content_at l c }
+        ensures others { (c : ℕ) → ((i : ℕ) (l : LaneValue) → get_elem? lanes.items i ≡ some l → ¬ Covers (spans_of l) c) → slice_index_or into.new c (pos 0) ≡ slice_index_or into.old c (pos 0) }
+    {
+        let _table = &self.table;
+        for lane in lanes {
+            warden.collect(&self, lane, into);
+        }
+        Trace { warden }
+    }
+}

@@ -1,0 +1,31 @@
+//! A value that clauses alone see.
+ghost use Rattle.std.specs.Prelude.{◌≡◌};
+ghost use base.Fml.{ftrue};
+
+use std::marker::{Model, PhantomData};
+
+/// A `V` that clauses alone see. It has no bytes and owns nothing.
+pub struct GhostKey<V> {
+    marker: PhantomData<V>,
+    pub ghost value: { V },
+}
+
+impl<V> Model for GhostKey<V> {
+    ghost also_owns = { λ _. ftrue };
+}
+
+impl<V> Drop for GhostKey<V> {
+    fn drop(self) {
+        let Self { marker: _ } = self;
+    }
+}
+
+/// A key with whatever value the caller names.
+pub fn ghost_key<V>() -> GhostKey<V>
+    ghost named: { V }
+    ensures { result.value ≡ named }
+{
+    GhostKey {
+        marker: PhantomData,
+    }
+}

@@ -1,0 +1,13 @@
+//! Cells that several threads share: one atomic word for each cell of a plan's spans, and one flag for each block.
+#![tactic(auto)]
+
+pub mod cells;
+pub mod finish;
+pub mod key;
+pub mod lane;
+mod make;
+mod rule;
+#[cfg(test)]
+mod tests;
+pub mod view;
+pub mod warden;

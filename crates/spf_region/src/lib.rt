@@ -1,0 +1,4 @@
+//! Ranges of cells.
+#![tactic(auto)]
+
+pub mod span;
