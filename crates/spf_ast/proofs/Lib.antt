@@ -1,3 +1,4 @@
 pub mod Performing
 pub mod PlainRuns
 pub mod Views
+pub mod RawViews

@@ -10,3 +10,6 @@ pub mod Program
 pub mod Construct
 pub mod Lawful
 pub mod Laws
+pub mod RawSyntax
+pub mod RawView
+pub mod Spelling

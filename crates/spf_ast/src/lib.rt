@@ -3,5 +3,6 @@
 
 pub mod laws;
 pub mod outcome;
+pub mod raw;
 pub mod syntax;
 pub mod word;
