@@ -221,8 +221,8 @@ pub record IsLawfulFunction (p : Program) (place : ℕ) (f : Function) : Type 0 
 abbrev pub nothing_declared : Scope
 nothing_declared = parameters 0
 
--- a program is lawful
-pub record IsLawful (p : Program) : Type 0 where
+-- every name, array, function and slot of a program has its place, and is used only where its declaration shows it
+pub record IsScoped (p : Program) : Type 0 where
   pub taken_are_names : All IsName (names_taken p)
   pub taken_are_different : AreDifferent (names_taken p)
   pub sizes : All (λ (a : Array). IsNumber a.factor × IsNumber a.offset) p.arrays
@@ -230,6 +230,10 @@ pub record IsLawful (p : Program) : Type 0 where
   pub slots_are_names : All IsName p.slots
   pub main : IsLawfulBlock (names_at p (length p.functions) p.slots) true nothing_declared p.main
   pub slots : length p.slots ≡ declared_in p.main
+
+-- a program is lawful: so it is, and it keeps the limits of the language
+pub record IsLawful (p : Program) : Type 0 where
+  pub scoped : IsScoped p
   pub limits : IsWithinLimits p
 
 -- ---- states
