@@ -2,3 +2,4 @@ pub mod Performing
 pub mod PlainRuns
 pub mod Views
 pub mod RawViews
+pub mod Printing

@@ -1,6 +1,7 @@
 // Programs, the words that they compute with, and what they mean.
 #![tactic(auto)]
 
+pub mod canonical;
 pub mod laws;
 pub mod outcome;
 pub mod raw;
