@@ -102,7 +102,7 @@ stmts_weight l = block_weight (block l)
 
 abbrev pub fold_weight : code_fold.Fold → ℕ
 fold_weight f =
-    1 + expr_weight (out-Fold f).start + expr_weight (out-Fold f).low + expr_weight (out-Fold f).high + expr_weight (out-Fold f).next + stmts_weight (out-Fold f).body.items
+    2 + expr_weight (out-Fold f).start + expr_weight (out-Fold f).low + expr_weight (out-Fold f).high + expr_weight (out-Fold f).next + stmts_weight (out-Fold f).body.items
 
 abbrev pub pair_weight : code_pair.Pair → ℕ
 pair_weight p = 1 + stmts_weight (out-Pair p).producer.items + expr_weight (out-Pair p).give + stmts_weight (out-Pair p).consumer.items

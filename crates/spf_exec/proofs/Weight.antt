@@ -38,7 +38,7 @@ abbrev mutual
   statement_weight (While test most body) = 1 + condition_weight test + block_weight body
   statement_weight (Do f given) = 1 + arguments_weight given
   statement_weight (Fold head body) =
-      1 + (1 + expression_weight head.start + expression_weight head.low + expression_weight head.high + expression_weight head.next + block_weight body)
+      1 + (2 + expression_weight head.start + expression_weight head.low + expression_weight head.high + expression_weight head.next + block_weight body)
   statement_weight (Pair head producer consumer) = 1 + (1 + block_weight producer + expression_weight head.give + block_weight consumer)
 
   pub block_weight : Block → ℕ

@@ -72,7 +72,7 @@ call-eval-requires g t c =
     let r = room_of (map function c.args.context.now.functions.now) c.args.function c.args.below p.1 in
     let count = slot_count c.in-Some.callee.now c.len.result (search rules) in
     let q = depth_at (map function c.args.context.now.functions.now) c.args.function c.args.below p.1 in
-    let k : weight_before (map function c.args.context.now.functions.now) c.args.function + 2 * expr_weight c.in-Some.callee.now.answer < t = omega (arith, m, q, ap weight_of p.2) in
+    let k : weight_before (map function c.args.context.now.functions.now) c.args.function + 2 * expr_weight c.in-Some.callee.now.answer + 1 < t = omega (arith, m, q, ap weight_of p.2) in
     λ κs h. (k, (h, (rw (c.in_ok-exec_block.ensures.cells, c.in_ok-pass_arguments.ensures.cells) c.requires.within, (c.requires.short, omega (arith, r, ap slots_of p.2, count, c.requires.room, c.split_at_mut-own.ensures.back_len)))))
 
 pub call-returns-clause-performs : goal.call-returns-clause-performs
@@ -87,91 +87,101 @@ call-returns-clause-performs g t c =
     let run = in_own (own_slots (length (function c.in-Some.callee.now).slots) vs) (stmts_mean (environment c.args.context.now c.args.function) c.in-Some.callee.now.body.items >> expr_means (environment c.args.context.now c.args.function) c.in-Some.callee.now.answer_line c.in-Some.callee.now.answer) (state c.args.slots.now (g.M.Memory.output c.pass_arguments.new.memory)) (then_value (λ _. expr_means (environment c.args.context.now c.args.function) c.in-Some.callee.now.answer_line c.in-Some.callee.now.answer) g.met.M.Memory.laws (rw (c.deref.ensures.value, ← same) at c.in_ok-exec_block.ensures.performs) c.eval.ensures.performs) in
     along (call_means-is (environment c.args.context.now c.args.below) c.args.line c.args.function c.args.arguments.now true p.0) (then_value _ g.met.M.Memory.laws c.in_ok-pass_arguments.ensures.performs (along called run))
 
-pub eval-returns-in_err-x-in-Neg-clause-performs : goal.eval-returns-in_err-x-in-Neg-clause-performs
-eval-returns-in_err-x-in-Neg-clause-performs g t c =
+pub compute-returns-in_err-x-in-Neg-clause-performs : goal.compute-returns-in_err-x-in-Neg-clause-performs
+compute-returns-in_err-x-in-Neg-clause-performs g t c =
     let p = err_from_is_err_and c.from_residual.result c.from_residual.ensures.1 in
     rw (p.1, p.2, c.in-Neg.is, ← c.deref.ensures) (then_halt _ c.in_err-x-in-Neg.ensures.performs)
 
-pub eval-returns-in_err-x-in-Binary-clause-performs : goal.eval-returns-in_err-x-in-Binary-clause-performs
-eval-returns-in_err-x-in-Binary-clause-performs g t c =
+pub compute-returns-in_err-x-in-Binary-clause-performs : goal.compute-returns-in_err-x-in-Binary-clause-performs
+compute-returns-in_err-x-in-Binary-clause-performs g t c =
     let p = err_from_is_err_and c.from_residual-in_err-x-in-Binary.result c.from_residual-in_err-x-in-Binary.ensures.1 in
     rw (p.1, p.2, c.in-Binary.is, ← c.deref-in-Binary.ensures) (then_halt _ c.in_err-x-in-Binary.ensures.performs)
 
-pub eval-returns-in_err-y-in-Binary-clause-performs : goal.eval-returns-in_err-y-in-Binary-clause-performs
-eval-returns-in_err-y-in-Binary-clause-performs g t c =
+pub compute-returns-in_err-y-in-Binary-clause-performs : goal.compute-returns-in_err-y-in-Binary-clause-performs
+compute-returns-in_err-y-in-Binary-clause-performs g t c =
     let p = err_from_is_err_and c.from_residual-in_err-y-in-Binary.result c.from_residual-in_err-y-in-Binary.ensures.1 in
     rw (p.1, p.2, c.in-Binary.is, ← c.deref-in-Binary.ensures, ← c.deref-in-Binary-2.ensures)
     (then_value _ g.met.M.Memory.laws c.in_ok-x-in-Binary.ensures.performs (then_halt _ c.in_err-y-in-Binary.ensures.performs))
 
-pub eval-returns-in_err-i-in-Load-clause-performs : goal.eval-returns-in_err-i-in-Load-clause-performs
-eval-returns-in_err-i-in-Load-clause-performs g t c =
+pub compute-returns-in_err-i-in-Load-clause-performs : goal.compute-returns-in_err-i-in-Load-clause-performs
+compute-returns-in_err-i-in-Load-clause-performs g t c =
     let p = err_from_is_err_and c.from_residual-in_err-i-in-Load.result c.from_residual-in_err-i-in-Load.ensures.1 in
     rw (p.1, p.2, c.in-Load.is, ← c.deref-in-Load.ensures) (then_halt _ c.in_err-i-in-Load.ensures.performs)
 
-pub eval-returns-in_err-cell-in-Load-clause-performs : goal.eval-returns-in_err-cell-in-Load-clause-performs
-eval-returns-in_err-cell-in-Load-clause-performs g t c =
+pub compute-returns-in_err-cell-in-Load-clause-performs : goal.compute-returns-in_err-cell-in-Load-clause-performs
+compute-returns-in_err-cell-in-Load-clause-performs g t c =
     let p = err_from_is_err_and c.from_residual-in_err-cell-in-Load.result c.from_residual-in_err-cell-in-Load.ensures.1 in
     let f : FitsSigned w64 c.in_ok-i-in-Load.i = search rules in
     let e2 = rw (to_z-of_z w64 c.in_ok-i-in-Load.i f) at c.cell_of.ensures.value in
     rw (p.1, p.2, c.in-Load.is, ← c.deref-in-Load.ensures)
     (then_value _ g.met.M.Memory.laws c.in_ok-i-in-Load.ensures.performs (then_halt _ (checked_is g.met.M.Memory.laws _ _ _ _ (ap (at_line c.args.line) (sym e2) ∙ sym c.in_err-cell-in-Load.ensures))))
 
-pub eval-returns-in_err-i-in-Input-clause-performs : goal.eval-returns-in_err-i-in-Input-clause-performs
-eval-returns-in_err-i-in-Input-clause-performs g t c =
+pub compute-returns-in_err-i-in-Input-clause-performs : goal.compute-returns-in_err-i-in-Input-clause-performs
+compute-returns-in_err-i-in-Input-clause-performs g t c =
     let p = err_from_is_err_and c.from_residual-in_err-i-in-Input.result c.from_residual-in_err-i-in-Input.ensures.1 in
     rw (p.1, p.2, c.in-Input.is, ← c.deref-in-Input.ensures) (then_halt _ c.in_err-i-in-Input.ensures.performs)
 
-pub eval-call-requires : goal.eval-call-requires
-eval-call-requires g t c =
+pub compute-call-requires : goal.compute-call-requires
+compute-call-requires g t c =
     let m : t ≡ weight_before (map function c.args.context.now.functions.now) c.args.below + 2 * expr_weight c.args.expr.now = sym c.decreases in
     let e = ap expr_weight c.in-Call.is ∙ expr_weight-call c.in-Call.function c.in-Call.arguments in
     let d = ap exprs_weight c.deref-in-Call.ensures.value in
     let k : weight_before (map function c.args.context.now.functions.now) c.args.below + 2 * exprs_weight c.deref-in-Call.result.now + 1 < t = omega (arith, m, e, d) in
     λ κs h. (k, (h, (c.requires.within, (c.requires.short, c.requires.room))))
 
+pub compute-returns-in-Number-clause-performs : goal.compute-returns-in-Number-clause-performs
+compute-returns-in-Number-clause-performs g t c =
+    let f : FitsSigned w64 c.in-Number.n = search rules in
+    rw (to_z-of_z w64 c.in-Number.n f, c.in-Number.is) (at_once g.met.M.Memory.laws _ _ _)
+
 pub eval-returns-in-Number-clause-performs : goal.eval-returns-in-Number-clause-performs
 eval-returns-in-Number-clause-performs g t c =
     let f : FitsSigned w64 c.in-Number.n = search rules in
     rw (to_z-of_z w64 c.in-Number.n f, c.in-Number.is) (at_once g.met.M.Memory.laws _ _ _)
+
+pub compute-returns-in-Local-clause-performs : goal.compute-returns-in-Local-clause-performs
+compute-returns-in-Local-clause-performs g t c =
+    let f : FitsSigned w64 c.read_slot.result = search rules in
+    rw (to_z-of_z w64 c.read_slot.result f, c.read_slot.ensures, c.in-Local.is) (at_once g.met.M.Memory.laws _ _ _)
 
 pub eval-returns-in-Local-clause-performs : goal.eval-returns-in-Local-clause-performs
 eval-returns-in-Local-clause-performs g t c =
     let f : FitsSigned w64 c.read_slot.result = search rules in
     rw (to_z-of_z w64 c.read_slot.result f, c.read_slot.ensures, c.in-Local.is) (at_once g.met.M.Memory.laws _ _ _)
 
-pub eval-returns-in-Len-clause-performs : goal.eval-returns-in-Len-clause-performs
-eval-returns-in-Len-clause-performs g t c =
+pub compute-returns-in-Len-clause-performs : goal.compute-returns-in-Len-clause-performs
+compute-returns-in-Len-clause-performs g t c =
     rw (to_z_pos w64 (length c.args.context.now.input.now) c.requires.short, c.in-Len.is) (at_once g.met.M.Memory.laws _ _ _)
 
-pub eval-returns-in_ok-x-in-Neg-clause-performs : goal.eval-returns-in_ok-x-in-Neg-clause-performs
-eval-returns-in_ok-x-in-Neg-clause-performs g t c =
+pub compute-returns-in_ok-x-in-Neg-clause-performs : goal.compute-returns-in_ok-x-in-Neg-clause-performs
+compute-returns-in_ok-x-in-Neg-clause-performs g t c =
     let f : FitsSigned w64 c.in_ok-x-in-Neg.x = search rules in
     rw (c.at_line.ensures, c.sub.ensures, to_z-of_z w64 c.in_ok-x-in-Neg.x f, c.in-Neg.is, ← c.deref.ensures)
     (then_value _ g.met.M.Memory.laws c.in_ok-x-in-Neg.ensures.performs (checked_is g.met.M.Memory.laws _ _ _ _ refl))
 
-pub eval-returns-in_ok-y-in-Binary-clause-performs : goal.eval-returns-in_ok-y-in-Binary-clause-performs
-eval-returns-in_ok-y-in-Binary-clause-performs g t c =
+pub compute-returns-in_ok-y-in-Binary-clause-performs : goal.compute-returns-in_ok-y-in-Binary-clause-performs
+compute-returns-in_ok-y-in-Binary-clause-performs g t c =
     let fx : FitsSigned w64 c.in_ok-x-in-Binary.x = search rules in
     let fy : FitsSigned w64 c.in_ok-y-in-Binary.y = search rules in
-    rw (c.at_line-in-Binary.ensures, c.binary.ensures, to_z-of_z w64 c.in_ok-x-in-Binary.x fx, to_z-of_z w64 c.in_ok-y-in-Binary.y fy, c.in-Binary.is, ← c.deref-in-Binary.ensures, ← c.deref-in-Binary-2.ensures)
+    rw (c.binary.ensures, to_z-of_z w64 c.in_ok-x-in-Binary.x fx, to_z-of_z w64 c.in_ok-y-in-Binary.y fy, c.in-Binary.is, ← c.deref-in-Binary.ensures, ← c.deref-in-Binary-2.ensures)
     (then_value _ g.met.M.Memory.laws c.in_ok-x-in-Binary.ensures.performs (then_value _ g.met.M.Memory.laws c.in_ok-y-in-Binary.ensures.performs (checked_is g.met.M.Memory.laws _ _ _ _ refl)))
 
-pub eval-returns-in_ok-cell-in-Load-clause-performs : goal.eval-returns-in_ok-cell-in-Load-clause-performs
-eval-returns-in_ok-cell-in-Load-clause-performs g t c =
+pub compute-returns-in_ok-cell-in-Load-clause-performs : goal.compute-returns-in_ok-cell-in-Load-clause-performs
+compute-returns-in_ok-cell-in-Load-clause-performs g t c =
     let f : FitsSigned w64 c.in_ok-i-in-Load.i = search rules in
     let fw : FitsSigned w64 c.load.result = search rules in
     let e2 = rw (to_z-of_z w64 c.in_ok-i-in-Load.i f) at c.cell_of.ensures.value in
     rw (to_z-of_z w64 c.load.result fw, c.load.ensures.output, c.in-Load.is, ← c.deref-in-Load.ensures)
     (then_value _ g.met.M.Memory.laws c.in_ok-i-in-Load.ensures.performs (then_value _ g.met.M.Memory.laws (checked_is g.met.M.Memory.laws _ _ _ _ (ap (at_line c.args.line) (sym e2) ∙ sym c.in_ok-cell-in-Load.ensures)) (load_now _ _ _ _ _ c.load.ensures.leads)))
 
-pub eval-returns-in_ok-i-in-Input-clause-performs : goal.eval-returns-in_ok-i-in-Input-clause-performs
-eval-returns-in_ok-i-in-Input-clause-performs g t c =
+pub compute-returns-in_ok-i-in-Input-clause-performs : goal.compute-returns-in_ok-i-in-Input-clause-performs
+compute-returns-in_ok-i-in-Input-clause-performs g t c =
     let f : FitsSigned w64 c.in_ok-i-in-Input.i = search rules in
     rw (c.at_line-in-Input.ensures, c.byte_of.ensures, to_z-of_z w64 c.in_ok-i-in-Input.i f, c.in-Input.is, ← c.deref-in-Input.ensures)
     (then_value _ g.met.M.Memory.laws c.in_ok-i-in-Input.ensures.performs (checked_is g.met.M.Memory.laws _ _ _ _ refl))
 
-pub eval-returns-in-Call-clause-performs : goal.eval-returns-in-Call-clause-performs
-eval-returns-in-Call-clause-performs g t c =
+pub compute-returns-in-Call-clause-performs : goal.compute-returns-in-Call-clause-performs
+compute-returns-in-Call-clause-performs g t c =
     rw c.in-Call.is
     (along (expr_means-call (environment c.args.context.now c.args.below) c.args.line c.in-Call.function c.in-Call.arguments)
     (rw (← c.deref-in-Call.ensures.value) c.call.ensures.performs))
@@ -444,7 +454,7 @@ exec_blocks-returns-clause-performs g t c =
 pub exec_fold-eval-requires : goal.exec_fold-eval-requires
 exec_fold-eval-requires g t c =
     let m : t ≡ weight_before (map function c.args.context.now.functions.now) c.args.below + 2 * fold_weight c.args.fold.now = sym c.decreases in
-    let k : weight_before (map function c.args.context.now.functions.now) c.args.below + 2 * expr_weight (out-Fold c.args.fold.now).start < t = omega (arith, m) in
+    let k : weight_before (map function c.args.context.now.functions.now) c.args.below + 2 * expr_weight (out-Fold c.args.fold.now).start + 1 < t = omega (arith, m) in
     λ κs h. (k, (h, (c.requires.within, (c.requires.short, omega (arith, c.requires.room)))))
 
 pub exec_fold-returns-in_err-start-clause-performs : goal.exec_fold-returns-in_err-start-clause-performs
@@ -454,7 +464,7 @@ exec_fold-returns-in_err-start-clause-performs g t c =
 pub exec_fold-eval-requires-2 : goal.exec_fold-eval-requires-2
 exec_fold-eval-requires-2 g t c =
     let m : t ≡ weight_before (map function c.args.context.now.functions.now) c.args.below + 2 * fold_weight c.args.fold.now = sym c.decreases in
-    let k : weight_before (map function c.args.context.now.functions.now) c.args.below + 2 * expr_weight (out-Fold c.args.fold.now).low < t = omega (arith, m) in
+    let k : weight_before (map function c.args.context.now.functions.now) c.args.below + 2 * expr_weight (out-Fold c.args.fold.now).low + 1 < t = omega (arith, m) in
     λ κs h. (k, (h, (rw c.in_ok-start.ensures.cells c.requires.within, (c.requires.short, omega (arith, c.requires.room)))))
 
 pub exec_fold-returns-in_err-low-clause-performs : goal.exec_fold-returns-in_err-low-clause-performs
@@ -464,7 +474,7 @@ exec_fold-returns-in_err-low-clause-performs g t c =
 pub exec_fold-eval-requires-3 : goal.exec_fold-eval-requires-3
 exec_fold-eval-requires-3 g t c =
     let m : t ≡ weight_before (map function c.args.context.now.functions.now) c.args.below + 2 * fold_weight c.args.fold.now = sym c.decreases in
-    let k : weight_before (map function c.args.context.now.functions.now) c.args.below + 2 * expr_weight (out-Fold c.args.fold.now).high < t = omega (arith, m) in
+    let k : weight_before (map function c.args.context.now.functions.now) c.args.below + 2 * expr_weight (out-Fold c.args.fold.now).high + 1 < t = omega (arith, m) in
     λ κs h. (k, (h, (rw (c.in_ok-low.ensures.cells, c.in_ok-start.ensures.cells) c.requires.within, (c.requires.short, omega (arith, c.requires.room)))))
 
 pub exec_fold-returns-in_err-high-clause-performs : goal.exec_fold-returns-in_err-high-clause-performs
@@ -485,7 +495,7 @@ pub exec_fold-exec_blocks-requires : goal.exec_fold-exec_blocks-requires
 exec_fold-exec_blocks-requires g t c =
     let m : t ≡ weight_before (map function c.args.context.now.functions.now) c.args.below + 2 * fold_weight c.args.fold.now = sym c.decreases in
     let d = ap stmts_weight c.deref.ensures.value in
-    let k : weight_before (map function c.args.context.now.functions.now) c.args.below + 2 * (stmts_weight c.deref.result.now + expr_weight (out-Fold c.args.fold.now).next) + 1 < t = omega (arith, m, d) in
+    let k : weight_before (map function c.args.context.now.functions.now) c.args.below + 2 * (stmts_weight c.deref.result.now + expr_weight (out-Fold c.args.fold.now).next) + 2 < t = omega (arith, m, d) in
     λ κs h. (k, (h, (rw (c.in_ok-high.ensures.cells, c.in_ok-low.ensures.cells, c.in_ok-start.ensures.cells) c.requires.within, (c.requires.short, omega (arith, c.requires.room)))))
 
 pub exec_fold-returns-in_err-last-clause-performs : goal.exec_fold-returns-in_err-last-clause-performs
@@ -669,7 +679,7 @@ exec_pair-exec_block-requires g t c =
 pub exec_pair-eval-requires : goal.exec_pair-eval-requires
 exec_pair-eval-requires g t c =
     let m : t ≡ weight_before (map function c.args.context.now.functions.now) c.args.below + 2 * pair_weight c.args.pair.now = sym c.decreases in
-    let k : weight_before (map function c.args.context.now.functions.now) c.args.below + 2 * expr_weight (out-Pair c.args.pair.now).give < t = omega (arith, m) in
+    let k : weight_before (map function c.args.context.now.functions.now) c.args.below + 2 * expr_weight (out-Pair c.args.pair.now).give + 1 < t = omega (arith, m) in
     λ κs h. (k, (h, (rw c.in_ok-exec_block.ensures.cells c.requires.within, (c.requires.short, omega (arith, c.requires.room)))))
 
 pub exec_pair-exec_block-requires-2 : goal.exec_pair-exec_block-requires-2

@@ -11,7 +11,10 @@ use Rattle.spf_exec.proofs.run.+run.Given as goal
 
 -- the weight of the functions that may be called, and that of the form
 abbrev pub decreases-eval : goal.decreases-eval
-decreases-eval g l = weight_before (map function l.context.now.functions.now) l.below + 2 * expr_weight l.expr.now
+decreases-eval g l = weight_before (map function l.context.now.functions.now) l.below + 2 * expr_weight l.expr.now + 1
+
+abbrev pub decreases-compute : goal.decreases-compute
+decreases-compute g l = weight_before (map function l.context.now.functions.now) l.below + 2 * expr_weight l.expr.now
 
 abbrev pub decreases-call : goal.decreases-call
 decreases-call g l = weight_before (map function l.context.now.functions.now) l.below + 2 * exprs_weight l.arguments.now + 1
@@ -41,7 +44,7 @@ abbrev pub decreases-exec_pair : goal.decreases-exec_pair
 decreases-exec_pair g l = weight_before (map function l.context.now.functions.now) l.below + 2 * pair_weight l.pair.now
 
 abbrev pub decreases-exec_blocks : goal.decreases-exec_blocks
-decreases-exec_blocks g l = weight_before (map function l.context.now.functions.now) l.below + 2 * (stmts_weight l.body.now + expr_weight l.next.now) + 1
+decreases-exec_blocks g l = weight_before (map function l.context.now.functions.now) l.below + 2 * (stmts_weight l.body.now + expr_weight l.next.now) + 2
 
 -- the statements that are left lead to all of them
 abbrev pub invariant-exec_block-loop-statement : goal.invariant-exec_block-loop-statement
