@@ -3,3 +3,4 @@ pub mod PlainRuns
 pub mod Views
 pub mod RawViews
 pub mod Printing
+pub mod Leaving

@@ -19,7 +19,7 @@ plain_run (AskStore c v t) m =
 plain_run (AskTurn t) m = let r = plain_run t m in record { ends = r.ends; consistent = r.consistent; unpolled = (refl, r.unpolled) }
 
 -- a choice that isn't Misfit
-chosen : {A : Type 0} (b : Bool) (r : Performed A) (a : A) (es : List Event) → (if b then r else Misfit) ≡ Ended a es → (b ≡ true) × (r ≡ Ended a es)
+pub chosen : {A : Type 0} (b : Bool) (r : Performed A) (a : A) (es : List Event) → (if b then r else Misfit) ≡ Ended a es → (b ≡ true) × (r ≡ Ended a es)
 chosen true r a es e = (refl, e)
 chosen false r a es e = cc
 

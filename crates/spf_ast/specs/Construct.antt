@@ -23,6 +23,12 @@ construct_of line (Fold head body) = Some (fold line head body)
 construct_of line (Pair head producer consumer) = Some (pair line head producer consumer)
 construct_of line _ = None
 
+-- whether a statement is a construct
+abbrev pub is_construct : Statement → Bool
+is_construct (Fold head body) = true
+is_construct (Pair head producer consumer) = true
+is_construct _ = false
+
 -- the top constructs of a program: those that are direct statements of `main`, in the order of the text
 abbrev pub constructs_in : Block → List Construct
 constructs_in end = []

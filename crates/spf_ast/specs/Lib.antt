@@ -8,6 +8,7 @@ pub mod Meaning
 pub mod Plain
 pub mod Program
 pub mod Construct
+pub mod Silence
 pub mod Lawful
 pub mod Laws
 pub mod RawSyntax

@@ -5,3 +5,5 @@ pub mod Turns
 pub mod Calls
 pub mod Outcome
 pub mod Cells
+pub mod Constructs
+pub mod BlockRuns

@@ -27,7 +27,7 @@ chose_stop : {A : Type 0} (b : Bool) (r : Performed A) (n : ℕ) (rest : List Ev
 chose_stop true r n rest e = e
 chose_stop false r n rest e = cc
 
-never_stops : {A : Type 0} (t : Interaction A) (es : List Event) (n : ℕ) (rest : List Event) → perform every_cell [] None t es ≡ Stopped n rest → ⊥
+pub never_stops : {A : Type 0} (t : Interaction A) (es : List Event) (n : ℕ) (rest : List Event) → perform every_cell [] None t es ≡ Stopped n rest → ⊥
 never_stops (Answer a) es n rest e = cc
 never_stops (AskLoad c k) [] n rest e = cc
 never_stops (AskLoad c k) (Load d w ∷ es) n rest e = never_stops (k w) es n rest (chose_stop (c == d) _ n rest e)

@@ -1,5 +1,7 @@
 pub mod MemoryLaws
 pub mod PlainMemory
+pub mod QuietMemory
 pub mod Performs
 pub mod Frame
+pub mod BlockRuns
 pub mod RunErrors

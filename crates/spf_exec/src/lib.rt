@@ -5,12 +5,15 @@
 #![tactic(auto)]
 
 pub mod arrays;
+pub mod block_run;
 mod context;
+pub mod frame;
 pub mod layout;
 pub mod memory;
 pub mod plain;
 pub mod plain_run;
 mod primitives;
+mod quiet;
 mod run;
 #[cfg(test)]
 mod tests;

@@ -1,6 +1,6 @@
 // Whole programs on a memory of their own.
 
-ghost use Rattle.std.specs.Prelude.{◌≡◌, ◌<◌, ◌≤◌, ◌+◌, ◌^◌, length, map, IfOk, IfErr, IsErrAnd, IfSome};
+ghost use Rattle.std.specs.Prelude.{◌≡◌, ◌<◌, ◌≤◌, ◌^◌, length, map, IfOk, IfErr, IsErrAnd};
 ghost use Rattle.spf_ast.specs.View.{block as block_of, function as function_of, program as seen_program};
 ghost use Rattle.spf_ast.specs.Meaning.{block_means};
 ghost use Rattle.spf_ast.specs.Program.{cell_count_of, max_cells, outcome, seen_outcome};
@@ -12,25 +12,14 @@ ghost use Rattle.spf_exec.specs.RunErrors.{IsTooMany};
 
 use crate::arrays::layout;
 use crate::context::Context;
+use crate::frame::size_with_calls;
 use crate::layout::RunError;
 use crate::memory::Halt;
 use crate::plain::Plain;
 use crate::run::exec_block;
 use spf_ast::outcome::Outcome;
-use spf_ast::syntax::{Function, Program, Stmt};
+use spf_ast::syntax::{Program, Stmt};
 use std::alloc::Global;
-
-/// The number of slots that `own` slots and the deepest call may need together, where it is one.
-fn frame_size(own: usize, functions: &[Function]) -> Option<usize>
-    ensures { IfSome result
-        (λ size. size ≡ own + room_before (map function_of functions.now) (length functions.now)) }
-{
-    let mut size = own;
-    for function in functions {
-        size = size.checked_add(function.slots.len())?;
-    }
-    Some(size)
-}
 
 /// Performs the statements of `main` on a memory of its own.
 fn run_main(
@@ -76,7 +65,7 @@ pub fn run_plain(alloc: Global, program: &Program, input: &[u8]) -> Result<Outco
 {
     let layout = layout(alloc, program, input.len() as u64)?;
     let own = program.slots.len();
-    let Some(size) = frame_size(own, &program.functions) else {
+    let Some(size) = size_with_calls(own, &program.functions) else {
         return Err(RunError::OutOfMemory);
     };
     let mut frame = vec![in alloc; 0i64; size]?;

@@ -1,0 +1,20 @@
+use Rattle.std.proofs.Common.{rules, ap, ◌∙◌, w64, FitsSigned}
+use Rattle.std.proofs.lemmas.Int.{to_z-of_z}
+use Rattle.spf_ast.specs.View.{statement}
+use Rattle.spf_ast.specs.Construct.{construct_of}
+use Rattle.spf_ast.proofs.Views.{statement-fold, statement-pair}
+use Rattle.spf_exec.proofs.block_run.perform_part.Goals as goal
+
+pub returns-in-Fold : goal.returns-in-Fold
+returns-in-Fold g c =
+    let fn : FitsSigned w64 c.args.block.number = search rules in
+    let fv : FitsSigned w64 c.args.block.value = search rules in
+    let p = rw (to_z-of_z w64 c.args.block.number fn, to_z-of_z w64 c.args.block.value fv, c.deref.ensures) at c.perform_fold.ensures.performs in
+    record { performs = rw (ap (construct_of c.args.statement.now.line) (ap statement c.in-Fold.is ∙ statement-fold c.in-Fold.fold)) p }
+
+pub returns-in-Pair : goal.returns-in-Pair
+returns-in-Pair g c =
+    let fn : FitsSigned w64 c.args.block.number = search rules in
+    let fv : FitsSigned w64 c.args.block.value = search rules in
+    let p = rw (to_z-of_z w64 c.args.block.number fn, to_z-of_z w64 c.args.block.value fv, c.deref-in-Pair.ensures) at c.perform_pair.ensures.performs in
+    record { performs = rw (ap (construct_of c.args.statement.now.line) (ap statement c.in-Pair.is ∙ statement-pair c.in-Pair.pair)) p }
