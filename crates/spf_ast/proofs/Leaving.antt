@@ -14,7 +14,7 @@ use Rattle.spf_ast.specs.Syntax as syntax
 use Rattle.spf_ast.specs.Syntax.{Statement, Let, Assign, Store, Fill, Emit, Fail, If, For, While, Do, Fold, Pair, Block, end, on_line, Function}
 use Rattle.spf_ast.specs.Meaning.{Extent, gives, traps, checked, reads, sets, turns, loads, stores, stores_each, extent_in, cell_of, byte_of, cells_of, compares, for_turns, while_turns, fold_blocks, fold_range, max_blocks, Environment, count_of, with_slots, in_own_slots}
 use Rattle.spf_ast.specs.Meaning.{expression_means, arguments_mean, condition_means, statement_means, block_means, function_means, own_slots, callable_before, call_before, environment_before}
-use Rattle.spf_ast.specs.Construct.{Construct, fold, pair, part_means, guess_means}
+use Rattle.spf_ast.specs.Construct.{Construct, fold, pair, part_means, guess_means, header_means}
 use Rattle.spf_ast.specs.Silence.{StatementIsSilent, BlockIsSilent, FunctionIsSilent, FunctionsAreSilent, PartIsSilent, with_output, LeavesOutput}
 
 -- ---- trees, one after another
@@ -267,3 +267,12 @@ part-leaves g calls (pair line head producer consumer) Consumer l number carried
     (λ u. leaves-then (block-leaves g calls consumer l) (λ v. gives-leaves carried))
 part-leaves g calls (pair line head producer consumer) Predictor l number carried = guess-leaves g calls line head.predict
 part-leaves g calls (pair line head producer consumer) Body l number carried = gives-leaves (pos 0)
+
+-- a header
+pub header-leaves : (g : Environment) → CallsLeave g → (c : Construct) → LeavesOutput (header_means g c)
+header-leaves g calls (fold line head body) =
+    leaves-then (expression-leaves g calls line head.start)
+    (λ start. leaves-then (expression-leaves g calls line head.low)
+    (λ low. leaves-then (expression-leaves g calls line head.high)
+    (λ high. leaves-if (nat_lt max_blocks (int_gap low high)) (traps-leaves trap.Blocks line) (gives-leaves (record { low = low; blocks = int_gap low high; start = start })))))
+header-leaves g calls (pair line head producer consumer) = gives-leaves (record { low = pos 0; blocks = 2; start = pos 0 })

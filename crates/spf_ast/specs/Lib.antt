@@ -9,6 +9,7 @@ pub mod Plain
 pub mod Program
 pub mod Construct
 pub mod Silence
+pub mod Pieces
 pub mod Lawful
 pub mod Laws
 pub mod RawSyntax

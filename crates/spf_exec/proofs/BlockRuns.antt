@@ -9,18 +9,21 @@ use Rattle.spf_ast.specs.declared.syntax.Part.{Part}
 use Rattle.spf_ast.specs.Syntax.{Program, Function}
 use Rattle.spf_ast.specs.Meaning.{Extent, Environment, environment_before, with_slots, in_own_slots}
 use Rattle.spf_ast.specs.Program.{environment_of, extents_of}
-use Rattle.spf_ast.specs.Construct.{Construct, part_means}
-use Rattle.spf_ast.specs.Plain.{plain_answer, plain_events}
+use Rattle.spf_ast.specs.Construct.{Construct, Header, part_means, header_means}
+use Rattle.spf_ast.specs.Plain.{plain_answer, plain_events, plain_memory}
 use Rattle.spf_ast.specs.Silence.{with_output, LeavesOutput}
 use Rattle.spf_ast.proofs.Leaving.{calls-leave, part-leaves}
 use Rattle.spf_ast.proofs.Performing.{perform-bind, carry}
 use Rattle.spf_ast.proofs.PlainRuns.{plain_run, only_run, chosen}
 use Rattle.spf_exec.specs.declared.memory.Halt.{Halt}
 use Rattle.spf_exec.specs.declared.memory.Halt.TheVariants as h
-use Rattle.spf_exec.specs.Performs.{Performs, performed_as, IsDecided}
+use Rattle.spf_exec.specs.declared.pieces.Header as code_header
+use Rattle.spf_exec.specs.Pieces.{header_result}
+use Rattle.spf_exec.specs.Performs.{Performs, performed_as, IsDecided, LackIsAllowed}
 use Rattle.spf_exec.specs.QuietMemory.{LeadsQuietly, LeadsUnstored, HasNoStore}
 use Rattle.spf_exec.specs.BlockRuns.{IsSilentPart, PerformsOver, StoresNothing, IsGuess, run_asks, no_cell}
-use Rattle.spf_exec.proofs.Outcome.{never_stops}
+use Rattle.spf_exec.specs.PlainMemory.{LeadsPlainly, IsPlainOutcome}
+use Rattle.spf_exec.proofs.Outcome.{never_stops, plain_outcome}
 
 -- what a performance with one output says of the performance with none, over slots of its own
 same_stop : (x : Performed (Ending ℤ)) (full : List ℕ) (own slots : List ℤ) (r : Result ℤ Halt) → IsDecided r → (rest : List Event)
@@ -40,6 +43,50 @@ same_stop (Ended (Trapped t o) es) full own slots (Err (h.Cancelled m)) d rest e
 same_stop (Stopped n es) full own slots (Err (h.Cancelled m)) d rest e p = cc
 same_stop Misfit full own slots (Err (h.Cancelled m)) d rest e p = cc
 same_stop x full own slots (Err h.NoMemory) d rest e p = absurd d
+
+-- the slots at an end
+abbrev slots_at : {A : Type 0} → Performed (Ending A) → List ℤ
+slots_at (Ended (Value v s) es) = s.slots
+slots_at (Ended (Trapped t o) es) = []
+slots_at (Stopped n es) = []
+slots_at Misfit = []
+
+-- the same with any other output
+same_output : {A : Type 0} (x : Performed (Ending A)) (full out : List ℕ) (own : List ℤ) (r : Result A Halt) → IsDecided r → (rest : List Event)
+    → carry x (λ e es. Ended (with_output full e) es) ≡ performed_as r (record { slots = own; output = full }) rest
+    → carry x (λ e es. Ended (with_output out e) es) ≡ performed_as r (record { slots = own; output = out }) rest
+same_output (Ended (Value v s) es) full out own (Ok w) d rest p = let e : s.slots ≡ own = ap slots_at p in cc
+same_output (Ended (Trapped t o) es) full out own (Ok w) d rest p = cc
+same_output (Stopped n es) full out own (Ok w) d rest p = cc
+same_output Misfit full out own (Ok w) d rest p = cc
+same_output (Ended (Value v s) es) full out own (Err (h.Trapped u)) d rest p = cc
+same_output (Ended (Trapped t o) es) full out own (Err (h.Trapped u)) d rest p = cc
+same_output (Stopped n es) full out own (Err (h.Trapped u)) d rest p = cc
+same_output Misfit full out own (Err (h.Trapped u)) d rest p = cc
+same_output (Ended (Value v s) es) full out own (Err (h.Cancelled m)) d rest p = cc
+same_output (Ended (Trapped t o) es) full out own (Err (h.Cancelled m)) d rest p = cc
+same_output (Stopped n es) full out own (Err (h.Cancelled m)) d rest p = cc
+same_output Misfit full out own (Err (h.Cancelled m)) d rest p = cc
+same_output x full out own (Err h.NoMemory) d rest p = absurd d
+
+-- a form that leaves the output alone, performed with one output, is performed with any other
+pub with_any_output : {M A : Type 0} {leads : List Event → M → M → Type 0} {stop : M → Option ℕ} {may_lack : Type 0} (form : Meaning A) → LeavesOutput form → (slots : List ℤ) (full out : List ℕ) {own : List ℤ} {a b : M} {r : Result A Halt}
+    → Performs leads stop may_lack (form (record { slots = slots; output = full })) a b r (record { slots = own; output = full })
+    → Performs leads stop may_lack (form (record { slots = slots; output = out })) a b r (record { slots = own; output = out })
+with_any_output {stop = stop} form l slots full out {own = own} {a = a} {r = r} p = record {
+  events = p.events;
+  led = p.led;
+  lacking = p.lacking;
+  performed = λ d rest.
+      let es = p.events ++ rest in
+      let silent = form (record { slots = slots; output = [] }) in
+      let x = perform every_cell [] (stop a) silent es in
+      let all : carry x (λ e es. Ended (with_output full e) es) ≡ performed_as r (record { slots = own; output = full }) rest =
+          sym (perform-bind every_cell [] (stop a) silent (λ e. Answer (with_output full e)) es) ∙ ap (λ t. perform every_cell [] (stop a) t es) (sym (l.same slots full)) ∙ p.performed d rest in
+      ap (λ t. perform every_cell [] (stop a) t es) (l.same slots out)
+      ∙ perform-bind every_cell [] (stop a) silent (λ e. Answer (with_output out e)) es
+      ∙ same_output x full out own r d rest all;
+}
 
 -- a form that leaves the output alone, performed with any output, is performed with none over slots of its own
 pub over_copy : {M : Type 0} {leads : List Event → M → M → Type 0} {stop : M → Option ℕ} {may_lack : Type 0} (form : Meaning ℤ) → LeavesOutput form → (slots : List ℤ) (full : List ℕ) {own : List ℤ} {a b : M} {r : Result ℤ Halt}
@@ -111,6 +158,36 @@ part_along {leads = leads} {stop = stop} {may_lack = may_lack} {a = a} {b = b} {
   slots = own;
   performs = subst (λ (x : Interaction (Ending ℤ)). Performs leads stop may_lack x a b r (record { slots = own; output = out })) (λ i. part_means (e i) c part n v (record { slots = f i; output = full })) p;
 }
+
+-- on a memory of its own such a form comes to its plain outcome, whatever the output is
+pub quiet_outcome : {S M N A : Type 0} (cells : M → List ℤ) (output : M → List ℕ) (lent : S → M) (place : S → N) (form : Meaning A) → LeavesOutput form → (slots : List ℤ) (full out : List ℕ) (own : List ℤ) (a b : S) (r : Result A Halt)
+    → Performs (LeadsQuietly (λ es x y. LeadsPlainly es (cells x) (cells y)) output lent place) (λ m. None) ⊥ (form (record { slots = slots; output = full })) a b r (record { slots = own; output = full })
+    → IsPlainOutcome r (form (record { slots = slots; output = out })) (cells (lent a)) (cells (lent b)) (record { slots = own; output = out })
+quiet_outcome cells output lent place form l slots full out own a b r p =
+    plain_outcome cells (form (record { slots = slots; output = out })) (lent a) (lent b) r (record { slots = own; output = out }) ⊥
+    (unquiet (with_any_output form l slots full out p))
+
+-- a header, performed in the environment of the program and from these slots
+pub header_along : {M : Type 0} {leads : List Event → M → M → Type 0} {stop : M → Option ℕ} {may_lack : Type 0} {g d : Environment} {a b : M} {r : Result Header Halt} (c : Construct) (slots held : List ℤ) (full : List ℕ) → g ≡ d → slots ≡ held
+    → Performs leads stop may_lack (header_means g c (record { slots = slots; output = full })) a b r (record { slots = slots; output = full })
+    → Performs leads stop may_lack (header_means d c (record { slots = held; output = full })) a b r (record { slots = held; output = full })
+header_along {leads = leads} {stop = stop} {may_lack = may_lack} {g = g} {a = a} {b = b} {r = r} c slots held full e f p =
+    subst (λ (x : Environment). Performs leads stop may_lack (header_means x c (record { slots = held; output = full })) a b r (record { slots = held; output = full })) e
+    (subst (λ (x : List ℤ). Performs leads stop may_lack (header_means g c (record { slots = x; output = full })) a b r (record { slots = x; output = full })) f p)
+
+-- the cells at a plain outcome
+pub plain_cells : {A : Type 0} (r : Result A Halt) (t : Interaction (Ending A)) (m n : List ℤ) (s : State) → IsDecided r → IsPlainOutcome r t m n s → n ≡ plain_memory t m
+plain_cells (Ok v) t m n s d p = p.1
+plain_cells (Err (h.Trapped trap)) t m n s d p = p.1
+plain_cells (Err (h.Cancelled seen)) t m n s d p = absurd p
+plain_cells (Err h.NoMemory) t m n s d p = absurd d
+
+-- a header that can't lack memory is decided
+pub header_decided : (r : Result code_header.Header Halt) → LackIsAllowed ⊥ (header_result r) → IsDecided (header_result r)
+header_decided (Ok v) l = tt
+header_decided (Err (h.Trapped trap)) l = tt
+header_decided (Err (h.Cancelled seen)) l = tt
+header_decided (Err h.NoMemory) l = l
 
 -- ---- guesses
 

@@ -1,5 +1,5 @@
 -- The top constructs among statements.
-use Rattle.std.proofs.Common.{◌≡◌, ℕ, zero, suc, ◌+◌, ◌<◌, Bool, true, false, List, length, get_or, drop, drop-cons, add-one, refl, sym, ap, ◌∙◌}
+use Rattle.std.proofs.Common.{◌≡◌, ℕ, zero, suc, ◌+◌, ◌<◌, Bool, true, false, List, length, get_or, drop, drop-cons, add-one, refl, sym, ap, ◌∙◌, arith}
 use Rattle.std.specs.Prelude.{slice_get}
 use Rattle.spf_ast.specs.declared.syntax.Stmt.{Stmt}
 use Rattle.spf_ast.specs.Syntax.{Statement, Let, Assign, Store, Fill, Emit, Fail, If, For, While, Do, Fold, Pair, Block, on_line}
@@ -57,3 +57,22 @@ construct-later line (While test most body) rest n e = cc
 construct-later line (Do f given) rest n e = cc
 construct-later line (Fold head body) rest n e = refl
 construct-later line (Pair head producer consumer) rest n e = refl
+
+-- how many constructs there are
+abbrev pub one_if : Bool → ℕ
+one_if true = 1
+one_if false = 0
+
+pub constructs-count : (line : ℕ) (s : Statement) (rest : Block) → length (constructs_in (on_line line s rest)) ≡ one_if (is_construct s) + length (constructs_in rest)
+constructs-count line (Let slot value) rest = omega arith
+constructs-count line (Assign slot value) rest = omega arith
+constructs-count line (Store array index value) rest = omega arith
+constructs-count line (Fill array low high value) rest = omega arith
+constructs-count line (Emit value) rest = omega arith
+constructs-count line (Fail number) rest = omega arith
+constructs-count line (If test a b) rest = omega arith
+constructs-count line (For slot low high body) rest = omega arith
+constructs-count line (While test most body) rest = omega arith
+constructs-count line (Do f given) rest = omega arith
+constructs-count line (Fold head body) rest = omega arith
+constructs-count line (Pair head producer consumer) rest = omega arith

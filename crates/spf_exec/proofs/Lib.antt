@@ -7,3 +7,4 @@ pub mod Outcome
 pub mod Cells
 pub mod Constructs
 pub mod BlockRuns
+pub mod Fronts

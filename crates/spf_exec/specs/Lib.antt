@@ -4,4 +4,5 @@ pub mod QuietMemory
 pub mod Performs
 pub mod Frame
 pub mod BlockRuns
+pub mod Pieces
 pub mod RunErrors

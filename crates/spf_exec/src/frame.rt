@@ -1,9 +1,10 @@
 // The slots of a program's `main`, with room for calls.
 
-ghost use Rattle.std.specs.Prelude.{◌≡◌, ◌+◌, ℤ, List, length, map, pos, replicate, IfOk, IfSome};
+ghost use Rattle.std.specs.Prelude.{◌≡◌, ◌+◌, ℤ, List, length, map, pos, replicate, slice_set, IfOk, IfSome};
 ghost use Rattle.spf_ast.specs.View.{function as function_of, program as seen_program};
 ghost use Rattle.spf_exec.specs.Frame.{room_before, frame_size};
 
+use crate::primitives::write_slot;
 use spf_ast::syntax::{Function, Program};
 use std::alloc::{AllocError, Global};
 use std::marker::Model;
@@ -51,6 +52,13 @@ impl Frame {
         Ok(Frame {
             slots: vec![in alloc; 0i64; size]?,
         })
+    }
+
+    /// Sets a slot of `main`.
+    pub(crate) fn set(&mut self, slot: u32, value: i64)
+        ensures { self.new ≡ slice_set self.old slot value }
+    {
+        write_slot(&mut self.slots, slot, value);
     }
 
     /// Makes an equal frame.

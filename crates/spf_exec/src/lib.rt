@@ -1,7 +1,8 @@
 //! The interpreter.
 //!
 //! A program is performed on a `memory::Memory`: cells, an output, and a poll at each turn. What the program asks of it, in which
-//! order, and how it ends is what the program means. `plain_run::run_plain` runs a whole program on a memory of its own.
+//! order, and how it ends is what the program means. `plain_run::run_plain` runs a whole program on a memory of its own,
+//! `block_run::exec_block` one block of a top construct on any memory, and `pieces::Run` a program in pieces.
 #![tactic(auto)]
 
 pub mod arrays;
@@ -10,6 +11,7 @@ mod context;
 pub mod frame;
 pub mod layout;
 pub mod memory;
+pub mod pieces;
 pub mod plain;
 pub mod plain_run;
 mod primitives;

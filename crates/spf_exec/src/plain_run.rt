@@ -22,7 +22,7 @@ use spf_ast::syntax::{Program, Stmt};
 use std::alloc::Global;
 
 /// Performs the statements of `main` on a memory of its own.
-fn run_main(
+pub(crate) fn run_main(
     context: &Context,
     main: &[Stmt],
     slots: &mut [i64],
@@ -39,6 +39,7 @@ fn run_main(
         (state slots.old memory.old.output.items))
         memory.old.cells.items memory.new.cells.items
         (state slots.new memory.new.output.items) }
+    ensures cells { length memory.new.cells.items ≡ length memory.old.cells.items }
 {
     exec_block(
         context,

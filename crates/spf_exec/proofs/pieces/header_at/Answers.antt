@@ -1,0 +1,12 @@
+use Rattle.spf_ast.specs.View.{block, program}
+use Rattle.spf_ast.specs.Pieces.{construct_first, rest_from}
+use Rattle.spf_exec.specs.Pieces.{stand}
+use Rattle.spf_exec.proofs.Fronts.{first_is, header_first}
+use Rattle.spf_exec.proofs.pieces.header_at.Goals as goal
+
+pub returns-clause-header : goal.returns-clause-header
+returns-clause-header c =
+    let first = first_is c.args.program.now.main.items c.args.place c.index.result.now c.requires.within c.index.ensures in
+    header_first (program c.args.program.now) c.args.input.now (construct_first (rest_from c.args.place (block c.args.program.now.main.items))) _
+    (stand c.args.layout.now c.args.frame.now c.args.memory.now c.args.place) (stand c.args.layout.now c.header_of.new.frame c.header_of.new.memory c.args.place) c.header_of.result
+    c.requires.construct first (c.header_of.ensures.header c.args.place)

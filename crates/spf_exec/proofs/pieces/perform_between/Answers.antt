@@ -1,0 +1,11 @@
+use Rattle.std.proofs.Common.{◌≡◌, rules, length, sym, ap, ◌∙◌}
+use Rattle.std.proofs.Math.ListN.{length-map}
+use Rattle.std.specs.Prelude.{map}
+use Rattle.spf_ast.specs.View.{array, function, name, program}
+use Rattle.spf_exec.proofs.Cells.{layout_within}
+use Rattle.spf_exec.proofs.BlockRuns.{same_environment}
+use Rattle.spf_exec.proofs.pieces.perform_between.Goals as goal
+
+pub run_main-requires-clause-within : goal.run_main-requires-clause-within
+run_main-requires-clause-within c =
+    layout_within (length c.args.input.now) (map array c.args.program.now.arrays.items) _ _ (c.deref-2.ensures.value ∙ c.requires.program_layout.extents) c.requires.cells c.requires.program_layout.few
