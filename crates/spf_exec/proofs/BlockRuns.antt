@@ -82,7 +82,7 @@ with_any_output {stop = stop} form l slots full out {own = own} {a = a} {r = r} 
       let silent = form (record { slots = slots; output = [] }) in
       let x = perform every_cell [] (stop a) silent es in
       let all : carry x (λ e es. Ended (with_output full e) es) ≡ performed_as r (record { slots = own; output = full }) rest =
-          sym (perform-bind every_cell [] (stop a) silent (λ e. Answer (with_output full e)) es) ∙ ap (λ t. perform every_cell [] (stop a) t es) (sym (l.same slots full)) ∙ p.performed d rest in
+      sym (perform-bind every_cell [] (stop a) silent (λ e. Answer (with_output full e)) es) ∙ ap (λ t. perform every_cell [] (stop a) t es) (sym (l.same slots full)) ∙ p.performed d rest in
       ap (λ t. perform every_cell [] (stop a) t es) (l.same slots out)
       ∙ perform-bind every_cell [] (stop a) silent (λ e. Answer (with_output out e)) es
       ∙ same_output x full out own r d rest all;

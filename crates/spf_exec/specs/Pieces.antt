@@ -1,5 +1,5 @@
 -- What it means that code ran one piece of `main`.
-use Rattle.std.specs.Prelude.{◌≡◌, ℕ, ◌+◌, ◌≤◌, List, [], length, slice_set, Option, Some, None, Result, Ok, Err, ℤ}
+use Rattle.std.specs.Prelude.{◌≡◌, ℕ, ◌+◌, ◌≤◌, List, [], ◌++◌, length, take, drop, slice_set, Option, Some, None, Result, Ok, Err, ℤ}
 use Rattle.spf_ast.specs.declared.outcome.Trap.{Trap}
 use Rattle.spf_ast.specs.Interaction.{Interaction, State, Ending, Value, Trapped, Meaning}
 use Rattle.spf_ast.specs.Syntax.{Program, Block, end}
@@ -28,6 +28,10 @@ pub record Stand : Type 0 where
 -- where a run stands with these parts
 abbrev pub stand : code_layout.Layout → List ℤ → Plain → ℕ → Stand
 stand layout frame memory place = record { layout = layout; frame = frame; cells = memory.cells.items; output = memory.output.items; place = place }
+
+-- cells with these words; a list of another length is cut, or filled up with the cells' own words
+abbrev pub refilled : List ℤ → List ℤ → List ℤ
+refilled cells words = take (length cells) (words ++ drop (length words) cells)
 
 -- a run of this program on an input of this length
 pub record IsRunOf (p : Program) (len : ℕ) (s : Stand) : Type 0 where

@@ -10,6 +10,9 @@ use crate::layout::{Layout, RunError};
 use spf_ast::syntax::{Array, Program};
 use std::alloc::{AllocError, Global};
 
+/// How many cells a run may have.
+const MAX_CELLS: u128 = 4194304;
+
 /// The number of an array's elements for an input of this length.
 fn size(array: &Array, len: u64) -> u128
     ensures { result ≡ size_of len (seen_array array.now) }
@@ -59,7 +62,7 @@ pub fn layout(alloc: Global, program: &Program, len: u64) -> Result<Layout, RunE
         → IfErr result (λ why. why ≡ OutOfMemory) }
 {
     let count = cell_count(&program.arrays, len);
-    if count > 4194304 {
+    if count > MAX_CELLS {
         return Err(RunError::TooManyCells { count });
     }
     let extents = extents(alloc, &program.arrays, len)?;

@@ -2,6 +2,8 @@
 
 ghost use Rattle.std.specs.Prelude.{◌≡◌, ◌+◌, ◌-◌, ◌<◌, ◌≤◌, ◌^◌, ℤ, ℕ, List, [], length, map, pos, replicate, drop, take, None, Some, IfOk, IfErr, IsErrAnd, MatchOption};
 ghost use Rattle.spf_ast.specs.declared.syntax.Fold.{out-Fold};
+ghost use Rattle.std.specs.Borrow.{Lends, Array, sem, i64 as word};
+ghost use Rattle.spf_exec.specs.contracts.pieces.Run.{the_row};
 ghost use Rattle.spf_ast.specs.View.{block as block_of, statement as statement_of, fold_head, function as function_of, program as seen_program};
 ghost use Rattle.spf_ast.specs.Meaning.{block_means};
 ghost use Rattle.spf_ast.specs.Construct.{constructs_in, construct_of, header_means, fold as fold_construct};
@@ -15,7 +17,7 @@ ghost use Rattle.spf_exec.specs.RunErrors.{IsTooMany};
 ghost use Rattle.spf_exec.specs.BlockRuns.{IsLayoutOf};
 ghost use Rattle.spf_exec.specs.Performs.{Performs, AreWithin, IsDecided, environment, state};
 ghost use Rattle.spf_exec.specs.PlainMemory.{IsPlainOutcome};
-ghost use Rattle.spf_exec.specs.Pieces.{Stand, IsRunOf, IsPauseAt, HasBegun, Advanced, IsHeaderAnswer, header_result, stand, HeaderDone, IsSettled, ahead, moment_of};
+ghost use Rattle.spf_exec.specs.Pieces.{Stand, IsRunOf, IsPauseAt, refilled, HasBegun, Advanced, IsHeaderAnswer, header_result, stand, HeaderDone, IsSettled, ahead, moment_of};
 
 use crate::arrays::layout;
 use crate::block_run::is_construct;
@@ -70,11 +72,11 @@ impl Model for Run {
     ghost Value = { Stand };
 
     ghost view = { λ r. record {
-        layout = r.layout;
-        frame = r.frame;
-        cells = r.memory.cells.items;
-        output = r.memory.output.items;
-        place = r.place;
+      layout = r.layout;
+      frame = r.frame;
+      cells = r.memory.cells.items;
+      output = r.memory.output.items;
+      place = r.place;
     } };
 }
 
@@ -500,6 +502,14 @@ impl Run {
         ensures { result.now ≡ self.now.cells }
     {
         &self.memory.cells
+    }
+
+    /// The word of each cell, to be changed by who settles a construct.
+    pub fn cells_mut(&mut self) -> &mut [i64]
+        ensures* writes_back { sem 𝓛 (Lends the_row (Array word 0) self.entry result (λ w. record self.old { cells = refilled self.old.cells w })) }
+        ensures value { result.now ≡ self.old.cells }
+    {
+        self.memory.cells.as_mut_slice()
     }
 
     /// Ends the run: its cells and what it emitted.

@@ -2,6 +2,9 @@
 
 use crate::memory::{Emitted, Memory};
 
+/// How many bytes an output may have.
+const MAX_OUTPUT: usize = 67108864;
+
 /// A memory of its own, which nothing stops.
 #[derive(Drop)]
 pub struct Plain {
@@ -42,7 +45,7 @@ impl Memory for Plain {
     }
 
     fn emit(&mut self, byte: u8) -> Emitted {
-        if self.output.len() >= 67108864 {
+        if self.output.len() >= MAX_OUTPUT {
             return Emitted::Full;
         }
         match self.output.push(byte) {

@@ -1,5 +1,7 @@
 // Programs that are built by hand, and how their runs end.
+use crate::frame::Frame;
 use crate::layout::RunError;
+use crate::pieces::{Pause, Run};
 use crate::plain_run::run_plain;
 use spf_ast::outcome::{Outcome, Trap, TrapKind};
 use spf_ast::syntax::{
@@ -234,5 +236,29 @@ fn a_run_has_so_many_cells_at_most(rt: HostRuntime) -> Result<(), Fail> {
         let program = program(alloc, size, Vec::new(alloc), Vec::new(alloc))?;
         assert_eq!(rt; run_plain(alloc, &program, &[]).err(), error, "at {size}");
     }
+    Ok(())
+}
+
+#[test]
+fn a_run_in_pieces_comes_to_its_end(rt: HostRuntime) -> Result<(), Fail> {
+    let alloc = rt.alloc();
+    let mut main = Vec::new(alloc);
+    main.push(on_line(1, StmtKind::Emit(Expr::Number(65))))?;
+    let program = Program {
+        arrays: Vec::new(alloc),
+        functions: Vec::new(alloc),
+        slots: names(alloc, 2)?,
+        main,
+    };
+    let frame = Frame::make(alloc, &program)?;
+    let _ = frame.copy(alloc)?;
+    let Ok(mut run) = Run::start(alloc, &program, &[]) else {
+        assert!(rt; false);
+        return Ok(());
+    };
+    assert_eq!(rt; run.advance(&program, &[])?, Pause::Finished);
+    let (cells, output) = run.finish();
+    assert!(rt; cells.is_empty());
+    assert_eq!(rt; output.as_slice(), [65].as_slice());
     Ok(())
 }

@@ -6,6 +6,7 @@ pub construct_count-requires : goal.construct_count-requires
 construct_count-requires c = omega (arith, constructs_parted c.args.main.now c.args.place, c.requires.few_constructs)
 
 pub returns-else-place-main : goal.returns-else-place-main
-returns-else-place-main c =
-    (not_end c.args.main.now c.args.place (omega (arith, c.requires.within, c.if-place-main.false)),
-    omega (arith, constructs_parted c.args.main.now c.args.place, c.construct_count.ensures))
+returns-else-place-main c = (
+  not_end c.args.main.now c.args.place (omega (arith, c.requires.within, c.if-place-main.false)),
+  omega (arith, constructs_parted c.args.main.now c.args.place, c.construct_count.ensures),
+)

@@ -25,9 +25,9 @@ returns-then-are_too_many-clause-performs g c =
     let fh : FitsSigned w64 c.in_ok-high.high = search rules in
     let e = rw (to_z-of_z w64 c.in_ok-low.low fl, to_z-of_z w64 c.in_ok-high.high fh) at (sym c.are_too_many.ensures ∙ c.if-are_too_many.true) in
     then_value _ g.met.M.Memory.laws c.in_ok-start.ensures.performs
-      (then_value _ g.met.M.Memory.laws c.in_ok-low.ensures.performs
-      (then_value _ g.met.M.Memory.laws c.in_ok-high.ensures.performs
-      (rw e (traps_now g.met.M.Memory.laws _ _ _ _))))
+    (then_value _ g.met.M.Memory.laws c.in_ok-low.ensures.performs
+    (then_value _ g.met.M.Memory.laws c.in_ok-high.ensures.performs
+    (rw e (traps_now g.met.M.Memory.laws _ _ _ _))))
 
 pub returns-clause-performs : goal.returns-clause-performs
 returns-clause-performs g c =
@@ -37,7 +37,7 @@ returns-clause-performs g c =
     let e = rw (to_z-of_z w64 c.in_ok-low.low fl, to_z-of_z w64 c.in_ok-high.high fh) at (sym c.are_too_many.ensures ∙ c.if-are_too_many.false) in
     let b = rw (to_z-of_z w64 c.in_ok-low.low fl, to_z-of_z w64 c.in_ok-high.high fh) at c.block_count.ensures in
     rw (to_z-of_z w64 c.in_ok-start.start fs, to_z-of_z w64 c.in_ok-low.low fl, b)
-      (then_value _ g.met.M.Memory.laws c.in_ok-start.ensures.performs
-      (then_value _ g.met.M.Memory.laws c.in_ok-low.ensures.performs
-      (then_value _ g.met.M.Memory.laws c.in_ok-high.ensures.performs
-      (rw e (at_once g.met.M.Memory.laws _ _ _)))))
+    (then_value _ g.met.M.Memory.laws c.in_ok-start.ensures.performs
+    (then_value _ g.met.M.Memory.laws c.in_ok-low.ensures.performs
+    (then_value _ g.met.M.Memory.laws c.in_ok-high.ensures.performs
+    (rw e (at_once g.met.M.Memory.laws _ _ _)))))
