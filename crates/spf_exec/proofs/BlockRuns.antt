@@ -1,16 +1,15 @@
 -- Block runs and guesses, from performances on memories that emit nothing.
-use Rattle.std.proofs.Common.{◌≡◌, ℕ, zero, suc, Bool, true, false, List, [], ◌∷◌, ◌++◌, length, replicate, Option, None, Some, Result, Ok, Err, ℤ, refl, sym, ap, subst, ◌∙◌, append-nil}
-use Rattle.std.specs.Prelude.{if◌then◌else◌, ◌==◌, ◌&&◌, MatchOption}
-use Rattle.std.specs.Ordering.{int_eq}
+use Rattle.std.proofs.Common.{◌≡◌, ℕ, suc, List, [], ◌∷◌, ◌++◌, length, replicate, Option, None, Some, Result, Ok, Err, ℤ, refl, sym, ap, subst, ◌∙◌, append-nil}
+use Rattle.std.specs.Prelude.{◌==◌, MatchOption}
 use Rattle.spf_ast.specs.declared.outcome.Trap.{Trap}
-use Rattle.spf_ast.specs.Event.{Event, Load, Store, Turn, word_at, IsConsistent, IsUnpolled}
-use Rattle.spf_ast.specs.Interaction.{Interaction, Answer, AskLoad, AskStore, AskTurn, bind, Performed, Ended, Stopped, Misfit, perform, every_cell, State, Ending, Value, Trapped, Meaning}
+use Rattle.spf_ast.specs.Event.{Event, Load, Store, Turn, word_at}
+use Rattle.spf_ast.specs.Interaction.{Interaction, Answer, AskLoad, AskStore, AskTurn, Performed, Ended, Stopped, Misfit, perform, every_cell, State, Ending, Value, Trapped, Meaning}
 use Rattle.spf_ast.specs.declared.syntax.Part.{Part}
 use Rattle.spf_ast.specs.Syntax.{Program, Function}
 use Rattle.spf_ast.specs.Meaning.{Extent, Environment, environment_before, with_slots, in_own_slots}
 use Rattle.spf_ast.specs.Program.{environment_of, extents_of}
 use Rattle.spf_ast.specs.Construct.{Construct, Header, part_means, header_means}
-use Rattle.spf_ast.specs.Plain.{plain_answer, plain_events, plain_memory}
+use Rattle.spf_ast.specs.Plain.{plain_answer, plain_memory}
 use Rattle.spf_ast.specs.Silence.{with_output, LeavesOutput}
 use Rattle.spf_ast.proofs.Leaving.{calls-leave, part-leaves}
 use Rattle.spf_ast.proofs.Performing.{perform-bind, carry}

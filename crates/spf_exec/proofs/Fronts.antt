@@ -1,6 +1,5 @@
 -- The statements before the first construct among them.
-use Rattle.std.proofs.Common.{◌≡◌, ℕ, zero, suc, ◌+◌, ◌-◌, ◌<◌, ◌≤◌, Bool, true, false, List, [], ◌∷◌, length, get_or, take, drop, refl, sym, ap, ◌∙◌, arith, length-drop, take_all, replicate, subst}
-use Rattle.std.specs.Prelude.{if◌then◌else◌}
+use Rattle.std.proofs.Common.{◌≡◌, ℕ, zero, suc, ◌+◌, ◌-◌, ◌<◌, true, false, List, [], ◌∷◌, length, get_or, take, drop, refl, sym, ap, ◌∙◌, arith, length-drop, take_all, replicate, subst}
 use Rattle.spf_ast.specs.declared.syntax.Stmt.{Stmt}
 use Rattle.spf_ast.specs.Syntax.{Block, end, on_line}
 use Rattle.spf_ast.specs.View.{statement, block}

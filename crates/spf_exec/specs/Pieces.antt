@@ -6,7 +6,7 @@ use Rattle.spf_ast.specs.Syntax.{Program, Block, end}
 use Rattle.spf_ast.specs.Meaning.{block_means}
 use Rattle.spf_ast.specs.Plain.{plain_answer, plain_memory}
 use Rattle.spf_ast.specs.Program.{environment_of, cell_count_of, start_of, zeros_of}
-use Rattle.spf_ast.specs.Construct.{Construct, Moment, Header, plainly, moment_after, header_means, constructs_in}
+use Rattle.spf_ast.specs.Construct.{Construct, Moment, Header, plainly, header_means, constructs_in}
 use Rattle.spf_ast.specs.Pieces.{statement_count, rest_from, before_construct, from_construct, construct_first, carried_of}
 use Rattle.spf_exec.specs.declared.layout.Layout as code_layout
 use Rattle.spf_exec.specs.declared.memory.Halt.{Halt}

@@ -1,6 +1,6 @@
 -- What a list of events does to a memory that emits nothing, and to cells that are only read.
 use Rattle.std.specs.Prelude.{◌≡◌, ◌≤◌, ℕ, List, [], ◌∷◌, ◌++◌, length, replicate, Option, None, ℤ, refl}
-use Rattle.std.proofs.Common.{ap, ◌∙◌, subst, arith}
+use Rattle.std.proofs.Common.{◌∙◌, subst, arith}
 use Rattle.std.proofs.lemmas.List.{length-replicate}
 use Rattle.spf_ast.specs.Event.{Event, Load, Store, Turn, IsConsistent, IsUnpolled}
 use Rattle.spf_ast.specs.Meaning.{max_output}

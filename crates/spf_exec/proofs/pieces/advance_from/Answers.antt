@@ -1,5 +1,5 @@
-use Rattle.std.proofs.Common.{◌≡◌, ◌+◌, Err, subst, ap, ◌∙◌, drop}
-use Rattle.spf_ast.specs.View.{block, program}
+use Rattle.std.proofs.Common.{◌+◌, Err, subst, ap, ◌∙◌, drop}
+use Rattle.spf_ast.specs.View.{program}
 use Rattle.spf_ast.specs.Meaning.{block_means}
 use Rattle.spf_ast.specs.Program.{environment_of}
 use Rattle.spf_exec.specs.Pieces.{EndsAt, TrapsAt, IsPauseAt, stand}

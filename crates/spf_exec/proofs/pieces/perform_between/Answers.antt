@@ -1,9 +1,7 @@
-use Rattle.std.proofs.Common.{◌≡◌, rules, length, sym, ap, ◌∙◌}
-use Rattle.std.proofs.Math.ListN.{length-map}
+use Rattle.std.proofs.Common.{length, ◌∙◌}
 use Rattle.std.specs.Prelude.{map}
-use Rattle.spf_ast.specs.View.{array, function, name, program}
+use Rattle.spf_ast.specs.View.{array}
 use Rattle.spf_exec.proofs.Cells.{layout_within}
-use Rattle.spf_exec.proofs.BlockRuns.{same_environment}
 use Rattle.spf_exec.proofs.pieces.perform_between.Goals as goal
 
 pub run_main-requires-clause-within : goal.run_main-requires-clause-within

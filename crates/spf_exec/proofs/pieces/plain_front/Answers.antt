@@ -1,6 +1,5 @@
-use Rattle.std.proofs.Common.{sym, subst, ap, ◌∙◌, take, drop, length, add-one}
+use Rattle.std.proofs.Common.{sym, subst, ◌∙◌, length, add-one}
 use Rattle.std.proofs.Common.{rules, ◌≡◌, arith}
-use Rattle.spf_ast.specs.View.{block}
 use Rattle.spf_exec.proofs.Fronts.{IsPlainFront, front_grows, split_at, split_end}
 use Rattle.spf_exec.proofs.pieces.plain_front.Goals as goal
 

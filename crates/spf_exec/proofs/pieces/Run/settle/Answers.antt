@@ -1,7 +1,6 @@
-use Rattle.std.proofs.Common.{◌≡◌, ◌<◌, ◌∙◌, arith, refl, rules, length, ap, sym, get_or, w64}
+use Rattle.std.proofs.Common.{◌≡◌, ◌<◌, ◌∙◌, arith, refl, length, ap, w64}
 use Rattle.std.proofs.lemmas.Int.{to_z-of_z}
 use Rattle.spf_ast.specs.View.{program}
-use Rattle.spf_ast.specs.Construct.{construct_of}
 use Rattle.spf_ast.specs.Pieces.{construct_first, rest_from, carried_of}
 use Rattle.spf_exec.specs.Frame.{main_slots}
 use Rattle.spf_exec.proofs.Fronts.{place_within, first_is, at_first, carried_is, take_set, count_is}

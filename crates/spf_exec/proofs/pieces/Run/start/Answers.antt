@@ -1,6 +1,6 @@
 use Rattle.std.proofs.Common.{◌≡◌, ◌+◌, refl, ap, arith, ◌∙◌, length, replicate, take, pos}
 use Rattle.spf_ast.specs.View.{program}
-use Rattle.spf_exec.specs.Frame.{frame_size, main_slots, room_before}
+use Rattle.spf_exec.specs.Frame.{frame_size, room_before}
 use Rattle.spf_exec.proofs.Fronts.{take_zeros}
 use Rattle.spf_exec.proofs.pieces.Run.start.Goals as goal
 
