@@ -4,7 +4,7 @@ ghost use Rattle.std.specs.Prelude.{◌≡◌, ◌≤◌, ◌<◌, ◌^◌, ◌+
 ghost use Rattle.spf_ast.specs.declared.syntax.Fold.{out-Fold};
 ghost use Rattle.spf_ast.specs.declared.syntax.Pair.{out-Pair};
 ghost use Rattle.spf_ast.specs.View.{expression, statement as statement_of, block as block_of, fold_head, pair_head, predictor, function as function_of, program as seen_program};
-ghost use Rattle.spf_ast.specs.Construct.{construct_of, constructs_in, is_construct as is_construct_form, part_means, guess_means, fold as fold_construct, pair as pair_construct};
+ghost use Rattle.spf_ast.specs.Construct.{construct_of, constructs_in, part_means, guess_means, fold as fold_construct, pair as pair_construct};
 ghost use Rattle.spf_ast.specs.declared.syntax.Part.TheVariants.{Predictor};
 ghost use Rattle.spf_ast.specs.Program.{cell_count_of, environment_of};
 ghost use Rattle.spf_exec.specs.Frame.{room_before, frame_size, main_slots};
@@ -12,12 +12,13 @@ ghost use Rattle.spf_exec.specs.Performs.{Performs, AreWithin, block_value, envi
 ghost use Rattle.spf_exec.specs.BlockRuns.{IsLayoutOf, IsSilentPart, IsGuess, PerformsOver, StoresNothing, top_construct, run_asks, stop_result};
 
 use crate::context::Context;
+use crate::entry;
 use crate::frame::Frame;
 use crate::layout::Layout;
 use crate::memory::{Halt, Memory};
 use crate::primitives::write_slot;
 use crate::quiet::{Quiet, ReadOnly};
-use crate::run;
+use spf_ast::construct::is_construct;
 use spf_ast::outcome::Trap;
 use spf_ast::syntax::{Expr, Fold, Pair, Part, Predict, Program, Stmt, StmtKind};
 
@@ -61,8 +62,8 @@ fn perform_value<M: Memory>(
         (state slots.old (M.output memory.old)))
         memory.old memory.new result (state slots.new (M.output memory.new)) }
 {
-    run::exec_block(context, below, statements, slots, scratch, memory)?;
-    run::eval(context, below, line, answer, slots, scratch, memory)
+    entry::exec_block(context, below, statements, slots, scratch, memory)?;
+    entry::eval(context, below, line, answer, slots, scratch, memory)
 }
 
 /// Performs a guess. One that is handed in gives 0 here.
@@ -84,7 +85,7 @@ fn perform_guess<M: Memory>(
         memory.old memory.new result (state slots.now (M.output memory.new)) }
 {
     match predict {
-        Predict::Expr(guess) => run::eval(context, below, line, guess, slots, scratch, memory),
+        Predict::Expr(guess) => entry::eval(context, below, line, guess, slots, scratch, memory),
         Predict::Host(_) => Ok(0),
     }
 }
@@ -174,24 +175,13 @@ fn perform_pair<M: Memory>(
         ),
         Part::Consumer => {
             write_slot(slots, pair.carried, value);
-            run::exec_block(context, below, &pair.consumer, slots, scratch, memory)?;
+            entry::exec_block(context, below, &pair.consumer, slots, scratch, memory)?;
             Ok(value)
         }
         Part::Predictor => {
             perform_guess(context, below, line, &pair.predict, slots, scratch, memory)
         }
         Part::Body => Ok(0),
-    }
-}
-
-/// Whether a statement is a fold or a pair.
-pub(crate) fn is_construct(kind: &StmtKind) -> bool
-    ensures { result ≡ is_construct_form (statement_of kind.now) }
-{
-    match kind {
-        StmtKind::Fold(_) => true,
-        StmtKind::Pair(_) => true,
-        _ => false,
     }
 }
 

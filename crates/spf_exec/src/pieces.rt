@@ -20,8 +20,8 @@ ghost use Rattle.spf_exec.specs.PlainMemory.{IsPlainOutcome};
 ghost use Rattle.spf_exec.specs.Pieces.{Stand, IsRunOf, IsPauseAt, refilled, HasBegun, Advanced, IsHeaderAnswer, header_result, stand, HeaderDone, IsSettled, ahead, moment_of};
 
 use crate::arrays::layout;
-use crate::block_run::is_construct;
 use crate::context::Context;
+use crate::entry;
 use crate::frame::Frame;
 use crate::layout::{Layout, RunError};
 use crate::memory::{Halt, Memory};
@@ -29,7 +29,7 @@ use crate::plain::Plain;
 use crate::plain_run::run_main;
 use crate::primitives::{are_too_many, block_count};
 use crate::quiet::Quiet;
-use crate::run;
+use spf_ast::construct::is_construct;
 use spf_ast::outcome::{Trap, TrapKind};
 use spf_ast::syntax::{Fold, Program, Stmt, StmtKind};
 use std::alloc::{AllocError, Global};
@@ -164,9 +164,9 @@ fn perform_header<M: Memory>(
         memory.old memory.new (header_result result) (state slots.now (M.output memory.new)) }
     ensures cells { M.cell_count memory.new ≡ M.cell_count memory.old }
 {
-    let start = run::eval(context, below, line, &fold.start, slots, scratch, memory)?;
-    let low = run::eval(context, below, line, &fold.low, slots, scratch, memory)?;
-    let high = run::eval(context, below, line, &fold.high, slots, scratch, memory)?;
+    let start = entry::eval(context, below, line, &fold.start, slots, scratch, memory)?;
+    let low = entry::eval(context, below, line, &fold.low, slots, scratch, memory)?;
+    let high = entry::eval(context, below, line, &fold.high, slots, scratch, memory)?;
     if are_too_many(low, high) {
         return Err(Halt::Trapped(Trap {
             kind: TrapKind::Blocks,
