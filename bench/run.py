@@ -1,7 +1,7 @@
 #!/usr/bin/env python3
 """Times the loops of this folder by `spf`, CPython and Lua, and prints a table of seconds and ratios.
 
-The first word may name the program that is timed in the place of crates/spf/out/spf; it is called as `spf run PROGRAM INPUT`.
+The first word may name the program that is timed in the place of crates/spf/out/spf; it is called as `spf run PROGRAM INPUT --plain`.
 Each loop is timed three times, and the least time counts. What is missing, or fails, is left out.
 """
 
@@ -37,7 +37,7 @@ def main():
             path = os.path.join(HERE, loop)
             lua = shutil.which("lua5.4")
             times = [
-                seconds([SPF, "run", path + ".spf", empty.name]) if os.access(SPF, os.X_OK) else None,
+                seconds([SPF, "run", path + ".spf", empty.name, "--plain"]) if os.access(SPF, os.X_OK) else None,
                 seconds([sys.executable, path + ".py"]),
                 seconds([lua, path + ".lua"]) if lua else None,
             ]

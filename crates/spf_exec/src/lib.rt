@@ -8,6 +8,7 @@
 pub mod arrays;
 pub mod block_run;
 mod context;
+mod entry;
 pub mod frame;
 pub mod layout;
 pub mod memory;

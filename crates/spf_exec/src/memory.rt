@@ -18,6 +18,10 @@ pub enum Halt {
     NoMemory,
 }
 
+/// That a form was left before its end. Why is kept beside it, so that an answer needs two registers and no memory.
+#[derive(Clone, Copy)]
+pub(crate) struct Halted;
+
 /// What came of a byte for the output.
 #[derive(Clone, Copy, PartialEq, Eq, Debug)]
 pub enum Emitted {

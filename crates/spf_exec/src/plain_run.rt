@@ -12,11 +12,11 @@ ghost use Rattle.spf_exec.specs.RunErrors.{IsTooMany};
 
 use crate::arrays::layout;
 use crate::context::Context;
+use crate::entry::exec_block;
 use crate::frame::size_with_calls;
 use crate::layout::RunError;
 use crate::memory::Halt;
 use crate::plain::Plain;
-use crate::run::exec_block;
 use spf_ast::outcome::Outcome;
 use spf_ast::syntax::{Program, Stmt};
 use std::alloc::Global;

@@ -13,8 +13,8 @@ use Rattle.spf_exec.proofs.Weight.{weight_before, weight_of}
 use Rattle.spf_exec.specs.Frame.{slots_of}
 use Rattle.spf_exec.proofs.Forms.{expr_means-call, call_means-is, slot_count, kind_means-if, kind_means-for, kind_means-while, kind_means-fold, kind_means-pair, expr_weight-call, kind_weight-if, kind_weight-for, kind_weight-while, kind_weight-fold, kind_weight-pair, weight_at}
 use Rattle.spf_exec.specs.Performs.{block_value, environment, state, at_line}
-use Rattle.spf_exec.proofs.Steps.{at_once, checked_is, traps_now, load_now, store_now, then_value, then_halt, exit_halt, along, in_own, steps}
-use Rattle.spf_exec.proofs.Turns.{next_statement, still, next_fits, to_z_fits, for_turn, while_is, while_last, while_turn, after_sets, block_turn, int_gap_none}
+use Rattle.spf_exec.proofs.Steps.{at_once, checked_is, traps_now, load_now, store_now, then_value, then_halt, exit_left, along, in_own, steps}
+use Rattle.spf_exec.proofs.Turns.{no_statements, next_statement, still, next_fits, to_z_fits, for_turn, while_is, while_last, while_turn, after_sets, block_turn, int_gap_none}
 use Rattle.spf_exec.proofs.Calls.{call_of, room_of, depth_at, own_is, filled, none_left}
 use Rattle.spf_exec.proofs.run.+run.Goals as goal
 
@@ -33,7 +33,7 @@ call-pass_arguments-requires g t c =
 pub call-returns-in_err-pass_arguments-clause-performs : goal.call-returns-in_err-pass_arguments-clause-performs
 call-returns-in_err-pass_arguments-clause-performs g t c =
     let p = c.in-Some.ensures {u = tt} in
-    along (call_means-is (environment c.args.context.now c.args.below) c.args.line c.args.function c.args.arguments.now true p.0) (exit_halt _ c.from_residual.ensures.1 c.in_err-pass_arguments.ensures.performs)
+    along (call_means-is (environment c.args.context.now c.args.below) c.args.line c.args.function c.args.arguments.now true p.0) (exit_left _ (err_from_is_err_and c.from_residual.result c.from_residual.ensures.1).1 c.in_err-pass_arguments.ensures.performs)
 
 pub call-split_at_mut-own-requires : goal.call-split_at_mut-own-requires
 call-split_at_mut-own-requires g t c =
@@ -62,7 +62,7 @@ call-returns-in_err-exec_block-clause-performs g t c =
     let le : length c.args.arguments.now ≤ c.len.result = omega (arith, count, p.3) in
     let own = own_is c.pass_arguments.new.scratch _ _ (length c.args.arguments.now) c.len.result c.split_at_mut-own.ensures.value c.split_at_mut-own.ensures.front_len le in
     let same = ap (λ k. own_slots k vs) (sym count) ∙ own ∙ sym c.clear.ensures in
-    let run = in_own (own_slots (length (function c.in-Some.callee.now).slots) vs) (stmts_mean (environment c.args.context.now c.args.function) c.in-Some.callee.now.body.items >> expr_means (environment c.args.context.now c.args.function) c.in-Some.callee.now.answer_line c.in-Some.callee.now.answer) (state c.args.slots.now (g.M.Memory.output c.pass_arguments.new.memory)) (exit_halt (λ _. expr_means (environment c.args.context.now c.args.function) c.in-Some.callee.now.answer_line c.in-Some.callee.now.answer) c.from_residual-in_err-exec_block.ensures.1 (rw (c.deref.ensures.value, ← same) at c.in_err-exec_block.ensures.performs)) in
+    let run = in_own (own_slots (length (function c.in-Some.callee.now).slots) vs) (stmts_mean (environment c.args.context.now c.args.function) c.in-Some.callee.now.body.items >> expr_means (environment c.args.context.now c.args.function) c.in-Some.callee.now.answer_line c.in-Some.callee.now.answer) (state c.args.slots.now (g.M.Memory.output c.pass_arguments.new.memory)) (exit_left (λ _. expr_means (environment c.args.context.now c.args.function) c.in-Some.callee.now.answer_line c.in-Some.callee.now.answer) (err_from_is_err_and c.from_residual-in_err-exec_block.result c.from_residual-in_err-exec_block.ensures.1).1 (rw (c.deref.ensures.value, ← same) at c.in_err-exec_block.ensures.performs)) in
     along (call_means-is (environment c.args.context.now c.args.below) c.args.line c.args.function c.args.arguments.now true p.0) (then_value _ g.met.M.Memory.laws c.in_ok-pass_arguments.ensures.performs (along called run))
 
 pub call-eval-requires : goal.call-eval-requires
@@ -89,37 +89,31 @@ call-returns-clause-performs g t c =
 
 pub compute-returns-in_err-x-in-Neg-clause-performs : goal.compute-returns-in_err-x-in-Neg-clause-performs
 compute-returns-in_err-x-in-Neg-clause-performs g t c =
-    let p = err_from_is_err_and c.from_residual.result c.from_residual.ensures.1 in
-    rw (p.1, p.2, c.in-Neg.is, ← c.deref.ensures) (then_halt _ c.in_err-x-in-Neg.ensures.performs)
+    rw (c.in-Neg.is, ← c.deref.ensures) (exit_left _ (err_from_is_err_and c.from_residual.result c.from_residual.ensures.1).1 c.in_err-x-in-Neg.ensures.performs)
 
 pub compute-returns-in_err-x-in-Binary-clause-performs : goal.compute-returns-in_err-x-in-Binary-clause-performs
 compute-returns-in_err-x-in-Binary-clause-performs g t c =
-    let p = err_from_is_err_and c.from_residual-in_err-x-in-Binary.result c.from_residual-in_err-x-in-Binary.ensures.1 in
-    rw (p.1, p.2, c.in-Binary.is, ← c.deref-in-Binary.ensures) (then_halt _ c.in_err-x-in-Binary.ensures.performs)
+    rw (c.in-Binary.is, ← c.deref-in-Binary.ensures) (exit_left _ (err_from_is_err_and c.from_residual-in_err-x-in-Binary.result c.from_residual-in_err-x-in-Binary.ensures.1).1 c.in_err-x-in-Binary.ensures.performs)
 
 pub compute-returns-in_err-y-in-Binary-clause-performs : goal.compute-returns-in_err-y-in-Binary-clause-performs
 compute-returns-in_err-y-in-Binary-clause-performs g t c =
-    let p = err_from_is_err_and c.from_residual-in_err-y-in-Binary.result c.from_residual-in_err-y-in-Binary.ensures.1 in
-    rw (p.1, p.2, c.in-Binary.is, ← c.deref-in-Binary.ensures, ← c.deref-in-Binary-2.ensures)
-    (then_value _ g.met.M.Memory.laws c.in_ok-x-in-Binary.ensures.performs (then_halt _ c.in_err-y-in-Binary.ensures.performs))
+    rw (c.in-Binary.is, ← c.deref-in-Binary.ensures, ← c.deref-in-Binary-2.ensures)
+    (then_value _ g.met.M.Memory.laws c.in_ok-x-in-Binary.ensures.performs (exit_left _ (err_from_is_err_and c.from_residual-in_err-y-in-Binary.result c.from_residual-in_err-y-in-Binary.ensures.1).1 c.in_err-y-in-Binary.ensures.performs))
 
 pub compute-returns-in_err-i-in-Load-clause-performs : goal.compute-returns-in_err-i-in-Load-clause-performs
 compute-returns-in_err-i-in-Load-clause-performs g t c =
-    let p = err_from_is_err_and c.from_residual-in_err-i-in-Load.result c.from_residual-in_err-i-in-Load.ensures.1 in
-    rw (p.1, p.2, c.in-Load.is, ← c.deref-in-Load.ensures) (then_halt _ c.in_err-i-in-Load.ensures.performs)
+    rw (c.in-Load.is, ← c.deref-in-Load.ensures) (exit_left _ (err_from_is_err_and c.from_residual-in_err-i-in-Load.result c.from_residual-in_err-i-in-Load.ensures.1).1 c.in_err-i-in-Load.ensures.performs)
 
 pub compute-returns-in_err-cell-in-Load-clause-performs : goal.compute-returns-in_err-cell-in-Load-clause-performs
 compute-returns-in_err-cell-in-Load-clause-performs g t c =
-    let p = err_from_is_err_and c.from_residual-in_err-cell-in-Load.result c.from_residual-in_err-cell-in-Load.ensures.1 in
     let f : FitsSigned w64 c.in_ok-i-in-Load.i = search rules in
     let e2 = rw (to_z-of_z w64 c.in_ok-i-in-Load.i f) at c.cell_of.ensures.value in
-    rw (p.1, p.2, c.in-Load.is, ← c.deref-in-Load.ensures)
-    (then_value _ g.met.M.Memory.laws c.in_ok-i-in-Load.ensures.performs (then_halt _ (checked_is g.met.M.Memory.laws _ _ _ _ (ap (at_line c.args.line) (sym e2) ∙ sym c.in_err-cell-in-Load.ensures))))
+    rw (c.in-Load.is, ← c.deref-in-Load.ensures)
+    (then_value _ g.met.M.Memory.laws c.in_ok-i-in-Load.ensures.performs (exit_left _ (err_from_is_err_and c.from_residual-in_err-cell-in-Load.result c.from_residual-in_err-cell-in-Load.ensures.1).1 (checked_is g.met.M.Memory.laws _ _ _ _ (ap (at_line c.args.line) (sym e2) ∙ sym c.in_err-cell-in-Load.ensures))))
 
 pub compute-returns-in_err-i-in-Input-clause-performs : goal.compute-returns-in_err-i-in-Input-clause-performs
 compute-returns-in_err-i-in-Input-clause-performs g t c =
-    let p = err_from_is_err_and c.from_residual-in_err-i-in-Input.result c.from_residual-in_err-i-in-Input.ensures.1 in
-    rw (p.1, p.2, c.in-Input.is, ← c.deref-in-Input.ensures) (then_halt _ c.in_err-i-in-Input.ensures.performs)
+    rw (c.in-Input.is, ← c.deref-in-Input.ensures) (exit_left _ (err_from_is_err_and c.from_residual-in_err-i-in-Input.result c.from_residual-in_err-i-in-Input.ensures.1).1 c.in_err-i-in-Input.ensures.performs)
 
 pub compute-call-requires : goal.compute-call-requires
 compute-call-requires g t c =
@@ -188,20 +182,20 @@ compute-returns-in-Call-clause-performs g t c =
 
 pub exec-returns-in_err-value-in-Let-clause-performs : goal.exec-returns-in_err-value-in-Let-clause-performs
 exec-returns-in_err-value-in-Let-clause-performs g t c =
-    rw c.in-Let.is (exit_halt _ c.from_residual.ensures.1 c.in_err-value-in-Let.ensures.performs)
+    rw c.in-Let.is (exit_left _ (err_from_is_err_and c.from_residual.result c.from_residual.ensures.1).1 c.in_err-value-in-Let.ensures.performs)
 
 pub exec-returns-in_err-value-in-Assign-clause-performs : goal.exec-returns-in_err-value-in-Assign-clause-performs
 exec-returns-in_err-value-in-Assign-clause-performs g t c =
-    rw c.in-Assign.is (exit_halt _ c.from_residual-in_err-value-in-Assign.ensures.1 c.in_err-value-in-Assign.ensures.performs)
+    rw c.in-Assign.is (exit_left _ (err_from_is_err_and c.from_residual-in_err-value-in-Assign.result c.from_residual-in_err-value-in-Assign.ensures.1).1 c.in_err-value-in-Assign.ensures.performs)
 
 pub exec-returns-in_err-i-in-Store-clause-performs : goal.exec-returns-in_err-i-in-Store-clause-performs
 exec-returns-in_err-i-in-Store-clause-performs g t c =
-    rw c.in-Store.is (exit_halt _ c.from_residual-in_err-i-in-Store.ensures.1 c.in_err-i-in-Store.ensures.performs)
+    rw c.in-Store.is (exit_left _ (err_from_is_err_and c.from_residual-in_err-i-in-Store.result c.from_residual-in_err-i-in-Store.ensures.1).1 c.in_err-i-in-Store.ensures.performs)
 
 pub exec-returns-in_err-value-in-Store-clause-performs : goal.exec-returns-in_err-value-in-Store-clause-performs
 exec-returns-in_err-value-in-Store-clause-performs g t c =
     rw c.in-Store.is
-    (then_value _ g.met.M.Memory.laws c.in_ok-i-in-Store.ensures.performs (exit_halt _ c.from_residual-in_err-value-in-Store.ensures.1 c.in_err-value-in-Store.ensures.performs))
+    (then_value _ g.met.M.Memory.laws c.in_ok-i-in-Store.ensures.performs (exit_left _ (err_from_is_err_and c.from_residual-in_err-value-in-Store.result c.from_residual-in_err-value-in-Store.ensures.1).1 c.in_err-value-in-Store.ensures.performs))
 
 pub exec-returns-in_err-cell-in-Store-clause-performs : goal.exec-returns-in_err-cell-in-Store-clause-performs
 exec-returns-in_err-cell-in-Store-clause-performs g t c =
@@ -209,21 +203,21 @@ exec-returns-in_err-cell-in-Store-clause-performs g t c =
     let e = rw (to_z-of_z w64 c.in_ok-i-in-Store.i f) at c.cell_of.ensures.value in
     rw c.in-Store.is
     (then_value _ g.met.M.Memory.laws c.in_ok-i-in-Store.ensures.performs (then_value _ g.met.M.Memory.laws c.in_ok-value-in-Store.ensures.performs
-    (exit_halt _ c.from_residual-in_err-cell-in-Store.ensures.1 (checked_is g.met.M.Memory.laws _ _ _ _ (ap (at_line c.args.line) (sym e) ∙ sym c.in_err-cell-in-Store.ensures)))))
+    (exit_left _ (err_from_is_err_and c.from_residual-in_err-cell-in-Store.result c.from_residual-in_err-cell-in-Store.ensures.1).1 (checked_is g.met.M.Memory.laws _ _ _ _ (ap (at_line c.args.line) (sym e) ∙ sym c.in_err-cell-in-Store.ensures)))))
 
 pub exec-returns-in_err-from-in-Fill-clause-performs : goal.exec-returns-in_err-from-in-Fill-clause-performs
 exec-returns-in_err-from-in-Fill-clause-performs g t c =
-    rw c.in-Fill.is (exit_halt _ c.from_residual-in_err-from-in-Fill.ensures.1 c.in_err-from-in-Fill.ensures.performs)
+    rw c.in-Fill.is (exit_left _ (err_from_is_err_and c.from_residual-in_err-from-in-Fill.result c.from_residual-in_err-from-in-Fill.ensures.1).1 c.in_err-from-in-Fill.ensures.performs)
 
 pub exec-returns-in_err-to-in-Fill-clause-performs : goal.exec-returns-in_err-to-in-Fill-clause-performs
 exec-returns-in_err-to-in-Fill-clause-performs g t c =
     rw c.in-Fill.is
-    (then_value _ g.met.M.Memory.laws c.in_ok-from-in-Fill.ensures.performs (exit_halt _ c.from_residual-in_err-to-in-Fill.ensures.1 c.in_err-to-in-Fill.ensures.performs))
+    (then_value _ g.met.M.Memory.laws c.in_ok-from-in-Fill.ensures.performs (exit_left _ (err_from_is_err_and c.from_residual-in_err-to-in-Fill.result c.from_residual-in_err-to-in-Fill.ensures.1).1 c.in_err-to-in-Fill.ensures.performs))
 
 pub exec-returns-in_err-value-in-Fill-clause-performs : goal.exec-returns-in_err-value-in-Fill-clause-performs
 exec-returns-in_err-value-in-Fill-clause-performs g t c =
     rw c.in-Fill.is
-    (then_value _ g.met.M.Memory.laws c.in_ok-from-in-Fill.ensures.performs (then_value _ g.met.M.Memory.laws c.in_ok-to-in-Fill.ensures.performs (exit_halt _ c.from_residual-in_err-value-in-Fill.ensures.1 c.in_err-value-in-Fill.ensures.performs)))
+    (then_value _ g.met.M.Memory.laws c.in_ok-from-in-Fill.ensures.performs (then_value _ g.met.M.Memory.laws c.in_ok-to-in-Fill.ensures.performs (exit_left _ (err_from_is_err_and c.from_residual-in_err-value-in-Fill.result c.from_residual-in_err-value-in-Fill.ensures.1).1 c.in_err-value-in-Fill.ensures.performs)))
 
 pub exec-returns-in_err-first-in-Fill-clause-performs : goal.exec-returns-in_err-first-in-Fill-clause-performs
 exec-returns-in_err-first-in-Fill-clause-performs g t c =
@@ -234,49 +228,49 @@ exec-returns-in_err-first-in-Fill-clause-performs g t c =
     (then_value _ g.met.M.Memory.laws c.in_ok-from-in-Fill.ensures.performs
     (then_value _ g.met.M.Memory.laws c.in_ok-to-in-Fill.ensures.performs
     (then_value _ g.met.M.Memory.laws c.in_ok-value-in-Fill.ensures.performs
-    (exit_halt _ c.from_residual-in_err-first-in-Fill.ensures.1 (checked_is g.met.M.Memory.laws _ _ _ _ (ap (at_line c.args.line) (sym e) ∙ sym c.in_err-first-in-Fill.ensures))))))
+    (exit_left _ (err_from_is_err_and c.from_residual-in_err-first-in-Fill.result c.from_residual-in_err-first-in-Fill.ensures.1).1 (checked_is g.met.M.Memory.laws _ _ _ _ (ap (at_line c.args.line) (sym e) ∙ sym c.in_err-first-in-Fill.ensures))))))
 
 pub exec-returns-in_err-value-in-Emit-clause-performs : goal.exec-returns-in_err-value-in-Emit-clause-performs
 exec-returns-in_err-value-in-Emit-clause-performs g t c =
-    rw c.in-Emit.is (exit_halt _ c.from_residual-in_err-value-in-Emit.ensures.1 c.in_err-value-in-Emit.ensures.performs)
+    rw c.in-Emit.is (exit_left _ (err_from_is_err_and c.from_residual-in_err-value-in-Emit.result c.from_residual-in_err-value-in-Emit.ensures.1).1 c.in_err-value-in-Emit.ensures.performs)
 
 pub exec-returns-in_err-test-in-If-clause-performs : goal.exec-returns-in_err-test-in-If-clause-performs
 exec-returns-in_err-test-in-If-clause-performs g t c =
     rw c.in-If.is
     (along (kind_means-if (environment c.args.context.now c.args.below) c.args.line c.in-If.cond c.in-If.first c.in-If.second)
-    (exit_halt _ c.from_residual-in_err-test-in-If.ensures.1 c.in_err-test-in-If.ensures.performs))
+    (exit_left _ (err_from_is_err_and c.from_residual-in_err-test-in-If.result c.from_residual-in_err-test-in-If.ensures.1).1 c.in_err-test-in-If.ensures.performs))
 
 pub exec-exec_block-requires : goal.exec-exec_block-requires
 exec-exec_block-requires g t c =
-    let m : t ≡ weight_before (map function c.args.context.now.functions.now) c.args.below + 2 * kind_weight c.args.kind.now = sym c.decreases in
+    let m : t ≡ weight_before (map function c.args.context.now.functions.now) c.args.below + 2 * kind_weight c.args.kind.now + 1 = sym c.decreases in
     let e = ap kind_weight c.in-If.is ∙ kind_weight-if c.in-If.cond c.in-If.first c.in-If.second in
     let d = ap stmts_weight c.deref.ensures.value in
     let k : weight_before (map function c.args.context.now.functions.now) c.args.below + 2 * stmts_weight c.deref.result.now < t = omega (arith, m, e, d) in
     λ κs h. (k, (h, (rw c.test.ensures.cells c.requires.within, (c.requires.short, omega (arith, c.requires.room)))))
 
-pub exec-exec_block-requires-else-branch : goal.exec-exec_block-requires-else-branch
-exec-exec_block-requires-else-branch g t c =
-    let m : t ≡ weight_before (map function c.args.context.now.functions.now) c.args.below + 2 * kind_weight c.args.kind.now = sym c.decreases in
+pub exec-exec_block-requires-else-is_empty : goal.exec-exec_block-requires-else-is_empty
+exec-exec_block-requires-else-is_empty g t c =
+    let m : t ≡ weight_before (map function c.args.context.now.functions.now) c.args.below + 2 * kind_weight c.args.kind.now + 1 = sym c.decreases in
     let e = ap kind_weight c.in-If.is ∙ kind_weight-if c.in-If.cond c.in-If.first c.in-If.second in
-    let d = ap stmts_weight c.deref-else-branch.ensures.value in
-    let k : weight_before (map function c.args.context.now.functions.now) c.args.below + 2 * stmts_weight c.deref-else-branch.result.now < t = omega (arith, m, e, d) in
+    let d = ap stmts_weight c.deref-else-is_empty.ensures.value in
+    let k : weight_before (map function c.args.context.now.functions.now) c.args.below + 2 * stmts_weight c.deref-else-is_empty.result.now < t = omega (arith, m, e, d) in
     λ κs h. (k, (h, (rw c.test.ensures.cells c.requires.within, (c.requires.short, omega (arith, c.requires.room)))))
 
 pub exec-returns-in_err-low-in-For-clause-performs : goal.exec-returns-in_err-low-in-For-clause-performs
 exec-returns-in_err-low-in-For-clause-performs g t c =
     rw c.in-For.is
     (along (kind_means-for (environment c.args.context.now c.args.below) c.args.line c.in-For.slot c.in-For.low c.in-For.high c.in-For.body)
-    (exit_halt _ c.from_residual-in_err-low-in-For.ensures.1 c.in_err-low-in-For.ensures.performs))
+    (exit_left _ (err_from_is_err_and c.from_residual-in_err-low-in-For.result c.from_residual-in_err-low-in-For.ensures.1).1 c.in_err-low-in-For.ensures.performs))
 
 pub exec-returns-in_err-high-in-For-clause-performs : goal.exec-returns-in_err-high-in-For-clause-performs
 exec-returns-in_err-high-in-For-clause-performs g t c =
     rw c.in-For.is
     (along (kind_means-for (environment c.args.context.now c.args.below) c.args.line c.in-For.slot c.in-For.low c.in-For.high c.in-For.body)
-    (then_value _ g.met.M.Memory.laws c.in_ok-low-in-For.ensures.performs (exit_halt _ c.from_residual-in_err-high-in-For.ensures.1 c.in_err-high-in-For.ensures.performs)))
+    (then_value _ g.met.M.Memory.laws c.in_ok-low-in-For.ensures.performs (exit_left _ (err_from_is_err_and c.from_residual-in_err-high-in-For.result c.from_residual-in_err-high-in-For.ensures.1).1 c.in_err-high-in-For.ensures.performs)))
 
 pub exec-exec_for-requires : goal.exec-exec_for-requires
 exec-exec_for-requires g t c =
-    let m : t ≡ weight_before (map function c.args.context.now.functions.now) c.args.below + 2 * kind_weight c.args.kind.now = sym c.decreases in
+    let m : t ≡ weight_before (map function c.args.context.now.functions.now) c.args.below + 2 * kind_weight c.args.kind.now + 1 = sym c.decreases in
     let e = ap kind_weight c.in-For.is ∙ kind_weight-for c.in-For.slot c.in-For.low c.in-For.high c.in-For.body in
     let d = ap stmts_weight c.deref-in-For.ensures.value in
     let k : weight_before (map function c.args.context.now.functions.now) c.args.below + 2 * stmts_weight c.deref-in-For.result.now + 1 < t = omega (arith, m, e, d) in
@@ -284,16 +278,16 @@ exec-exec_for-requires g t c =
 
 pub exec-exec_while-requires : goal.exec-exec_while-requires
 exec-exec_while-requires g t c =
-    let m : t ≡ weight_before (map function c.args.context.now.functions.now) c.args.below + 2 * kind_weight c.args.kind.now = sym c.decreases in
+    let m : t ≡ weight_before (map function c.args.context.now.functions.now) c.args.below + 2 * kind_weight c.args.kind.now + 1 = sym c.decreases in
     let e = ap kind_weight c.in-While.is ∙ kind_weight-while c.in-While.cond c.in-While.most c.in-While.body in
     let d = ap stmts_weight c.deref-in-While.ensures.value in
-    let k : weight_before (map function c.args.context.now.functions.now) c.args.below + 2 * (cond_weight c.in-While.cond + stmts_weight c.deref-in-While.result.now) + 1 < t = omega (arith, m, e, d) in
+    let k : weight_before (map function c.args.context.now.functions.now) c.args.below + 2 * (cond_weight c.in-While.cond + stmts_weight c.deref-in-While.result.now) + 2 < t = omega (arith, m, e, d) in
     λ κs h. (k, (h, (c.requires.within, (c.requires.short, omega (arith, c.requires.room)))))
 
 pub exec-returns-in_err-call-in-Call-clause-performs : goal.exec-returns-in_err-call-in-Call-clause-performs
 exec-returns-in_err-call-in-Call-clause-performs g t c =
     rw (c.in-Call.is, ← c.deref-in-Call.ensures.value)
-    (exit_halt _ c.from_residual-in_err-call-in-Call.ensures.1 c.in_err-call-in-Call.ensures.performs)
+    (exit_left _ (err_from_is_err_and c.from_residual-in_err-call-in-Call.result c.from_residual-in_err-call-in-Call.ensures.1).1 c.in_err-call-in-Call.ensures.performs)
 
 pub exec-returns-in_ok-value-in-Let-clause-performs : goal.exec-returns-in_ok-value-in-Let-clause-performs
 exec-returns-in_ok-value-in-Let-clause-performs g t c =
@@ -336,7 +330,7 @@ exec-returns-in_ok-value-in-Emit-clause-performs g t c =
 
 pub exec-returns-in-Fail-clause-performs : goal.exec-returns-in-Fail-clause-performs
 exec-returns-in-Fail-clause-performs g t c =
-    rw c.in-Fail.is (traps_now g.met.M.Memory.laws _ _ _ _)
+    rw (c.in-Fail.is, c.trap.ensures) (traps_now g.met.M.Memory.laws _ _ _ _)
 
 pub exec-returns-then-branch-clause-performs : goal.exec-returns-then-branch-clause-performs
 exec-returns-then-branch-clause-performs g t c =
@@ -344,11 +338,18 @@ exec-returns-then-branch-clause-performs g t c =
     (along (kind_means-if (environment c.args.context.now c.args.below) c.args.line c.in-If.cond c.in-If.first c.in-If.second)
     (then_value _ g.met.M.Memory.laws c.in_ok-test-in-If.ensures.performs (rw (c.if-branch.true, ← c.deref.ensures.value) c.exec_block.ensures.performs)))
 
-pub exec-returns-else-branch-clause-performs : goal.exec-returns-else-branch-clause-performs
-exec-returns-else-branch-clause-performs g t c =
+pub exec-returns-then-is_empty-clause-performs : goal.exec-returns-then-is_empty-clause-performs
+exec-returns-then-is_empty-clause-performs g t c =
+    let e : length c.in-If.second.items ≡ 0 = search rules in
     rw c.in-If.is
     (along (kind_means-if (environment c.args.context.now c.args.below) c.args.line c.in-If.cond c.in-If.first c.in-If.second)
-    (then_value _ g.met.M.Memory.laws c.in_ok-test-in-If.ensures.performs (rw (c.if-branch.false, ← c.deref-else-branch.ensures.value) c.exec_block-else-branch.ensures.performs)))
+    (then_value _ g.met.M.Memory.laws c.in_ok-test-in-If.ensures.performs (rw c.if-branch.false (along (no_statements (environment c.args.context.now c.args.below) c.in-If.second.items e) (at_once g.met.M.Memory.laws _ _ _)))))
+
+pub exec-returns-else-is_empty-clause-performs : goal.exec-returns-else-is_empty-clause-performs
+exec-returns-else-is_empty-clause-performs g t c =
+    rw c.in-If.is
+    (along (kind_means-if (environment c.args.context.now c.args.below) c.args.line c.in-If.cond c.in-If.first c.in-If.second)
+    (then_value _ g.met.M.Memory.laws c.in_ok-test-in-If.ensures.performs (rw (c.if-branch.false, ← c.deref-else-is_empty.ensures.value) c.exec_block-else-is_empty.ensures.performs)))
 
 pub exec-returns-in_ok-high-in-For-clause-performs : goal.exec-returns-in_ok-high-in-For-clause-performs
 exec-returns-in_ok-high-in-For-clause-performs g t c =
@@ -378,14 +379,14 @@ pub exec_block-exec-requires : goal.exec_block-exec-requires
 exec_block-exec-requires g t c =
     let m : t ≡ weight_before (map function c.args.context.now.functions.now) c.args.below + 2 * stmts_weight c.args.statements.now = sym c.decreases in
     let w = weight_at c.args.statements.now c.loop-statement.statement-index c.statement-item.result c.loop-statement-test.true c.statement-item.is in
-    let k : weight_before (map function c.args.context.now.functions.now) c.args.below + 2 * kind_weight c.statement-item.result.kind < t = omega (arith, m, w) in
+    let k : weight_before (map function c.args.context.now.functions.now) c.args.below + 2 * kind_weight c.statement-item.result.kind + 1 < t = omega (arith, m, w) in
     λ κs h. (k, (h, (rw c.loop-statement.invariant.cells c.requires.within, (c.requires.short, omega (arith, c.requires.room)))))
 
 pub exec_block-returns-in_err-exec-clause-performs : goal.exec_block-returns-in_err-exec-clause-performs
 exec_block-returns-in_err-exec-clause-performs g t c =
     c.loop-statement.invariant.goes.with _ _ _
     (along (next_statement (environment c.args.context.now c.args.below) c.args.statements.now c.loop-statement.statement-index c.statement-item.result c.loop-statement-test.true c.statement-item.is)
-    (exit_halt _ c.from_residual.ensures.1 c.in_err-exec.ensures.performs))
+    (exit_left _ (err_from_is_err_and c.from_residual.result c.from_residual.ensures.1).1 c.in_err-exec.ensures.performs))
 
 pub exec_block-loop-statement-preserved : goal.exec_block-loop-statement-preserved
 exec_block-loop-statement-preserved g t c =
@@ -401,7 +402,7 @@ exec_blocks-returns-in_err-turn-clause-performs g t c =
     let k0 = rw (to_z-of_z w64 c.args.low c.ranges.low, to_z-of_z w64 c.args.high c.ranges.high, to_z-of_z w64 c.args.start c.ranges.start) at c.loop-k.invariant.goes in
     let h : i <ℤ c.args.high = grind (arith, ints) in
     let k1 = still (block_turn (environment c.args.context.now c.args.below) c.args.body.now c.args.next_line c.args.next.now i c.args.high v c.args.block_slot c.args.carried_slot h) k0 in
-    k1.with _ _ _ (exit_halt (λ _. sets c.args.block_slot i >> (sets c.args.carried_slot v >> after_sets (environment c.args.context.now c.args.below) c.args.body.now c.args.next_line c.args.next.now i c.args.high c.args.block_slot c.args.carried_slot)) c.from_residual.ensures.1 c.in_err-turn.ensures.performs)
+    k1.with _ _ _ (exit_left (λ _. sets c.args.block_slot i >> (sets c.args.carried_slot v >> after_sets (environment c.args.context.now c.args.below) c.args.body.now c.args.next_line c.args.next.now i c.args.high c.args.block_slot c.args.carried_slot)) (err_from_is_err_and c.from_residual.result c.from_residual.ensures.1).1 c.in_err-turn.ensures.performs)
 
 pub exec_blocks-returns-in_err-exec_block-clause-performs : goal.exec_blocks-returns-in_err-exec_block-clause-performs
 exec_blocks-returns-in_err-exec_block-clause-performs g t c =
@@ -411,7 +412,7 @@ exec_blocks-returns-in_err-exec_block-clause-performs g t c =
     let h : i <ℤ c.args.high = grind (arith, ints) in
     let k1 = still (block_turn (environment c.args.context.now c.args.below) c.args.body.now c.args.next_line c.args.next.now i c.args.high v c.args.block_slot c.args.carried_slot h) k0 in
     let k2 = steps (λ _. sets c.args.block_slot i >> (sets c.args.carried_slot v >> after_sets (environment c.args.context.now c.args.below) c.args.body.now c.args.next_line c.args.next.now i c.args.high c.args.block_slot c.args.carried_slot)) g.met.M.Memory.laws k1 c.in_ok-turn.ensures.performs in
-    k2.with _ _ _ (exit_halt (λ _. expr_means (environment c.args.context.now c.args.below) c.args.next_line c.args.next.now >>= λ w. fold_blocks (int_gap (i +ℤ pos 1) c.args.high) (i +ℤ pos 1) c.args.block_slot c.args.carried_slot w (block_value (environment c.args.context.now c.args.below) (block c.args.body.now) c.args.next_line (expression c.args.next.now))) c.from_residual-in_err-exec_block.ensures.1 (rw (c.write_slot-in-loop-k.ensures, c.write_slot.ensures) at c.in_err-exec_block.ensures.performs))
+    k2.with _ _ _ (exit_left (λ _. expr_means (environment c.args.context.now c.args.below) c.args.next_line c.args.next.now >>= λ w. fold_blocks (int_gap (i +ℤ pos 1) c.args.high) (i +ℤ pos 1) c.args.block_slot c.args.carried_slot w (block_value (environment c.args.context.now c.args.below) (block c.args.body.now) c.args.next_line (expression c.args.next.now))) (err_from_is_err_and c.from_residual-in_err-exec_block.result c.from_residual-in_err-exec_block.ensures.1).1 (rw (c.write_slot-in-loop-k.ensures, c.write_slot.ensures) at c.in_err-exec_block.ensures.performs))
 
 pub exec_blocks-returns-in_err-value-clause-performs : goal.exec_blocks-returns-in_err-value-clause-performs
 exec_blocks-returns-in_err-value-clause-performs g t c =
@@ -422,7 +423,7 @@ exec_blocks-returns-in_err-value-clause-performs g t c =
     let k1 = still (block_turn (environment c.args.context.now c.args.below) c.args.body.now c.args.next_line c.args.next.now i c.args.high v c.args.block_slot c.args.carried_slot h) k0 in
     let k2 = steps (λ _. sets c.args.block_slot i >> (sets c.args.carried_slot v >> after_sets (environment c.args.context.now c.args.below) c.args.body.now c.args.next_line c.args.next.now i c.args.high c.args.block_slot c.args.carried_slot)) g.met.M.Memory.laws k1 c.in_ok-turn.ensures.performs in
     let k3 = steps (λ _. expr_means (environment c.args.context.now c.args.below) c.args.next_line c.args.next.now >>= λ w. fold_blocks (int_gap (i +ℤ pos 1) c.args.high) (i +ℤ pos 1) c.args.block_slot c.args.carried_slot w (block_value (environment c.args.context.now c.args.below) (block c.args.body.now) c.args.next_line (expression c.args.next.now))) g.met.M.Memory.laws k2 (rw (c.write_slot-in-loop-k.ensures, c.write_slot.ensures) at c.in_ok-exec_block.ensures.performs) in
-    k3.with _ _ _ (exit_halt (λ w. fold_blocks (int_gap (i +ℤ pos 1) c.args.high) (i +ℤ pos 1) c.args.block_slot c.args.carried_slot w (block_value (environment c.args.context.now c.args.below) (block c.args.body.now) c.args.next_line (expression c.args.next.now))) c.from_residual-in_err-value.ensures.1 c.in_err-value.ensures.performs)
+    k3.with _ _ _ (exit_left (λ w. fold_blocks (int_gap (i +ℤ pos 1) c.args.high) (i +ℤ pos 1) c.args.block_slot c.args.carried_slot w (block_value (environment c.args.context.now c.args.below) (block c.args.body.now) c.args.next_line (expression c.args.next.now))) (err_from_is_err_and c.from_residual-in_err-value.result c.from_residual-in_err-value.ensures.1).1 c.in_err-value.ensures.performs)
 
 pub exec_blocks-loop-k-preserved : goal.exec_blocks-loop-k-preserved
 exec_blocks-loop-k-preserved g t c =
@@ -459,7 +460,7 @@ exec_fold-eval-requires g t c =
 
 pub exec_fold-returns-in_err-start-clause-performs : goal.exec_fold-returns-in_err-start-clause-performs
 exec_fold-returns-in_err-start-clause-performs g t c =
-    (exit_halt _ c.from_residual.ensures.1 c.in_err-start.ensures.performs)
+    (exit_left _ (err_from_is_err_and c.from_residual.result c.from_residual.ensures.1).1 c.in_err-start.ensures.performs)
 
 pub exec_fold-eval-requires-2 : goal.exec_fold-eval-requires-2
 exec_fold-eval-requires-2 g t c =
@@ -469,7 +470,7 @@ exec_fold-eval-requires-2 g t c =
 
 pub exec_fold-returns-in_err-low-clause-performs : goal.exec_fold-returns-in_err-low-clause-performs
 exec_fold-returns-in_err-low-clause-performs g t c =
-    (then_value _ g.met.M.Memory.laws c.in_ok-start.ensures.performs (exit_halt _ c.from_residual-in_err-low.ensures.1 c.in_err-low.ensures.performs))
+    (then_value _ g.met.M.Memory.laws c.in_ok-start.ensures.performs (exit_left _ (err_from_is_err_and c.from_residual-in_err-low.result c.from_residual-in_err-low.ensures.1).1 c.in_err-low.ensures.performs))
 
 pub exec_fold-eval-requires-3 : goal.exec_fold-eval-requires-3
 exec_fold-eval-requires-3 g t c =
@@ -479,7 +480,7 @@ exec_fold-eval-requires-3 g t c =
 
 pub exec_fold-returns-in_err-high-clause-performs : goal.exec_fold-returns-in_err-high-clause-performs
 exec_fold-returns-in_err-high-clause-performs g t c =
-    (then_value _ g.met.M.Memory.laws c.in_ok-start.ensures.performs (then_value _ g.met.M.Memory.laws c.in_ok-low.ensures.performs (exit_halt _ c.from_residual-in_err-high.ensures.1 c.in_err-high.ensures.performs)))
+    (then_value _ g.met.M.Memory.laws c.in_ok-start.ensures.performs (then_value _ g.met.M.Memory.laws c.in_ok-low.ensures.performs (exit_left _ (err_from_is_err_and c.from_residual-in_err-high.result c.from_residual-in_err-high.ensures.1).1 c.in_err-high.ensures.performs)))
 
 pub exec_fold-returns-then-are_too_many-clause-performs : goal.exec_fold-returns-then-are_too_many-clause-performs
 exec_fold-returns-then-are_too_many-clause-performs g t c =
@@ -489,7 +490,7 @@ exec_fold-returns-then-are_too_many-clause-performs g t c =
     (then_value _ g.met.M.Memory.laws c.in_ok-start.ensures.performs
     (then_value _ g.met.M.Memory.laws c.in_ok-low.ensures.performs
     (then_value _ g.met.M.Memory.laws c.in_ok-high.ensures.performs
-    (rw e (traps_now g.met.M.Memory.laws _ _ _ _)))))
+    (rw (e, c.trap.ensures) (traps_now g.met.M.Memory.laws _ _ _ _)))))
 
 pub exec_fold-exec_blocks-requires : goal.exec_fold-exec_blocks-requires
 exec_fold-exec_blocks-requires g t c =
@@ -508,7 +509,7 @@ exec_fold-returns-in_err-last-clause-performs g t c =
     (then_value _ g.met.M.Memory.laws c.in_ok-start.ensures.performs
     (then_value _ g.met.M.Memory.laws c.in_ok-low.ensures.performs
     (then_value _ g.met.M.Memory.laws c.in_ok-high.ensures.performs
-    (rw e (exit_halt _ c.from_residual-in_err-last.ensures.1 p)))))
+    (rw e (exit_left _ (err_from_is_err_and c.from_residual-in_err-last.result c.from_residual-in_err-last.ensures.1).1 p)))))
 
 pub exec_fold-returns-clause-performs : goal.exec_fold-returns-clause-performs
 exec_fold-returns-clause-performs g t c =
@@ -532,7 +533,7 @@ exec_for-returns-in_err-turn-clause-performs g t c =
     let body : Meaning (Unit {0}) = stmts_mean (environment c.args.context.now c.args.below) c.args.body.now in
     let rest : Meaning (Unit {0}) = for_turns (int_gap (i +ℤ pos 1) c.args.high) (i +ℤ pos 1) c.args.slot body in
     let k1 = still (for_turn i c.args.high c.args.slot body h) k in
-    k1.with _ _ _ (exit_halt (λ _. sets c.args.slot i >> (body >> rest)) c.from_residual.ensures.1 c.in_err-turn.ensures.performs)
+    k1.with _ _ _ (exit_left (λ _. sets c.args.slot i >> (body >> rest)) (err_from_is_err_and c.from_residual.result c.from_residual.ensures.1).1 c.in_err-turn.ensures.performs)
 
 pub exec_for-returns-in_err-exec_block-clause-performs : goal.exec_for-returns-in_err-exec_block-clause-performs
 exec_for-returns-in_err-exec_block-clause-performs g t c =
@@ -543,7 +544,7 @@ exec_for-returns-in_err-exec_block-clause-performs g t c =
     let rest : Meaning (Unit {0}) = for_turns (int_gap (i +ℤ pos 1) c.args.high) (i +ℤ pos 1) c.args.slot body in
     let k1 = still (for_turn i c.args.high c.args.slot body h) k in
     let k2 = steps (λ _. sets c.args.slot i >> (body >> rest)) g.met.M.Memory.laws k1 c.in_ok-turn.ensures.performs in
-    k2.with _ _ _ (exit_halt (λ _. rest) c.from_residual-in_err-exec_block.ensures.1 (rw c.write_slot.ensures at c.in_err-exec_block.ensures.performs))
+    k2.with _ _ _ (exit_left (λ _. rest) (err_from_is_err_and c.from_residual-in_err-exec_block.result c.from_residual-in_err-exec_block.ensures.1).1 (rw c.write_slot.ensures at c.in_err-exec_block.ensures.performs))
 
 pub exec_for-loop-i-preserved : goal.exec_for-loop-i-preserved
 exec_for-loop-i-preserved g t c =
@@ -563,42 +564,42 @@ exec_for-loop-i-preserved g t c =
 
 pub exec_while-returns-in_err-test-clause-performs : goal.exec_while-returns-in_err-test-clause-performs
 exec_while-returns-in_err-test-clause-performs g t c =
-    c.loop-left.invariant.goes.with _ _ _
-    (along (while_is c.args.line c.loop-left.left (cond_means (environment c.args.context.now c.args.below) c.args.line c.args.cond.now) (stmts_mean (environment c.args.context.now c.args.below) c.args.body.now))
-    (exit_halt _ c.from_residual.ensures.1 c.in_err-test.ensures.performs))
+    c.loop-halt.invariant.goes.with _ _ _
+    (along (while_is c.args.line c.loop-halt.left (cond_means (environment c.args.context.now c.args.below) c.args.line c.args.cond.now) (stmts_mean (environment c.args.context.now c.args.below) c.args.body.now))
+    (exit_left _ (err_from_is_err_and c.from_residual.result c.from_residual.ensures.1).1 c.in_err-test.ensures.performs))
 
 pub exec_while-returns-then-left-eq0-clause-performs : goal.exec_while-returns-then-left-eq0-clause-performs
 exec_while-returns-then-left-eq0-clause-performs g t c =
-    (still (while_last c.args.line c.loop-left.left (cond_means (environment c.args.context.now c.args.below) c.args.line c.args.cond.now) (stmts_mean (environment c.args.context.now c.args.below) c.args.body.now) c.if-left-eq0.true) (rw c.if-branch.true at (steps _ g.met.M.Memory.laws (still (while_is c.args.line c.loop-left.left (cond_means (environment c.args.context.now c.args.below) c.args.line c.args.cond.now) (stmts_mean (environment c.args.context.now c.args.below) c.args.body.now)) c.loop-left.invariant.goes) c.in_ok-test.ensures.performs))).with _ _ _ (traps_now g.met.M.Memory.laws _ _ _ _)
+    (still (while_last c.args.line c.loop-halt.left (cond_means (environment c.args.context.now c.args.below) c.args.line c.args.cond.now) (stmts_mean (environment c.args.context.now c.args.below) c.args.body.now) c.if-left-eq0.true) (rw c.if-branch.true at (steps _ g.met.M.Memory.laws (still (while_is c.args.line c.loop-halt.left (cond_means (environment c.args.context.now c.args.below) c.args.line c.args.cond.now) (stmts_mean (environment c.args.context.now c.args.below) c.args.body.now)) c.loop-halt.invariant.goes) c.in_ok-test.ensures.performs))).with _ _ _ (rw c.trap.ensures (traps_now g.met.M.Memory.laws _ _ _ _))
 
 pub exec_while-returns-in_err-turn-clause-performs : goal.exec_while-returns-in_err-turn-clause-performs
 exec_while-returns-in_err-turn-clause-performs g t c =
-    (still (while_turn c.args.line c.loop-left.left (cond_means (environment c.args.context.now c.args.below) c.args.line c.args.cond.now) (stmts_mean (environment c.args.context.now c.args.below) c.args.body.now) c.if-left-eq0.false) (rw c.if-branch.true at (steps _ g.met.M.Memory.laws (still (while_is c.args.line c.loop-left.left (cond_means (environment c.args.context.now c.args.below) c.args.line c.args.cond.now) (stmts_mean (environment c.args.context.now c.args.below) c.args.body.now)) c.loop-left.invariant.goes) c.in_ok-test.ensures.performs))).with _ _ _ (exit_halt (λ _. stmts_mean (environment c.args.context.now c.args.below) c.args.body.now >> while_turns c.args.line (c.loop-left.left - 1) (cond_means (environment c.args.context.now c.args.below) c.args.line c.args.cond.now) (stmts_mean (environment c.args.context.now c.args.below) c.args.body.now)) c.from_residual-in_err-turn.ensures.1 c.in_err-turn.ensures.performs)
+    (still (while_turn c.args.line c.loop-halt.left (cond_means (environment c.args.context.now c.args.below) c.args.line c.args.cond.now) (stmts_mean (environment c.args.context.now c.args.below) c.args.body.now) c.if-left-eq0.false) (rw c.if-branch.true at (steps _ g.met.M.Memory.laws (still (while_is c.args.line c.loop-halt.left (cond_means (environment c.args.context.now c.args.below) c.args.line c.args.cond.now) (stmts_mean (environment c.args.context.now c.args.below) c.args.body.now)) c.loop-halt.invariant.goes) c.in_ok-test.ensures.performs))).with _ _ _ (exit_left (λ _. stmts_mean (environment c.args.context.now c.args.below) c.args.body.now >> while_turns c.args.line (c.loop-halt.left - 1) (cond_means (environment c.args.context.now c.args.below) c.args.line c.args.cond.now) (stmts_mean (environment c.args.context.now c.args.below) c.args.body.now)) (err_from_is_err_and c.from_residual-in_err-turn.result c.from_residual-in_err-turn.ensures.1).1 c.in_err-turn.ensures.performs)
 
-pub exec_while-loop-left-preserved : goal.exec_while-loop-left-preserved
-exec_while-loop-left-preserved g t c =
+pub exec_while-loop-halt-preserved : goal.exec_while-loop-halt-preserved
+exec_while-loop-halt-preserved g t c =
     record {
-      goes = steps (λ _. while_turns c.args.line (c.loop-left.left - 1) (cond_means (environment c.args.context.now c.args.below) c.args.line c.args.cond.now) (stmts_mean (environment c.args.context.now c.args.below) c.args.body.now)) g.met.M.Memory.laws (steps (λ _. stmts_mean (environment c.args.context.now c.args.below) c.args.body.now >> while_turns c.args.line (c.loop-left.left - 1) (cond_means (environment c.args.context.now c.args.below) c.args.line c.args.cond.now) (stmts_mean (environment c.args.context.now c.args.below) c.args.body.now)) g.met.M.Memory.laws (still (while_turn c.args.line c.loop-left.left (cond_means (environment c.args.context.now c.args.below) c.args.line c.args.cond.now) (stmts_mean (environment c.args.context.now c.args.below) c.args.body.now) c.if-left-eq0.false) (rw c.if-branch.true at (steps _ g.met.M.Memory.laws (still (while_is c.args.line c.loop-left.left (cond_means (environment c.args.context.now c.args.below) c.args.line c.args.cond.now) (stmts_mean (environment c.args.context.now c.args.below) c.args.body.now)) c.loop-left.invariant.goes) c.in_ok-test.ensures.performs))) c.in_ok-turn.ensures.performs) c.in_ok-exec_block.ensures.performs;
-      cells = c.in_ok-exec_block.ensures.cells ∙ c.in_ok-turn.ensures.cells ∙ c.in_ok-test.ensures.cells ∙ c.loop-left.invariant.cells;
+      goes = steps (λ _. while_turns c.args.line (c.loop-halt.left - 1) (cond_means (environment c.args.context.now c.args.below) c.args.line c.args.cond.now) (stmts_mean (environment c.args.context.now c.args.below) c.args.body.now)) g.met.M.Memory.laws (steps (λ _. stmts_mean (environment c.args.context.now c.args.below) c.args.body.now >> while_turns c.args.line (c.loop-halt.left - 1) (cond_means (environment c.args.context.now c.args.below) c.args.line c.args.cond.now) (stmts_mean (environment c.args.context.now c.args.below) c.args.body.now)) g.met.M.Memory.laws (still (while_turn c.args.line c.loop-halt.left (cond_means (environment c.args.context.now c.args.below) c.args.line c.args.cond.now) (stmts_mean (environment c.args.context.now c.args.below) c.args.body.now) c.if-left-eq0.false) (rw c.if-branch.true at (steps _ g.met.M.Memory.laws (still (while_is c.args.line c.loop-halt.left (cond_means (environment c.args.context.now c.args.below) c.args.line c.args.cond.now) (stmts_mean (environment c.args.context.now c.args.below) c.args.body.now)) c.loop-halt.invariant.goes) c.in_ok-test.ensures.performs))) c.in_ok-turn.ensures.performs) c.in_ok-exec_block.ensures.performs;
+      cells = c.in_ok-exec_block.ensures.cells ∙ c.in_ok-turn.ensures.cells ∙ c.in_ok-test.ensures.cells ∙ c.loop-halt.invariant.cells;
     }
 
 pub exec_while-returns-in_err-exec_block-clause-performs : goal.exec_while-returns-in_err-exec_block-clause-performs
 exec_while-returns-in_err-exec_block-clause-performs g t c =
-    (steps (λ _. stmts_mean (environment c.args.context.now c.args.below) c.args.body.now >> while_turns c.args.line (c.loop-left.left - 1) (cond_means (environment c.args.context.now c.args.below) c.args.line c.args.cond.now) (stmts_mean (environment c.args.context.now c.args.below) c.args.body.now)) g.met.M.Memory.laws (still (while_turn c.args.line c.loop-left.left (cond_means (environment c.args.context.now c.args.below) c.args.line c.args.cond.now) (stmts_mean (environment c.args.context.now c.args.below) c.args.body.now) c.if-left-eq0.false) (rw c.if-branch.true at (steps _ g.met.M.Memory.laws (still (while_is c.args.line c.loop-left.left (cond_means (environment c.args.context.now c.args.below) c.args.line c.args.cond.now) (stmts_mean (environment c.args.context.now c.args.below) c.args.body.now)) c.loop-left.invariant.goes) c.in_ok-test.ensures.performs))) c.in_ok-turn.ensures.performs).with _ _ _ (exit_halt (λ _. while_turns c.args.line (c.loop-left.left - 1) (cond_means (environment c.args.context.now c.args.below) c.args.line c.args.cond.now) (stmts_mean (environment c.args.context.now c.args.below) c.args.body.now)) c.from_residual-in_err-exec_block.ensures.1 c.in_err-exec_block.ensures.performs)
+    (steps (λ _. stmts_mean (environment c.args.context.now c.args.below) c.args.body.now >> while_turns c.args.line (c.loop-halt.left - 1) (cond_means (environment c.args.context.now c.args.below) c.args.line c.args.cond.now) (stmts_mean (environment c.args.context.now c.args.below) c.args.body.now)) g.met.M.Memory.laws (still (while_turn c.args.line c.loop-halt.left (cond_means (environment c.args.context.now c.args.below) c.args.line c.args.cond.now) (stmts_mean (environment c.args.context.now c.args.below) c.args.body.now) c.if-left-eq0.false) (rw c.if-branch.true at (steps _ g.met.M.Memory.laws (still (while_is c.args.line c.loop-halt.left (cond_means (environment c.args.context.now c.args.below) c.args.line c.args.cond.now) (stmts_mean (environment c.args.context.now c.args.below) c.args.body.now)) c.loop-halt.invariant.goes) c.in_ok-test.ensures.performs))) c.in_ok-turn.ensures.performs).with _ _ _ (exit_left (λ _. while_turns c.args.line (c.loop-halt.left - 1) (cond_means (environment c.args.context.now c.args.below) c.args.line c.args.cond.now) (stmts_mean (environment c.args.context.now c.args.below) c.args.body.now)) (err_from_is_err_and c.from_residual-in_err-exec_block.result c.from_residual-in_err-exec_block.ensures.1).1 c.in_err-exec_block.ensures.performs)
 
 pub exec_while-returns-clause-performs : goal.exec_while-returns-clause-performs
 exec_while-returns-clause-performs g t c =
-    (rw c.if-branch.false at (steps _ g.met.M.Memory.laws (still (while_is c.args.line c.loop-left.left (cond_means (environment c.args.context.now c.args.below) c.args.line c.args.cond.now) (stmts_mean (environment c.args.context.now c.args.below) c.args.body.now)) c.loop-left.invariant.goes) c.in_ok-test.ensures.performs)).with _ _ _ (at_once g.met.M.Memory.laws _ _ _)
+    (rw c.if-branch.false at (steps _ g.met.M.Memory.laws (still (while_is c.args.line c.loop-halt.left (cond_means (environment c.args.context.now c.args.below) c.args.line c.args.cond.now) (stmts_mean (environment c.args.context.now c.args.below) c.args.body.now)) c.loop-halt.invariant.goes) c.in_ok-test.ensures.performs)).with _ _ _ (at_once g.met.M.Memory.laws _ _ _)
 
 pub pass_arguments-returns-in_err-value-in-Some-clause-performs : goal.pass_arguments-returns-in_err-value-in-Some-clause-performs
 pass_arguments-returns-in_err-value-in-Some-clause-performs g t c =
     let q = err_from_is_err_and c.from_residual.result c.from_residual.ensures.1 in
-    rw (q.1, q.2, c.in-Some.ensures.cases.0) (then_halt _ c.in_err-value-in-Some.ensures.performs)
+    rw (q.1, c.in-Some.ensures.cases.0) (then_halt _ c.in_err-value-in-Some.ensures.performs)
 
 pub pass_arguments-returns-in_err-pass_arguments-in-Some-clause-performs : goal.pass_arguments-returns-in_err-pass_arguments-in-Some-clause-performs
 pass_arguments-returns-in_err-pass_arguments-in-Some-clause-performs g t c =
     let q = err_from_is_err_and c.from_residual-in_err-pass_arguments-in-Some.result c.from_residual-in_err-pass_arguments-in-Some.ensures.1 in
-    rw (q.1, q.2, c.in-Some.ensures.cases.0) (then_value _ g.met.M.Memory.laws c.in_ok-value-in-Some.ensures.performs (then_halt _ c.in_err-pass_arguments-in-Some.ensures.performs))
+    rw (q.1, c.in-Some.ensures.cases.0) (then_value _ g.met.M.Memory.laws c.in_ok-value-in-Some.ensures.performs (then_halt _ c.in_err-pass_arguments-in-Some.ensures.performs))
 
 pub pass_arguments-returns-in-None-clause-performs : goal.pass_arguments-returns-in-None-clause-performs
 pass_arguments-returns-in-None-clause-performs g t c =
@@ -614,24 +615,33 @@ pass_arguments-returns-in_ok-pass_arguments-in-Some-clause-performs g t c =
 
 pub test-returns-in_err-x-in-Compare-clause-performs : goal.test-returns-in_err-x-in-Compare-clause-performs
 test-returns-in_err-x-in-Compare-clause-performs g t c =
-    rw (c.in-Compare.is, ← c.deref.ensures) (exit_halt _ c.from_residual.ensures.1 c.in_err-x-in-Compare.ensures.performs)
+    rw (c.in-Compare.is, ← c.deref.ensures) (exit_left _ (err_from_is_err_and c.from_residual.result c.from_residual.ensures.1).1 c.in_err-x-in-Compare.ensures.performs)
+
+pub decide-returns-in_err-x-in-Compare-clause-performs : goal.decide-returns-in_err-x-in-Compare-clause-performs
+decide-returns-in_err-x-in-Compare-clause-performs g t c =
+    rw (c.in-Compare.is, ← c.deref.ensures) (exit_left _ (err_from_is_err_and c.from_residual.result c.from_residual.ensures.1).1 c.in_err-x-in-Compare.ensures.performs)
 
 pub test-returns-in_err-y-in-Compare-clause-performs : goal.test-returns-in_err-y-in-Compare-clause-performs
 test-returns-in_err-y-in-Compare-clause-performs g t c =
     rw (c.in-Compare.is, ← c.deref.ensures, ← c.deref-in-Compare.ensures)
-    (then_value _ g.met.M.Memory.laws c.in_ok-x-in-Compare.ensures.performs (exit_halt _ c.from_residual-in_err-y-in-Compare.ensures.1 c.in_err-y-in-Compare.ensures.performs))
+    (then_value _ g.met.M.Memory.laws c.in_ok-x-in-Compare.ensures.performs (exit_left _ (err_from_is_err_and c.from_residual-in_err-y-in-Compare.result c.from_residual-in_err-y-in-Compare.ensures.1).1 c.in_err-y-in-Compare.ensures.performs))
 
-pub test-returns-in_err-test-in-Both-clause-performs : goal.test-returns-in_err-test-in-Both-clause-performs
-test-returns-in_err-test-in-Both-clause-performs g t c =
-    rw (c.in-Both.is, ← c.deref-in-Both.ensures) (exit_halt _ c.from_residual-in_err-test-in-Both.ensures.1 c.in_err-test-in-Both.ensures.performs)
+pub decide-returns-in_err-y-in-Compare-clause-performs : goal.decide-returns-in_err-y-in-Compare-clause-performs
+decide-returns-in_err-y-in-Compare-clause-performs g t c =
+    rw (c.in-Compare.is, ← c.deref.ensures, ← c.deref-in-Compare.ensures)
+    (then_value _ g.met.M.Memory.laws c.in_ok-x-in-Compare.ensures.performs (exit_left _ (err_from_is_err_and c.from_residual-in_err-y-in-Compare.result c.from_residual-in_err-y-in-Compare.ensures.1).1 c.in_err-y-in-Compare.ensures.performs))
 
-pub test-returns-in_err-test-in-Either-clause-performs : goal.test-returns-in_err-test-in-Either-clause-performs
-test-returns-in_err-test-in-Either-clause-performs g t c =
-    rw (c.in-Either.is, ← c.deref-in-Either.ensures) (exit_halt _ c.from_residual-in_err-test-in-Either.ensures.1 c.in_err-test-in-Either.ensures.performs)
+pub decide-returns-in_err-test-in-Both-clause-performs : goal.decide-returns-in_err-test-in-Both-clause-performs
+decide-returns-in_err-test-in-Both-clause-performs g t c =
+    rw (c.in-Both.is, ← c.deref-in-Both.ensures) (exit_left _ (err_from_is_err_and c.from_residual-in_err-test-in-Both.result c.from_residual-in_err-test-in-Both.ensures.1).1 c.in_err-test-in-Both.ensures.performs)
 
-pub test-returns-in_err-test-in-Not-clause-performs : goal.test-returns-in_err-test-in-Not-clause-performs
-test-returns-in_err-test-in-Not-clause-performs g t c =
-    rw (c.in-Not.is, ← c.deref-in-Not.ensures) (exit_halt _ c.from_residual-in_err-test-in-Not.ensures.1 c.in_err-test-in-Not.ensures.performs)
+pub decide-returns-in_err-test-in-Either-clause-performs : goal.decide-returns-in_err-test-in-Either-clause-performs
+decide-returns-in_err-test-in-Either-clause-performs g t c =
+    rw (c.in-Either.is, ← c.deref-in-Either.ensures) (exit_left _ (err_from_is_err_and c.from_residual-in_err-test-in-Either.result c.from_residual-in_err-test-in-Either.ensures.1).1 c.in_err-test-in-Either.ensures.performs)
+
+pub decide-returns-in_err-test-in-Not-clause-performs : goal.decide-returns-in_err-test-in-Not-clause-performs
+decide-returns-in_err-test-in-Not-clause-performs g t c =
+    rw (c.in-Not.is, ← c.deref-in-Not.ensures) (exit_left _ (err_from_is_err_and c.from_residual-in_err-test-in-Not.result c.from_residual-in_err-test-in-Not.ensures.1).1 c.in_err-test-in-Not.ensures.performs)
 
 pub test-returns-in_ok-y-in-Compare-clause-performs : goal.test-returns-in_ok-y-in-Compare-clause-performs
 test-returns-in_ok-y-in-Compare-clause-performs g t c =
@@ -640,28 +650,35 @@ test-returns-in_ok-y-in-Compare-clause-performs g t c =
     rw (c.compares.ensures, to_z-of_z w64 c.in_ok-x-in-Compare.x fx, to_z-of_z w64 c.in_ok-y-in-Compare.y fy, c.in-Compare.is, ← c.deref.ensures, ← c.deref-in-Compare.ensures)
     (then_value _ g.met.M.Memory.laws c.in_ok-x-in-Compare.ensures.performs (then_value _ g.met.M.Memory.laws c.in_ok-y-in-Compare.ensures.performs (at_once g.met.M.Memory.laws _ _ _)))
 
-pub test-returns-then-branch-clause-performs : goal.test-returns-then-branch-clause-performs
-test-returns-then-branch-clause-performs g t c =
+pub decide-returns-in_ok-y-in-Compare-clause-performs : goal.decide-returns-in_ok-y-in-Compare-clause-performs
+decide-returns-in_ok-y-in-Compare-clause-performs g t c =
+    let fx : FitsSigned w64 c.in_ok-x-in-Compare.x = search rules in
+    let fy : FitsSigned w64 c.in_ok-y-in-Compare.y = search rules in
+    rw (c.compares.ensures, to_z-of_z w64 c.in_ok-x-in-Compare.x fx, to_z-of_z w64 c.in_ok-y-in-Compare.y fy, c.in-Compare.is, ← c.deref.ensures, ← c.deref-in-Compare.ensures)
+    (then_value _ g.met.M.Memory.laws c.in_ok-x-in-Compare.ensures.performs (then_value _ g.met.M.Memory.laws c.in_ok-y-in-Compare.ensures.performs (at_once g.met.M.Memory.laws _ _ _)))
+
+pub decide-returns-then-branch-clause-performs : goal.decide-returns-then-branch-clause-performs
+decide-returns-then-branch-clause-performs g t c =
     rw (c.in-Both.is, ← c.deref-in-Both.ensures, ← c.deref-then-branch.ensures)
     (then_value _ g.met.M.Memory.laws c.in_ok-test-in-Both.ensures.performs (rw c.if-branch.true c.test-then-branch.ensures.performs))
 
-pub test-returns-else-branch-clause-performs : goal.test-returns-else-branch-clause-performs
-test-returns-else-branch-clause-performs g t c =
+pub decide-returns-else-branch-clause-performs : goal.decide-returns-else-branch-clause-performs
+decide-returns-else-branch-clause-performs g t c =
     rw (c.in-Both.is, ← c.deref-in-Both.ensures)
     (then_value _ g.met.M.Memory.laws c.in_ok-test-in-Both.ensures.performs (rw c.if-branch.false (at_once g.met.M.Memory.laws _ _ _)))
 
-pub test-returns-then-branch-2-clause-performs : goal.test-returns-then-branch-2-clause-performs
-test-returns-then-branch-2-clause-performs g t c =
+pub decide-returns-then-branch-2-clause-performs : goal.decide-returns-then-branch-2-clause-performs
+decide-returns-then-branch-2-clause-performs g t c =
     rw (c.in-Either.is, ← c.deref-in-Either.ensures)
     (then_value _ g.met.M.Memory.laws c.in_ok-test-in-Either.ensures.performs (rw c.if-branch-2.true (at_once g.met.M.Memory.laws _ _ _)))
 
-pub test-returns-else-branch-2-clause-performs : goal.test-returns-else-branch-2-clause-performs
-test-returns-else-branch-2-clause-performs g t c =
+pub decide-returns-else-branch-2-clause-performs : goal.decide-returns-else-branch-2-clause-performs
+decide-returns-else-branch-2-clause-performs g t c =
     rw (c.in-Either.is, ← c.deref-in-Either.ensures, ← c.deref-else-branch-2.ensures)
     (then_value _ g.met.M.Memory.laws c.in_ok-test-in-Either.ensures.performs (rw c.if-branch-2.false c.test-else-branch-2.ensures.performs))
 
-pub test-returns-in_ok-test-in-Not-clause-performs : goal.test-returns-in_ok-test-in-Not-clause-performs
-test-returns-in_ok-test-in-Not-clause-performs g t c =
+pub decide-returns-in_ok-test-in-Not-clause-performs : goal.decide-returns-in_ok-test-in-Not-clause-performs
+decide-returns-in_ok-test-in-Not-clause-performs g t c =
     rw (c.in-Not.is, ← c.deref-in-Not.ensures)
     (then_value _ g.met.M.Memory.laws c.in_ok-test-in-Not.ensures.performs (at_once g.met.M.Memory.laws _ _ _))
 
@@ -691,11 +708,11 @@ exec_pair-exec_block-requires-2 g t c =
 
 pub exec_pair-returns-in_err-exec_block-clause-performs : goal.exec_pair-returns-in_err-exec_block-clause-performs
 exec_pair-returns-in_err-exec_block-clause-performs g t c =
-    (exit_halt _ c.from_residual.ensures.1 (rw c.deref.ensures.value at c.in_err-exec_block.ensures.performs))
+    (exit_left _ (err_from_is_err_and c.from_residual.result c.from_residual.ensures.1).1 (rw c.deref.ensures.value at c.in_err-exec_block.ensures.performs))
 
 pub exec_pair-returns-in_err-value-clause-performs : goal.exec_pair-returns-in_err-value-clause-performs
 exec_pair-returns-in_err-value-clause-performs g t c =
-    (then_value _ g.met.M.Memory.laws (rw c.deref.ensures.value at c.in_ok-exec_block.ensures.performs) (exit_halt _ c.from_residual-in_err-value.ensures.1 c.in_err-value.ensures.performs))
+    (then_value _ g.met.M.Memory.laws (rw c.deref.ensures.value at c.in_ok-exec_block.ensures.performs) (exit_left _ (err_from_is_err_and c.from_residual-in_err-value.result c.from_residual-in_err-value.ensures.1).1 c.in_err-value.ensures.performs))
 
 pub exec_pair-returns-clause-performs : goal.exec_pair-returns-clause-performs
 exec_pair-returns-clause-performs g t c =
@@ -705,7 +722,7 @@ exec_pair-returns-clause-performs g t c =
 
 pub exec-exec_fold-requires : goal.exec-exec_fold-requires
 exec-exec_fold-requires g t c =
-    let m : t ≡ weight_before (map function c.args.context.now.functions.now) c.args.below + 2 * kind_weight c.args.kind.now = sym c.decreases in
+    let m : t ≡ weight_before (map function c.args.context.now.functions.now) c.args.below + 2 * kind_weight c.args.kind.now + 1 = sym c.decreases in
     let e = ap kind_weight c.in-Fold.is ∙ kind_weight-fold c.in-Fold.fold in
     let d = ap fold_weight c.deref-in-Fold.ensures in
     let k : weight_before (map function c.args.context.now.functions.now) c.args.below + 2 * fold_weight c.deref-in-Fold.result.now < t = omega (arith, m, e, d) in
@@ -713,7 +730,7 @@ exec-exec_fold-requires g t c =
 
 pub exec-exec_pair-requires : goal.exec-exec_pair-requires
 exec-exec_pair-requires g t c =
-    let m : t ≡ weight_before (map function c.args.context.now.functions.now) c.args.below + 2 * kind_weight c.args.kind.now = sym c.decreases in
+    let m : t ≡ weight_before (map function c.args.context.now.functions.now) c.args.below + 2 * kind_weight c.args.kind.now + 1 = sym c.decreases in
     let e = ap kind_weight c.in-Pair.is ∙ kind_weight-pair c.in-Pair.pair in
     let d = ap pair_weight c.deref-in-Pair.ensures in
     let k : weight_before (map function c.args.context.now.functions.now) c.args.below + 2 * pair_weight c.deref-in-Pair.result.now < t = omega (arith, m, e, d) in

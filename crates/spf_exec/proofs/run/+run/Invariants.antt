@@ -23,19 +23,22 @@ abbrev pub decreases-pass_arguments : goal.decreases-pass_arguments
 decreases-pass_arguments g l = weight_before (map function l.context.now.functions.now) l.below + 2 * exprs_weight l.arguments.now
 
 abbrev pub decreases-test : goal.decreases-test
-decreases-test g l = weight_before (map function l.context.now.functions.now) l.below + 2 * cond_weight l.cond.now
+decreases-test g l = weight_before (map function l.context.now.functions.now) l.below + 2 * cond_weight l.cond.now + 1
+
+abbrev pub decreases-decide : goal.decreases-decide
+decreases-decide g l = weight_before (map function l.context.now.functions.now) l.below + 2 * cond_weight l.cond.now
 
 abbrev pub decreases-exec_block : goal.decreases-exec_block
 decreases-exec_block g l = weight_before (map function l.context.now.functions.now) l.below + 2 * stmts_weight l.statements.now
 
 abbrev pub decreases-exec : goal.decreases-exec
-decreases-exec g l = weight_before (map function l.context.now.functions.now) l.below + 2 * kind_weight l.kind.now
+decreases-exec g l = weight_before (map function l.context.now.functions.now) l.below + 2 * kind_weight l.kind.now + 1
 
 abbrev pub decreases-exec_for : goal.decreases-exec_for
 decreases-exec_for g l = weight_before (map function l.context.now.functions.now) l.below + 2 * stmts_weight l.body.now + 1
 
 abbrev pub decreases-exec_while : goal.decreases-exec_while
-decreases-exec_while g l = weight_before (map function l.context.now.functions.now) l.below + 2 * (cond_weight l.cond.now + stmts_weight l.body.now) + 1
+decreases-exec_while g l = weight_before (map function l.context.now.functions.now) l.below + 2 * (cond_weight l.cond.now + stmts_weight l.body.now) + 2
 
 abbrev pub decreases-exec_fold : goal.decreases-exec_fold
 decreases-exec_fold g l = weight_before (map function l.context.now.functions.now) l.below + 2 * fold_weight l.fold.now
@@ -59,14 +62,14 @@ invariant-exec_for-loop-i g l = record {
   cells : g.M.Memory.cell_count l.memory ≡ g.M.Memory.cell_count l.initial.memory;
 }
 
-abbrev pub invariant-exec_while-loop-left : goal.invariant-exec_while-loop-left
-invariant-exec_while-loop-left g l = record {
+abbrev pub invariant-exec_while-loop-halt : goal.invariant-exec_while-loop-halt
+invariant-exec_while-loop-halt g l = record {
   goes : Continues g.M.Memory.leads g.M.Memory.stop g.M.Memory.may_lack_memory (while_turns l.line l.most (cond_means (environment l.context l.below) l.line l.cond) (stmts_mean (environment l.context l.below) l.body) (state l.initial.slots (g.M.Memory.output l.initial.memory))) l.initial.memory (while_turns l.line l.left (cond_means (environment l.context l.below) l.line l.cond) (stmts_mean (environment l.context l.below) l.body) (state l.slots (g.M.Memory.output l.memory))) l.memory;
   cells : g.M.Memory.cell_count l.memory ≡ g.M.Memory.cell_count l.initial.memory;
 }
 
-abbrev pub decreases-exec_while-loop-left : goal.decreases-exec_while-loop-left
-decreases-exec_while-loop-left g l = l.left
+abbrev pub decreases-exec_while-loop-halt : goal.decreases-exec_while-loop-halt
+decreases-exec_while-loop-halt g l = l.left
 
 abbrev pub invariant-exec_blocks-loop-k : goal.invariant-exec_blocks-loop-k
 invariant-exec_blocks-loop-k g l = record {
