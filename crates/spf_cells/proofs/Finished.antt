@@ -1,13 +1,18 @@
 -- What a memory holds once the contents of all lanes are written back.
-use Rattle.std.proofs.Common.{◌≡◌, ℕ, zero, suc, ◌+◌, ◌<◌, List, [], ◌∷◌, length, get_or, take, set, sym, refl, ap, ◌∙◌, subst, arith, ℤ, pos, length-set, get_or-set_same, get_or-set_other}
+use Rattle.std.proofs.Common.{◌≡◌, ◌⊎◌, inl, inr, ℕ, zero, suc, ◌+◌, ◌-◌, ◌<◌, ◌≤◌, List, [], ◌∷◌, map, length, get_or, take, set, sym, refl, ap, ◌∙◌, subst, arith, ℤ, pos, length-set, get_or-set_same, get_or-set_other}
+use Rattle.std.specs.List.{Contains}
+use Rattle.std.proofs.lemmas.List.{same_lists, get_or_default, get_or-map}
 use mathlib.Core.Option.{some, some-injective, some-ne-none}
 use mathlib.Core.Logic.{dite}
 use native.Mathlib.Decide.{ℕ_discrete}
-use lib.ListN.{get_elem?}
-use Rattle.spf_cells.specs.Spans.{cells_of, cells_of_plan, cells_with_blocks, Covers, IsDisjointWithin}
+use lib.ListN.{get_elem?, length-map}
+use Rattle.spf_region.specs.declared.span.Span.{Span}
+use Rattle.spf_cells.specs.declared.segment.Segment.{Segment}
+use Rattle.spf_cells.specs.Segments.{AreSegmentsOf}
+use Rattle.spf_cells.specs.Spans.{consecutive, cells_of, cells_of_plan, cells_with_blocks, Covers, IsDisjointWithin}
 use Rattle.spf_cells.specs.Values.{LaneValue, CellsValue, content_at, spans_of}
 use Rattle.spf_cells.specs.Finish.{write_back, write_back_all, AreAllLanes}
-use Rattle.spf_cells.proofs.Spans.{below}
+use Rattle.spf_cells.proofs.Spans.{below, at_append, consecutive_has, cell_found}
 use Rattle.spf_cells.proofs.Plans.{pair_inside, pair_once, pair_at}
 use Rattle.spf_cells.proofs.WritingBack.{length-write_back}
 
@@ -61,3 +66,58 @@ lane_own w ls m are apart i c l at cov =
     (λ k o there h. let t = lane_pair w ls are k c o there h in
     let n : t.0 ≡ s.0 = pair_once w.setting.plan (length m) apart t.0 s.0 (k, c) (i, c) t.1 s.1 refl in
     ap (λ p. p.0) (some-injective (k, c) (i, c) (sym t.1 ∙ (ap (get_elem? (cells_with_blocks w.setting.plan)) n ∙ s.1))))
+
+is_there : (cs : List ℕ) (c : ℕ) → ((j : ℕ) × (get_elem? cs j ≡ some c)) ⊎ ((j : ℕ) → get_elem? cs j ≡ some c → ⊥)
+is_there [] c = inr (λ j at. some-ne-none c (sym at))
+is_there (x ∷ xs) c = dite (ℕ_discrete x c) (λ e. inl (0, ap some e)) (λ ne. elim (is_there xs c) [
+  | inl h ↦ inl (suc h.0, h.1)
+  | inr out ↦ inr (λ j at. not_here j at ne out)
+])
+  where
+    not_here : (j : ℕ) → get_elem? (x ∷ xs) j ≡ some c → (x ≡ c → ⊥) → ((j : ℕ) → get_elem? xs j ≡ some c → ⊥) → ⊥
+    not_here zero at ne out = ne (some-injective x c at)
+    not_here (suc j) at ne out = out j at
+
+-- the order in which cells are written back is nothing to the memory
+pub write_back_same : (f : ℕ → ℤ) (cs ds : List ℕ) (m : List ℤ) → ((j c : ℕ) → get_elem? cs j ≡ some c → (k : ℕ) × (get_elem? ds k ≡ some c)) → ((j c : ℕ) → get_elem? ds j ≡ some c → (k : ℕ) × (get_elem? cs k ≡ some c))
+    → write_back f cs m ≡ write_back f ds m
+write_back_same f cs ds m to from = same_lists (write_back f cs m) (write_back f ds m) (length-write_back f cs m ∙ sym (length-write_back f ds m)) (λ k d low.
+    let short : k < length m = omega (arith, length-write_back f cs m) in
+    let short' : k < length (write_back f ds m) = omega (arith, length-write_back f ds m) in
+    get_or_default (write_back f cs m) k d (pos 0) low ∙ (at k short ∙ get_or_default (write_back f ds m) k (pos 0) d short'))
+  where
+    at : (k : ℕ) → k < length m → get_or (write_back f cs m) k (pos 0) ≡ get_or (write_back f ds m) k (pos 0)
+    at k low = elim (is_there cs k) [
+      | inl h ↦ let r = to h.0 k h.1 in write_back_own f cs m k h.0 low h.1 ∙ sym (write_back_own f ds m k r.0 low r.1)
+      | inr out ↦ write_back_other f cs m k out ∙ sym (write_back_other f ds m k (λ j there. let r = from j k there in out r.0 r.1))
+    ]
+
+-- the segments' spans
+abbrev pub spans_of_segments : List Segment → List Span
+spans_of_segments ss = map (λ s. s.span) ss
+
+pub span_at : (ss : List Segment) (i : ℕ) (d : Segment) (e : Span) → i < length ss → get_or (spans_of_segments ss) i e ≡ (get_or ss i d).span
+span_at ss i d e low = get_or-map (λ (s : Segment). s.span) ss i d e low
+
+-- a cell of the segments' spans is in one of them
+held_by : (ss : List Segment) (j c : ℕ) → get_elem? (cells_of (spans_of_segments ss)) j ≡ some c → (s : Segment) × Contains ss s × (s.span.from ≤ c) × (c < s.span.to)
+held_by [] j c at = absurd (some-ne-none c (sym at))
+held_by (x ∷ xs) j c at = elim (at_append (consecutive x.span.from (x.span.to - x.span.from)) (cells_of (spans_of_segments xs)) j c at) [
+  | inl here ↦ let r = consecutive_has x.span.from (x.span.to - x.span.from) j c here in let low = r.0 in let high = r.1 in (x, (0, omega arith, refl), r.0, omega arith)
+  | inr far ↦ let s = held_by xs far.0 c far.2 in let low = s.1.1 in (s.0, (suc s.1.0, omega arith, s.1.2), s.2, s.3)
+]
+
+-- and the other way round
+cell_in : (ss : List Segment) (s : Segment) (c : ℕ) → Contains ss s → s.span.from ≤ c → c < s.span.to → (k : ℕ) × (get_elem? (cells_of (spans_of_segments ss)) k ≡ some c)
+cell_in ss s c there low high =
+    let i : ℕ = there.0 in
+    let all : List Span = spans_of_segments ss in
+    let is : get_or all i s.span ≡ s.span = span_at ss i s s.span there.1 ∙ ap (λ (y : Segment). y.span) there.2 in
+    let room : i < length all = let h = there.1 in omega (arith, length-map {B = Span} ss (λ s. s.span)) in
+    (length (cells_of (take i all)) + (c - (get_or all i s.span).from), cell_found all i s.span room c (subst (λ (y : Span). y.from ≤ c) (sym is) low) (subst (λ (y : Span). c < y.to) (sym is) high))
+
+-- a block's cells written back segment by segment
+pub write_back_segments_same : (f : ℕ → ℤ) (ss : List Segment) (cells : List ℕ) (first : ℕ) (m : List ℤ) → AreSegmentsOf ss cells first → write_back f (cells_of (spans_of_segments ss)) m ≡ write_back f cells m
+write_back_segments_same f ss cells first m are = write_back_same f (cells_of (spans_of_segments ss)) cells m
+    (λ j c at. let s = held_by ss j c at in let l = are.laid s.0 c (s.0.word + (c - s.0.span.from)) s.1 (s.2, s.3, refl) in (l.0, l.2))
+    (λ j c at. let s = are.whole j c at in cell_in ss s.0 c s.1 s.2 s.3)

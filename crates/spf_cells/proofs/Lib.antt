@@ -7,5 +7,6 @@ pub mod WardenSteps
 pub mod Plans
 pub mod Opening
 pub mod WritingBack
+pub mod Segments
 pub mod Finished
 pub mod Examples

@@ -16,8 +16,8 @@ use Rattle.spf_cells.specs.declared.lane.Lane.TheInside as L
 use Rattle.spf_cells.specs.Lane.{IsLane, setting_of}
 use Rattle.spf_ast.specs.Event.{IsConsistent}
 use Rattle.spf_cells.specs.Log.{ArePossibleTurns, events}
-use Rattle.spf_cells.specs.Spans.{cells_with_blocks, cells_of, cells_of_plan, IsDisjointWithin}
-use Rattle.spf_cells.proofs.Plans.{pair_at, plan_room, length-cells_with_blocks}
+use Rattle.spf_cells.specs.Spans.{cells_with_blocks, cells_of, Covers, IsDisjointWithin}
+use Rattle.spf_cells.specs.Segments.{AreSegmentsOf, IsSearchable, first_word}
 use Rattle.spf_cells.proofs.WritingBack.{cells_inside}
 use Rattle.spf_cells.proofs.WardenRule.{raises, joins, reads_back, splits}
 
@@ -51,22 +51,19 @@ may_split a h key room = let P : Me ℕ View → Type 0 = λ m. Splits (IsConsis
     subst P (sym h.seat) (splits key a.seat.me.0.setting a.seat.id (warden_of a.seat.me.0.role) room)
 
 -- the lane that is handed out
-pub new_lane_ok : (l : L.Inside) (k : Setting) (b : ℕ) → l.seat.me ≡ (lane_view k b [], []) → l.block ≡ b → b < l.flags → l.flags ≡ blocks k → l.seat.table_id.words ≡ l.flags + length (cells_with_blocks k.plan)
-    → l.seat.table_id.words < 2 ^ 63 → IsDisjointWithin k.plan (length k.entry) → l.base ≡ length (cells_of_plan (take b k.plan)) → l.spans.items ≡ get_or k.plan b [] → IsLane l
-new_lane_ok l k b is block inside flags words small apart base spans =
+pub new_lane_ok : (l : L.Inside) (k : Setting) (b : ℕ) → l.seat.me ≡ (lane_view k b [], []) → l.block ≡ b → b < blocks k → l.seat.table_id.words ≡ blocks k + length (cells_with_blocks k.plan)
+    → l.seat.table_id.words < 2 ^ 63 → IsDisjointWithin k.plan (length k.entry) → AreSegmentsOf l.segments.items (cells_of (get_or k.plan b [])) (first_word k b) → IsSearchable l.segments.items → IsLane l
+new_lane_ok l k b is block room words small apart segments order =
     let z : setting_of l ≡ k = ap (λ m. m.0.setting) is in
     let log : log_of l.seat.me.0.role ≡ [] = ap (λ m. log_of m.0.role) is in
-    let room : b < length k.plan = omega arith in
-    let fit : l.base + length (cells_of l.spans.items) ≤ length (cells_with_blocks k.plan) = let e = ap (λ s. length (cells_of s)) spans in omega (arith, plan_room k.plan b room, length-cells_with_blocks k.plan) in record {
+    let mine : (k, b) ≡ (setting_of l, l.block) = λ t. (sym z t, sym block t) in record {
       seat = is ∙ (λ t. (lane_view (sym z t) (sym block t) (sym log t), []));
-      block = omega arith;
-      flags = flags ∙ ap blocks (sym z);
-      words = words ∙ ap (λ (y : Setting). l.flags + length (cells_with_blocks y.plan)) (sym z);
+      block = subst (λ (y : Setting × ℕ). y.1 < blocks y.0) mine room;
+      words = words ∙ ap (λ (y : Setting). blocks y + length (cells_with_blocks y.plan)) (sym z);
       small = small;
-      spans = spans ∙ (λ t. get_or (sym z t).plan (sym block t) []);
-      room = subst (λ (y : Setting). l.base + length (cells_of l.spans.items) ≤ length (cells_with_blocks y.plan)) (sym z) fit;
-      laid = λ j c at. (λ t. get_elem? (cells_with_blocks (z t).plan) (base t + j)) ∙ (pair_at k.plan b j c room (ap (λ s. get_elem? (cells_of s) j) (sym spans) ∙ at) ∙ ap (λ y. some (y, c)) (sym block));
-      inside = λ c there. subst (λ (y : Setting). c < length y.entry) (sym z) (cells_inside k b (length k.entry) apart room there.0 c (ap (λ s. get_elem? (cells_of s) there.0) (sym spans) ∙ there.1));
+      segments = subst (λ (y : Setting × ℕ). AreSegmentsOf l.segments.items (cells_of (get_or y.0.plan y.1 [])) (first_word y.0 y.1)) mine segments;
+      order = order;
+      inside = subst (λ (y : Setting × ℕ). (c : ℕ) → Covers (get_or y.0.plan y.1 []) c → c < length y.0.entry) mine (λ c there. cells_inside k b (length k.entry) apart room there.0 c there.1);
       consistent = subst (λ (x : List LogEntry). IsConsistent (events x) (setting_of l).entry) (sym log) tt;
       turns = subst (λ (x : List LogEntry). ArePossibleTurns (setting_of l) l.block x) (sym log) tt;
     }

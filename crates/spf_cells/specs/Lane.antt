@@ -8,7 +8,8 @@ use Rattle.spf_ast.specs.Event.{IsConsistent}
 use Rattle.spf_cells.specs.Log.{ArePossibleTurns, events}
 use Rattle.spf_cells.specs.Spans.{cells_with_blocks, cells_of, Covers}
 use Rattle.spf_cells.specs.Rule.{blocks, lane_view, log_of}
-use Rattle.spf_cells.specs.Values.{LaneValue}
+use Rattle.spf_cells.specs.Segments.{AreSegmentsOf, IsSearchable, first_word}
+use Rattle.spf_cells.specs.Values.{LaneValue, spans_of}
 
 -- the setting that a lane's view has
 abbrev pub setting_of : Inside → Setting
@@ -23,16 +24,14 @@ pub record IsLane (a : Inside) : Type 0 where
   -- its seat has the view of a lane of its block
   pub seat : a.seat.me ≡ (lane_view (setting_of a) a.block (log_of a.seat.me.0.role), [])
   -- its block is in the plan, and the table has a word for each flag and cell, so few that their numbers can be added
-  pub block : a.block < a.flags
-  pub flags : a.flags ≡ blocks (setting_of a)
-  pub words : a.seat.table_id.words ≡ a.flags + length (cells_with_blocks (setting_of a).plan)
+  pub block : a.block < blocks (setting_of a)
+  pub words : a.seat.table_id.words ≡ blocks (setting_of a) + length (cells_with_blocks (setting_of a).plan)
   pub small : a.seat.table_id.words < 2 ^ 63
-  -- its spans are those of its block, and their cells stand in the words behind those of the blocks before
-  pub spans : a.spans.items ≡ slice_index_or (setting_of a).plan a.block []
-  pub room : a.base + length (cells_of a.spans.items) ≤ length (cells_with_blocks (setting_of a).plan)
-  pub laid : (j c : ℕ) → get_elem? (cells_of a.spans.items) j ≡ some c → get_elem? (cells_with_blocks (setting_of a).plan) (a.base + j) ≡ some (a.block, c)
+  -- its segments hold the cells of its block's spans, in the words behind those of the blocks before, and can be searched
+  pub segments : AreSegmentsOf a.segments.items (cells_of (spans_of (lane_value a))) (first_word (setting_of a) a.block)
+  pub order : IsSearchable a.segments.items
   -- its cells lie in the entry
-  pub inside : (c : ℕ) → Covers a.spans.items c → c < length (setting_of a).entry
+  pub inside : (c : ℕ) → Covers (spans_of (lane_value a)) c → c < length (setting_of a).entry
   -- each load of its log gave its own content, and each turn a possible flag
   pub consistent : IsConsistent (events (log_of a.seat.me.0.role)) (setting_of a).entry
   pub turns : ArePossibleTurns (setting_of a) a.block (log_of a.seat.me.0.role)

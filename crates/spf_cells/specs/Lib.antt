@@ -1,5 +1,6 @@
 pub mod Examples
 pub mod Spans
+pub mod Segments
 pub mod Log
 pub mod Rule
 pub mod Lane

@@ -5,10 +5,12 @@ ghost use lib.ListN.{get_elem?};
 ghost use Rattle.spf_cells.specs.Spans.{consecutive, cells_of, cells_with_blocks, Covers};
 ghost use Rattle.spf_cells.specs.Values.{LaneValue, IsLaneOf, IsWardenOf, with_lane, content_at, spans_of};
 ghost use Rattle.spf_cells.specs.Finish.{write_back, HasTaken, StandFrom, AreAllLanes};
+ghost use Rattle.spf_cells.specs.Segments.{AreSegmentsOf, IsSearchable, first_word};
 
 use crate::cells::Cells;
 use crate::lane::Lane;
 use crate::rule::{ReadBack, TakeOver};
+use crate::segment::Segment;
 use crate::warden::Warden;
 use spf_region::span::Span;
 use std::marker::Model;
@@ -70,28 +72,27 @@ impl Warden {
         }
     }
 
-    // Writes the contents of all spans of a lane back; `first` is the word of their first cell.
-    fn write_back_spans(
+    // Writes the contents of all segments of a lane back.
+    fn write_back_segments(
         &mut self,
         cells: &Cells,
         lane: &Snapshot<Lane>,
-        first: usize,
-        spans: &[Span],
+        segments: &[Segment],
         into: &mut [i64],
     )
         requires own { IsWardenOf cells.now self.old }
         requires taken { HasTaken self.old lane.now.value }
         requires setting { lane.now.value.setting ≡ cells.now.setting }
-        requires words { StandFrom cells.now.setting lane.now.value.block first (cells_of spans.now) }
-        requires inside { (j c : ℕ) → get_elem? (cells_of spans.now) j ≡ some c → c < length into.old }
-        requires small { first + length (cells_of spans.now) < 2 ^ 63 }
+        requires segments { AreSegmentsOf segments.now (cells_of (spans_of lane.now.value)) (first_word lane.now.value.setting lane.now.value.block) }
+        requires order { IsSearchable segments.now }
+        requires block { lane.now.value.block < length lane.now.value.setting.plan }
+        requires inside { (j c : ℕ) → get_elem? (cells_of (spans_of lane.now.value)) j ≡ some c → c < length into.old }
+        requires small { first_word lane.now.value.setting lane.now.value.block + length (cells_of (spans_of lane.now.value)) < 2 ^ 63 }
         ensures same { self.new ≡ self.old }
-        ensures into { into.new ≡ write_back (content_at lane.now.value) (cells_of spans.now) into.old }
+        ensures into { into.new ≡ write_back (content_at lane.now.value) (cells_of (spans_of lane.now.value)) into.old }
     {
-        let mut word = first;
-        for span in spans {
-            self.write_back_span(cells, lane, word, *span, into);
-            word += span.to.saturating_sub(span.from) as usize;
+        for segment in segments {
+            self.write_back_span(cells, lane, segment.word, segment.span, into);
         }
     }
 
@@ -104,10 +105,10 @@ impl Warden {
         ensures into { into.new ≡ write_back (content_at lane) (cells_of (spans_of lane)) into.old }
     {
         let taken = Snapshot::of(&lane);
-        let (seat, first, spans) = lane.into_parts();
+        let (seat, segments) = lane.into_parts();
         let shared = &cells.table.shared;
         shared.join_seat::<TakeOver>(&mut self.seat, seat);
-        self.write_back_spans(cells, &taken, first, spans.as_slice(), into);
+        self.write_back_segments(cells, &taken, segments.as_slice(), into);
     }
 }
 

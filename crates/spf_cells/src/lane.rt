@@ -6,13 +6,13 @@ ghost use Rattle.spf_ast.specs.Event.{IsConsistent};
 ghost use Rattle.spf_cells.specs.Log.{ArePossibleTurns, IsPossibleFlag, events};
 ghost use Rattle.spf_cells.specs.Spans.{cells_of, Covers};
 ghost use Rattle.spf_cells.specs.declared.view.LogEntry.TheVariants.{Load, Store, Turn};
-ghost use Rattle.spf_cells.specs.Finish.{StandFrom};
+ghost use Rattle.spf_cells.specs.Segments.{AreSegmentsOf, IsSearchable, first_word};
 ghost use Rattle.spf_cells.specs.Rule.{lane_view};
 ghost use Rattle.spf_cells.specs.Values.{spans_of, content_at, logged, IsWordOf};
 
 use crate::cells::Cells;
 use crate::rule::{CellSeat, Loaded, Polled, Stored};
-use spf_region::span::Span;
+use crate::segment::{Segment, find_word};
 use std::marker::Model;
 
 /// The one seat of a block: it alone steps on the words of the block's cells.
@@ -23,12 +23,8 @@ use std::marker::Model;
 pub struct Lane {
     /// The lane's block, which is also the number of its flag's word.
     pub(crate) block: usize,
-    /// How many flags stand before the words of cells.
-    pub(crate) flags: usize,
-    /// How many cells the blocks before this one have.
-    pub(crate) base: usize,
-    /// The spans of the block.
-    pub(crate) spans: Vec<Span>,
+    /// The spans of the block, in ascending order, with their words.
+    pub(crate) segments: Vec<Segment>,
     /// The seat on the table, whose view has the log.
     pub(crate) seat: CellSeat,
 }
@@ -43,22 +39,6 @@ impl Model for Lane {
     ghost view = { lane_value };
 
     ghost invariant = { IsLane };
-}
-
-// The position of a cell in the list of the spans' cells.
-fn find_cell(spans: &[Span], cell: u64) -> Option<usize>
-    requires { length (cells_of spans.now) < 2 ^ 63 }
-    ensures some { IfSome result (λ j. get_elem? (cells_of spans.now) j ≡ some cell) }
-    ensures none { IfNone result (¬ Covers spans.now cell) }
-{
-    let mut before = 0;
-    for span in spans {
-        if span.from <= cell && cell < span.to {
-            return Some(before + (cell - span.from) as usize);
-        }
-        before += span.to.saturating_sub(span.from) as usize;
-    }
-    None
 }
 
 impl Lane {
@@ -76,31 +56,27 @@ impl Lane {
     {
         let Lane {
             block: _,
-            flags: _,
-            base: _,
-            spans: _,
+            segments: _,
             seat,
         } = self;
         seat
     }
 
-    // The seat, the first word of the lane's cells, and the spans.
-    pub(crate) fn into_parts(self) -> (CellSeat, usize, Vec<Span>)
+    // The seat, and the segments.
+    pub(crate) fn into_parts(self) -> (CellSeat, Vec<Segment>)
         ensures table { result.0.table_id ≡ self.table }
         ensures view { result.0.me ≡ (lane_view self.setting self.block self.log, []) }
-        ensures spans { result.2.items ≡ spans_of self }
-        ensures words { StandFrom self.setting self.block result.1 (cells_of result.2.items) }
-        ensures small { result.1 + length (cells_of result.2.items) < 2 ^ 63 }
+        ensures segments { AreSegmentsOf result.1.items (cells_of (spans_of self)) (first_word self.setting self.block) }
+        ensures order { IsSearchable result.1.items }
+        ensures small { first_word self.setting self.block + length (cells_of (spans_of self)) < 2 ^ 63 }
         ensures inside { self.block < length self.setting.plan }
     {
         let Lane {
             block: _,
-            flags,
-            base,
-            spans,
+            segments,
             seat,
         } = self;
-        (seat, flags + base, spans)
+        (seat, segments)
     }
 
     /// What is so of every lane's log: each load gave the lane's own content, and each turn a number that a flag of the block may have.
@@ -115,7 +91,7 @@ impl Lane {
     pub fn has(&self, cell: u64) -> bool
         ensures { IsTrue result ↔ Covers (spans_of self.now) cell }
     {
-        find_cell(self.spans.as_slice(), cell).is_some()
+        find_word(self.segments.as_slice(), cell).is_some()
     }
 
     // The word of a cell.
@@ -124,8 +100,7 @@ impl Lane {
         ensures word { IsWordOf self.now cell result }
         ensures inside { result < self.now.table.words }
     {
-        let position = find_cell(self.spans.as_slice(), cell).unwrap();
-        self.flags + self.base + position
+        find_word(self.segments.as_slice(), cell).unwrap()
     }
 
     /// The lane's own content of a cell of its spans, whoever else steps. The load is logged.

@@ -7,6 +7,7 @@ pub mod key;
 pub mod lane;
 mod make;
 mod rule;
+mod segment;
 #[cfg(test)]
 mod tests;
 pub mod view;

@@ -7,12 +7,14 @@ ghost use lib.ListN.{get_elem?};
 ghost use Rattle.spf_cells.specs.declared.view.Setting.{Setting};
 ghost use Rattle.spf_cells.specs.Spans.{consecutive, cells_of, cells_of_plan, entry_word, IsDisjointWithin};
 ghost use Rattle.spf_cells.specs.Made.{spans_in, setting, first_words, new_warden, new_lane, new_lanes};
+ghost use Rattle.spf_cells.specs.Segments.{AreSegmentsOf, IsSearchable, first_word};
 ghost use Rattle.spf_cells.specs.Values.{IsWardenOf};
 
 use crate::cells::Cells;
 use crate::key::{GhostKey, ghost_key};
 use crate::lane::Lane;
 use crate::rule::HandOut;
+use crate::segment::{Segment, segments_of};
 use crate::view::Setting;
 use crate::warden::Warden;
 use atomic_table::Table;
@@ -79,7 +81,7 @@ impl Cells {
         requires { IsDisjointWithin (spans_in plan.now) (length entry.now) }
         ensures setting { IfOk result (λ r. r.0.setting ≡ setting plan.now entry.now raisable) }
         ensures warden { IfOk result (λ r. r.1 ≡ new_warden r.0 0) }
-        ensures small { IfOk result (λ _. length (cells_of_plan (spans_in plan.now)) < 2 ^ 63) }
+        ensures small { IfOk result (λ _. length (spans_in plan.now) + length (cells_of_plan (spans_in plan.now)) < 2 ^ 63) }
     {
         let words = words_of(alloc, entry, plan)?;
         in_range(entry);
@@ -135,36 +137,28 @@ impl Warden {
     ) -> Result<Vec<Lane>, AllocError>
         requires fresh { self.old ≡ new_warden cells.now 0 }
         requires plan { cells.now.setting.plan ≡ spans_in plan.now }
-        requires small { length (cells_of_plan (spans_in plan.now)) < 2 ^ 63 }
+        requires disjoint { IsDisjointWithin (spans_in plan.now) (length cells.now.setting.entry) }
+        requires small { length (spans_in plan.now) + length (cells_of_plan (spans_in plan.now)) < 2 ^ 63 }
         ensures warden { IfOk result (λ _. self.new ≡ new_warden cells.now (length (spans_in plan.now))) }
         ensures lanes { IfOk result (λ r. r.items ≡ new_lanes cells.now 0 (length (spans_in plan.now))) }
     {
-        let count = plan.blocks.len();
-        let mut lanes = Vec::with_capacity(alloc, count)?;
-        let mut base = 0;
+        let mut first = plan.blocks.len();
+        let mut lanes = Vec::with_capacity(alloc, first)?;
         for (block, spans) in plan.blocks.iter().enumerate() {
-            let spans = spans.as_slice().to_vec(alloc)?;
-            let size = size_of_spans(spans.as_slice());
-            lanes.push(self.hand_out(cells, block, count, base, spans))?;
-            base += size;
+            let spans = spans.as_slice();
+            let segments = segments_of(alloc, spans, first)?;
+            lanes.push(self.hand_out(cells, block, segments))?;
+            first += size_of_spans(spans);
         }
         Ok(lanes)
     }
 
     // The next block gets a lane.
-    fn hand_out(
-        &mut self,
-        cells: &Cells,
-        block: usize,
-        flags: usize,
-        base: usize,
-        spans: Vec<Span>,
-    ) -> Lane
+    fn hand_out(&mut self, cells: &Cells, block: usize, segments: Vec<Segment>) -> Lane
         requires own { IsWardenOf cells.now self.old }
-        requires flags { flags ≡ length cells.now.setting.plan }
-        requires next { (block ≡ self.old.view.made) × (block < flags) }
-        requires base { base ≡ length (cells_of_plan (take block cells.now.setting.plan)) }
-        requires spans { spans.items ≡ slice_index_or cells.now.setting.plan block [] }
+        requires next { (block ≡ self.old.view.made) × (block < length cells.now.setting.plan) }
+        requires segments { AreSegmentsOf segments.items (cells_of (slice_index_or cells.now.setting.plan block [])) (first_word cells.now.setting block) }
+        requires order { IsSearchable segments.items }
         ensures lane { result ≡ new_lane cells.now block }
         ensures made { self.new ≡ record self.old { view = record self.old.view { made = self.old.view.made + 1 } } }
     {
@@ -172,9 +166,7 @@ impl Warden {
         let seat = shared.split_seat::<HandOut>(&mut self.seat);
         Lane {
             block,
-            flags,
-            base,
-            spans,
+            segments,
             seat,
         }
     }

@@ -1,21 +1,27 @@
-use Rattle.std.proofs.Common.{◌≡◌, ℕ, ap, sym, ◌∙◌, subst, List, Option, Some, None, IfSome, IfNone, Bool, refl, ◌↔◌, IsTrue}
+use Rattle.std.proofs.Common.{◌≡◌, ℕ, ap, sym, subst, List, Option, Some, None, IfSome, IfNone, Bool, refl, ◌↔◌, IsTrue}
+use Rattle.std.specs.List.{Contains}
 use Rattle.std.specs.Option.{is_some}
-use mathlib.Core.Option.{some}
-use lib.ListN.{get_elem?}
-use Rattle.spf_region.specs.declared.span.Span.{Span}
-use Rattle.spf_cells.specs.Spans.{cells_of, Covers}
-use Rattle.spf_cells.specs.Values.{spans_of}
-use Rattle.spf_cells.proofs.LaneSteps.{cells_fit}
+use Rattle.spf_cells.specs.declared.segment.Segment.{Segment}
+use Rattle.spf_cells.specs.declared.lane.Lane.TheInside.{Inside}
+use Rattle.spf_cells.specs.Segments.{Holds}
+use Rattle.spf_cells.specs.Spans.{Covers}
+use Rattle.spf_cells.specs.Lane.{IsLane, lane_value}
+use Rattle.spf_cells.specs.Values.{LaneValue, spans_of}
+use Rattle.spf_cells.proofs.LaneSteps.{segment_fits, cell_word, cell_held}
 use Rattle.spf_cells.proofs.lane.Lane.has.Goals as goal
 
-pub find_cell-requires : goal.find_cell-requires
-find_cell-requires c = rw c.as_slice.ensures.value (cells_fit c.self.inside c.self.invariant)
+pub find_word-requires-clause-order : goal.find_word-requires-clause-order
+find_word-requires-clause-order c = rw c.as_slice.ensures.value c.self.invariant.order
 
-tells : (ss : List Span) (c : ℕ) (o : Option ℕ) → IfSome o (λ j. get_elem? (cells_of ss) j ≡ some c) → IfNone o (¬ Covers ss c) → IsTrue (is_some o) ↔ Covers ss c
-tells ss c (Some j) at not = ((λ _. (j, at)), (λ _. refl))
-tells ss c None at not = ((λ f. cc), (λ h. absurd (not h)))
+pub find_word-requires-clause-small : goal.find_word-requires-clause-small
+find_word-requires-clause-small c = rw c.as_slice.ensures.value (segment_fits c.self.inside c.self.invariant)
+
+tells : (a : Inside) → IsLane a → (ss : List Segment) → ss ≡ a.segments.items → (c : ℕ) (o : Option ℕ) → IfSome o (λ w. (s : Segment) × Contains ss s × Holds s c w) → IfNone o ((s : Segment) (w : ℕ) → Contains ss s → ¬ Holds s c w)
+    → IsTrue (is_some o) ↔ Covers (spans_of (lane_value a)) c
+tells a h ss is c (Some w) found not = ((λ _. (cell_word a h c w (subst (λ (l : List Segment). (s : Segment) × Contains l s × Holds s c w) is found)).0), (λ _. refl))
+tells a h ss is c None found not = ((λ f. cc), (λ there. absurd (cell_held a h c there (subst (λ (l : List Segment). (s : Segment) (w : ℕ) → Contains l s → ¬ Holds s c w) is not))))
 
 pub returns : goal.returns
 returns c =
-    let same : c.as_slice.result.now ≡ spans_of c.args.self.now = c.as_slice.ensures.value ∙ (c.self.invariant.spans ∙ ap spans_of c.self.view_is) in
-    subst (λ (x : Bool × List Span). IsTrue x.0 ↔ Covers x.1 c.args.cell) (λ t. (sym c.is_some.ensures t, same t)) (tells c.as_slice.result.now c.args.cell c.find_cell.result c.find_cell.ensures.some c.find_cell.ensures.none)
+    subst (λ (x : Bool × LaneValue). IsTrue x.0 ↔ Covers (spans_of x.1) c.args.cell) (λ t. (sym c.is_some.ensures t, c.self.view_is t))
+    (tells c.self.inside c.self.invariant c.as_slice.result.now c.as_slice.ensures.value c.args.cell c.find_word.result c.find_word.ensures.some c.find_word.ensures.none)

@@ -1,16 +1,10 @@
-use Rattle.std.proofs.Common.{◌≡◌, ◌+◌, length, ap, subst, arith}
-use mathlib.Core.Option.{some}
-use lib.ListN.{get_elem?}
-use Rattle.spf_cells.specs.Spans.{cells_with_blocks}
-use Rattle.spf_cells.specs.Values.{LaneValue}
+use Rattle.std.proofs.Common.{◌+◌, ◌^◌, ◌<◌, length, subst, arith}
+use Rattle.spf_cells.specs.Spans.{cells_of}
+use Rattle.spf_cells.specs.Segments.{first_word}
+use Rattle.spf_cells.specs.Values.{LaneValue, spans_of}
+use Rattle.spf_cells.proofs.LaneSteps.{cells_fit}
 use Rattle.spf_cells.proofs.lane.Lane.into_parts.Goals as goal
 
-pub returns-clause-words : goal.returns-clause-words
-returns-clause-words c = λ j k at.
-    let i = c.self.invariant in
-    let e = ap (λ v. length v.setting.plan) c.self.view_is in
-    let f = i.flags in (
-      c.self.inside.base + j,
-      omega arith,
-      subst (λ (v : LaneValue). get_elem? (cells_with_blocks v.setting.plan) (c.self.inside.base + j) ≡ some (v.block, k)) c.self.view_is (i.laid j k at),
-    )
+pub returns-clause-small : goal.returns-clause-small
+returns-clause-small c = let small = c.self.invariant.small in
+    subst (λ (v : LaneValue). first_word v.setting v.block + length (cells_of (spans_of v)) < 2 ^ 63) c.self.view_is (omega (arith, cells_fit c.self.inside c.self.invariant))

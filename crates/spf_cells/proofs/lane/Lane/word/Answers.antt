@@ -1,26 +1,22 @@
-use Rattle.std.proofs.Common.{◌≡◌, ◌+◌, ◌<◌, arith, ap, sym, ◌∙◌, List}
-use mathlib.Core.Option.{some}
-use lib.ListN.{get_elem?}
-use Rattle.spf_region.specs.declared.span.Span.{Span}
-use Rattle.spf_cells.specs.Spans.{cells_of}
-use Rattle.spf_cells.proofs.LaneSteps.{cells_fit}
-use Rattle.spf_cells.proofs.Spans.{below}
+use Rattle.std.proofs.Common.{◌≡◌, ℕ, ◌<◌, arith, ap, subst, List}
+use Rattle.std.specs.List.{Contains}
+use Rattle.spf_cells.specs.declared.segment.Segment.{Segment}
+use Rattle.spf_cells.specs.Segments.{Holds}
+use Rattle.spf_cells.specs.Values.{LaneValue, IsWordOf}
+use Rattle.spf_cells.proofs.LaneSteps.{segment_fits, cell_word, cell_held}
 use Rattle.spf_cells.proofs.lane.Lane.word.Goals as goal
 
-found : (c : goal.After-unwrap-position) → get_elem? (cells_of c.self.inside.spans.items) c.unwrap-position.result ≡ some c.args.cell
-found c = ap (λ (l : List Span). get_elem? (cells_of l) c.unwrap-position.result) (sym c.as_slice.ensures.value) ∙ (rw c.unwrap-position.ensures at c.find_cell.ensures.some)
+pub find_word-requires-clause-order : goal.find_word-requires-clause-order
+find_word-requires-clause-order c = rw c.as_slice.ensures.value c.self.invariant.order
 
-inside : (c : goal.After-unwrap-position) → c.self.inside.flags + c.self.inside.base + c.unwrap-position.result < c.self.inside.seat.table_id.words
-inside c = let i = c.self.invariant in let words = i.words in let room = i.room in let h = below (cells_of c.self.inside.spans.items) c.unwrap-position.result c.args.cell (found c) in omega arith
+pub find_word-requires-clause-small : goal.find_word-requires-clause-small
+find_word-requires-clause-small c = rw c.as_slice.ensures.value (segment_fits c.self.inside c.self.invariant)
 
-pub find_cell-requires : goal.find_cell-requires
-find_cell-requires c = rw c.as_slice.ensures.value (cells_fit c.self.inside c.self.invariant)
+found : (c : goal.After-unwrap) → (s : Segment) × Contains c.self.inside.segments.items s × Holds s c.args.cell c.unwrap.result
+found c = subst (λ (l : List Segment). (s : Segment) × Contains l s × Holds s c.args.cell c.unwrap.result) c.as_slice.ensures.value (rw c.unwrap.ensures at c.find_word.ensures.some)
 
-pub overflow_add-result : goal.overflow_add-result
-overflow_add-result c = let small = c.self.invariant.small in let h = inside c in omega arith
-
-pub overflow_add-result-2 : goal.overflow_add-result-2
-overflow_add-result-2 c = let small = c.self.invariant.small in let h = inside c in omega arith
+pub returns-clause-word : goal.returns-clause-word
+returns-clause-word c = subst (λ (v : LaneValue). IsWordOf v c.args.cell c.unwrap.result) c.self.view_is (cell_word c.self.inside c.self.invariant c.args.cell c.unwrap.result (found c)).1
 
 pub returns-clause-inside : goal.returns-clause-inside
-returns-clause-inside c = let e = ap (λ v. v.table.words) c.self.view_is in let h = inside c in omega arith
+returns-clause-inside c = subst (λ (v : LaneValue). c.unwrap.result < v.table.words) c.self.view_is (cell_word c.self.inside c.self.invariant c.args.cell c.unwrap.result (found c)).2

@@ -24,8 +24,8 @@ join_seat-requires c =
       may_join c.self.inside i _ _ _ _ _ _ c.into_parts-seat.ensures.view,
     )
 
-pub write_back_spans-requires-clause-taken : goal.write_back_spans-requires-clause-taken
-write_back_spans-requires-clause-taken c =
+pub write_back_segments-requires-clause-taken : goal.write_back_segments-requires-clause-taken
+write_back_segments-requires-clause-taken c =
     let p : WardenView = warden_of c.self.inside.seat.me.0.role in
     let e = c.join_seat.ensures.2 in
     let new : TakenLane = taken_as c.args.lane in
