@@ -1,0 +1,13 @@
+pub mod Names
+pub mod Found
+pub mod Globals
+pub mod GlobalsView
+pub mod Locals
+pub mod LocalsView
+pub mod Faults
+pub mod Resolved
+pub mod HereView
+pub mod Answers
+pub mod Sizes
+pub mod TooLarge
+pub mod Contract

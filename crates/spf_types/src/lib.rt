@@ -1,0 +1,20 @@
+// From raw programs to resolved ones: names get the numbers of what they stand for, and kinds are checked.
+#![tactic(auto)]
+
+mod expression;
+mod fault;
+mod globals;
+mod header;
+mod limits;
+mod locals;
+mod measure;
+mod names;
+mod program;
+mod simple;
+mod size;
+mod statement;
+#[cfg(test)]
+mod tests;
+
+pub use fault::{TypeError, TypeFault};
+pub use program::resolve;

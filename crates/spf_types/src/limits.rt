@@ -1,0 +1,113 @@
+// The limits of the language.
+
+ghost use Rattle.std.specs.Prelude.{◌≡◌, ◌+◌, ◌&&◌, nat_le, nat_lt, length, map, IfOk};
+ghost use Rattle.spf_ast.specs.View.{program as seen_program, array as seen_array, function as seen_function};
+ghost use Rattle.spf_ast.specs.Size.{function_measure};
+ghost use Rattle.spf_types.specs.declared.fault.TypeError.TheVariants.{Refused};
+ghost use Rattle.spf_types.specs.declared.fault.TypeFault.TheVariants.{TooLarge};
+ghost use Rattle.spf_types.specs.Sizes.{Counts, HasSize, IsTable, capped, all_counts};
+ghost use Rattle.spf_types.specs.TooLarge.{large_arrays, large_functions, limits_passed};
+ghost use Rattle.spf_types.specs.Answers.{Answers};
+
+use crate::fault::{TypeError, TypeFault};
+use crate::measure::{block, expression};
+use crate::size::{Size, beside};
+use spf_ast::syntax::{Array, Function, Program};
+use std::alloc::Global;
+
+const MAX_ARRAYS: usize = 64;
+
+const MAX_FUNCTIONS: usize = 256;
+
+const MAX_SIZE: u64 = 65_536;
+
+const MAX_DEPTH: u64 = 256;
+
+const MAX_SLOTS: u64 = 1_024;
+
+/// A program that passes a limit.
+fn too_large(line: u32) -> TypeError
+    ensures { result ≡ Refused TooLarge line }
+{
+    let fault = TypeFault::TooLarge;
+    TypeError::Refused { fault, line }
+}
+
+/// The size of a function.
+fn function_size(sizes: &[Size], function: &Function) -> Size
+    ensures { (counts : Counts) → IsTable counts sizes.now → HasSize counts (λ m. function_measure m (seen_function function.now)) result }
+{
+    let body = block(sizes, &function.body);
+    beside(body, expression(sizes, &function.answer))
+}
+
+/// The size of a form together with so many slots of its own.
+fn with_slots(size: Size, count: usize) -> Size
+    ensures nodes { result.nodes ≡ size.nodes }
+    ensures depth { result.depth ≡ size.depth }
+    ensures slots { result.slots ≡ capped (count + size.slots) }
+{
+    Size {
+        nodes: size.nodes,
+        depth: size.depth,
+        slots: size.slots.saturating_add(count as u64),
+    }
+}
+
+/// Whether the function at a place keeps the limits.
+fn is_function_small(place: usize, size: Size) -> bool
+    ensures { result ≡ (nat_lt place 256 && nat_le size.nodes 65536) }
+{
+    place < MAX_FUNCTIONS && size.nodes <= MAX_SIZE
+}
+
+/// Whether `main` keeps the limits.
+fn is_main_small(size: Size) -> bool
+    ensures { result ≡ (nat_le size.nodes 65536 && (nat_le size.depth 256 && nat_le size.slots 1024)) }
+{
+    size.nodes <= MAX_SIZE && size.depth <= MAX_DEPTH && size.slots <= MAX_SLOTS
+}
+
+/// The sizes of all functions; refuses at the first one that is too large.
+fn sizes_of(alloc: Global, functions: &[Function]) -> Result<Vec<Size>, TypeError>
+    ensures answers { Answers (large_functions (all_counts (map seen_function functions.now)).nodes 0 (map seen_function functions.now)) (λ _. tt {0}) (tt {0}) result }
+    ensures sizes { IfOk result (λ v. IsTable (all_counts (map seen_function functions.now)) v.items) }
+{
+    let mut sizes = Vec::new(alloc);
+    for (place, function) in functions.iter().enumerate() {
+        let size = function_size(&sizes, function);
+        if !is_function_small(place, size) {
+            return Err(too_large(function.line));
+        }
+        sizes.push(with_slots(size, function.slots.len()))?;
+    }
+    Ok(sizes)
+}
+
+/// Tests that no array stands behind the last one that may be there.
+fn few_arrays(arrays: &[Array]) -> Result<(), TypeError>
+    ensures { Answers (large_arrays (map seen_array arrays.now)) (λ _. tt {0}) (tt {0}) result }
+{
+    match arrays.get(MAX_ARRAYS) {
+        Some(array) => Err(too_large(array.line)),
+        None => Ok(()),
+    }
+}
+
+/// Tests that a program keeps the limits; its word `main` stands on this line.
+pub(crate) fn keeps_limits(
+    alloc: Global,
+    program: &Program,
+    main_line: u32,
+) -> Result<(), TypeError>
+    ensures { Answers (limits_passed main_line (seen_program program.now)) (λ _. tt {0}) (tt {0}) result }
+{
+    few_arrays(&program.arrays)?;
+    let sizes = sizes_of(alloc, &program.functions)?;
+    let main = block(&sizes, &program.main);
+    if is_main_small(with_slots(main, program.slots.len())) {
+        Ok(())
+    } else {
+        Err(too_large(main_line))
+    }
+}

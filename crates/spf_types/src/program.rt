@@ -1,0 +1,200 @@
+// Arrays, functions and `main`.
+
+ghost use Rattle.std.specs.Prelude.{◌≡◌, ◌⊎◌, ◌++◌, [], IfOk, IsOkUnless, Err, List, ℕ, length, map};
+ghost use Rattle.spf_ast.specs.Syntax.{Block as block_form, Function as function_form, Program as Lawful};
+ghost use Rattle.spf_ast.specs.View.{program as seen_program, array as seen_array, function as seen_function, block as seen_block, name as seen_name};
+ghost use Rattle.spf_ast.specs.RawView.{raw_function, raw_program};
+ghost use Rattle.spf_types.specs.HereView.{setting};
+ghost use Rattle.spf_types.specs.Globals.{globals_of, global_named, is_array_at, is_function_at};
+ghost use Rattle.spf_types.specs.Faults.{arrays_faults, functions_faults, function_faults, params_faults, faults};
+ghost use Rattle.spf_types.specs.Resolved.{scope, after_params, resolved_function, resolved};
+ghost use Rattle.spf_types.specs.Answers.{Answers};
+ghost use Rattle.spf_types.specs.TooLarge.{limits_passed};
+ghost use Rattle.spf_types.specs.Contract.{IsResolved, IsRefused};
+ghost use Rattle.spf_ast.specs.Spelling.{IsWritable};
+ghost use Rattle.spf_types.specs.declared.fault.TypeFault.{TypeFault as Fault};
+
+use crate::fault::{TypeError, TypeFault};
+use crate::globals::{GlobalTable, Outer, short};
+use crate::limits::keeps_limits;
+use crate::locals::LocalTable;
+use crate::names::Here;
+use crate::simple::declarable;
+use crate::statement::{block, valued};
+use spf_ast::raw::{RawFunction, RawProgram};
+use spf_ast::syntax::{Array, Function, Name, Program, Stmt};
+use std::alloc::Global;
+
+/// What a resolved program has besides its arrays.
+#[derive(Drop)]
+pub(crate) struct Parts {
+    pub functions: Vec<Function>,
+    pub slots: Vec<Name>,
+    pub main: Vec<Stmt>,
+}
+
+/// Tests that no array has the name of an earlier one.
+fn new_arrays<'a>(
+    globals: &GlobalTable<'a>,
+    raw: &'a [Array],
+    functions: &'a [RawFunction],
+) -> Result<(), TypeError>
+    requires { globals.now ≡ globals_of (map seen_array raw.now) (map raw_function functions.now) }
+    ensures { Answers (arrays_faults [] (map seen_array raw.now)) (λ _. tt {0}) (tt {0}) result }
+{
+    for (place, array) in raw.iter().enumerate() {
+        if !is_array(globals, &array.name, place) {
+            let fault = TypeFault::Twice;
+            let line = array.line;
+            return Err(TypeError::Refused { fault, line });
+        }
+    }
+    Ok(())
+}
+
+/// Whether a name stands for the array at a place.
+fn is_array<'a>(globals: &GlobalTable<'a>, name: &'a Name, place: usize) -> bool
+    ensures { result ≡ is_array_at (global_named globals.now (seen_name name.now)) place }
+{
+    match globals.find(name) {
+        Some(Outer::Array(first)) => first as usize == place,
+        _ => false,
+    }
+}
+
+/// Whether a name stands for the function at a place.
+fn is_function<'a>(globals: &GlobalTable<'a>, name: &'a Name, place: usize) -> bool
+    ensures { result ≡ is_function_at (global_named globals.now (seen_name name.now)) place }
+{
+    match globals.find(name) {
+        Some(Outer::Function(first)) => first as usize == place,
+        _ => false,
+    }
+}
+
+/// Declares parameters.
+fn parameters<'a>(
+    here: &Here<'_, 'a>,
+    locals: &mut LocalTable<'a>,
+    line: u32,
+    raw: &'a [Name],
+) -> Result<(), TypeError>
+    ensures answers { Answers (params_faults (setting here.now) (scope locals.old.locals) line (map seen_name raw.now)) (λ _. tt {0}) (tt {0}) result }
+    ensures after { IfOk result (λ _. locals.new ≡ after_params locals.old (map seen_name raw.now)) }
+{
+    for name in raw {
+        declarable(here, locals, line, name)?;
+        let slot = locals.declare(here.alloc, name)?;
+        locals.show(name, slot, false)?;
+    }
+    Ok(())
+}
+
+/// A function.
+fn function_of<'a>(here: &Here<'_, 'a>, raw: &'a RawFunction) -> Result<Function, TypeError>
+    ensures { Answers (function_faults (setting here.now) (raw_function raw.now)) seen_function (resolved_function here.now.globals.now (raw_function raw.now)) result }
+{
+    let alloc = here.alloc;
+    let mut locals = LocalTable::make(alloc);
+    parameters(here, &mut locals, raw.line, &raw.params)?;
+    let (body, answer) = valued(here, &mut locals, &raw.body, raw.answer_line, &raw.answer)?;
+    let params = short(raw.params.len())?;
+    let bytes = raw.name.bytes.to_vec(alloc)?;
+    Ok(Function {
+        name: Name { bytes },
+        params,
+        slots: locals.into_slots(),
+        body,
+        answer,
+        answer_line: raw.answer_line,
+        line: raw.line,
+    })
+}
+
+/// Functions, behind the arrays.
+fn functions_of<'a>(
+    alloc: Global,
+    globals: &GlobalTable<'a>,
+    arrays: &'a [Array],
+    raw: &'a [RawFunction],
+) -> Result<Vec<Function>, TypeError>
+    requires { globals.now ≡ globals_of (map seen_array arrays.now) (map raw_function raw.now) }
+    ensures { Answers (functions_faults globals.now globals.now.arrays 0 (map raw_function raw.now)) (λ v. map seen_function v.items) (map (resolved_function globals.now) (map raw_function raw.now)) result }
+{
+    let mut functions = Vec::new(alloc);
+    for (place, function) in raw.iter().enumerate() {
+        if !is_function(globals, &function.name, place) {
+            let fault = TypeFault::Twice;
+            let line = function.line;
+            return Err(TypeError::Refused { fault, line });
+        }
+        let here = Here {
+            alloc,
+            globals,
+            place,
+            in_main: false,
+        };
+        let resolved = function_of(&here, function)?;
+        functions.push(resolved)?;
+    }
+    Ok(functions)
+}
+
+/// What a program has besides its arrays.
+pub(crate) fn parts_of(alloc: Global, raw: &RawProgram) -> Result<Parts, TypeError>
+    ensures { Answers {A = List function_form × List (List ℕ) × block_form} (faults (raw_program raw.now)) (λ p. (map seen_function p.functions.items, map seen_name p.slots.items, seen_block p.main.items)) ((resolved (raw_program raw.now)).functions, (resolved (raw_program raw.now)).slots, (resolved (raw_program raw.now)).main) result }
+{
+    let arrays: &[Array] = &raw.arrays;
+    let functions: &[RawFunction] = &raw.functions;
+    let globals = GlobalTable::make(alloc, arrays, functions)?;
+    new_arrays(&globals, arrays, functions)?;
+    let resolved = functions_of(alloc, &globals, arrays, functions)?;
+    let here = Here {
+        alloc,
+        globals: &globals,
+        place: functions.len(),
+        in_main: true,
+    };
+    let mut locals = LocalTable::make(alloc);
+    let main = block(&here, &mut locals, &raw.main)?;
+    Ok(Parts {
+        functions: resolved,
+        slots: locals.into_slots(),
+        main,
+    })
+}
+
+/// The program that a raw one stands for, tested against the limits.
+pub(crate) fn resolved_of(alloc: Global, raw: RawProgram) -> Result<Program, TypeError>
+    ensures { Answers (faults (raw_program raw) ++ limits_passed raw.main_line (resolved (raw_program raw))) seen_program (resolved (raw_program raw)) result }
+{
+    let parts = parts_of(alloc, &raw)?;
+    let program = Program {
+        arrays: raw.arrays,
+        functions: parts.functions,
+        slots: parts.slots,
+        main: parts.main,
+    };
+    keeps_limits(alloc, &program, raw.main_line)?;
+    Ok(program)
+}
+
+/// Resolves a raw program: each name becomes the number of the array, the function or the slot that it stands for.
+///
+/// # Errors
+///
+/// `Refused` tells the first fault of the program, in the order of its text; where it has none, `TooLarge` at the first array or function at which it passes a limit, or at `main`. `OutOfMemory` comes where memory is short, as it is for lists of 2^32 names.
+pub fn resolve(alloc: Global, raw: RawProgram) -> Result<Program, TypeError>
+    requires { IsWritable (raw_program raw) }
+    // What is given is the program that the raw one stands for, and there is no other.
+    ensures program { IfOk result (λ p. IsResolved (raw_program raw) (seen_program p)) }
+    ensures only { IfOk result (λ p. (q : Lawful) → IsResolved (raw_program raw) q → q ≡ seen_program p) }
+    // A raw program that stands for one is refused for want of memory alone.
+    ensures accepted { (q : Lawful) → IsResolved (raw_program raw) q → IsOkUnless result TypeError.OutOfMemory }
+    // When it is refused, and that it is refused then.
+    ensures refused { (what : Fault) (line : ℕ) → result ≡ Err (TypeError.Refused what line) → IsRefused (raw_program raw) what line }
+    ensures refused_exactly { (what : Fault) (line : ℕ) → IsRefused (raw_program raw) what line
+        → (result ≡ Err (TypeError.Refused what line)) ⊎ (result ≡ Err TypeError.OutOfMemory) }
+{
+    resolved_of(alloc, raw)
+}
