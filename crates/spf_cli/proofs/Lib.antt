@@ -1,4 +1,5 @@
 pub mod Words
+pub mod Verdicts
+pub mod Lines
 pub mod Steps
 pub mod Pieces
-pub mod OneAnswer

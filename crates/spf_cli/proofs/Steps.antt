@@ -1,110 +1,170 @@
 -- The steps to the whole answer.
-use Rattle.std.proofs.Common.{◌≡◌, ◌⊎◌, ◌≤◌, ◌<◌, ℕ, Bool, true, false, List, length, Option, Some, None, refl, sym, ap, ◌∙◌, arith, inl, inr, nat_le, subst}
+use Rattle.std.proofs.Common.{◌≡◌, ◌⊎◌, ◌≤◌, ◌<◌, ℕ, Bool, true, false, List, length, refl, sym, ap, ◌∙◌, arith, inl, inr, nat_le, subst}
+use Rattle.std.specs.Prelude.{Option, Some, None, Result, Ok, Err}
 use Rattle.spf_ast.specs.Syntax.{Program}
 use Rattle.spf_ast.specs.Program.{cell_count_of, max_cells, outcome, Outcome, Done, Stopped}
-use Rattle.spf_exec.specs.RunErrors.{counted, IsTooMany}
-use Rattle.spf_exec.specs.declared.layout.RunError.{RunError}
-use Rattle.spf_exec.specs.declared.layout.RunError.TheVariants.{TooManyCells, OutOfMemory}
-use Rattle.std.specs.Prelude.{IfOk, IfErr, Result, Ok, Err}
-use Rattle.spf_edge.specs.Entries.{Entry, lookup, HasContent, IsMissing}
+use Rattle.spf_exec.specs.RunErrors.{counted}
+use Rattle.spf_edge.specs.Entries.{Entry, lookup, HasContent, IsMissing, IsLongerThan}
 use Rattle.spf_edge.specs.Faults.{Rose}
-use Rattle.spf_parse.specs.Grammar.{IsProgramOf, HasNoProgram}
-use Rattle.spf_cli.specs.Answer.{Answer, too_many_cells, ran, no_program, file_too_long, file_failed}
-use Rattle.spf_cli.specs.Answering.{seen_answer, IsWholeUnless, IsCaused, AnswersWith, IsParseLeft, IsFetchLeft, FetchAnswer, IsPutFault}
-use Rattle.spf_cli.specs.declared.answer.Answer as made
-use Rattle.spf_cli.specs.declared.answer.Left.{Left}
-use Rattle.spf_cli.specs.declared.answer.Left.TheVariants.{Answered, NoMemory}
-use Rattle.spf_cli.specs.Whole.{Either, Runs, Fetched, WholeRun, Whole, IsGiven, IsGivenInPart, IsAnswered, IsAnsweredInPart, max_program, max_input}
 use Rattle.spf_edge.specs.declared.sink.PutError.{PutError}
 use Rattle.spf_edge.specs.declared.sink.PutError.TheVariants.{Failed}
 use Rattle.spf_edge.specs.declared.sink.PutError.TheVariants as put_error
-use Rattle.spf_cli.specs.Command.{AsksRun}
 use Rattle.spf_edge.proofs.Taking.{adds_empty_prefix}
-use Rattle.spf_cli.proofs.OneAnswer.{one_answer}
+use Rattle.spf_cli.specs.Answer.{Answer, not_built, text_refused, file_failed, file_too_long, too_many_cells, ran}
+use Rattle.spf_cli.specs.Answering.{seen_answer, FetchAnswer, IsFetchLeft, IsReadLeft, IsWholeUnless, IsCaused, AnswersWith, IsPutFault}
+use Rattle.spf_cli.specs.Command.{Command, Run, Print, Options, Asks}
+use Rattle.spf_cli.specs.Reading.{Verdict, Says, Refuses, IsVerdict, Refusal}
 use Rattle.spf_cli.specs.Status.{put_status}
+use Rattle.spf_cli.specs.Whole.{Wanted, Either, Fetched, Judged, Read, Runs, is_built, WholeOf, Whole, IsOnly, IsReached, IsFaultOf, IsFaultAnswer, IsGiven, IsGivenInPart, IsAnswered, IsAnsweredInPart, max_program, max_input}
+use Rattle.spf_cli.specs.declared.answer.Answer as made
+use Rattle.spf_cli.specs.declared.answer.Left.{Left}
+use Rattle.spf_cli.specs.declared.answer.Left.TheVariants.{Answered, NoMemory}
 
--- the second of two, where the test fails
-pub second_of : (A : Type 0) {B : Type 0} (b : Bool) → (b ≡ true → ⊥) → B → Either b A B
-second_of A true no_ x = absurd (no_ refl)
-second_of A false no_ x = x
+-- ---- the one answer
 
--- the first of two, where the test passes
-pub first_of : {A : Type 0} (B : Type 0) (b : Bool) → b ≡ true → A → Either b A B
-first_of B true e x = x
-first_of B false e x = cc
+-- this answer is the only one that is this
+pub only_this : (said : Answer) → IsOnly (λ a. a ≡ said) said
+only_this said = record { is = refl; only = λ b e. e }
 
--- a run with too many cells
-pub runs_too_many : (p : Program) (input : List ℕ) (answer : Answer) → (cell_count_of p (length input) ≤ max_cells → ⊥) → answer ≡ too_many_cells (counted (cell_count_of p (length input))) → Runs p input answer
-runs_too_many p input answer many e =
-    second_of (answer ≡ ran (outcome p input)) (nat_le (cell_count_of p (length input)) max_cells) (λ t. many (at_most (cell_count_of p (length input)) max_cells t)) e
-  where
-    at_most : (a b : ℕ) → nat_le a b ≡ true → a ≤ b
-    at_most a b t = grind arith
+-- what is so of an answer is so of the same one
+pub at_same : (P : Answer → Type 0) (a said : Answer) → a ≡ said → P said → P a
+at_same P a said e h = subst P (sym e) h
 
--- the count of a run that has too many cells
-pub count_is : (why : RunError) (count cells : ℕ) → why ≡ TooManyCells count → IsTooMany cells why → count ≡ counted cells
-count_is why count cells e h = subst (IsTooMany cells) e h
+-- by a test that passes, and by one that fails
+either_first : (A B : Wanted) (b : Bool) (a : Answer) → b ≡ true → IsOnly A a → IsOnly (Either b A B) a
+either_first A B true a e h = h
+either_first A B false a e h = cc
 
--- there aren't too few of them
-pub not_few : {A : Type 0} (why : RunError) (count : ℕ) → why ≡ TooManyCells count → why ≡ OutOfMemory → A
-not_few why count e f = let same : TooManyCells count ≡ OutOfMemory = sym e ∙ f in cc
+either_second : (A B : Wanted) (b : Bool) (a : Answer) → b ≡ false → IsOnly B a → IsOnly (Either b A B) a
+either_second A B true a e h = cc
+either_second A B false a e h = h
 
--- a file that is there, and within its limit
-pub fetched : (name : List ℕ) (limit : ℕ) (held : Option (List ℕ)) (content : List ℕ) (next : List ℕ → Type 0) (answer : Answer) → held ≡ Some content → length content ≤ limit → next content → Fetched name limit held next answer
-fetched name limit held content next answer e l h =
-    subst (λ o. Fetched name limit o next answer) (sym e) (first_of _ (nat_le (length content) limit) (within (length content) limit l) h)
+-- with a file that is there, within its limit
+pub fetched : (name : List ℕ) (limit : ℕ) (held : Option (List ℕ)) (content : List ℕ) (next : List ℕ → Wanted) (a : Answer) → held ≡ Some content → length content ≤ limit → IsOnly (next content) a → IsOnly (Fetched name limit held next) a
+fetched name limit held content next a e l h =
+    subst (λ o. IsOnly (Fetched name limit o next) a) (sym e) (either_first _ _ (nat_le (length content) limit) a (within (length content) limit l) h)
   where
     within : (a b : ℕ) → a ≤ b → nat_le a b ≡ true
     within a b l = grind arith
 
+-- with a file that isn't there
+fetched_none : (name : List ℕ) (limit : ℕ) (held : Option (List ℕ)) (next : List ℕ → Wanted) → held ≡ None → IsOnly (Fetched name limit held next) (file_failed name)
+fetched_none name limit held next e = subst (λ o. IsOnly (Fetched name limit o next) (file_failed name)) (sym e) (only_this (file_failed name))
+
+-- with a file that is too long
+fetched_long : (name : List ℕ) (limit : ℕ) (held : Option (List ℕ)) (content : List ℕ) (next : List ℕ → Wanted) → held ≡ Some content → limit < length content → IsOnly (Fetched name limit held next) (file_too_long name limit)
+fetched_long name limit held content next e l =
+    subst (λ o. IsOnly (Fetched name limit o next) (file_too_long name limit)) (sym e)
+    (either_second _ _ (nat_le (length content) limit) (file_too_long name limit) (beyond (length content) limit l) (only_this (file_too_long name limit)))
+  where
+    beyond : (a b : ℕ) → b < a → nat_le a b ≡ false
+    beyond a b l = grind arith
+
+-- with a text that says a program
+pub read_says : (text : List ℕ) (p : Program) (next : Program → Wanted) (a : Answer) → IsOnly (IsVerdict text) (Says p) → IsOnly (next p) a → IsOnly (Read text next) a
+read_says text p next a v h = record {
+  is = (Says p, v.is, h.is);
+  only = λ b r. h.only b (subst (λ w. Judged w next b) (v.only r.0 r.1) r.2);
+}
+
+-- with a text that is refused
+pub read_refuses : (text : List ℕ) (refusal : Refusal) (next : Program → Wanted) → IsOnly (IsVerdict text) (Refuses refusal) → IsOnly (Read text next) (text_refused refusal)
+read_refuses text refusal next v = record {
+  is = (Refuses refusal, v.is, refl);
+  only = λ b r. subst (λ w. Judged w next b) (v.only r.0 r.1) r.2;
+}
+
 -- the content of a file, where the files are told
-pub content_of : (told : Option (List Entry)) (files : List Entry) (name content : List ℕ) → told ≡ Some files → HasContent told name content → lookup files name ≡ Some content
+content_of : (told : Option (List Entry)) (files : List Entry) (name content : List ℕ) → told ≡ Some files → HasContent told name content → lookup files name ≡ Some content
 content_of told files name content e h = subst (λ o. HasContent o name content) e h
 
+-- ---- commands
+
+-- the answer to a command whose program's file is there
+pub with_text : (next : List Entry → List ℕ → Wanted) (told : Option (List Entry)) (files : List Entry) (program text : List ℕ) (a : Answer) → told ≡ Some files → HasContent told program text → length text ≤ max_program → IsOnly (next files text) a → IsOnly (Fetched program max_program (lookup files program) (next files)) a
+with_text next told files program text a e t l h = fetched program max_program (lookup files program) text (next files) a (content_of told files program text e t) l h
+
+-- the text is refused
+pub read_left : (Faulty : List Entry → Wanted) (next : List Entry → Program → Wanted) (told : Option (List Entry)) (program text : List ℕ) (Fault : Type 0) (left : Left) → HasContent told program text → length text ≤ max_program → IsReadLeft text left → AnswersWith (IsWholeUnless (λ files. Fetched program max_program (lookup files program) (λ t. Read t (next files))) Faulty told Fault) (Err left)
+read_left Faulty next told program text Fault (Answered a) t l h = λ files e.
+    inl (with_text (λ fs x. Read x (next fs)) told files program text (seen_answer a) e t l
+    (at_same (IsOnly (Read text (next files))) (seen_answer a) (text_refused h.0) h.2 (read_refuses text h.0 (next files) h.1)))
+read_left Faulty next told program text Fault NoMemory t l h = tt
+
+-- what a run goes on with, behind the test of its program
+abbrev pub behind_test : List ℕ → Options → List Entry → Program → Wanted
+behind_test input options files p =
+    Either (is_built options p) (Fetched input max_input (lookup files input) (λ content. Runs options p content)) (λ a. a ≡ not_built)
+
+-- the program isn't one that can be run yet
+pub run_not_built : (told : Option (List Entry)) (program input text : List ℕ) (options : Options) (p : Program) (Fault : Type 0) (a : Answer) → HasContent told program text → length text ≤ max_program → IsOnly (IsVerdict text) (Says p) → is_built options p ≡ false → a ≡ not_built → IsWholeUnless (WholeOf (Run program input options)) (IsFaultOf (Run program input options)) told Fault a
+run_not_built told program input text options p Fault a t l v b e files is =
+    inl (with_text (λ fs x. Read x (behind_test input options fs)) told files program text a is t l
+    (read_says text p (behind_test input options files) a v
+    (at_same (IsOnly (behind_test input options files p)) a not_built e
+    (either_second _ _ (is_built options p) not_built b (only_this not_built)))))
+
+-- the program can be run
+run_built : (told : Option (List Entry)) (files : List Entry) (program input text : List ℕ) (options : Options) (p : Program) (a : Answer) → told ≡ Some files → HasContent told program text → length text ≤ max_program → IsOnly (IsVerdict text) (Says p) → is_built options p ≡ true → IsOnly (Fetched input max_input (lookup files input) (λ content. Runs options p content)) a → IsOnly (WholeOf (Run program input options) files) a
+run_built told files program input text options p a is t l v b h =
+    with_text (λ fs x. Read x (behind_test input options fs)) told files program text a is t l
+    (read_says text p (behind_test input options files) a v (either_first _ _ (is_built options p) a b h))
+
 -- both files and the program are there
-pub whole_of : (told : Option (List Entry)) (program input text content : List ℕ) (p : Program) (Fault : Type 0) (answer : Answer) → HasContent told program text → length text ≤ max_program → IsProgramOf text p → HasContent told input content → length content ≤ max_input → Runs p content answer → IsWholeUnless (λ files. WholeRun files program input) told Fault answer
-whole_of told program input text content p Fault answer t tl is i il r files e =
-    inl (fetched program max_program (lookup files program) text _ answer (content_of told files program text e t) tl
-    (inl (p, is, fetched input max_input (lookup files input) content _ answer (content_of told files input content e i) il r)))
+pub run_whole : (told : Option (List Entry)) (program input text content : List ℕ) (options : Options) (p : Program) (Fault : Type 0) (a : Answer) → HasContent told program text → length text ≤ max_program → IsOnly (IsVerdict text) (Says p) → is_built options p ≡ true → HasContent told input content → length content ≤ max_input → IsOnly (Runs options p content) a → IsWholeUnless (WholeOf (Run program input options)) (IsFaultOf (Run program input options)) told Fault a
+run_whole told program input text content options p Fault a t l v b i m r files is =
+    inl (run_built told files program input text options p a is t l v b
+    (fetched input max_input (lookup files input) content (λ c. Runs options p c) a (content_of told files input content is i) m r))
 
--- the text has no program
-pub whole_without : (told : Option (List Entry)) (program input text : List ℕ) (Fault : Type 0) (answer : Answer) → HasContent told program text → length text ≤ max_program → HasNoProgram text → answer ≡ no_program → IsWholeUnless (λ files. WholeRun files program input) told Fault answer
-whole_without told program input text Fault answer t tl none e files told_is =
-    inl (fetched program max_program (lookup files program) text _ answer (content_of told files program text told_is t) tl (inr (none, e)))
+-- the input's file can't be had
+pub run_input_left : (told : Option (List Entry)) (program input text : List ℕ) (options : Options) (p : Program) (Fault Later : Type 0) (left : Left) → HasContent told program text → length text ≤ max_program → IsOnly (IsVerdict text) (Says p) → is_built options p ≡ true → (Fault → Later) → IsFetchLeft told input max_input Fault left → AnswersWith (IsWholeUnless (WholeOf (Run program input options)) (IsFaultOf (Run program input options)) told Later) (Err left)
+run_input_left told program input text options p Fault Later (Answered a) t l v b f h = λ files is.
+    elim h [
+      | inl x ↦ inr (f x.0, (input, inr (refl, (text, content_of told files program text is t, l, (p, v.is, b))), x.1))
+      | inr y ↦ elim y [
+        | inl m ↦ inl (run_built told files program input text options p (seen_answer a) is t l v b
+            (at_same (IsOnly (Fetched input max_input (lookup files input) (λ c. Runs options p c))) (seen_answer a) (file_failed input) m.1
+            (fetched_none input max_input (lookup files input) (λ c. Runs options p c) (subst (λ o. IsMissing o input) is m.0))))
+        | inr n ↦ inl (run_built told files program input text options p (seen_answer a) is t l v b
+            (at_same (IsOnly (Fetched input max_input (lookup files input) (λ c. Runs options p c))) (seen_answer a) (file_too_long input max_input) n.1
+            (let long = subst (λ o. IsLongerThan max_input o input) is n.0 in
+            fetched_long input max_input (lookup files input) long.0 (λ c. Runs options p c) long.1 long.2)))
+      ]
+    ]
+run_input_left told program input text options p Fault Later NoMemory t l v b f h = tt
 
--- an answer that a run gives
-pub answers_with : (P Q : Answer → Type 0) (r : Result made.Answer Left) → IfOk r (λ a. Q (seen_answer a)) → IfErr r (λ left. left ≡ NoMemory) → ((a : Answer) → Q a → P a) → AnswersWith P r
-answers_with P Q (Ok a) h e f = f (seen_answer a) h
-answers_with P Q (Err (Answered a)) h e f = let no_ : Answered a ≡ NoMemory = e in cc
-answers_with P Q (Err NoMemory) h e f = tt
+-- what is so of an answer that stands is so of what follows from it
+pub answers_with : (P Q : Answer → Type 0) (r : Result made.Answer Left) → AnswersWith Q r → ((a : Answer) → Q a → P a) → AnswersWith P r
+answers_with P Q (Ok a) h f = f (seen_answer a) h
+answers_with P Q (Err (Answered a)) h f = f (seen_answer a) h
+answers_with P Q (Err NoMemory) h f = tt
 
--- an answer that a text without a program gives
-pub answers_left : (P : Answer → Type 0) (text : List ℕ) (left : Left) → IsParseLeft text left → ((a : Answer) → HasNoProgram text → a ≡ no_program → P a) → AnswersWith P (Err left)
-answers_left P text (Answered a) h f = f (seen_answer a) h.0 h.1
-answers_left P text NoMemory h f = tt
+-- ---- causes
 
 -- an answer whose status is neither that for a file nor that for a put
-pub caused_by_neither : (told : Option (List Entry)) (Fault : Type 0) (answer : Answer) → (answer.status ≡ 5 → ⊥) → (answer.status ≡ 6 → ⊥) → IsCaused told Fault answer
+caused_by_neither : (told : Option (List Entry)) (Fault : Type 0) (answer : Answer) → (answer.status ≡ 5 → ⊥) → (answer.status ≡ 6 → ⊥) → IsCaused told Fault answer
 caused_by_neither told Fault answer file put = record { file = λ s. absurd (file s); put = put }
 
 -- the status of one answer isn't another number
 other_status : (n : ℕ) (answer same : Answer) → answer ≡ same → (same.status ≡ n → ⊥) → answer.status ≡ n → ⊥
 other_status n answer same e differs s = differs (sym (ap (λ (a : Answer). a.status) e) ∙ s)
 
-either_apart : {A : Type 0} {P Q : Type 0} (b : Bool) → Either b P Q → (P → A) → (Q → A) → A
-either_apart true h f g = f h
-either_apart false h f g = g h
+ran_status : (n : ℕ) → 1 < n → (options : Options) (p : Program) (len : ℕ) (o : Outcome) → (ran options p len o).status ≡ n → ⊥
+ran_status n l options p len (Done cells output) e = omega (arith, l, e)
+ran_status n l options p len (Stopped trap output) e = omega (arith, l, e)
 
-ran_status : (n : ℕ) → 1 < n → (o : Outcome) → (ran o).status ≡ n → ⊥
-ran_status n l (Done cells output) e = omega (arith, l, e)
-ran_status n l (Stopped trap output) e = omega (arith, l, e)
+either_apart : {A : Type 0} (P Q : Wanted) (a : Answer) (b : Bool) → Either b P Q a → (P a → A) → (Q a → A) → A
+either_apart P Q a true h f g = f h
+either_apart P Q a false h f g = g h
 
 -- a run never has the status for a file or a put
-pub run_cause : (p : Program) (input : List ℕ) (answer : Answer) (told : Option (List Entry)) (Fault : Type 0) → Runs p input answer → IsCaused told Fault answer
-run_cause p input answer told Fault r =
-    either_apart (nat_le (cell_count_of p (length input)) max_cells) r
-    (λ e. caused_by_neither told Fault answer (other_status 5 answer (ran (outcome p input)) e (ran_status 5 (omega arith) (outcome p input))) (other_status 6 answer (ran (outcome p input)) e (ran_status 6 (omega arith) (outcome p input))))
-    (λ e. caused_by_neither told Fault answer (other_status 5 answer (too_many_cells (counted (cell_count_of p (length input)))) e (λ z. omega (arith, z))) (other_status 6 answer (too_many_cells (counted (cell_count_of p (length input)))) e (λ z. omega (arith, z))))
+pub run_cause : (options : Options) (p : Program) (input : List ℕ) (answer : Answer) (told : Option (List Entry)) (Fault : Type 0) → Runs options p input answer → IsCaused told Fault answer
+run_cause options p input answer told Fault r =
+    let done = ran options p (length input) (outcome p input) in
+    let many = too_many_cells (counted (cell_count_of p (length input))) in
+    either_apart (λ a. a ≡ done) (λ a. a ≡ many) answer (nat_le (cell_count_of p (length input)) max_cells) r
+    (λ e. caused_by_neither told Fault answer (other_status 5 answer done e (ran_status 5 (omega arith) options p (length input) (outcome p input))) (other_status 6 answer done e (ran_status 6 (omega arith) options p (length input) (outcome p input))))
+    (λ e. caused_by_neither told Fault answer (other_status 5 answer many e (λ z. omega (arith, z))) (other_status 6 answer many e (λ z. omega (arith, z))))
 
 -- names that are missing are told
 told_of : (told : Option (List Entry)) (name : List ℕ) → IsMissing told name → (files : List Entry) × (told ≡ Some files)
@@ -130,20 +190,34 @@ fetch_cause told name limit Fault Later NoMemory f h = tt
 pub rose_since : (a b c : ℕ) → a ≤ b → Rose b c → Rose a c
 rose_since a b c l h = omega (arith, l, h)
 
--- what a run answers is what the words that ask for it are answered
-pub whole_words : (words : List (List ℕ)) (program input : List ℕ) → AsksRun words program input → (told : Option (List Entry)) (Fault : Type 0) (answer : Answer) → IsWholeUnless (λ files. WholeRun files program input) told Fault answer → IsWholeUnless (Whole words) told Fault answer
-whole_words words program input asks told Fault answer h files e =
+-- ---- words
+
+-- what a command is answered is what the words that ask for it are answered
+pub whole_words : (words : List (List ℕ)) (command : Command) → IsOnly (Asks words) command → (told : Option (List Entry)) (Fault : Type 0) (a : Answer) → IsWholeUnless (WholeOf command) (IsFaultOf command) told Fault a → IsWholeUnless (Whole words) (IsFaultAnswer words) told Fault a
+whole_words words command asks told Fault a h files e =
     elim (h files e) [
-      | inl w ↦ inl (inl (program, input, asks, w))
-      | inr f ↦ inr f
+      | inl w ↦ inl (record { is = inl (command, asks.is, w.is); only = λ b x. other files w b x })
+      | inr f ↦ inr (f.0, (command, asks.is, f.1))
+    ]
+  where
+    other : (files : List Entry) → IsOnly (WholeOf command files) a → (b : Answer) → Whole words files b → b ≡ a
+    other files w b x = elim x [
+      | inl y ↦ w.only b (subst (λ c. WholeOf c files b) (asks.only y.0 y.1) y.2)
+      | inr z ↦ absurd (z.0 command asks.is)
     ]
 
+-- words that ask for nothing
+pub no_command : (words : List (List ℕ)) (a said : Answer) (files : List Entry) → ((command : Command) → Asks words command → ⊥) → a ≡ said → ((b : Answer) → Whole words files b → b ≡ said) → Whole words files said → IsOnly (Whole words files) a
+no_command words a said files none e only is = at_same (IsOnly (Whole words files)) a said e (record { is = is; only = only })
+
+-- ---- puts
+
 -- an answer that was put is what was answered
-pub answered_by : (words : List (List ℕ)) (files : List Entry) (FileFault PutFault : Type 0) (answer : Answer) (status : ℕ) (out_before out_now err_before err_now : Option (List ℕ)) → Whole words files answer ⊎ (FileFault × (answer.status ≡ 5)) → IsGiven answer status out_before out_now err_before err_now → IsAnswered words files FileFault PutFault status out_before out_now err_before err_now
-answered_by words files FileFault PutFault answer status out_before out_now err_before err_now h given =
+pub answered_by : (words : List (List ℕ)) (files : List Entry) (FileFault PutFault : Type 0) (a : Answer) (status : ℕ) (out_before out_now err_before err_now : Option (List ℕ)) → IsOnly (Whole words files) a ⊎ (FileFault × IsFaultAnswer words files a) → IsGiven a status out_before out_now err_before err_now → IsAnswered words files FileFault PutFault status out_before out_now err_before err_now
+answered_by words files FileFault PutFault a status out_before out_now err_before err_now h given =
     elim h [
-      | inl w ↦ inl (answer, w, given)
-      | inr f ↦ inr (inr (inl (f.0, given.status_is ∙ f.1)))
+      | inl w ↦ inl (a, w, given)
+      | inr f ↦ inr (inr (inl (f.0, (a, f.1, given))))
     ]
 
 -- a put that failed has its cause
@@ -177,12 +251,13 @@ pub nothing_given : (answer : Answer) (out_before out_now err_before err_now : O
 nothing_given answer out_before out_now err_before err_now o e = record {
   out_took = adds_empty_prefix out_before out_now answer.out o;
   err_took = adds_empty_prefix err_before err_now answer.err e;
+  lines_wait = inr e;
 }
 
 -- what was put of an answer is a front of the whole one
-pub given_in_part : (words : List (List ℕ)) (files : List Entry) (FileFault : Type 0) (given : Answer) (out_before out_now err_before err_now : Option (List ℕ)) → Whole words files given ⊎ (FileFault × (given.status ≡ 5)) → IsGivenInPart given out_before out_now err_before err_now → IsAnsweredInPart words files FileFault out_before out_now err_before err_now
-given_in_part words files FileFault given out_before out_now err_before err_now h part answer whole =
+pub given_in_part : (words : List (List ℕ)) (files : List Entry) (FileFault : Type 0) (given : Answer) (out_before out_now err_before err_now : Option (List ℕ)) → IsOnly (Whole words files) given ⊎ (FileFault × IsFaultAnswer words files given) → IsGivenInPart given out_before out_now err_before err_now → IsAnsweredInPart words files FileFault out_before out_now err_before err_now
+given_in_part words files FileFault given out_before out_now err_before err_now h part =
     elim h [
-      | inl w ↦ inl (subst (λ a. IsGivenInPart a out_before out_now err_before err_now) (one_answer words files given answer w whole) part)
-      | inr f ↦ inr f.0
+      | inl w ↦ inl (λ answer whole. subst (λ a. IsGivenInPart a out_before out_now err_before err_now) (sym (w.only answer whole)) part)
+      | inr f ↦ inr (f.0, (given, f.1, part))
     ]

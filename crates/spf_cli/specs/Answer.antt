@@ -1,7 +1,12 @@
 -- Answers of the program: a status, and what it writes.
-use Rattle.std.specs.Prelude.{ℕ, List, []}
+use Rattle.std.specs.Prelude.{ℕ, Bool, true, false, List, [], ◌++◌}
+use Rattle.spf_ast.specs.Syntax.{Program}
 use Rattle.spf_ast.specs.Program.{Outcome, Done, Stopped}
-use Rattle.spf_cli.specs.Message.{trap_line, words_line, text_line, failed_line, long_line, cells_line}
+use Rattle.spf_ast.specs.Spelling.{spelled}
+use Rattle.spf_ast.specs.Canonical.{canonical_text}
+use Rattle.spf_cli.specs.Message.{trap_line, words_line, failed_line, long_line, too_many_line, not_built_line, stats_line, array_lines}
+use Rattle.spf_cli.specs.Command.{Options}
+use Rattle.spf_cli.specs.Reading.{Refusal, refusal_line}
 
 -- a status, with the bytes on the output and on the error stream
 pub record Answer : Type 0 where
@@ -17,9 +22,13 @@ refused status said = record { status = status; out = []; err = said }
 abbrev pub not_understood : Answer
 not_understood = refused 2 words_line
 
--- the text is that of no program
-abbrev pub no_program : Answer
-no_program = refused 3 text_line
+-- the text has no lawful program
+abbrev pub text_refused : Refusal → Answer
+text_refused refusal = refused 3 (refusal_line refusal)
+
+-- what runs such a program isn't built yet
+abbrev pub not_built : Answer
+not_built = refused 4 not_built_line
 
 -- a file can't be had
 abbrev pub file_failed : List ℕ → Answer
@@ -31,9 +40,23 @@ file_too_long name limit = refused 7 (long_line name limit)
 
 -- the arrays have too many cells
 abbrev pub too_many_cells : ℕ → Answer
-too_many_cells count = refused 7 (cells_line count)
+too_many_cells count = refused 7 (too_many_line count)
 
--- a program was run: to its end, or to a trap
-abbrev pub ran : Outcome → Answer
-ran (Done cells output) = record { status = 0; out = output; err = [] }
-ran (Stopped trap output) = record { status = 1; out = output; err = trap_line trap }
+-- a program was printed
+abbrev pub printed : Program → Answer
+printed p = record { status = 0; out = canonical_text (spelled 0 p); err = [] }
+
+-- text that stands only where it is asked for
+abbrev pub asked : Bool → List ℕ → List ℕ
+asked true text = text
+asked false text = []
+
+-- the statistics of a run by the plain meaning: no block was guessed
+abbrev pub plain_stats : Options → List ℕ
+plain_stats options = asked options.stats (stats_line 0 0 0 0)
+
+-- a program was run, on an input of this length, to its end or to a trap
+abbrev pub ran : Options → Program → ℕ → Outcome → Answer
+ran options p len (Done cells output) =
+    record { status = 0; out = output; err = plain_stats options ++ asked options.cells (array_lines len p.arrays cells) }
+ran options p len (Stopped trap output) = record { status = 1; out = output; err = trap_line trap ++ plain_stats options }

@@ -1,19 +1,29 @@
 -- What the steps to an answer leave.
-use Rattle.std.specs.Prelude.{◌≡◌, ◌⊎◌, ℕ, List, Option, Some, Result, Ok, Err, string_bytes}
+use Rattle.std.specs.Prelude.{◌≡◌, ◌⊎◌, ℕ, List, [], ◌∷◌, ◌++◌, Option, Some, Result, Ok, Err, Vec}
+use Rattle.std.specs.declared.alloc.Global.{Global}
 use Rattle.spf_edge.specs.Entries.{Entry, IsMissing, IsLongerThan}
 use Rattle.spf_edge.specs.declared.sink.PutError.{PutError}
 use Rattle.spf_edge.specs.declared.sink.PutError.TheVariants.{Failed, OutOfMemory}
+use Rattle.spf_exec.specs.declared.layout.RunError.{RunError}
+use Rattle.spf_exec.specs.declared.layout.RunError.TheVariants.{TooManyCells}
+use Rattle.spf_exec.specs.declared.layout.RunError.TheVariants as run_error
 use Rattle.spf_cli.specs.Answer as said
-use Rattle.spf_cli.specs.Answer.{no_program, file_failed, file_too_long}
+use Rattle.spf_cli.specs.Answer.{text_refused, file_failed, file_too_long, too_many_cells}
+use Rattle.spf_cli.specs.Reading.{Refusal, Refuses, IsVerdict}
 use Rattle.spf_cli.specs.Status.{status_number}
-use Rattle.spf_parse.specs.Grammar.{HasNoProgram}
+use Rattle.spf_cli.specs.Whole.{Wanted, IsOnly}
 use Rattle.spf_cli.specs.declared.answer.Answer.{Answer}
 use Rattle.spf_cli.specs.declared.answer.Left.{Left}
 use Rattle.spf_cli.specs.declared.answer.Left.TheVariants.{Answered, NoMemory}
 
+-- the bytes of messages, one after another
+abbrev pub bytes_of : List (Vec ℕ Global) → List ℕ
+bytes_of [] = []
+bytes_of (message ∷ messages) = message.items ++ bytes_of messages
+
 -- what contracts see of an answer
 abbrev pub seen_answer : Answer → said.Answer
-seen_answer a = record { status = status_number a.status; out = a.output.items; err = string_bytes a.message }
+seen_answer a = record { status = status_number a.status; out = a.output.items; err = bytes_of a.messages.items }
 
 -- a fetch ended the run: a fault was met, the name is missing, or the file is too long
 abbrev pub FetchAnswer : Option (List Entry) → List ℕ → ℕ → Type 0 → said.Answer → Type 0
@@ -26,15 +36,21 @@ abbrev pub IsFetchLeft : Option (List Entry) → List ℕ → ℕ → Type 0 →
 IsFetchLeft told name limit Fault (Answered a) = FetchAnswer told name limit Fault (seen_answer a)
 IsFetchLeft told name limit Fault NoMemory = Unit {0}
 
--- the text is that of no program
-abbrev pub IsParseLeft : List ℕ → Left → Type 0
-IsParseLeft text (Answered a) = HasNoProgram text × (seen_answer a ≡ no_program)
-IsParseLeft text NoMemory = Unit {0}
+-- the text is refused, and only so
+abbrev pub IsReadLeft : List ℕ → Left → Type 0
+IsReadLeft text (Answered a) = (refusal : Refusal) × IsOnly (IsVerdict text) (Refuses refusal) × (seen_answer a ≡ text_refused refusal)
+IsReadLeft text NoMemory = Unit {0}
 
--- where the files are told, an answer is the whole one, or a fault of theirs was met
-abbrev pub IsWholeUnless : (List Entry → said.Answer → Type 0) → Option (List Entry) → Type 0 → said.Answer → Type 0
-IsWholeUnless Wanted told Fault answer =
-    (files : List Entry) → told ≡ Some files → Wanted files answer ⊎ (Fault × (answer.status ≡ 5))
+-- the arrays have too many cells, or memory was short
+abbrev pub IsNotRun : RunError → Left → Type 0
+IsNotRun (TooManyCells count) (Answered a) = seen_answer a ≡ too_many_cells count
+IsNotRun run_error.OutOfMemory (Answered a) = ⊥
+IsNotRun error NoMemory = Unit {0}
+
+-- where the files are told, an answer is the one that is wanted, or that to a fault of theirs
+abbrev pub IsWholeUnless : (List Entry → Wanted) → (List Entry → Wanted) → Option (List Entry) → Type 0 → said.Answer → Type 0
+IsWholeUnless Right Faulty told Fault answer =
+    (files : List Entry) → told ≡ Some files → IsOnly (Right files) answer ⊎ (Fault × Faulty files answer)
 
 -- an answer has the status for a file only of a fault, or where the files are told, and never that for a put
 pub record IsCaused (told : Option (List Entry)) (Fault : Type 0) (answer : said.Answer) : Type 0 where

@@ -1,13 +1,42 @@
 -- What the words of the command line ask for.
-use Rattle.std.specs.Prelude.{◌≡◌, ℕ, List, [], ◌∷◌, codes}
+use Rattle.std.specs.Prelude.{◌≡◌, ℕ, Bool, true, false, List, [], ◌∷◌, ◌++◌, codes}
+
+-- what a run is to show, and whether it goes by the plain meaning alone
+pub record Options : Type 0 where
+  pub stats : Bool
+  pub cells : Bool
+  pub plain : Bool
+
+-- a command, with the names of its files
+pub data Command : Type 0 where
+  Run : List ℕ → List ℕ → Options → Command
+  Print : List ℕ → Command
+
+-- a word that stands only where it is asked for
+abbrev pub option : Bool → List ℕ → List (List ℕ)
+option true word = word ∷ []
+option false word = []
+
+-- the words of options, in their order
+abbrev pub option_words : Options → List (List ℕ)
+option_words o = option o.stats (codes "--stats") ++ (option o.cells (codes "--cells") ++ option o.plain (codes "--plain"))
+
+-- the words of a command
+abbrev pub words_of : Command → List (List ℕ)
+words_of (Run program input options) = codes "run" ∷ program ∷ input ∷ option_words options
+words_of (Print program) = codes "print" ∷ program ∷ []
 
 -- a file's name isn't empty and doesn't begin with `-`
 abbrev pub IsFileName : List ℕ → Type 0
 IsFileName [] = ⊥
 IsFileName (b ∷ bytes) = b ≡ 45 → ⊥
 
--- `run PROGRAM INPUT`
-pub record AsksRun (words : List (List ℕ)) (program input : List ℕ) : Type 0 where
-  pub words_are : words ≡ codes "run" ∷ program ∷ input ∷ []
-  pub program_is : IsFileName program
-  pub input_is : IsFileName input
+-- the names of its files are names
+abbrev pub HasFileNames : Command → Type 0
+HasFileNames (Run program input options) = IsFileName program × IsFileName input
+HasFileNames (Print program) = IsFileName program
+
+-- the words ask for this command
+pub record Asks (words : List (List ℕ)) (command : Command) : Type 0 where
+  pub words_are : words ≡ words_of command
+  pub files_are : HasFileNames command

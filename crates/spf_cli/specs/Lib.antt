@@ -1,8 +1,12 @@
 pub mod Message
-pub mod Answer
 pub mod Command
+pub mod FirstForm
+pub mod Reading
+pub mod Answer
 pub mod Status
 pub mod Whole
+pub mod Asked
+pub mod Options
+pub mod Unread
 pub mod Answering
 pub mod Putting
-pub mod Laws

@@ -1,9 +1,13 @@
--- The lines that a run writes on the error stream.
-use Rattle.std.specs.Prelude.{ℕ, List, [], ◌∷◌, ◌++◌, codes}
-use Rattle.std.specs.Fmt.{decimal}
+-- The lines that the program writes on the error stream.
+use Rattle.std.specs.Prelude.{ℕ, List, [], ◌∷◌, ◌++◌, take, drop, codes, ℤ}
+use Rattle.std.specs.Fmt.{decimal, signed_decimal}
 use Rattle.spf_ast.specs.declared.outcome.Trap.{Trap}
 use Rattle.spf_ast.specs.declared.outcome.TrapKind.{TrapKind}
 use Rattle.spf_ast.specs.declared.outcome.TrapKind.TheVariants.{Overflow, DivZero, Index, Shift, Range, Turns, Emit, Blocks, Fail}
+use Rattle.spf_types.specs.declared.fault.TypeFault.{TypeFault}
+use Rattle.spf_types.specs.declared.fault.TypeFault.TheVariants as fault
+use Rattle.spf_ast.specs.Syntax.{Array}
+use Rattle.spf_ast.specs.Program.{size_of}
 
 -- a line of these pieces, with its end
 abbrev pub line : List (List ℕ) → List ℕ
@@ -30,10 +34,6 @@ trap_line t = line (codes "trap " ∷ kind_name t.kind ∷ codes " line " ∷ de
 abbrev pub words_line : List ℕ
 words_line = line (codes "words not understood" ∷ [])
 
--- `text refused`
-abbrev pub text_line : List ℕ
-text_line = line (codes "text refused" ∷ [])
-
 -- `file NAME failed`
 abbrev pub failed_line : List ℕ → List ℕ
 failed_line name = line (codes "file " ∷ name ∷ codes " failed" ∷ [])
@@ -43,5 +43,47 @@ abbrev pub long_line : List ℕ → ℕ → List ℕ
 long_line name limit = line (codes "file " ∷ name ∷ codes " over " ∷ decimal limit ∷ codes " bytes" ∷ [])
 
 -- `cells N over 4194304`
-abbrev pub cells_line : ℕ → List ℕ
-cells_line count = line (codes "cells " ∷ decimal count ∷ codes " over 4194304" ∷ [])
+abbrev pub too_many_line : ℕ → List ℕ
+too_many_line count = line (codes "cells " ∷ decimal count ∷ codes " over 4194304" ∷ [])
+
+-- `refused not-built`
+abbrev pub not_built_line : List ℕ
+not_built_line = line (codes "refused not-built" ∷ [])
+
+-- `text byte N: FAULT`
+abbrev pub byte_line : ℕ → List ℕ → List ℕ
+byte_line at what = line (codes "text byte " ∷ decimal at ∷ codes ": " ∷ what ∷ [])
+
+-- how a fault of names and kinds is called
+abbrev pub fault_name : TypeFault → List ℕ
+fault_name fault.UnknownName = codes "unknown name"
+fault_name fault.Twice = codes "declared twice"
+fault_name fault.Arity = codes "wrong number of arguments"
+fault_name fault.Kind = codes "wrong kind"
+fault_name fault.CallsLater = codes "calls later function"
+fault_name fault.TooLarge = codes "too large"
+fault_name fault.Misplaced = codes "misplaced emit"
+
+-- `line N: FAULT`
+abbrev pub fault_line : TypeFault → ℕ → List ℕ
+fault_line what at = line (codes "line " ∷ decimal at ∷ codes ": " ∷ fault_name what ∷ [])
+
+-- `blocks B hits H misses M blind D`
+abbrev pub stats_line : ℕ → ℕ → ℕ → ℕ → List ℕ
+stats_line blocks hits misses blind =
+    line (codes "blocks " ∷ decimal blocks ∷ codes " hits " ∷ decimal hits ∷ codes " misses " ∷ decimal misses ∷ codes " blind " ∷ decimal blind ∷ [])
+
+-- numbers, each behind a space
+abbrev pub numbers : List ℤ → List ℕ
+numbers [] = []
+numbers (word ∷ words) = codes " " ++ (signed_decimal word ++ numbers words)
+
+-- `cells NAME`, followed by the words of an array
+abbrev pub array_line : List ℕ → List ℤ → List ℕ
+array_line name words = line (codes "cells " ∷ name ∷ numbers words ∷ [])
+
+-- the lines of arrays whose cells follow each other, for an input of this length
+abbrev pub array_lines : ℕ → List Array → List ℤ → List ℕ
+array_lines len [] cells = []
+array_lines len (a ∷ rest) cells =
+    array_line a.name (take (size_of len a) cells) ++ array_lines len rest (drop (size_of len a) cells)

@@ -1,13 +1,14 @@
 -- The whole answer of the program: what it says to these words, where these are the files.
-use Rattle.std.specs.Prelude.{◌≡◌, ◌⊎◌, ℕ, Bool, true, false, nat_le, List, length, Option, Some, None}
+use Rattle.std.specs.Prelude.{◌≡◌, ◌⊎◌, ℕ, ◌≤◌, Bool, true, false, ◌||◌, nat_le, List, length, Option, Some, None}
 use Rattle.spf_ast.specs.Syntax.{Program}
 use Rattle.spf_ast.specs.Program.{outcome, cell_count_of, max_cells}
-use Rattle.spf_parse.specs.Grammar.{IsProgramOf, HasNoProgram}
 use Rattle.spf_exec.specs.RunErrors.{counted}
 use Rattle.spf_edge.specs.Entries.{Entry, lookup}
 use Rattle.spf_edge.specs.Bytes.{Adds, AddsPrefix}
-use Rattle.spf_cli.specs.Answer.{Answer, not_understood, no_program, file_failed, file_too_long, too_many_cells, ran}
-use Rattle.spf_cli.specs.Command.{AsksRun}
+use Rattle.spf_cli.specs.Answer.{Answer, not_understood, text_refused, not_built, file_failed, file_too_long, too_many_cells, printed, ran}
+use Rattle.spf_cli.specs.Command.{Command, Run, Print, Options, Asks}
+use Rattle.spf_cli.specs.FirstForm.{is_first_form}
+use Rattle.spf_cli.specs.Reading.{Verdict, Says, Refuses, IsVerdict}
 
 -- how many bytes the file of a program, and that of an input, may have
 abbrev pub max_program : ℕ
@@ -16,37 +17,81 @@ max_program = 1048576
 abbrev pub max_input : ℕ
 max_input = 4194304
 
+-- what an answer has to meet
+abbrev pub Wanted : Type 1
+Wanted = Answer → Type 0
+
+-- this answer
+abbrev pub Is : Answer → Wanted
+Is said answer = answer ≡ said
+
 -- one or the other, by a test
-abbrev pub Either : Bool → Type 0 → Type 0 → Type 0
+abbrev pub Either : Bool → Wanted → Wanted → Wanted
 Either true first second = first
 Either false first second = second
 
 -- with the content of a file, or without it
-abbrev pub Fetched : List ℕ → ℕ → Option (List ℕ) → (List ℕ → Type 0) → Answer → Type 0
-Fetched name limit None next answer = answer ≡ file_failed name
-Fetched name limit (Some content) next answer = Either (nat_le (length content) limit) (next content) (answer ≡ file_too_long name limit)
+abbrev pub Fetched : List ℕ → ℕ → Option (List ℕ) → (List ℕ → Wanted) → Wanted
+Fetched name limit None next = Is (file_failed name)
+Fetched name limit (Some content) next = Either (nat_le (length content) limit) (next content) (Is (file_too_long name limit))
 
--- with the program of a text, or without one
-abbrev pub Parsed : List ℕ → (Program → Type 0) → Answer → Type 0
-Parsed text next answer = ((p : Program) × IsProgramOf text p × next p) ⊎ (HasNoProgram text × (answer ≡ no_program))
+-- with the program that a text says, or without one
+abbrev pub Judged : Verdict → (Program → Wanted) → Wanted
+Judged (Says p) next = next p
+Judged (Refuses refusal) next = Is (text_refused refusal)
+
+abbrev pub Read : List ℕ → (Program → Wanted) → Wanted
+Read text next answer = (v : Verdict) × IsVerdict text v × Judged v next answer
+
+-- whether what runs this program so is built: all programs go by the plain meaning, those of the first form also without the word
+abbrev pub is_built : Options → Program → Bool
+is_built options p = options.plain || is_first_form p
 
 -- a program is run on an input
-abbrev pub Runs : Program → List ℕ → Answer → Type 0
-Runs p input answer =
-    Either (nat_le (cell_count_of p (length input)) max_cells) (answer ≡ ran (outcome p input)) (answer ≡ too_many_cells (counted (cell_count_of p (length input))))
+abbrev pub Runs : Options → Program → List ℕ → Wanted
+Runs options p input =
+    Either (nat_le (cell_count_of p (length input)) max_cells)
+    (Is (ran options p (length input) (outcome p input)))
+    (Is (too_many_cells (counted (cell_count_of p (length input)))))
 
--- `run PROGRAM INPUT`: the program's file, its text, the input's file, and the run
-abbrev pub WholeRun : List Entry → List ℕ → List ℕ → Answer → Type 0
-WholeRun files program input answer =
+-- the answer to a command: its files in their order, each with its tests
+abbrev pub WholeOf : Command → List Entry → Wanted
+WholeOf (Run program input options) files =
     Fetched program max_program (lookup files program) (λ text.
-    Parsed text (λ p.
-    Fetched input max_input (lookup files input) (λ content. Runs p content answer) answer) answer) answer
+    Read text (λ p.
+    Either (is_built options p) (Fetched input max_input (lookup files input) (λ content. Runs options p content)) (Is not_built)))
+WholeOf (Print program) files =
+    Fetched program max_program (lookup files program) (λ text. Read text (λ p. Is (printed p)))
 
 -- the answer to these words, where these are the files
-abbrev pub Whole : List (List ℕ) → List Entry → Answer → Type 0
+abbrev pub Whole : List (List ℕ) → List Entry → Wanted
 Whole words files answer =
-    ((program : List ℕ) × (input : List ℕ) × AsksRun words program input × WholeRun files program input answer)
-    ⊎ (((program input : List ℕ) → AsksRun words program input → ⊥) × (answer ≡ not_understood))
+    ((command : Command) × Asks words command × WholeOf command files answer)
+    ⊎ (((command : Command) → Asks words command → ⊥) × (answer ≡ not_understood))
+
+-- this is so of the one, and of no other
+pub record IsOnly {A : Type 0} (P : A → Type 0) (a : A) : Type 0 where
+  pub is : P a
+  pub only : (b : A) → P b → b ≡ a
+
+-- the file of this name is reached: it is the program's, or it is the input's and nothing before it is refused
+abbrev pub IsReached : Command → List Entry → List ℕ → Type 0
+IsReached (Run program input options) files name =
+    (name ≡ program)
+    ⊎ ((name ≡ input)
+    × ((text : List ℕ)
+    × (lookup files program ≡ Some text)
+    × (length text ≤ max_program)
+    × ((p : Program) × IsVerdict text (Says p) × (is_built options p ≡ true))))
+IsReached (Print program) files name = name ≡ program
+
+-- the answer that a file which a command reaches can't be had
+abbrev pub IsFaultOf : Command → List Entry → Answer → Type 0
+IsFaultOf command files answer = (name : List ℕ) × IsReached command files name × (answer ≡ file_failed name)
+
+-- the same, for the command that the words ask for
+abbrev pub IsFaultAnswer : List (List ℕ) → List Entry → Answer → Type 0
+IsFaultAnswer words files answer = (command : Command) × Asks words command × IsFaultOf command files answer
 
 -- what came of an answer: its status, and its bytes on both sinks
 pub record IsGiven (answer : Answer) (status : ℕ) (out_before out_now err_before err_now : Option (List ℕ)) : Type 0 where
@@ -54,20 +99,22 @@ pub record IsGiven (answer : Answer) (status : ℕ) (out_before out_now err_befo
   pub out_took : Adds out_before out_now answer.out
   pub err_took : Adds err_before err_now answer.err
 
--- each sink took the front of what an answer has for it
+-- each sink took the front of what an answer has for it, the error stream nothing before the output had all of its bytes
 pub record IsGivenInPart (answer : Answer) (out_before out_now err_before err_now : Option (List ℕ)) : Type 0 where
   pub out_took : AddsPrefix out_before out_now answer.out
   pub err_took : AddsPrefix err_before err_now answer.err
+  pub lines_wait : Adds out_before out_now answer.out ⊎ (err_now ≡ err_before)
 
--- the whole answer, whichever it is, is given in part, or a fault of the files was met
+-- What was put is a front of the whole answer, whichever it is; or a fault of the files was met, and it is a front of the answer to that.
 abbrev pub IsAnsweredInPart : List (List ℕ) → List Entry → Type 0 → Option (List ℕ) → Option (List ℕ) → Option (List ℕ) → Option (List ℕ) → Type 0
 IsAnsweredInPart words files FileFault out_before out_now err_before err_now =
-    (answer : Answer) → Whole words files answer → IsGivenInPart answer out_before out_now err_before err_now ⊎ FileFault
+    ((answer : Answer) → Whole words files answer → IsGivenInPart answer out_before out_now err_before err_now)
+    ⊎ (FileFault × ((answer : Answer) × IsFaultAnswer words files answer × IsGivenInPart answer out_before out_now err_before err_now))
 
--- What the program answered: the whole answer, put on both sinks; or memory was short, or a fault of the files or of a sink was met.
+-- What the program answered: the one whole answer, put on both sinks; or memory was short, or a fault of a file that was reached, or of a sink, was met.
 abbrev pub IsAnswered : List (List ℕ) → List Entry → Type 0 → Type 0 → ℕ → Option (List ℕ) → Option (List ℕ) → Option (List ℕ) → Option (List ℕ) → Type 0
 IsAnswered words files FileFault PutFault status out_before out_now err_before err_now =
-    ((answer : Answer) × Whole words files answer × IsGiven answer status out_before out_now err_before err_now)
+    ((answer : Answer) × IsOnly (Whole words files) answer × IsGiven answer status out_before out_now err_before err_now)
     ⊎ (status ≡ 8)
-    ⊎ (FileFault × (status ≡ 5))
+    ⊎ (FileFault × ((answer : Answer) × IsFaultAnswer words files answer × IsGiven answer status out_before out_now err_before err_now))
     ⊎ (PutFault × (status ≡ 6))

@@ -1,25 +1,31 @@
 // What the program answers, before any of it is put anywhere.
 
-ghost use Rattle.std.specs.Prelude.{◌≡◌, ◌≤◌, ◌<◌, ◌^◌, List, Option, Some, IfOk, IfErr, map, length, string_bytes};
-ghost use Rattle.spf_ast.specs.View.{program as seen_program};
+ghost use Rattle.std.specs.Prelude.{◌≡◌, ◌≤◌, ◌<◌, ◌^◌, ◌++◌, List, Option, Some, IfOk, IfErr, map, length, string_bytes};
+ghost use Rattle.spf_ast.specs.View.{program as program_of, array as array_of};
+ghost use Rattle.spf_ast.specs.Program.{extents_from, extents_of, seen_outcome};
 ghost use Rattle.spf_edge.specs.Entries.{Entry, HasContent};
 ghost use Rattle.spf_edge.specs.Faults.{Rose};
-ghost use Rattle.spf_parse.specs.Grammar.{IsProgramOf};
-ghost use Rattle.spf_cli.specs.Answer.{refused as refused_answer, file_failed};
+ghost use Rattle.spf_cli.specs.Message.{array_lines};
+ghost use Rattle.spf_cli.specs.Command.{Run as run_command, Print as print_command};
+ghost use Rattle.spf_cli.specs.Reading.{IsVerdict, Says};
+ghost use Rattle.spf_cli.specs.Answer.{refused as refused_answer, file_failed, too_many_cells, printed, plain_stats, ran as ran_answer};
+ghost use Rattle.spf_cli.specs.Asked.{seen_command, seen_options};
 ghost use Rattle.spf_cli.specs.Status.{status_number};
-ghost use Rattle.spf_cli.specs.Whole.{Runs, Whole, WholeRun};
-ghost use Rattle.spf_cli.specs.Answering.{seen_answer, IsFetchLeft, IsParseLeft, IsWholeUnless, IsCaused, AnswersWith};
+ghost use Rattle.spf_cli.specs.Whole.{IsOnly, Runs, Whole, WholeOf, IsFaultOf, IsFaultAnswer, is_built as is_built_program};
+ghost use Rattle.spf_cli.specs.Answering.{bytes_of, seen_answer, IsFetchLeft, IsReadLeft, IsNotRun, IsWholeUnless, IsCaused, AnswersWith};
 
-use crate::command::{RunFiles, read_words};
-use crate::message::{cells_line, failed_line, long_line, trap_line};
+use crate::command::{Command, Options, read_words};
+use crate::first_form::is_first_form;
+use crate::message::{array_line, failed_line, long_line, stats_line, too_many_line, trap_line};
+use crate::reading::{Unread, read_program, refusal_line};
 use crate::status::Status;
+use spf_ast::canonical::print;
 use spf_ast::outcome::Outcome;
-use spf_ast::syntax::Program;
+use spf_ast::syntax::{Array, Program};
 use spf_edge::{FetchError, Files};
-use spf_exec::layout::RunError;
+use spf_exec::arrays::layout;
+use spf_exec::layout::{Layout, RunError};
 use spf_exec::plain_run::run_plain;
-use spf_parse::fault::ParseError;
-use spf_parse::parse;
 use std::alloc::{AllocError, Global};
 
 /// How many bytes the file of a program may have.
@@ -28,12 +34,12 @@ const MAX_PROGRAM: u64 = 1_048_576;
 /// How many bytes the file of an input may have.
 const MAX_INPUT: u64 = 4_194_304;
 
-/// A status, with the bytes for the output and for the error stream.
+/// A status, with the bytes for the output and the lines for the error stream.
 #[derive(Drop)]
 pub(crate) struct Answer {
     pub status: Status,
     pub output: Vec<u8>,
-    pub message: String,
+    pub messages: Vec<Vec<u8>>,
 }
 
 /// Why there is no more to do: the answer stands, or memory is short.
@@ -54,22 +60,32 @@ impl From<AllocError> for Left {
     }
 }
 
-/// An answer with nothing on the output.
-fn refused(alloc: Global, status: Status, message: String) -> Answer
-    ensures { seen_answer result ≡ refused_answer (status_number status) (string_bytes message) }
+/// Adds a line to messages.
+fn push_line(messages: &mut Vec<Vec<u8>>, line: String) -> Result<(), AllocError>
+    ensures { IfOk result (λ _. bytes_of messages.new.items ≡ bytes_of messages.old.items ++ string_bytes line) }
 {
-    Answer {
+    messages.push(line.into_bytes())?;
+    Ok(())
+}
+
+/// An answer with one line, and nothing on the output.
+fn refused(alloc: Global, status: Status, line: String) -> Result<Answer, AllocError>
+    ensures { IfOk result (λ a. seen_answer a ≡ refused_answer (status_number status) (string_bytes line)) }
+{
+    let mut messages = Vec::new(alloc);
+    push_line(&mut messages, line)?;
+    Ok(Answer {
         status,
         output: Vec::new(alloc),
-        message,
-    }
+        messages,
+    })
 }
 
 /// The answer where a file can't be had.
 fn failed(alloc: Global, name: &str) -> Result<Answer, AllocError>
     ensures { IfOk result (λ a. seen_answer a ≡ file_failed name.now) }
 {
-    Ok(refused(alloc, Status::FileFailed, failed_line(alloc, name)?))
+    refused(alloc, Status::FileFailed, failed_line(alloc, name)?)
 }
 
 /// The content of a file.
@@ -88,62 +104,203 @@ fn fetch<F: Files>(alloc: Global, files: &mut F, name: &str, limit: u64) -> Resu
             alloc,
             Status::OverLimit,
             long_line(alloc, name, limit)?,
-        ))),
+        )?)),
         Err(FetchError::OutOfMemory) => Err(Left::NoMemory),
     }
 }
 
-/// The program of a text.
-fn read_program(alloc: Global, text: &[u8]) -> Result<Program, Left>
-    ensures program { IfOk result (λ p. IsProgramOf text.now (seen_program p)) }
-    ensures left { IfErr result (IsParseLeft text.now) }
+/// The program that a text says.
+fn read(alloc: Global, text: &[u8]) -> Result<Program, Left>
+    ensures program { IfOk result (λ p. IsOnly (IsVerdict text.now) (Says (program_of p))) }
+    ensures left { IfErr result (IsReadLeft text.now) }
 {
-    match parse(alloc, text) {
+    match read_program(alloc, text) {
         Ok(program) => Ok(program),
-        Err(ParseError::Refused) => {
-            let message = String::from_str(alloc, "text refused\n")?;
-            Err(Left::Answered(refused(alloc, Status::NoProgram, message)))
-        }
-        Err(ParseError::OutOfMemory) => Err(Left::NoMemory),
+        Err(Unread::Refused(refusal)) => Err(Left::Answered(refused(
+            alloc,
+            Status::NoProgram,
+            refusal_line(alloc, refusal)?,
+        )?)),
+        Err(Unread::NoMemory) => Err(Left::NoMemory),
     }
 }
 
-/// The answer of a run.
-fn run(alloc: Global, program: &Program, input: &[u8]) -> Result<Answer, Left>
-    requires { length input.now < 2 ^ 63 }
-    ensures answer { IfOk result (λ a. Runs (seen_program program.now) input.now (seen_answer a)) }
-    ensures left { IfErr result (λ left. left ≡ Left.NoMemory) }
+/// Whether what runs this program so is built.
+fn is_built(options: Options, program: &Program) -> bool
+    ensures { result ≡ is_built_program (seen_options options) (program_of program.now) }
 {
+    options.plain || is_first_form(program)
+}
+
+/// Adds the statistics, where they are asked for.
+fn push_stats(
+    alloc: Global,
+    messages: &mut Vec<Vec<u8>>,
+    options: Options,
+) -> Result<(), AllocError>
+    ensures { IfOk result (λ _. bytes_of messages.new.items ≡ bytes_of messages.old.items ++ plain_stats (seen_options options)) }
+{
+    if options.stats {
+        push_line(messages, stats_line(alloc, 0, 0, 0, 0)?)?;
+    }
+    Ok(())
+}
+
+/// Adds the lines of arrays, whose cells follow each other, for an input of `len` bytes.
+fn push_arrays(
+    alloc: Global,
+    messages: &mut Vec<Vec<u8>>,
+    arrays: &[Array],
+    extents: &[(u64, u64)],
+    len: u64,
+    cells: &[i64],
+) -> Result<(), AllocError>
+    requires { extents.now ≡ extents_from len 0 (map array_of arrays.now) }
+    ensures { IfOk result (λ _. bytes_of messages.new.items ≡ bytes_of messages.old.items ++ array_lines len (map array_of arrays.now) cells.now) }
+{
+    let mut rest = cells;
+    for (place, array) in arrays.iter().enumerate() {
+        let (_, size) = extents[place];
+        let (own, others) = rest.split_at((size as usize).min(rest.len()));
+        messages.push(array_line(alloc, &array.name, own)?)?;
+        rest = others;
+    }
+    Ok(())
+}
+
+/// The answer of a run that ended so.
+fn ran(
+    alloc: Global,
+    options: Options,
+    program: &Program,
+    layout: &Layout,
+    len: u64,
+    outcome: Outcome,
+) -> Result<Answer, AllocError>
+    requires { layout.now.extents.items ≡ extents_of (program_of program.now) len }
+    ensures { IfOk result (λ a. seen_answer a ≡ ran_answer (seen_options options) (program_of program.now) len (seen_outcome outcome)) }
+{
+    let mut messages = Vec::new(alloc);
+    match outcome {
+        Outcome::Done { cells, output } => {
+            push_stats(alloc, &mut messages, options)?;
+            if options.cells {
+                push_arrays(
+                    alloc,
+                    &mut messages,
+                    &program.arrays,
+                    &layout.extents,
+                    len,
+                    &cells,
+                )?;
+            }
+            Ok(Answer {
+                status: Status::Done,
+                output,
+                messages,
+            })
+        }
+        Outcome::Trapped { trap, output } => {
+            push_line(&mut messages, trap_line(alloc, trap)?)?;
+            push_stats(alloc, &mut messages, options)?;
+            Ok(Answer {
+                status: Status::Trapped,
+                output,
+                messages,
+            })
+        }
+    }
+}
+
+/// The answer where the arrays have too many cells, or memory is short.
+fn not_run(alloc: Global, error: RunError) -> Left
+    ensures { IsNotRun error result }
+{
+    match error {
+        RunError::TooManyCells { count } => match too_many(alloc, count) {
+            Ok(given) => Left::Answered(given),
+            Err(_) => Left::NoMemory,
+        },
+        RunError::OutOfMemory => Left::NoMemory,
+    }
+}
+
+/// The answer where the arrays have so many cells, which are too many.
+fn too_many(alloc: Global, count: u128) -> Result<Answer, AllocError>
+    ensures { IfOk result (λ a. seen_answer a ≡ too_many_cells count) }
+{
+    refused(alloc, Status::OverLimit, too_many_line(alloc, count)?)
+}
+
+/// The answer of a run.
+fn run(alloc: Global, options: Options, program: &Program, input: &[u8]) -> Result<Answer, Left>
+    requires { length input.now < 2 ^ 63 }
+    ensures { AnswersWith (IsOnly (Runs (seen_options options) (program_of program.now) input.now)) result }
+{
+    let len = input.len() as u64;
+    let layout = match layout(alloc, program, len) {
+        Ok(layout) => layout,
+        Err(error) => return Err(not_run(alloc, error)),
+    };
     match run_plain(alloc, program, input) {
-        Ok(Outcome::Done { output, .. }) => Ok(Answer {
-            status: Status::Done,
-            output,
-            message: String::new(alloc),
-        }),
-        Ok(Outcome::Trapped { trap, output }) => Ok(Answer {
-            status: Status::Trapped,
-            output,
-            message: trap_line(alloc, trap)?,
-        }),
-        Err(RunError::TooManyCells { count }) => Ok(refused(
-            alloc,
-            Status::OverLimit,
-            cells_line(alloc, count)?,
-        )),
-        Err(RunError::OutOfMemory) => Err(Left::NoMemory),
+        Ok(outcome) => Ok(ran(alloc, options, program, &layout, len, outcome)?),
+        Err(error) => Err(not_run(alloc, error)),
     }
 }
 
 /// The answer of `run` over two files.
-fn run_files<F: Files>(alloc: Global, names: RunFiles, files: &mut F) -> Result<Answer, Left>
-    ensures whole { AnswersWith (IsWholeUnless (λ told. WholeRun told names.entry.program.now names.entry.input.now) (F.told files.old) (Rose (F.faults files.old) (F.faults files.new))) result }
+fn run_files<F: Files>(
+    alloc: Global,
+    program: &str,
+    input: &str,
+    options: Options,
+    files: &mut F,
+) -> Result<Answer, Left>
+    ensures whole { let command = run_command program.now input.now (seen_options options) in
+        AnswersWith (IsWholeUnless (WholeOf command) (IsFaultOf command) (F.told files.old) (Rose (F.faults files.old) (F.faults files.new))) result }
     ensures cause { AnswersWith (IsCaused (F.told files.old) (Rose (F.faults files.old) (F.faults files.new))) result }
     ensures later { F.faults files.old ≤ F.faults files.new }
 {
-    let text = fetch(alloc, files, names.program, MAX_PROGRAM)?;
-    let program = read_program(alloc, &text)?;
-    let input = fetch(alloc, files, names.input, MAX_INPUT)?;
-    run(alloc, &program, &input)
+    let text = fetch(alloc, files, program, MAX_PROGRAM)?;
+    let parsed = read(alloc, &text)?;
+    if !is_built(options, &parsed) {
+        let line = String::from_str(alloc, "refused not-built\n")?;
+        return Ok(refused(alloc, Status::NotBuilt, line)?);
+    }
+    let content = fetch(alloc, files, input, MAX_INPUT)?;
+    run(alloc, options, &parsed, &content)
+}
+
+/// The answer of `print` over a file.
+fn print_file<F: Files>(alloc: Global, program: &str, files: &mut F) -> Result<Answer, Left>
+    ensures whole { let command = print_command program.now in
+        AnswersWith (IsWholeUnless (WholeOf command) (IsFaultOf command) (F.told files.old) (Rose (F.faults files.old) (F.faults files.new))) result }
+    ensures cause { AnswersWith (IsCaused (F.told files.old) (Rose (F.faults files.old) (F.faults files.new))) result }
+    ensures later { F.faults files.old ≤ F.faults files.new }
+{
+    let text = fetch(alloc, files, program, MAX_PROGRAM)?;
+    let parsed = read(alloc, &text)?;
+    Ok(Answer {
+        status: Status::Done,
+        output: print(alloc, &parsed)?,
+        messages: Vec::new(alloc),
+    })
+}
+
+/// The answer of a command.
+fn answer_command<F: Files>(alloc: Global, command: Command, files: &mut F) -> Result<Answer, Left>
+    ensures whole { AnswersWith (IsWholeUnless (WholeOf (seen_command command.entry)) (IsFaultOf (seen_command command.entry)) (F.told files.old) (Rose (F.faults files.old) (F.faults files.new))) result }
+    ensures cause { AnswersWith (IsCaused (F.told files.old) (Rose (F.faults files.old) (F.faults files.new))) result }
+    ensures later { F.faults files.old ≤ F.faults files.new }
+{
+    match command {
+        Command::Run {
+            program,
+            input,
+            options,
+        } => run_files(alloc, program, input, options, files),
+        Command::Print { program } => print_file(alloc, program, files),
+    }
 }
 
 /// The answer to the words of a command line.
@@ -152,14 +309,14 @@ pub(crate) fn answer_words<F: Files>(
     words: &[String],
     files: &mut F,
 ) -> Result<Answer, AllocError>
-    ensures whole { IfOk result (λ a. IsWholeUnless (Whole (map string_bytes words.now)) (F.told files.old) (Rose (F.faults files.old) (F.faults files.new)) (seen_answer a)) }
+    ensures whole { IfOk result (λ a. IsWholeUnless (Whole (map string_bytes words.now)) (IsFaultAnswer (map string_bytes words.now)) (F.told files.old) (Rose (F.faults files.old) (F.faults files.new)) (seen_answer a)) }
     ensures cause { IfOk result (λ a. IsCaused (F.told files.old) (Rose (F.faults files.old) (F.faults files.new)) (seen_answer a)) }
 {
-    let Some(names) = read_words(words) else {
-        let message = String::from_str(alloc, "words not understood\n")?;
-        return Ok(refused(alloc, Status::NotUnderstood, message));
+    let Some(command) = read_words(words) else {
+        let line = String::from_str(alloc, "words not understood\n")?;
+        return refused(alloc, Status::NotUnderstood, line);
     };
-    match run_files(alloc, names, files) {
+    match answer_command(alloc, command, files) {
         Ok(given) => Ok(given),
         Err(Left::Answered(given)) => Ok(given),
         Err(Left::NoMemory) => Err(AllocError),

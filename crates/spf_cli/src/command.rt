@@ -1,13 +1,30 @@
 // The words of the command line.
 
-ghost use Rattle.std.specs.Prelude.{◌≡◌, ℕ, List, map, string_bytes, MatchOption, IsTrue, ◌↔◌};
-ghost use Rattle.spf_cli.specs.Command.{IsFileName, AsksRun};
+ghost use Rattle.std.specs.Prelude.{◌≡◌, ◌∷◌, codes, Some, None, map, string_bytes, MatchOption, IsTrue, ◌↔◌};
+ghost use Rattle.spf_cli.specs.Whole.{IsOnly};
+ghost use Rattle.spf_cli.specs.Command.{IsFileName, Asks, Command as Wish};
+ghost use Rattle.spf_cli.specs.Asked.{seen_command, seen_options};
+ghost use Rattle.spf_cli.specs.Options.{taken, options_in};
 
-/// The files that a run needs, by their names.
+/// What a run is to show, and whether it goes by the plain meaning alone.
 #[derive(Clone, Copy, Debug)]
-pub(crate) struct RunFiles<'a> {
-    pub program: &'a str,
-    pub input: &'a str,
+pub(crate) struct Options {
+    pub stats: bool,
+    pub cells: bool,
+    pub plain: bool,
+}
+
+/// A command, with the names of its files.
+#[derive(Clone, Copy, Debug)]
+pub(crate) enum Command<'a> {
+    Run {
+        program: &'a str,
+        input: &'a str,
+        options: Options,
+    },
+    Print {
+        program: &'a str,
+    },
 }
 
 /// Whether a word is a file's name: it isn't empty and doesn't begin with `-`.
@@ -20,21 +37,84 @@ fn is_file_name(word: &str) -> bool
     }
 }
 
-/// The files of `run PROGRAM INPUT`, where the words are these.
-pub(crate) fn read_words(words: &[String]) -> Option<RunFiles>
-    ensures { MatchOption result
-        ((program input : List ℕ) → AsksRun (map string_bytes words.now) program input → ⊥)
-        (λ files. AsksRun (map string_bytes words.now) files.program.now files.input.now) }
+/// Whether the first word is this one, and the words behind it then.
+fn take_word<'a>(words: &'a [String], name: &str) -> (bool, &'a [String])
+    ensures flag { result.0 ≡ (taken name.now (map string_bytes words.now)).0 }
+    ensures rest { map string_bytes result.1.now ≡ (taken name.now (map string_bytes words.now)).1 }
 {
-    match words {
-        [command, program, input] => {
-            let (program, input) = (program.as_str(), input.as_str());
-            if command.as_str() == "run" && is_file_name(program) && is_file_name(input) {
-                Some(RunFiles { program, input })
-            } else {
-                None
-            }
-        }
+    match words.split_first() {
+        Some((first, rest)) if first.as_str() == name => (true, rest),
+        _ => (false, words),
+    }
+}
+
+/// The options that these words are.
+fn read_options(words: &[String]) -> Option<Options>
+    ensures { MatchOption result
+        (options_in (map string_bytes words.now) ≡ None)
+        (λ options. options_in (map string_bytes words.now) ≡ Some (seen_options options)) }
+{
+    let (stats, words) = take_word(words, "--stats");
+    let (cells, words) = take_word(words, "--cells");
+    let (plain, words) = take_word(words, "--plain");
+    if words.is_empty() {
+        Some(Options {
+            stats,
+            cells,
+            plain,
+        })
+    } else {
+        None
+    }
+}
+
+/// The run that words behind `run` ask for.
+fn read_run(words: &[String]) -> Option<Command>
+    ensures { MatchOption result
+        ((command : Wish) → Asks (codes "run" ∷ map string_bytes words.now) command → ⊥)
+        (λ command. IsOnly (Asks (codes "run" ∷ map string_bytes words.now)) (seen_command command)) }
+{
+    let (program, behind) = words.split_first()?;
+    let (input, others) = behind.split_first()?;
+    let (program, input) = (program.as_str(), input.as_str());
+    let options = read_options(others)?;
+    if is_file_name(program) && is_file_name(input) {
+        Some(Command::Run {
+            program,
+            input,
+            options,
+        })
+    } else {
+        None
+    }
+}
+
+/// The print that words behind `print` ask for.
+fn read_print(words: &[String]) -> Option<Command>
+    ensures { MatchOption result
+        ((command : Wish) → Asks (codes "print" ∷ map string_bytes words.now) command → ⊥)
+        (λ command. IsOnly (Asks (codes "print" ∷ map string_bytes words.now)) (seen_command command)) }
+{
+    let [program] = words else {
+        return None;
+    };
+    let program = program.as_str();
+    if is_file_name(program) {
+        Some(Command::Print { program })
+    } else {
+        None
+    }
+}
+
+/// The command that the words ask for.
+pub(crate) fn read_words(words: &[String]) -> Option<Command>
+    ensures { MatchOption result
+        ((command : Wish) → Asks (map string_bytes words.now) command → ⊥)
+        (λ command. IsOnly (Asks (map string_bytes words.now)) (seen_command command)) }
+{
+    match words.split_first() {
+        Some((first, others)) if first.as_str() == "run" => read_run(others),
+        Some((first, others)) if first.as_str() == "print" => read_print(others),
         _ => None,
     }
 }

@@ -3,8 +3,9 @@
 
 mod answer;
 mod command;
-pub mod laws;
+mod first_form;
 mod message;
+mod reading;
 mod status;
 #[cfg(test)]
 mod tests;

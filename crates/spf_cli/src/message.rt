@@ -1,9 +1,13 @@
-// The lines that a run writes on the error stream.
+// The lines that the program writes on the error stream.
 
-ghost use Rattle.std.specs.Prelude.{◌≡◌, IfOk, string_bytes};
-ghost use Rattle.spf_cli.specs.Message.{trap_line as trap_line_of, failed_line as failed_line_of, long_line as long_line_of, cells_line as cells_line_of, kind_name as kind_name_of};
+ghost use Rattle.std.specs.Prelude.{◌≡◌, ◌++◌, codes, IfOk, string_bytes};
+ghost use Rattle.std.specs.Fmt.{signed_decimal};
+ghost use Rattle.spf_ast.specs.View.{name as name_of};
+ghost use Rattle.spf_cli.specs.Message.{trap_line as trap_line_of, failed_line as failed_line_of, long_line as long_line_of, too_many_line as too_many_line_of, byte_line as byte_line_of, fault_line as fault_line_of, fault_name as fault_name_of, stats_line as stats_line_of, numbers, array_line as array_line_of};
 
 use spf_ast::outcome::{Trap, TrapKind};
+use spf_ast::syntax::Name;
+use spf_types::TypeFault;
 use std::alloc::{AllocError, Global};
 
 /// `trap KIND line N`.
@@ -39,8 +43,80 @@ pub(crate) fn long_line(alloc: Global, name: &str, limit: u64) -> Result<String,
 }
 
 /// `cells N over 4194304`.
-pub(crate) fn cells_line(alloc: Global, count: u128) -> Result<String, AllocError>
-    ensures { IfOk result (λ text. string_bytes text ≡ cells_line_of count) }
+pub(crate) fn too_many_line(alloc: Global, count: u128) -> Result<String, AllocError>
+    ensures { IfOk result (λ text. string_bytes text ≡ too_many_line_of count) }
 {
     format!(in alloc; "cells {count} over 4194304\n")
+}
+
+/// `text byte N: FAULT`.
+pub(crate) fn byte_line(alloc: Global, at: usize, what: &str) -> Result<String, AllocError>
+    ensures { IfOk result (λ text. string_bytes text ≡ byte_line_of at what.now) }
+{
+    format!(in alloc; "text byte {at}: {what}\n")
+}
+
+/// How a fault of names and kinds is called.
+fn fault_name(fault: TypeFault) -> &'static str
+    ensures { result.now ≡ fault_name_of fault }
+{
+    match fault {
+        TypeFault::UnknownName => "unknown name",
+        TypeFault::Twice => "declared twice",
+        TypeFault::Arity => "wrong number of arguments",
+        TypeFault::Kind => "wrong kind",
+        TypeFault::CallsLater => "calls later function",
+        TypeFault::TooLarge => "too large",
+        TypeFault::Misplaced => "misplaced emit",
+    }
+}
+
+/// `line N: FAULT`.
+pub(crate) fn fault_line(alloc: Global, fault: TypeFault, line: u32) -> Result<String, AllocError>
+    ensures { IfOk result (λ text. string_bytes text ≡ fault_line_of fault line) }
+{
+    let name = fault_name(fault);
+    format!(in alloc; "line {line}: {name}\n")
+}
+
+/// `blocks B hits H misses M blind D`.
+pub(crate) fn stats_line(
+    alloc: Global,
+    blocks: u64,
+    hits: u64,
+    misses: u64,
+    blind: u64,
+) -> Result<String, AllocError>
+    ensures { IfOk result (λ text. string_bytes text ≡ stats_line_of blocks hits misses blind) }
+{
+    format!(in alloc; "blocks {blocks} hits {hits} misses {misses} blind {blind}\n")
+}
+
+/// Adds a number to a line, behind a space.
+fn push_number(alloc: Global, line: &mut Vec<u8>, word: i64) -> Result<(), AllocError>
+    ensures { IfOk result (λ _. line.new.items ≡ line.old.items ++ (codes " " ++ signed_decimal word)) }
+{
+    let text = format!(in alloc; " {word}")?;
+    line.extend_from_slice(text.as_bytes())
+}
+
+/// Adds numbers to a line, each behind a space.
+fn push_numbers(alloc: Global, line: &mut Vec<u8>, words: &[i64]) -> Result<(), AllocError>
+    ensures { IfOk result (λ _. line.new.items ≡ line.old.items ++ numbers words.now) }
+{
+    for word in words {
+        push_number(alloc, line, *word)?;
+    }
+    Ok(())
+}
+
+/// `cells NAME`, followed by the words of an array.
+pub(crate) fn array_line(alloc: Global, name: &Name, words: &[i64]) -> Result<Vec<u8>, AllocError>
+    ensures { IfOk result (λ line. line.items ≡ array_line_of (name_of name.now) words.now) }
+{
+    let mut line = b"cells ".to_vec(alloc)?;
+    line.extend_from_slice(&name.bytes)?;
+    push_numbers(alloc, &mut line, words)?;
+    line.push(b'\n')?;
+    Ok(line)
 }

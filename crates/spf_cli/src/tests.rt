@@ -10,6 +10,17 @@ const PROGRAM: &str = "P";
 /// The words of a run.
 const RUN: [&str; 3] = ["run", PROGRAM, "I"];
 
+/// Doubles a number five times.
+const DOUBLING: &str = "main { specfold s = 1 for k in 0..5 predict k { next s * 2; } emit s; }";
+
+/// Writes to an array in each block, and puts it out.
+const PAIRS: &str =
+    "array out[6]; main { specfold s = 0 for k in 0..3 predict 1 { fill out[2*k..2*k + 2] = 0; out[2*k + (s & 1)] = 7; next s + 1; } for i in 0..6 { emit out[i]; } }";
+
+/// Folds over one block more than a fold may have.
+const TOO_MANY_BLOCKS: &str =
+    "main { specfold s = 0 for k in 0..4097 predict k { next s + 1; } emit s & 255; }";
+
 fn texts(alloc: Global, words: &[&str]) -> Result<Vec<String>, AllocError> {
     let mut all = Vec::new(alloc);
     for word in words {
@@ -30,16 +41,29 @@ fn files(alloc: Global, program: &str) -> Result<MemFiles, AllocError> {
     Ok(MemFiles::make(entries, Vec::new(alloc)))
 }
 
+/// What came of a call: its status, and what both sinks took.
+#[derive(Drop)]
+struct Given {
+    status: u8,
+    out: MemSink,
+    err: MemSink,
+}
+
+/// The answer to these words, where the file of the program has this text.
+fn answer(alloc: Global, words: &[&str], program: &str) -> Result<Given, AllocError> {
+    let words = texts(alloc, words)?;
+    let mut files = files(alloc, program)?;
+    let mut out = MemSink::make(Vec::new(alloc), 0);
+    let mut err = MemSink::make(Vec::new(alloc), 0);
+    let status = spf_main(alloc, &words, &mut files, &mut out, &mut err);
+    Ok(Given { status, out, err })
+}
+
 #[test]
-fn programs_are_run(rt: HostRuntime) -> Result<(), Fail> {
+fn programs_of_the_first_form_are_run(rt: HostRuntime) -> Result<(), Fail> {
     let alloc = rt.alloc();
-    let rows: [(&str, u8, &[u8], &str); 10] = [
-        (
-            "main { specfold s = 1 for k in 0..5 predict k { next s * 2; } emit s; }",
-            0,
-            &[32],
-            "",
-        ),
+    let rows: [(&str, u8, &[u8], &str); 8] = [
+        (DOUBLING, 0, &[32], ""),
         (
             "main { specfold s = 9 for k in 0..1 predict 0 { next s + 1; } emit s; }",
             0,
@@ -47,7 +71,7 @@ fn programs_are_run(rt: HostRuntime) -> Result<(), Fail> {
             "",
         ),
         (
-            "main { specfold s = 9 for k in 3..3 predict 0 { next s * s; } emit s; }",
+            "main { specfold s = 9 for k in 3..3 predict 0 { next 1 / 0; } emit s; }",
             0,
             &[9],
             "",
@@ -60,56 +84,190 @@ fn programs_are_run(rt: HostRuntime) -> Result<(), Fail> {
             "trap emit line 1\n",
         ),
         (
-            "main { emit 65;\n specfold s = 9223372036854775807 for k in 0..2 predict 0 {\n\nnext s + 1; } emit s; }",
+            "main {\n  emit 65;\n  specfold s = 0 for k in 0..5 predict 0 {\n    next 10 / (3 - k); } }",
             1,
             &[65],
-            "trap overflow line 4\n",
+            "trap divide-by-zero line 4\n",
         ),
         (
-            "main { specfold s = 0 for k in 0..4097 predict k { next s + 1; } emit s; }",
+            "main { specfold s = 5 for k in 0..4 predict 0 { next 10 / s; } emit s; }",
+            0,
+            &[5],
+            "",
+        ),
+        (TOO_MANY_BLOCKS, 1, &[], "trap blocks line 1\n"),
+    ];
+    for (program, status, output, message) in rows {
+        let given = answer(alloc, &RUN, program)?;
+        assert_eq!(rt; given.status, status, "of {program}");
+        assert_eq!(rt; given.out.bytes(), output, "of {program}");
+        assert_eq!(rt; given.err.bytes(), message.as_bytes(), "of {program}");
+    }
+    Ok(())
+}
+
+#[test]
+fn all_programs_are_run_plainly(rt: HostRuntime) -> Result<(), Fail> {
+    let alloc = rt.alloc();
+    let rows: [(&str, &[&str], u8, &[u8], &str); 9] = [
+        (
+            PAIRS,
+            &["run", "P", "I", "--stats", "--cells", "--plain"],
+            0,
+            &[7, 0, 0, 7, 7, 0],
+            "blocks 0 hits 0 misses 0 blind 0\ncells out 7 0 0 7 7 0\n",
+        ),
+        (
+            PAIRS,
+            &["run", "P", "I", "--plain"],
+            0,
+            &[7, 0, 0, 7, 7, 0],
+            "",
+        ),
+        (PAIRS, &RUN, 4, &[], "refused not-built\n"),
+        (
+            DOUBLING,
+            &["run", "P", "I", "--stats"],
+            0,
+            &[32],
+            "blocks 0 hits 0 misses 0 blind 0\n",
+        ),
+        (
+            "main { while 1 == 1 max 2 { } }",
+            &["run", "P", "I", "--plain"],
             1,
             &[],
-            "trap blocks line 1\n",
+            "trap turns line 1\n",
         ),
-        ("main { fill a[0..1] = 0; }", 3, &[], "text refused\n"),
-        ("main { emit nope; }", 3, &[], "text refused\n"),
-        ("main { emit @; }", 3, &[], "text refused\n"),
+        (
+            TOO_MANY_BLOCKS,
+            &["run", "P", "I", "--stats", "--plain"],
+            1,
+            &[],
+            "trap blocks line 1\nblocks 0 hits 0 misses 0 blind 0\n",
+        ),
+        (
+            "main { let n = 0; specfold s = 0 for k in 0..2 predict 0 { n = n + 1; next s; } emit n; }",
+            &["run", "P", "I", "--plain"],
+            0,
+            &[2],
+            "",
+        ),
+        (
+            "main { specfold s = 0 for k in 0..3 predict 0 { emit k; next s; } }",
+            &["run", "P", "I", "--plain"],
+            0,
+            &[0, 1, 2],
+            "",
+        ),
+        (
+            "array a[4194305]; main { }",
+            &["run", "P", "I", "--plain"],
+            7,
+            &[],
+            "cells 4194305 over 4194304\n",
+        ),
     ];
-    let words = texts(alloc, &RUN)?;
-    for (program, status, output, message) in rows {
-        let mut files = files(alloc, program)?;
-        let mut out = MemSink::make(Vec::new(alloc), 0);
-        let mut err = MemSink::make(Vec::new(alloc), 0);
-        let got = spf_main(alloc, &words, &mut files, &mut out, &mut err);
-        assert_eq!(rt; got, status, "of {program}");
-        assert_eq!(rt; out.bytes(), output, "of {program}");
-        assert_eq!(rt; err.bytes(), message.as_bytes(), "of {program}");
+    for (program, words, status, output, message) in rows {
+        let given = answer(alloc, words, program)?;
+        assert_eq!(rt; given.status, status, "of {program}");
+        assert_eq!(rt; given.out.bytes(), output, "of {program}");
+        assert_eq!(rt; given.err.bytes(), message.as_bytes(), "of {program}");
     }
+    Ok(())
+}
+
+#[test]
+fn refused_texts_have_their_places(rt: HostRuntime) -> Result<(), Fail> {
+    let alloc = rt.alloc();
+    let rows: [(&str, &str); 12] = [
+        ("main { emi", "text byte 10: unexpected\n"),
+        ("main { emit @; }", "text byte 12: bad byte\n"),
+        ("main { x = 1; }", "line 1: unknown name\n"),
+        (
+            "main { emit 9223372036854775808; }",
+            "text byte 12: number too large\n",
+        ),
+        ("", "text byte 0: unexpected\n"),
+        (
+            "main {\n  let x = 1;\n  let x = 2;\n}",
+            "line 3: declared twice\n",
+        ),
+        ("main { emit nope; }", "line 1: unknown name\n"),
+        (
+            "fn f(x) { return x; } main {\n emit f(); }",
+            "line 2: wrong number of arguments\n",
+        ),
+        ("main { emit 1 == 1; }", "line 1: wrong kind\n"),
+        (
+            "fn f() { return f(); } main { }",
+            "line 1: calls later function\n",
+        ),
+        (
+            "fn f() { emit 1; return 0; } main { }",
+            "line 1: misplaced emit\n",
+        ),
+        ("main { fail 256; }", "line 1: wrong kind\n"),
+    ];
+    for (program, message) in rows {
+        for words in [&RUN[..], &["print", "P"]] {
+            let given = answer(alloc, words, program)?;
+            assert_eq!(rt; given.status, 3, "of {program}");
+            assert_eq!(rt; given.out.bytes().len(), 0, "of {program}");
+            assert_eq!(rt; given.err.bytes(), message.as_bytes(), "of {program}");
+        }
+    }
+    Ok(())
+}
+
+#[test]
+fn programs_are_printed(rt: HostRuntime) -> Result<(), Fail> {
+    let alloc = rt.alloc();
+    let given = answer(alloc, &["print", "P"], DOUBLING)?;
+    let text =
+        b"main {\n  specfold s = 1 for k in 0..5 predict k {\n    next s * 2;\n  }\n  emit s;\n}\n";
+    assert_eq!(rt;
+        (given.status, given.out.bytes(), given.err.bytes().len()),
+        (0, text.as_slice(), 0)
+    );
     Ok(())
 }
 
 #[test]
 fn other_words_and_files_are_refused(rt: HostRuntime) -> Result<(), Fail> {
     let alloc = rt.alloc();
-    let rows: [(&[&str], u8, &str); 8] = [
+    let rows: [(&[&str], u8, &str); 13] = [
         (&["run", "P", "J"], 5, "file J failed\n"),
         (&["run", "Q", "I"], 5, "file Q failed\n"),
+        (&["print", "Q"], 5, "file Q failed\n"),
         (&["run", "P"], 2, "words not understood\n"),
         (&[], 2, "words not understood\n"),
         (&["run", "P", "I", "I"], 2, "words not understood\n"),
         (&["walk", "P", "I"], 2, "words not understood\n"),
         (&["run", "P", "-I"], 2, "words not understood\n"),
         (&["run", "", "I"], 2, "words not understood\n"),
+        (&["print", "P", "I"], 2, "words not understood\n"),
+        (
+            &["run", "P", "I", "--plain", "--stats"],
+            2,
+            "words not understood\n",
+        ),
+        (
+            &["run", "P", "I", "--cells", "--cells"],
+            2,
+            "words not understood\n",
+        ),
+        (
+            &["run", "P", "I", "--workers=2"],
+            2,
+            "words not understood\n",
+        ),
     ];
     for (words, status, message) in rows {
-        let words = texts(alloc, words)?;
-        let mut files = files(alloc, "main { emit 1; }")?;
-        let mut out = MemSink::make(Vec::new(alloc), 0);
-        let mut err = MemSink::make(Vec::new(alloc), 0);
-        let got = spf_main(alloc, &words, &mut files, &mut out, &mut err);
-        assert_eq!(rt; got, status, "{message}");
-        assert_eq!(rt; out.bytes().len(), 0, "{message}");
-        assert_eq!(rt; err.bytes(), message.as_bytes(), "{message}");
+        let given = answer(alloc, words, "main { emit 1; }")?;
+        assert_eq!(rt; given.status, status, "{message}");
+        assert_eq!(rt; given.out.bytes().len(), 0, "{message}");
+        assert_eq!(rt; given.err.bytes(), message.as_bytes(), "{message}");
     }
     Ok(())
 }
@@ -117,23 +275,21 @@ fn other_words_and_files_are_refused(rt: HostRuntime) -> Result<(), Fail> {
 #[test]
 fn faults_end_the_run(rt: HostRuntime) -> Result<(), Fail> {
     let alloc = rt.alloc();
-    let words = texts(alloc, &RUN)?;
 
-    // A sink that fails at its first put has taken one byte of it, and nothing follows.
-    let mut told = files(alloc, "main { emit 65; emit 66; }")?;
+    // A sink that fails at its second put has taken the first whole and 100 bytes of the second.
+    let words = texts(alloc, &["run", "P", "I", "--plain"])?;
+    let mut told = files(alloc, "main { for i in 0..5000 { emit 0; } }")?;
     let mut failing = Vec::new(alloc);
-    failing.push(0)?;
-    let mut out = MemSink::make(failing, 1);
+    failing.push(1)?;
+    let mut out = MemSink::make(failing, 100);
     let mut err = MemSink::make(Vec::new(alloc), 0);
     let got = spf_main(alloc, &words, &mut told, &mut out, &mut err);
-    assert_eq!(rt;
-        (got, out.bytes(), err.bytes().len()),
-        (6, b"A".as_slice(), 0)
-    );
+    assert_eq!(rt; (got, out.bytes().len(), err.bytes().len()), (6, 4196, 0));
 
     // The second fetch fails, although the file is there.
+    let words = texts(alloc, &RUN)?;
     let mut entries = Vec::new(alloc);
-    entries.push(entry(alloc, PROGRAM, b"main { }")?)?;
+    entries.push(entry(alloc, "P", b"main { }")?)?;
     entries.push(entry(alloc, "I", b"")?)?;
     let mut failing = Vec::new(alloc);
     failing.push(1)?;

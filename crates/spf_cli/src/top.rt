@@ -4,7 +4,7 @@ ghost use Rattle.std.specs.Prelude.{◌≡◌, ◌⊎◌, ◌≤◌, List, Optio
 ghost use Rattle.spf_edge.specs.Bytes.{Adds, AddsPrefix};
 ghost use Rattle.spf_edge.specs.Entries.{Entry};
 ghost use Rattle.spf_edge.specs.Faults.{Rose};
-ghost use Rattle.spf_cli.specs.Answering.{seen_answer, IsPutFault};
+ghost use Rattle.spf_cli.specs.Answering.{bytes_of, seen_answer, IsPutFault};
 ghost use Rattle.spf_cli.specs.Whole.{IsAnswered, IsAnsweredInPart, IsGiven, IsGivenInPart};
 ghost use Rattle.spf_cli.specs.Status.{status_number, put_status as put_status_of};
 
@@ -32,6 +32,19 @@ fn put_pieces<S: Sink>(sink: &mut S, bytes: &[u8]) -> Result<(), PutError>
     Ok(())
 }
 
+/// Puts lines, each by a put of its own.
+fn put_lines<S: Sink>(sink: &mut S, lines: &[Vec<u8>]) -> Result<(), PutError>
+    ensures added { OnOk result (Adds (S.taken sink.old) (S.taken sink.new) (bytes_of lines.now)) }
+    ensures failed { IfErr result (IsPutFault (Rose (S.faults sink.old) (S.faults sink.new))) }
+    ensures front { AddsPrefix (S.taken sink.old) (S.taken sink.new) (bytes_of lines.now) }
+    ensures later { S.faults sink.old ≤ S.faults sink.new }
+{
+    for line in lines {
+        sink.put(line)?;
+    }
+    Ok(())
+}
+
 /// The status of a put that failed.
 fn put_status(error: PutError) -> Status
     ensures { status_number result ≡ put_status_of error }
@@ -42,19 +55,23 @@ fn put_status(error: PutError) -> Status
     }
 }
 
-/// Puts an answer: its output, and then its line. After a put that failed nothing more is put.
+/// Puts an answer: its output, and then its lines. After a put that failed nothing more is put.
 fn put<S: Sink>(given: &Answer, out: &mut S, err: &mut S) -> Result<(), PutError>
     ensures given { OnOk result (IsGiven (seen_answer given.now) (status_number given.now.status) (S.taken out.old) (S.taken out.new) (S.taken err.old) (S.taken err.new)) }
     ensures failed { IfErr result (IsPutFault (Rose (S.faults out.old) (S.faults out.new) ⊎ Rose (S.faults err.old) (S.faults err.new))) }
     ensures front { IsGivenInPart (seen_answer given.now) (S.taken out.old) (S.taken out.new) (S.taken err.old) (S.taken err.new) }
 {
     put_pieces(out, &given.output)?;
-    put_pieces(err, given.message.as_bytes())
+    put_lines(err, &given.messages)
 }
 
-/// Does all that the program does: reads the words of its command line, fetches the files that they name, and puts the answer.
+/// Does all that the program does: reads the words of its command line, fetches the files that they
+/// name, and puts the answer.
 ///
-/// `words` are the words behind the program's name. The status is 0 where a program ran to its end, 1 where it trapped, 2 where the words aren't understood, 3 where the text is that of no program, 5 where a file can't be had, 6 where a sink failed, 7 where a limit was passed, and 8 where memory was short.
+/// `words` are the words behind the program's name. The status is 0 where the command is done, 1 where
+/// the program trapped, 2 where the words aren't understood, 3 where the text has no lawful program, 4
+/// where what runs the program isn't built yet, 5 where a file can't be had, 6 where a sink failed, 7
+/// where a limit was passed, and 8 where memory was short.
 pub fn spf_main<F: Files, S: Sink>(
     alloc: Global,
     words: &[String],
@@ -68,7 +85,7 @@ pub fn spf_main<F: Files, S: Sink>(
         (Rose (S.faults out.old) (S.faults out.new) ⊎ Rose (S.faults err.old) (S.faults err.new))
         result (S.taken out.old) (S.taken out.new) (S.taken err.old) (S.taken err.new) }
 
-    // With every status each sink took a front of what the whole answer has for it, unless a fault of the files was met.
+    // With every status each sink took a front of what the whole answer has for it, or of the answer to a fault of the files that was met.
     ensures in_part { (told : List Entry) → F.told files.old ≡ Some told → IsAnsweredInPart (map string_bytes words.now) told
         (Rose (F.faults files.old) (F.faults files.new))
         (S.taken out.old) (S.taken out.new) (S.taken err.old) (S.taken err.new) }

@@ -1,235 +1,228 @@
--- Statements, part by part.
-use Rattle.std.proofs.Common.{◌≡◌, ℕ, ◌+◌, ◌<◌, List, [], ◌∷◌, length, length-append, refl, sym, ◌∙◌, ap, subst, arith, inl, inr, true, false, Result, Ok, Err}
-use Rattle.std.specs.Str.{bytes_eq}
+-- What is left of statements.
+use Rattle.std.proofs.Common.{◌≡◌, ℕ, zero, suc, ◌<◌, Bool, true, false, List, [], ◌∷◌, ◌++◌, length, map, refl, sym, ◌∙◌, ap, subst, append_assoc, arith, inl, inr, Option, Some}
+use Rattle.std.proofs.lemmas.List.{append-nil}
+use Rattle.spf_text.specs.declared.token.Keyword.{Keyword}
+use Rattle.spf_text.specs.declared.token.Keyword.TheVariants as word
+use Rattle.spf_text.specs.declared.token.Sign.{Sign}
+use Rattle.spf_text.specs.declared.token.Sign.TheVariants as sign
 use Rattle.spf_text.specs.declared.token.TokenKind.{TokenKind}
 use Rattle.spf_text.specs.declared.token.TokenKind.TheVariants as kind
-use Rattle.spf_text.specs.declared.token.Sign.TheVariants as sign
-use Rattle.spf_text.specs.declared.token.Keyword.TheVariants as keyword
-use Rattle.spf_ast.specs.Syntax.{Expression, Statement, Emit}
-use Rattle.spf_parse.specs.declared.fault.ParseError.{ParseError}
-use Rattle.spf_parse.specs.Relation.{Word, Relation, give, ◌>>=◌, ◌>>◌, where_, here, line_of}
-use Rattle.spf_parse.specs.Grammar.{Visible, Scope, Stated, new_name, expression, emitted, fold_names, range, guess, body, fold_of, folded, fold, statement, in_predictor, in_body, after_fold}
-use Rattle.spf_parse.specs.Limits.{HasRoom}
-use Rattle.spf_parse.specs.Answers.{Anything, IsOnly, SaysNothing, Answers, IsNext, IsBehind, NoOperator}
-use Rattle.spf_parse.proofs.Steps.{Continues, start, follow, stuck, finish, whole, word, begins, missing, part, part_refused, refusal, no_operator}
-
--- ---- what is read of a whole
-
--- a part that stands for the whole
-pub through : {X A : Type 0} {stop : List Word → Type 0} {r s : Relation A} {words rest : List Word} (value : X → A) (later : X → List Word) (result : Result X ParseError) →
-    Continues stop r words s rest → Answers s stop rest value later result → Answers r stop words value later result
-through value later (Ok x) p a = whole p a
-through {stop = stop} {r = r} {s = s} {words = words} {rest = rest} value later (Err why) p a = refusal stop stop r s words rest why (λ h. stuck p h) a
-
-pub within : {A : Type 0} {stop : List Word → Type 0} {r s : Relation A} {words rest : List Word} (Holds : A → Type 0) → Continues stop r words s rest → Continues stop (where_ Holds r) words (where_ Holds s) rest
-within Holds p = record { into = λ b later h. (p.into b later h.0, h.1); only = λ b later h s. (p.only b later h.0 s, h.1) }
-
-pub kept : {A : Type 0} {stop : List Word → Type 0} {r : Relation A} {words rest : List Word} {a : A} (Holds : A → Type 0) → IsOnly r stop words a rest → Holds a → IsOnly (where_ Holds r) stop words a rest
-kept Holds p is = record { is = (p.is, is); only = λ b later h s. p.only b later h.0 s }
-
--- ---- what stops an expression
-
-ends_with : (k : TokenKind) (words : List Word) → (k ≡ kind.Sign sign.Star → ⊥) → (k ≡ kind.Sign sign.Plus → ⊥) → {A : Type 0} (r : Relation A) (b : A) (later : List Word) → (k >> r) words b later → NoOperator words
-ends_with k words star plus r b later h = no_operator k words star plus (begins k r words b later h)
-
-ends_semicolon : {A : Type 0} (r : Relation A) (b : A) (k later : List Word) → (kind.Sign sign.Semicolon >> r) k b later → NoOperator k
-ends_semicolon r b k later h = ends_with (kind.Sign sign.Semicolon) k (λ e. absurd cc) (λ e. absurd cc) r b later h
-
-ends_for : {A : Type 0} (r : Relation A) (b : A) (k later : List Word) → (kind.Keyword keyword.For >> r) k b later → NoOperator k
-ends_for r b k later h = ends_with (kind.Keyword keyword.For) k (λ e. absurd cc) (λ e. absurd cc) r b later h
-
-ends_dots : {A : Type 0} (r : Relation A) (b : A) (k later : List Word) → (kind.Sign sign.DotDot >> r) k b later → NoOperator k
-ends_dots r b k later h = ends_with (kind.Sign sign.DotDot) k (λ e. absurd cc) (λ e. absurd cc) r b later h
-
-ends_predict : {A : Type 0} (r : Relation A) (b : A) (k later : List Word) → (kind.Keyword keyword.Predict >> r) k b later → NoOperator k
-ends_predict r b k later h = ends_with (kind.Keyword keyword.Predict) k (λ e. absurd cc) (λ e. absurd cc) r b later h
-
-ends_brace : {A : Type 0} (r : Relation A) (b : A) (k later : List Word) → (kind.Sign sign.OpenBrace >> r) k b later → NoOperator k
-ends_brace r b k later h = ends_with (kind.Sign sign.OpenBrace) k (λ e. absurd cc) (λ e. absurd cc) r b later h
-
--- ---- the parts
-
--- the names of a fold, and its start
-abbrev pub Names : Type 0
-Names = List ℕ × Expression × List ℕ
-
-module _ (visible : List Visible) where
-  -- `emit`
-  abbrev emit_1 : Expression → Relation Statement
-  emit_1 value = kind.Sign sign.Semicolon >> give (Emit value)
-
-  pub emit_value : {words rest : List Word} {e : Expression} → IsOnly (expression visible) NoOperator words e rest → Continues Anything (emitted visible) words (emit_1 e) rest
-  emit_value p = part {next = emit_1} (λ x b k later h s. ends_semicolon (give (Emit x)) b k later h) p
-
-  pub emit_refused : (words : List Word) → SaysNothing (expression visible) NoOperator words → SaysNothing (emitted visible) Anything words
-  emit_refused words p = part_refused Anything NoOperator (expression visible) emit_1 words (λ x b k later h s. ends_semicolon (give (Emit x)) b k later h) p
-
-  pub emit_open : {words rest : List Word} {e : Expression} → IsOnly (expression visible) NoOperator words e rest → (IsNext (kind.Sign sign.Semicolon) rest → ⊥) → SaysNothing (emitted visible) Anything words
-  emit_open {rest = rest} {e = e} p never = stuck (emit_value p) (missing Anything (kind.Sign sign.Semicolon) (give (Emit e)) rest never)
-
-  pub emit_all : {words rest later : List Word} {e : Expression} → IsOnly (expression visible) NoOperator words e rest → IsBehind (kind.Sign sign.Semicolon) rest later → IsOnly (emitted visible) Anything words (Emit e) later
-  emit_all p behind = finish (follow (emit_value p) (word behind))
-
-  abbrev names_3 : List ℕ → Expression → List ℕ → Relation Names
-  names_3 carried start block = kind.Keyword keyword.In >> give (carried, start, block)
-
-  abbrev other_name : List ℕ → Relation (List ℕ)
-  other_name carried = where_ (λ block. bytes_eq block carried ≡ false) (new_name visible)
-
-  abbrev names_2 : List ℕ → Expression → Relation Names
-  names_2 carried start = kind.Keyword keyword.For >> (other_name carried >>= λ block. names_3 carried start block)
-
-  abbrev names_1 : List ℕ → Relation Names
-  names_1 carried = kind.Sign sign.Assign >> (expression visible >>= λ start. names_2 carried start)
-
-  pub names_carried : {words rest : List Word} {x : List ℕ} → IsOnly (new_name visible) Anything words x rest → Continues Anything (fold_names visible) words (names_1 x) rest
-  names_carried p = part {next = names_1} (λ x b k later h s. tt) p
-
-  pub names_uncarried : (words : List Word) → SaysNothing (new_name visible) Anything words → SaysNothing (fold_names visible) Anything words
-  names_uncarried words p = part_refused Anything Anything (new_name visible) names_1 words (λ x b k later h s. tt) p
-
-  pub names_start : (x : List ℕ) {words next rest : List Word} {e : Expression} → IsBehind (kind.Sign sign.Assign) words next → IsOnly (expression visible) NoOperator next e rest → Continues Anything (names_1 x) words (names_2 x e) rest
-  names_start x behind p = follow (word behind) (part {next = names_2 x} (λ e b k later h s. ends_for (other_name x >>= λ block. names_3 x e block) b k later h) p)
-
-  pub names_unstarted : (x : List ℕ) {words next : List Word} → IsBehind (kind.Sign sign.Assign) words next → SaysNothing (expression visible) NoOperator next → SaysNothing (names_1 x) Anything words
-  names_unstarted x {next = next} behind p = stuck (word behind) (part_refused Anything NoOperator (expression visible) (names_2 x) next (λ e b k later h s. ends_for (other_name x >>= λ block. names_3 x e block) b k later h) p)
-
-  pub names_block : (x : List ℕ) (e : Expression) {words next rest : List Word} {y : List ℕ} → IsBehind (kind.Keyword keyword.For) words next → IsOnly (new_name visible) Anything next y rest → bytes_eq y x ≡ false → Continues Anything (names_2 x e) words (names_3 x e y) rest
-  names_block x e behind p other = follow (word behind) (part {next = names_3 x e} (λ y b k later h s. tt) (kept (λ block. bytes_eq block x ≡ false) p other))
-
-  pub names_unblocked : (x : List ℕ) (e : Expression) {words next : List Word} → IsBehind (kind.Keyword keyword.For) words next → SaysNothing (new_name visible) Anything next → SaysNothing (names_2 x e) Anything words
-  names_unblocked x e {next = next} behind p = stuck (word behind) (part_refused Anything Anything (other_name x) (names_3 x e) next (λ y b k later h s. tt) (λ b later h s. p b later h.0 s))
-
-  pub names_same : (x : List ℕ) (e : Expression) {words next rest : List Word} {y : List ℕ} → IsBehind (kind.Keyword keyword.For) words next → IsOnly (new_name visible) Anything next y rest → bytes_eq y x ≡ true → SaysNothing (names_2 x e) Anything words
-  names_same x e {next = next} {y = y} behind p same = stuck (word behind) (part_refused Anything Anything (other_name x) (names_3 x e) next (λ y b k later h s. tt)
-      (λ b later h s. let one = (p.only b later h.0 tt).0 in let clash : true ≡ false = sym same ∙ ap (λ z. bytes_eq z x) (sym one) ∙ h.1 in absurd cc))
-
-  -- a range
-  abbrev range_2 : Expression → Expression → Relation (Expression × Expression)
-  range_2 low high = give (low, high)
-
-  abbrev range_1 : Expression → Relation (Expression × Expression)
-  range_1 low = kind.Sign sign.DotDot >> (expression visible >>= λ high. range_2 low high)
-
-  pub range_low : {words rest : List Word} {e : Expression} → IsOnly (expression visible) NoOperator words e rest → Continues NoOperator (range visible) words (range_1 e) rest
-  range_low p = part {next = range_1} (λ x b k later h s. ends_dots (expression visible >>= λ high. range_2 x high) b k later h) p
-
-  pub range_lowless : (words : List Word) → SaysNothing (expression visible) NoOperator words → SaysNothing (range visible) NoOperator words
-  range_lowless words p = part_refused NoOperator NoOperator (expression visible) range_1 words (λ x b k later h s. ends_dots (expression visible >>= λ high. range_2 x high) b k later h) p
-
-  pub range_high : (low : Expression) {words next rest : List Word} {e : Expression} → IsBehind (kind.Sign sign.DotDot) words next → IsOnly (expression visible) NoOperator next e rest → Continues NoOperator (range_1 low) words (give (low, e)) rest
-  range_high low behind p = follow (word behind) (part {next = range_2 low} (λ x b k later h s. subst NoOperator h.1 s) p)
-
-  pub range_highless : (low : Expression) {words next : List Word} → IsBehind (kind.Sign sign.DotDot) words next → SaysNothing (expression visible) NoOperator next → SaysNothing (range_1 low) NoOperator words
-  range_highless low {next = next} behind p = stuck (word behind) (part_refused NoOperator NoOperator (expression visible) (range_2 low) next (λ x b k later h s. subst NoOperator h.1 s) p)
-
-  -- the body of a fold
-  abbrev body_3 : ℕ → Expression → Relation (ℕ × Expression)
-  body_3 line value = kind.Sign sign.Semicolon >> (kind.Sign sign.CloseBrace >> give (line, value))
-
-  abbrev body_2 : ℕ → Relation (ℕ × Expression)
-  body_2 line = kind.Keyword keyword.Next >> (expression visible >>= λ value. body_3 line value)
-
-  this_line : (words : List Word) → IsOnly here Anything words (line_of words) words
-  this_line words = record { is = (refl, refl); only = λ b later h s. h }
-
-  pub body_begun : {words next : List Word} → IsBehind (kind.Sign sign.OpenBrace) words next → Continues Anything (body visible) words (body_2 (line_of next)) next
-  body_begun {next = next} behind = follow (word behind) (part {next = body_2} (λ x b k later h s. tt) (this_line next))
-
-  pub body_value : (line : ℕ) {words next rest : List Word} {e : Expression} → IsBehind (kind.Keyword keyword.Next) words next → IsOnly (expression visible) NoOperator next e rest → Continues Anything (body_2 line) words (body_3 line e) rest
-  body_value line behind p = follow (word behind) (part {next = body_3 line} (λ x b k later h s. ends_semicolon (kind.Sign sign.CloseBrace >> give (line, x)) b k later h) p)
-
-  pub body_valueless : (line : ℕ) {words next : List Word} → IsBehind (kind.Keyword keyword.Next) words next → SaysNothing (expression visible) NoOperator next → SaysNothing (body_2 line) Anything words
-  body_valueless line {next = next} behind p = stuck (word behind) (part_refused Anything NoOperator (expression visible) (body_3 line) next (λ x b k later h s. ends_semicolon (kind.Sign sign.CloseBrace >> give (line, x)) b k later h) p)
-
--- ---- a fold
-
-module _ (scope : Scope) where
-  abbrev folded_4 : Names → Expression × Expression → Expression → ℕ × Expression → Relation Stated
-  folded_4 names between guessed next = give (fold_of (length scope.slots) names.1 between guessed next, after_fold scope names)
-
-  abbrev folded_3 : Names → Expression × Expression → Expression → Relation Stated
-  folded_3 names between guessed = body (in_body scope names) >>= λ next. folded_4 names between guessed next
-
-  abbrev folded_2 : Names → Expression × Expression → Relation Stated
-  folded_2 names between = guess (in_predictor scope names) >>= λ guessed. folded_3 names between guessed
-
-  abbrev folded_1 : Names → Relation Stated
-  folded_1 names = range scope.visible >>= λ between. folded_2 names between
-
-  pub fold_named : {words rest : List Word} {names : Names} → IsOnly (fold_names scope.visible) Anything words names rest → Continues Anything (folded scope) words (folded_1 names) rest
-  fold_named p = part {next = folded_1} (λ x b k later h s. tt) p
-
-  pub fold_unnamed : (words : List Word) → SaysNothing (fold_names scope.visible) Anything words → SaysNothing (folded scope) Anything words
-  fold_unnamed words p = part_refused Anything Anything (fold_names scope.visible) folded_1 words (λ x b k later h s. tt) p
-
-  range_until : (names : Names) (x : Expression × Expression) (b : Stated) (k later : List Word) → folded_2 names x k b later → NoOperator k
-  range_until names x b k later h = ends_predict (expression (in_predictor scope names)) h.0 k h.1 h.2
-
-  pub fold_between : (names : Names) {words rest : List Word} {x : Expression × Expression} → IsOnly (range scope.visible) NoOperator words x rest → Continues Anything (folded_1 names) words (folded_2 names x) rest
-  fold_between names p = part {next = folded_2 names} (λ x b k later h s. range_until names x b k later h) p
-
-  pub fold_not_between : (names : Names) (words : List Word) → SaysNothing (range scope.visible) NoOperator words → SaysNothing (folded_1 names) Anything words
-  fold_not_between names words p = part_refused Anything NoOperator (range scope.visible) (folded_2 names) words (λ x b k later h s. range_until names x b k later h) p
-
-  guess_until : (names : Names) (x : Expression × Expression) (y : Expression) (b : Stated) (k later : List Word) → folded_3 names x y k b later → NoOperator k
-  guess_until names x y b k later h = ends_brace (here >>= λ line. body_2 (in_body scope names) line) h.0 k h.1 h.2
-
-  pub fold_guessed : (names : Names) (x : Expression × Expression) {words rest : List Word} {y : Expression} → IsOnly (guess (in_predictor scope names)) NoOperator words y rest → Continues Anything (folded_2 names x) words (folded_3 names x y) rest
-  fold_guessed names x p = part {next = folded_3 names x} (λ y b k later h s. guess_until names x y b k later h) p
-
-  pub fold_not_guessed : (names : Names) (x : Expression × Expression) (words : List Word) → SaysNothing (guess (in_predictor scope names)) NoOperator words → SaysNothing (folded_2 names x) Anything words
-  fold_not_guessed names x words p = part_refused Anything NoOperator (guess (in_predictor scope names)) (folded_3 names x) words (λ y b k later h s. guess_until names x y b k later h) p
-
-  pub fold_next : (names : Names) (x : Expression × Expression) (y : Expression) {words rest : List Word} {z : ℕ × Expression} → IsOnly (body (in_body scope names)) Anything words z rest → Continues Anything (folded_3 names x y) words (folded_4 names x y z) rest
-  fold_next names x y p = part {next = folded_4 names x y} (λ z b k later h s. tt) p
-
-  pub fold_no_next : (names : Names) (x : Expression × Expression) (y : Expression) (words : List Word) → SaysNothing (body (in_body scope names)) Anything words → SaysNothing (folded_3 names x y) Anything words
-  fold_no_next names x y words p = part_refused Anything Anything (body (in_body scope names)) (folded_4 names x y) words (λ z b k later h s. tt) p
-
-  pub two_more : (stated : Stated) (words later : List Word) → folded scope words stated later → length stated.1.slots ≡ length scope.slots + 2
-  two_more stated words later h =
-      ap (λ x. length x.1.slots) h.3.3.3.3.0 ∙ length-append scope.slots (h.0.0 ∷ h.0.2 ∷ [])
-
-  pub fold_full : (words : List Word) → 1022 < length scope.slots → SaysNothing (where_ HasRoom (folded scope)) Anything words
-  fold_full words full = λ stated later h s. let more = two_more stated words later h.0 in let room = h.1 in omega (arith, more, room, full)
-
-  -- ---- a statement
-
-  abbrev emit_end : Statement → Relation Stated
-  emit_end first = give (first, scope)
-
-  fold_at_emit : (words : List Word) (b : Stated) (later : List Word) → IsNext (kind.Keyword keyword.Emit) words → fold scope words b later → ⊥
-  fold_at_emit [] b later is h = h
-  fold_at_emit (w ∷ words) b later is h = let clash : kind.Keyword keyword.Specfold ≡ kind.Keyword keyword.Emit = sym h.0 ∙ is in absurd cc
-
-  first_kind : (k : TokenKind) {words rest : List Word} → IsBehind k words rest → IsNext k words
-  first_kind k (w, is, split) = subst (IsNext k) (sym split) is
-
-  pub statement_emit : {words rest : List Word} → IsBehind (kind.Keyword keyword.Emit) words rest → Continues Anything (statement scope) words (emitted scope.visible >>= λ first. emit_end first) rest
-  statement_emit {words = words} behind = follow
-      (record {
-        into = λ b later h. inl h;
-        only = λ b later h s. elim h [ inl d ↦ d | inr d ↦ absurd (fold_at_emit words b later (first_kind (kind.Keyword keyword.Emit) behind) d) ];
-      })
-      (word behind)
-
-  pub statement_emitted : {words next rest : List Word} {first : Statement} → IsBehind (kind.Keyword keyword.Emit) words next → IsOnly (emitted scope.visible) Anything next first rest → IsOnly (statement scope) Anything words (first, scope) rest
-  statement_emitted behind p = finish (follow (statement_emit behind) (part {next = emit_end} (λ x b k later h s. tt) p))
-
-  pub statement_not_emitted : {words next : List Word} → IsBehind (kind.Keyword keyword.Emit) words next → SaysNothing (emitted scope.visible) Anything next → SaysNothing (statement scope) Anything words
-  statement_not_emitted {next = next} behind p = stuck (statement_emit behind) (part_refused Anything Anything (emitted scope.visible) emit_end next (λ x b k later h s. tt) p)
-
-  pub statement_fold : {words rest : List Word} → (IsNext (kind.Keyword keyword.Emit) words → ⊥) → IsBehind (kind.Keyword keyword.Specfold) words rest → Continues Anything (statement scope) words (folded scope) rest
-  statement_fold {words = words} never behind = follow
-      (record {
-        into = λ b later h. inr h;
-        only = λ b later h s. elim h [ inl d ↦ absurd (never (begins (kind.Keyword keyword.Emit) (emitted scope.visible >>= λ first. emit_end first) words b later d)) | inr d ↦ d ];
-      })
-      (word behind)
-
-  pub statement_none : (words : List Word) → (IsNext (kind.Keyword keyword.Emit) words → ⊥) → (IsNext (kind.Keyword keyword.Specfold) words → ⊥) → SaysNothing (statement scope) Anything words
-  statement_none words no_emit no_fold = λ b later h s. elim h [
-    | inl d ↦ no_emit (begins (kind.Keyword keyword.Emit) (emitted scope.visible >>= λ first. emit_end first) words b later d)
-    | inr d ↦ no_fold (begins (kind.Keyword keyword.Specfold) (folded scope) words b later d)
-  ]
+use Rattle.spf_ast.specs.declared.raw.RawStmt.{RawStmt}
+use Rattle.spf_ast.specs.RawSyntax.{RawExpression, RawStatement, RawPredictor, on_line, end, By, Host, Fold, Pair, RawFunction}
+use Rattle.spf_ast.specs.RawView.{raw_block, raw_statement}
+use Rattle.spf_grammar.specs.Lexemes.{Lexeme}
+use Rattle.spf_grammar.specs.Parts.{Part, token, opens, many, lined, form, block, otherwise, guess, statement, expression, count, Value, Rule, give, part, either}
+use Rattle.spf_grammar.specs.Rules.{all, rule, block_of, assign_form, store_form, call_form}
+use Rattle.spf_grammar.specs.Reading.{line_of}
+use Rattle.spf_parse.specs.declared.fault.Fault.{Fault}
+use Rattle.spf_parse.specs.declared.fault.Fault.TheVariants as fault
+use Rattle.spf_grammar.specs.Derivations.{Says, Reading}
+use Rattle.spf_parse.specs.Answers.{ahead, Stops, Leads, Faults, Refuses, stated, opens_statement, opened_statements, ended_statements}
+use Rattle.spf_grammar.proofs.Derivations.{bind, with_line}
+use Rattle.spf_parse.proofs.Beginnings.{begins, begins_is, stops_at}
+use Rattle.spf_parse.proofs.Steps.{start, unfold_part, not_first, not_second, cannot, decide, can, pick, refuse}
+use Rattle.spf_parse.proofs.Expressions.{many_next, many_done, token_first}
+
+-- ---- with the line
+
+-- no token is none
+abbrev pub NeverEmpty : Part → Type 0
+NeverEmpty p = (free : ℕ) (y : Value p) (ws : List Lexeme) → Says free p [] y ws → ⊥
+
+pub form_some : (n : ℕ) → NeverEmpty (form n)
+form_some n free y ws d = let f : false ≡ true = begins_is 14 free (form n) [] y ws d in absurd cc
+
+from_lined : (free : ℕ) (p : Part) (ts : List Lexeme) (x : ℕ × Value p) (us : List Lexeme) → Says free (lined p) ts x us → (x.0 ≡ line_of ts) × Says free p ts x.1 us
+from_lined free p ts x us (zero, d) = elim d [ ]
+from_lined free p ts x us (suc depth, d) = (d.0, (depth, d.1))
+
+pair_is : {A : Type 0} (a b : ℕ × A) → a.0 ≡ b.0 → a.1 ≡ b.1 → a ≡ b
+pair_is a b p q = λ i. (p i, q i)
+
+lined_with : {n : ℕ} (p : Part) {ts us : List Lexeme} {x : Value p} → NeverEmpty p → (l : Leads n (all p) ts (give x) us) → (r : List Lexeme) → r ≡ l.read → Leads n (all (lined p)) ts (give (line_of ts, x)) us
+lined_with p {ts} {us} {x} never l [] is =
+    let e = subst (λ r. Reading 0 (all p) (r ++ []) x []) (sym is) (l.into 0 [] x [] (refl, refl)) in
+    absurd (never 0 e.0 e.1 e.2)
+lined_with {n} p {ts} {us} {x} never l (t ∷ r) is =
+    let first : t.line ≡ line_of ts = ap (λ q. line_of (q ++ us)) is ∙ sym (ap line_of l.split) in
+    let here : (k : List Lexeme) → line_of (l.read ++ k) ≡ line_of ts = λ k. ap (λ q. line_of (q ++ k)) (sym is) ∙ first in
+    record {
+      read = l.read;
+      split = l.split;
+      into = λ free k b vs g.
+          let e = l.into free k x k (refl, refl) in
+          let s : Says free p (l.read ++ k) x k = subst (λ y. Says free p (l.read ++ k) y k) (sym e.3.0) (subst (λ q. Says free p (l.read ++ k) e.0 q) (sym e.3.1) e.2) in
+          let w = with_line free p (l.read ++ k) x k s in
+          ((line_of ts, x), k, subst (λ m. Says free (lined p) (l.read ++ k) (m, x) k) (here k) w, g);
+      only = λ free k b vs same d s.
+          let f = from_lined free p (l.read ++ k) d.0 d.1 d.2 in
+          let r : (d.0.1 ≡ x) × (d.1 ≡ k) = l.only free k d.0.1 d.1 same (d.0.1, d.1, f.1, (refl, refl)) (subst (Stops n) d.3.1 s) in
+          (d.3.0 ∙ pair_is d.0 (line_of ts, x) (f.0 ∙ here k) r.0, d.3.1 ∙ r.1);
+    }
+
+pub lined_read : {n : ℕ} (p : Part) {ts us : List Lexeme} {x : Value p} → NeverEmpty p → Leads n (all p) ts (give x) us → Leads n (all (lined p)) ts (give (line_of ts, x)) us
+lined_read p never l = lined_with p never l l.read refl
+
+lined_fails_with : {n : ℕ} (p : Part) {ts : List Lexeme} {d : Bool} {left : ℕ} → NeverEmpty p → (f : Faults d n (all p) ts left) → (r : List Lexeme) → r ≡ f.read ++ f.more → Faults d n (all (lined p)) ts left
+lined_fails_with {n} p never f [] is =
+    let e = f.viable (length (f.more ++ [])) [] (omega arith) in
+    let a : f.read ++ (f.more ++ []) ≡ [] = sym (append_assoc f.read f.more []) ∙ ap (λ q. q ++ []) (sym is) in
+    absurd (never (length (f.more ++ [])) e.0 e.1 (subst (λ q. Says (length (f.more ++ [])) p q e.0 e.1) a e.2))
+lined_fails_with {n} p {ts} {d} {left} never f (t ∷ r) is =
+    let here : (k : List Lexeme) → line_of (f.read ++ (f.more ++ k)) ≡ t.line = λ k. ap line_of (sym (append_assoc f.read f.more k)) ∙ ap (λ q. line_of (q ++ k)) (sym is) in
+    record {
+      read = f.read;
+      rest = f.rest;
+      split = f.split;
+      left_is = f.left_is;
+      more = f.more;
+      value = (t.line, f.value);
+      begins = f.begins;
+      viable = λ free k room.
+          let e = f.viable free k room in
+          let s : Says free p (f.read ++ (f.more ++ k)) f.value k = subst (λ y. Says free p (f.read ++ (f.more ++ k)) y k) (sym e.3.0) (subst (λ q. Says free p (f.read ++ (f.more ++ k)) e.0 q) (sym e.3.1) e.2) in
+          let w = with_line free p (f.read ++ (f.more ++ k)) f.value k s in
+          ((t.line, f.value), k, subst (λ m. Says free (lined p) (f.read ++ (f.more ++ k)) (m, f.value) k) (here k) w, (refl, refl));
+      dead = λ free k b vs binds same x s.
+          let g = from_lined free p (f.read ++ k) x.0 x.1 x.2 in
+          f.dead free k x.0.1 x.1 binds same (x.0.1, x.1, g.1, (refl, refl)) (subst (Stops n) x.3.1 s);
+    }
+
+pub lined_refuses : (n : ℕ) (p : Part) (ts : List Lexeme) (why : Fault) → NeverEmpty p → Refuses n (all p) ts why → Refuses n (all (lined p)) ts why
+lined_refuses n p ts (fault.Unexpected left) never f = lined_fails_with p never f (f.read ++ f.more) refl
+lined_refuses n p ts (fault.TooDeep left) never f = lined_fails_with p never f (f.read ++ f.more) refl
+lined_refuses n p ts fault.OutOfMemory never f = tt
+
+-- ---- whether a statement begins
+
+statement_stops : (w : Option TokenKind) → opens_statement w ≡ true → stops_at 12 w ≡ false
+statement_stops (Some kind.Name) h = refl
+statement_stops (Some (kind.Keyword word.Let)) h = refl
+statement_stops (Some (kind.Keyword word.Fill)) h = refl
+statement_stops (Some (kind.Keyword word.Emit)) h = refl
+statement_stops (Some (kind.Keyword word.Fail)) h = refl
+statement_stops (Some (kind.Keyword word.If)) h = refl
+statement_stops (Some (kind.Keyword word.For)) h = refl
+statement_stops (Some (kind.Keyword word.While)) h = refl
+statement_stops (Some (kind.Keyword word.Specfold)) h = refl
+statement_stops (Some (kind.Keyword word.Spec)) h = refl
+statement_stops (Some (kind.Sign sign.Plus)) h = let f : false ≡ true = h in absurd cc
+statement_stops w h = let f : false ≡ true = h in absurd cc
+
+no_statement : (n : ℕ) (w : Option TokenKind) → opens_statement w ≡ false → begins 14 (statement n) w ≡ false
+no_statement n (Some kind.Name) h = let f : true ≡ false = h in absurd cc
+no_statement n (Some (kind.Keyword word.Let)) h = let f : true ≡ false = h in absurd cc
+no_statement n (Some (kind.Keyword word.Fill)) h = let f : true ≡ false = h in absurd cc
+no_statement n (Some (kind.Keyword word.Emit)) h = let f : true ≡ false = h in absurd cc
+no_statement n (Some (kind.Keyword word.Fail)) h = let f : true ≡ false = h in absurd cc
+no_statement n (Some (kind.Keyword word.If)) h = let f : true ≡ false = h in absurd cc
+no_statement n (Some (kind.Keyword word.For)) h = let f : true ≡ false = h in absurd cc
+no_statement n (Some (kind.Keyword word.While)) h = let f : true ≡ false = h in absurd cc
+no_statement n (Some (kind.Keyword word.Specfold)) h = let f : true ≡ false = h in absurd cc
+no_statement n (Some (kind.Keyword word.Spec)) h = let f : true ≡ false = h in absurd cc
+no_statement n (Some (kind.Sign sign.Plus)) h = refl
+no_statement n w h = refl
+
+abbrev pub Statements : Type 0
+Statements = List (ℕ × RawStatement)
+
+abbrev pub last_statements : Statements → Statements → Rule Statements
+last_statements before more = give (before ++ more)
+
+pub next_statement : {F : Rule Statements} {ts us : List Lexeme} (n : ℕ) (before : Statements) → opens_statement (ahead us) ≡ true → Leads 12 F ts (part (many (statement n)) (last_statements before)) us →
+    Leads 12 F ts (part (statement n) (λ x. part (many (statement n)) (λ more. last_statements before (x ∷ more)))) us
+next_statement {us = us} n before does l = many_next (cannot 12 (give (before ++ [])) (ahead us) us refl (statement_stops (ahead us) does)) l
+
+statement_never : (n : ℕ) (us : List Lexeme) → opens_statement (ahead us) ≡ false → (free : ℕ) (k : List Lexeme) (x : ℕ × RawStatement) (ws : List Lexeme) → ahead k ≡ ahead us → Says free (statement n) k x ws → ⊥
+statement_never n us closes free k x ws same d =
+    let yes : begins 14 (statement n) (ahead us) ≡ true = subst (λ v. begins 14 (statement n) v ≡ true) same (begins_is 14 free (statement n) k x ws d) in
+    let clash : false ≡ true = sym (no_statement n (ahead us) closes) ∙ yes in
+    absurd cc
+
+pub statements_done : {F : Rule Statements} {ts us : List Lexeme} (n : ℕ) (before : Statements) → opens_statement (ahead us) ≡ false → Leads 12 F ts (part (many (statement n)) (last_statements before)) us → Leads 12 F ts (give before) us
+statements_done {F} {ts} {us} n before closes l = subst (λ b. Leads 12 F ts (give b) us) (append-nil before) (many_done {K = last_statements before} (statement_never n us closes) l)
+
+pub block_is : (ss : List RawStmt) → raw_block ss ≡ block_of (map stated ss)
+block_is [] = refl
+block_is (s ∷ ss) = ap (on_line s.line (raw_statement s.kind)) (block_is ss)
+
+-- ---- which form it is
+
+pub form_start : {ts : List Lexeme} (n : ℕ) (w : Option TokenKind) → ahead ts ≡ w → Leads 11 (all (form n)) ts (pick 11 w (bind (rule (form n)) (λ x. give x))) ts
+form_start n w is = decide w is _ (unfold_part (form n) (λ x. give x) start)
+
+no_form : (n : ℕ) (w : Option TokenKind) → opens_statement w ≡ false → can 11 (bind (rule (form n)) (λ x. give x)) w ≡ false
+no_form n (Some kind.Name) h = let f : true ≡ false = h in absurd cc
+no_form n (Some (kind.Keyword word.Let)) h = let f : true ≡ false = h in absurd cc
+no_form n (Some (kind.Keyword word.Fill)) h = let f : true ≡ false = h in absurd cc
+no_form n (Some (kind.Keyword word.Emit)) h = let f : true ≡ false = h in absurd cc
+no_form n (Some (kind.Keyword word.Fail)) h = let f : true ≡ false = h in absurd cc
+no_form n (Some (kind.Keyword word.If)) h = let f : true ≡ false = h in absurd cc
+no_form n (Some (kind.Keyword word.For)) h = let f : true ≡ false = h in absurd cc
+no_form n (Some (kind.Keyword word.While)) h = let f : true ≡ false = h in absurd cc
+no_form n (Some (kind.Keyword word.Specfold)) h = let f : true ≡ false = h in absurd cc
+no_form n (Some (kind.Keyword word.Spec)) h = let f : true ≡ false = h in absurd cc
+no_form n (Some (kind.Sign sign.Plus)) h = refl
+no_form n w h = refl
+
+pub form_none : (n : ℕ) (us : List Lexeme) (w : Option TokenKind) → ahead us ≡ w → opens_statement w ≡ false → Faults false 11 (all (form n)) us (length us)
+form_none n us w is closes = refuse (form n) w us is refl (no_form n w closes)
+
+pub other_word : (w : Keyword) → (w ≡ word.Let → ⊥) → (w ≡ word.Fill → ⊥) → (w ≡ word.Emit → ⊥) → (w ≡ word.Fail → ⊥) → (w ≡ word.If → ⊥) → (w ≡ word.For → ⊥) → (w ≡ word.While → ⊥) → (w ≡ word.Specfold → ⊥) → (w ≡ word.Spec → ⊥) → opens_statement (Some (kind.Keyword w)) ≡ false
+other_word word.Let a b c d e f g h i = absurd (a refl)
+other_word word.Fill a b c d e f g h i = absurd (b refl)
+other_word word.Emit a b c d e f g h i = absurd (c refl)
+other_word word.Fail a b c d e f g h i = absurd (d refl)
+other_word word.If a b c d e f g h i = absurd (e refl)
+other_word word.For a b c d e f g h i = absurd (f refl)
+other_word word.While a b c d e f g h i = absurd (g refl)
+other_word word.Specfold a b c d e f g h i = absurd (h refl)
+other_word word.Spec a b c d e f g h i = absurd (i refl)
+other_word w a b c d e f g h i = refl
+
+pub neither : {F : Rule RawStatement} {ts us : List Lexeme} (n : ℕ) (x : List ℕ) → (ahead us ≡ Some (kind.Sign sign.OpenBracket) → ⊥) → (ahead us ≡ Some (kind.Sign sign.OpenParen) → ⊥) →
+    Leads 11 F ts (either (assign_form n x) (either (store_form n x) (call_form n x))) us → Leads 11 F ts (assign_form n x) us
+neither {us = us} n x b p l = not_second {R = assign_form n x} {S = either (store_form n x) (call_form n x)}
+    (λ free k b' vs same d s. elim d [ inl f ↦ store_first n x us b free k b' vs same f | inr g ↦ call_first n x us p free k b' vs same g ]) l
+  where
+    store_first : (n : ℕ) (x : List ℕ) (us : List Lexeme) → (ahead us ≡ Some (kind.Sign sign.OpenBracket) → ⊥) → (free : ℕ) (k : List Lexeme) (b : RawStatement) (vs : List Lexeme) → ahead k ≡ ahead us → Reading free (store_form n x) k b vs → ⊥
+    store_first n x us never free [] b vs same d = elim d.2.1.1 [ ]
+    store_first n x us never free (t ∷ k) b vs same d = never (sym same ∙ ap Some d.2.1.1.0)
+
+    call_first : (n : ℕ) (x : List ℕ) (us : List Lexeme) → (ahead us ≡ Some (kind.Sign sign.OpenParen) → ⊥) → (free : ℕ) (k : List Lexeme) (b : RawStatement) (vs : List Lexeme) → ahead k ≡ ahead us → Reading free (call_form n x) k b vs → ⊥
+    call_first n x us never free [] b vs same d = elim d.2.1.1 [ ]
+    call_first n x us never free (t ∷ k) b vs same d = never (sym same ∙ ap Some d.2.1.1.0)
+
+pub no_host : {ts : List Lexeme} (n : ℕ) → (ahead ts ≡ Some (kind.Keyword word.Host) → ⊥) → Leads 10 (all (guess n)) ts (part (expression n) (λ g. give (By g))) ts
+no_host {ts} n never = not_first (λ free k b vs same d s. token_first (kind.Keyword word.Host) ts never (λ l. part count (λ k. give (Host k))) free k b vs same d) (unfold_part (guess n) (λ x. give x) start)
+
+pub no_else : {ts : List Lexeme} (n : ℕ) → (ahead ts ≡ Some (kind.Keyword word.Else) → ⊥) → Leads 11 (all (otherwise n)) ts (give end) ts
+no_else {ts} n never = not_second {R = give end} {S = part (token (kind.Keyword word.Else)) (λ l. part (block n) (λ b. give b))} (λ free k b vs same d s. token_first (kind.Keyword word.Else) ts never (λ l. part (block n) (λ b. give b)) free k b vs same d) (unfold_part (otherwise n) (λ x. give x) start)
+
+-- ---- what comes after the parts of a fold and of a pair
+
+abbrev pub Head : Type 0
+Head = List ℕ × RawExpression × List ℕ × RawExpression × RawExpression × RawPredictor
+
+abbrev pub Ending : Type 0
+Ending = Statements × ℕ × RawExpression
+
+abbrev pub fold_last : Head → Ending → Rule RawStatement
+fold_last h e = give (Fold (record { carried = h.0; start = h.1; block = h.2; low = h.3; high = h.4; predict = h.5; next = e.2; next_line = e.1 }) (block_of e.0))
+
+abbrev pub fold_rest : ℕ → Head → Rule RawStatement
+fold_rest n h = bind (ended_statements n word.Next) (fold_last h)
+
+abbrev pub pair_last : ℕ → List ℕ → Ending → Rule RawStatement
+pair_last n x e = part (token (kind.Keyword word.Predict)) (λ l. part (guess n) (λ g. part (block n) (λ c. give (Pair (record { carried = x; give = e.2; give_line = e.1; predict = g }) (block_of e.0) c))))
+
+abbrev pub function_last : ℕ → List ℕ → List (List ℕ) → Ending → Rule RawFunction
+function_last l f xs e = give (record { name = f; params = xs; body = block_of e.0; answer = e.2; answer_line = e.1; line = l })
+
+opens_below : (n : ℕ) (s : Sign) (ts : List Lexeme) (x : Value (opens n s)) (us : List Lexeme) → Says 0 (opens n s) ts x us → n < 64
+opens_below n s [] x us d = elim d.1.1 [ ]
+opens_below n s (t ∷ ts) x us d = d.1.0 (omega arith)
+
+-- a block that was opened is within the limit
+pub opened_below : {ts us : List Lexeme} {b : Statements} (n : ℕ) → Leads 12 (opened_statements n) ts (give b) us → n < 64
+opened_below {b = b} n l = let d = l.into 0 [] b [] (refl, refl) in opens_below n sign.OpenBrace (l.read ++ []) d.0 d.1 d.2

@@ -1,112 +1,290 @@
 // Expressions.
 
-ghost use Rattle.std.specs.Prelude.{◌≡◌, ◌≤◌, ◌+◌, ◌*◌, IfOk, IfErr};
-ghost use Rattle.spf_ast.specs.Syntax.{Binary};
-ghost use Rattle.spf_ast.specs.View.{expression as seen};
-ghost use Rattle.spf_parse.specs.declared.fault.ParseError.TheVariants as error;
-ghost use Rattle.spf_parse.specs.Relation.{where_};
-ghost use Rattle.spf_parse.specs.Grammar.{operand as operand_relation, product as product_relation, expression as expression_relation, operators};
-ghost use Rattle.spf_parse.specs.Limits.{expression_size, FitsBehind};
-ghost use Rattle.spf_parse.specs.Seen.{seen_words, seen_names};
-ghost use Rattle.spf_parse.specs.Answers.{Answers, Anything, NoTimes, NoOperator};
+ghost use Rattle.std.specs.Prelude.{◌≡◌, ◌≤◌, ◌<◌, IfOk, IfErr, Some, map, suc};
+ghost use Rattle.spf_text.specs.declared.token.TokenKind.TheVariants.{Sign as kind_sign};
+ghost use Rattle.spf_ast.specs.RawView.{raw_expression};
+ghost use Rattle.spf_grammar.specs.Lexemes.{lexemes};
+ghost use Rattle.spf_grammar.specs.Parts.{expression, level as level_part, operand as operand_part, arguments as arguments_part};
+ghost use Rattle.spf_grammar.specs.Rules.{joined};
+ghost use Rattle.spf_parse.specs.Answers.{ahead, Answers, Answered, reach, named_operand, value_before};
 
-use crate::fault::ParseError;
-use crate::scope::{Visible, slot_in};
-use crate::word::{Word, after};
-use spf_ast::syntax::{Expr, Op};
-use spf_text::token::{Sign, TokenKind};
+use crate::fault::Fault;
+use crate::step::{after, expect, is_next, name, next, number, open, operator};
+use spf_ast::raw::RawExpr;
+use spf_ast::syntax::{Op, Test};
+use spf_grammar::Lexeme;
+use spf_text::token::{Keyword, Sign, TokenKind};
 use std::alloc::Global;
 
-/// How many operators an expression may have.
-const MAX_OPERATORS: usize = 32;
+/// How many binary operators an expression may have outside its brackets.
+const MAX_OPERATORS: u32 = 32;
 
-/// A number or a name.
+/// The rank of comparisons.
+const COMPARISONS: u32 = 7;
+
+/// The rank of the operators that bind loosest.
+const LOOSEST: u32 = 9;
+
+/// The two sides of an operator, joined.
+fn join(alloc: Global, operator: Sign, left: RawExpr, right: RawExpr) -> Result<RawExpr, Fault>
+    ensures value { IfOk result (λ x. raw_expression x ≡ joined operator (raw_expression left) (raw_expression right)) }
+    ensures memory { IfErr result (λ e. e ≡ Fault.OutOfMemory) }
+{
+    let a = Box::new(alloc, left)?;
+    let b = Box::new(alloc, right)?;
+    Ok(match operator {
+        Sign::Star => RawExpr::Binary(Op::Mul, a, b),
+        Sign::Slash => RawExpr::Binary(Op::Div, a, b),
+        Sign::Percent => RawExpr::Binary(Op::Rem, a, b),
+        Sign::Plus => RawExpr::Binary(Op::Add, a, b),
+        Sign::Minus => RawExpr::Binary(Op::Sub, a, b),
+        Sign::ShiftLeft => RawExpr::Binary(Op::Shl, a, b),
+        Sign::ShiftRight => RawExpr::Binary(Op::Shr, a, b),
+        Sign::And => RawExpr::Binary(Op::And, a, b),
+        Sign::Xor => RawExpr::Binary(Op::Xor, a, b),
+        Sign::Or => RawExpr::Binary(Op::Or, a, b),
+        Sign::Equal => RawExpr::Compare(Test::Eq, a, b),
+        Sign::NotEqual => RawExpr::Compare(Test::Ne, a, b),
+        Sign::Less => RawExpr::Compare(Test::Lt, a, b),
+        Sign::LessEqual => RawExpr::Compare(Test::Le, a, b),
+        Sign::Greater => RawExpr::Compare(Test::Gt, a, b),
+        Sign::GreaterEqual => RawExpr::Compare(Test::Ge, a, b),
+        Sign::AndAnd => RawExpr::Both(a, b),
+        _ => RawExpr::Either(a, b),
+    })
+}
+
+/// A name alone, indexed or called.
+#[cycle(expression)]
+fn named<'b, 'a>(
+    alloc: Global,
+    tokens: &'b [Lexeme<'a>],
+    nesting: u32,
+) -> Result<(RawExpr, &'b [Lexeme<'a>]), Fault>
+    requires { nesting ≤ 64 }
+    ensures { Answered 1 (named_operand nesting) (lexemes tokens.now) (λ x. raw_expression x.0) (λ x. lexemes x.1.now) result }
+{
+    let (x, rest) = name(alloc, tokens)?;
+    if is_next(rest, TokenKind::Sign(Sign::OpenBracket)) {
+        let inner = open(rest, Sign::OpenBracket, nesting)?;
+        let (index, end) = value(
+            alloc,
+            inner,
+            nesting + 1,
+            TokenKind::Sign(Sign::CloseBracket),
+        )?;
+        return Ok((RawExpr::Load(x, Box::new(alloc, index)?), end));
+    }
+    if is_next(rest, TokenKind::Sign(Sign::OpenParen)) {
+        let inner = open(rest, Sign::OpenParen, nesting)?;
+        let (given, end) = arguments(alloc, inner, nesting + 1)?;
+        return Ok((RawExpr::Call(x, given), end));
+    }
+    Ok((RawExpr::Local(x), rest))
+}
+
+/// An operand that begins with a sign: one with a unary sign, or an expression in parentheses.
+#[cycle(expression)]
+fn signed<'b, 'a>(
+    alloc: Global,
+    tokens: &'b [Lexeme<'a>],
+    sign: Sign,
+    nesting: u32,
+) -> Result<(RawExpr, &'b [Lexeme<'a>]), Fault>
+    requires nesting_in { nesting ≤ 64 }
+    requires is_next { ahead (lexemes tokens.now) ≡ Some (kind_sign sign) }
+    ensures { Answers (operand_part nesting) (lexemes tokens.now) (λ x. raw_expression x.0) (λ x. lexemes x.1.now) result }
+{
+    match sign {
+        Sign::Minus => {
+            let inner = open(tokens, Sign::Minus, nesting)?;
+            let (a, end) = operand(alloc, inner, nesting + 1)?;
+            Ok((RawExpr::Neg(Box::new(alloc, a)?), end))
+        }
+        Sign::Not => {
+            let inner = open(tokens, Sign::Not, nesting)?;
+            let (a, end) = operand(alloc, inner, nesting + 1)?;
+            Ok((RawExpr::Not(Box::new(alloc, a)?), end))
+        }
+        Sign::OpenParen => {
+            let inner = open(tokens, Sign::OpenParen, nesting)?;
+            value(alloc, inner, nesting + 1, TokenKind::Sign(Sign::CloseParen))
+        }
+        _ => Err(Fault::Unexpected(tokens.len())),
+    }
+}
+
+/// An operand: a number, a name alone, indexed or called, the input or its length, one with a unary sign, or an expression in parentheses.
+#[cycle(expression)]
 fn operand<'b, 'a>(
-    words: &'b [Word<'a>],
-    visible: &[Visible],
-) -> Result<(Expr, &'b [Word<'a>]), ParseError>
-    ensures { Answers (operand_relation (seen_names visible.now)) Anything (seen_words words.now) (λ x. seen x.0) (λ x. seen_words x.1.now) result }
+    alloc: Global,
+    tokens: &'b [Lexeme<'a>],
+    nesting: u32,
+) -> Result<(RawExpr, &'b [Lexeme<'a>]), Fault>
+    requires { nesting ≤ 64 }
+    ensures { Answers (operand_part nesting) (lexemes tokens.now) (λ x. raw_expression x.0) (λ x. lexemes x.1.now) result }
 {
-    let Some((word, rest)) = words.split_first() else {
-        return Err(ParseError::Refused);
+    let Some(kind) = next(tokens) else {
+        return Err(Fault::Unexpected(0));
     };
-    match word.kind {
-        TokenKind::Number(n) => Ok((Expr::Number(n), rest)),
-        TokenKind::Name => match slot_in(visible, word.bytes) {
-            Some(slot) => Ok((Expr::Local(slot), rest)),
-            None => Err(ParseError::Refused),
+    match kind {
+        TokenKind::Number(_) => {
+            let (value, rest) = number(tokens)?;
+            Ok((RawExpr::Number(value), rest))
+        }
+        TokenKind::Name => named(alloc, tokens, nesting),
+        TokenKind::Keyword(word) => match word {
+            Keyword::Len => {
+                let rest = expect(tokens, TokenKind::Keyword(Keyword::Len))?;
+                Ok((RawExpr::Len, rest))
+            }
+            Keyword::Input => {
+                let rest = expect(tokens, TokenKind::Keyword(Keyword::Input))?;
+                let inner = open(rest, Sign::OpenBracket, nesting)?;
+                let (index, end) = value(
+                    alloc,
+                    inner,
+                    nesting + 1,
+                    TokenKind::Sign(Sign::CloseBracket),
+                )?;
+                Ok((RawExpr::Input(Box::new(alloc, index)?), end))
+            }
+            _ => Err(Fault::Unexpected(tokens.len())),
         },
-        TokenKind::Keyword(_) => Err(ParseError::Refused),
-        TokenKind::Sign(_) => Err(ParseError::Refused),
+        TokenKind::Sign(sign) => signed(alloc, tokens, sign, nesting),
     }
 }
 
-/// An operator with its operands.
-fn join(alloc: Global, op: Op, left: Expr, right: Expr) -> Result<Expr, ParseError>
-    ensures value { IfOk result (λ x. seen x ≡ Binary op (seen left) (seen right)) }
-    ensures memory { IfErr result (λ e. e ≡ error.OutOfMemory) }
-{
-    let left = Box::new(alloc, left)?;
-    let right = Box::new(alloc, right)?;
-    Ok(Expr::Binary(op, left, right))
-}
-
-/// Operands with `*` between them, in an expression that has so many operators before them, and how many it has with them.
-fn product<'b, 'a>(
+/// What stands in the parentheses of a call, and the closing one.
+#[cycle(expression)]
+pub(crate) fn arguments<'b, 'a>(
     alloc: Global,
-    words: &'b [Word<'a>],
-    visible: &[Visible],
-    before: usize,
-) -> Result<(Expr, usize, &'b [Word<'a>]), ParseError>
-    requires { before ≤ 32 }
-    ensures answers { Answers (where_ (FitsBehind before) (product_relation (seen_names visible.now))) NoTimes (seen_words words.now) (λ x. seen x.0) (λ x. seen_words x.2.now) result }
-    ensures used { IfOk result (λ x. (x.1 ≡ before + operators (seen x.0)) × (x.1 ≤ 32)) }
+    tokens: &'b [Lexeme<'a>],
+    nesting: u32,
+) -> Result<(Vec<RawExpr>, &'b [Lexeme<'a>]), Fault>
+    requires { nesting ≤ 64 }
+    ensures { Answers (arguments_part nesting) (lexemes tokens.now) (λ x. map raw_expression x.0.items) (λ x. lexemes x.1.now) result }
 {
-    let (mut left, mut rest) = operand(words, visible)?;
-    let mut used = before;
-    'factors: while let Some(next) = after(rest, TokenKind::Sign(Sign::Star)) {
-        if used == MAX_OPERATORS {
-            return Err(ParseError::Refused);
-        }
-        let (right, end) = operand(next, visible)?;
-        left = join(alloc, Op::Mul, left, right)?;
-        used += 1;
+    let mut inside = Vec::new(alloc);
+    if let Some(end) = after(tokens, TokenKind::Sign(Sign::CloseParen)) {
+        return Ok((inside, end));
+    }
+    let (first, mut rest) = expr(alloc, tokens, nesting)?;
+    inside.push(first)?;
+    'inside: while let Some(behind) = after(rest, TokenKind::Sign(Sign::Comma)) {
+        let (a, end) = expr(alloc, behind, nesting)?;
+        inside.push(a)?;
         rest = end;
     }
-    Ok((left, used, rest))
+    let end = expect(rest, TokenKind::Sign(Sign::CloseParen))?;
+    Ok((inside, end))
 }
 
-/// Products with `+` between them, and how many operators they have.
-fn sum<'b, 'a>(
+/// An expression of this rank, in one that has so many operators before it, and how many it has after it.
+#[cycle(expression)]
+fn level<'b, 'a>(
     alloc: Global,
-    words: &'b [Word<'a>],
-    visible: &[Visible],
-) -> Result<(Expr, usize, &'b [Word<'a>]), ParseError>
-    ensures answers { Answers (expression_relation (seen_names visible.now)) NoOperator (seen_words words.now) (λ x. seen x.0) (λ x. seen_words x.2.now) result }
-    ensures used { IfOk result (λ x. (x.1 ≡ operators (seen x.0)) × (x.1 ≤ 32)) }
+    tokens: &'b [Lexeme<'a>],
+    rank: u32,
+    nesting: u32,
+    used: u32,
+) -> Result<(RawExpr, u32, &'b [Lexeme<'a>]), Fault>
+    requires rank_in { rank ≤ 9 }
+    requires nesting_in { nesting ≤ 64 }
+    requires used_in { used ≤ 32 }
+    ensures answers { Answers (level_part nesting rank used) (lexemes tokens.now) (λ x. (raw_expression x.0, x.1)) (λ x. lexemes x.2.now) result }
+    ensures used_in { IfOk result (λ x. x.1 ≤ 32) }
 {
-    let (mut left, mut used, mut rest) = product(alloc, words, visible, 0)?;
-    'terms: while let Some(next) = after(rest, TokenKind::Sign(Sign::Plus)) {
-        if used == MAX_OPERATORS {
-            return Err(ParseError::Refused);
+    if rank == 0 {
+        let (a, rest) = operand(alloc, tokens, nesting)?;
+        return Ok((a, used, rest));
+    }
+    if rank == COMPARISONS {
+        return comparison(alloc, tokens, nesting, used);
+    }
+    chain(alloc, tokens, rank - 1, nesting, used)
+}
+
+/// Operands of this rank, with operators of the next looser one between them.
+#[cycle(expression)]
+fn chain<'b, 'a>(
+    alloc: Global,
+    tokens: &'b [Lexeme<'a>],
+    rank: u32,
+    nesting: u32,
+    used: u32,
+) -> Result<(RawExpr, u32, &'b [Lexeme<'a>]), Fault>
+    requires rank_in { rank ≤ 8 }
+    requires no_comparison { rank ≡ 6 → ⊥ }
+    requires nesting_in { nesting ≤ 64 }
+    requires used_in { used ≤ 32 }
+    ensures answers { Answers (level_part nesting (suc rank) used) (lexemes tokens.now) (λ x. (raw_expression x.0, x.1)) (λ x. lexemes x.2.now) result }
+    ensures used_in { IfOk result (λ x. x.1 ≤ 32) }
+{
+    let (mut left, mut so_far, mut rest) = level(alloc, tokens, rank, nesting, used)?;
+    'further: while let Some((sign, behind)) = operator(rest, rank + 1) {
+        if so_far >= MAX_OPERATORS {
+            return Err(Fault::TooDeep(rest.len()));
         }
-        let (right, more, end) = product(alloc, next, visible, used + 1)?;
-        left = join(alloc, Op::Add, left, right)?;
-        used = more;
+        let (right, more, end) = level(alloc, behind, rank, nesting, so_far + 1)?;
+        left = join(alloc, sign, left, right)?;
+        so_far = more;
         rest = end;
     }
-    Ok((left, used, rest))
+    Ok((left, so_far, rest))
 }
 
-/// An expression, and how many expressions it is made of.
-pub(crate) fn expression<'b, 'a>(
+/// At most one comparison.
+#[cycle(expression)]
+fn comparison<'b, 'a>(
     alloc: Global,
-    words: &'b [Word<'a>],
-    visible: &[Visible],
-) -> Result<(Expr, usize, &'b [Word<'a>]), ParseError>
-    ensures answers { Answers (expression_relation (seen_names visible.now)) NoOperator (seen_words words.now) (λ x. seen x.0) (λ x. seen_words x.2.now) result }
-    ensures size { IfOk result (λ x. (x.1 ≡ expression_size (seen x.0)) × (x.1 ≤ 65)) }
+    tokens: &'b [Lexeme<'a>],
+    nesting: u32,
+    used: u32,
+) -> Result<(RawExpr, u32, &'b [Lexeme<'a>]), Fault>
+    requires nesting_in { nesting ≤ 64 }
+    requires used_in { used ≤ 32 }
+    ensures answers { Answers (level_part nesting 7 used) (lexemes tokens.now) (λ x. (raw_expression x.0, x.1)) (λ x. lexemes x.2.now) result }
+    ensures used_in { IfOk result (λ x. x.1 ≤ 32) }
 {
-    let (value, used, rest) = sum(alloc, words, visible)?;
-    Ok((value, 2 * used + 1, rest))
+    let (left, so_far, rest) = level(alloc, tokens, COMPARISONS - 1, nesting, used)?;
+    let Some((sign, behind)) = operator(rest, COMPARISONS) else {
+        return Ok((left, so_far, rest));
+    };
+    if so_far >= MAX_OPERATORS {
+        return Err(Fault::TooDeep(rest.len()));
+    }
+    let (right, more, end) = level(alloc, behind, COMPARISONS - 1, nesting, so_far + 1)?;
+    Ok((join(alloc, sign, left, right)?, more, end))
+}
+
+/// An expression.
+#[cycle(expression)]
+pub(crate) fn expr<'b, 'a>(
+    alloc: Global,
+    tokens: &'b [Lexeme<'a>],
+    nesting: u32,
+) -> Result<(RawExpr, &'b [Lexeme<'a>]), Fault>
+    requires { nesting ≤ 64 }
+    ensures { Answers (expression nesting) (lexemes tokens.now) (λ x. raw_expression x.0) (λ x. lexemes x.1.now) result }
+{
+    let (a, _, rest) = level(alloc, tokens, LOOSEST, nesting, 0)?;
+    Ok((a, rest))
+}
+
+/// An expression, and the token behind it.
+#[cycle(expression)]
+pub(crate) fn value<'b, 'a>(
+    alloc: Global,
+    tokens: &'b [Lexeme<'a>],
+    nesting: u32,
+    end: TokenKind,
+) -> Result<(RawExpr, &'b [Lexeme<'a>]), Fault>
+    requires nesting_in { nesting ≤ 64 }
+    requires ends { 10 < reach end }
+    ensures { Answered 0 (value_before nesting end) (lexemes tokens.now) (λ x. raw_expression x.0) (λ x. lexemes x.1.now) result }
+{
+    let (a, rest) = expr(alloc, tokens, nesting)?;
+    let after = expect(rest, end)?;
+    Ok((a, after))
 }

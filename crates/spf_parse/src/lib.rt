@@ -2,11 +2,11 @@
 #![tactic(auto)]
 
 mod expression;
-pub mod fault;
+mod fault;
+mod function;
+mod lexemes;
 mod program;
-mod scope;
 mod statement;
-mod word;
-mod words;
+mod step;
 
-pub use program::parse;
+pub use program::{ParseError, parse};

@@ -1,273 +1,278 @@
 // Whole programs.
 
-ghost use Rattle.std.specs.Prelude.{◌≡◌, [], map, IfOk, Err};
-ghost use Rattle.spf_ast.specs.View.{program as seen_program, block as seen_block, name as seen_name};
-ghost use Rattle.spf_ast.specs.Size.{IsWithinLimits};
-ghost use Rattle.spf_parse.specs.declared.fault.ParseError.TheVariants.{Refused};
-ghost use Rattle.spf_parse.specs.Relation.{where_};
-ghost use Rattle.spf_parse.specs.Grammar.{main as main_relation, IsProgramOf, HasNoProgram};
-ghost use Rattle.spf_parse.specs.Limits.{opened_statements};
-ghost use Rattle.spf_parse.specs.Seen.{seen_words};
-ghost use Rattle.spf_parse.specs.Answers.{Answers, IsEnd, Closes};
+ghost use Rattle.std.specs.Prelude.{◌≡◌, ◌<◌, ◌≤◌, ◌-◌, ◌⊎◌, ℕ, [], length, drop, map, IfOk, IsOkUnless, Err};
+ghost use Rattle.spf_text.specs.declared.scanner.ScanError.{ScanError as scan_error};
+ghost use Rattle.spf_text.specs.declared.scanner.ScanError.TheVariants.{TooLong};
+ghost use Rattle.spf_text.specs.Tokens.{max_text};
+ghost use Rattle.spf_ast.specs.View.{array as seen_array};
+ghost use Rattle.spf_ast.specs.RawSyntax.{RawProgram as Program};
+ghost use Rattle.spf_ast.specs.RawView.{raw_program, raw_function};
+ghost use Rattle.spf_ast.specs.Spelling.{IsWritable};
+ghost use Rattle.spf_grammar.specs.Lexemes.{lexemes as seen_lexemes};
+ghost use Rattle.spf_grammar.specs.Parts.{many, array as array_part, function as function_part, program as program_part};
+ghost use Rattle.spf_grammar.specs.Rules.{all};
+ghost use Rattle.spf_grammar.specs.Texts.{IsProgramOf, IsUnexpectedAt, IsTooDeepAt, place as place_of};
+ghost use Rattle.spf_parse.specs.Answers.{Answers, Answered};
+ghost use Rattle.spf_parse.specs.Refusals.{IsNoTokenText, as_refusal};
 
-use crate::fault::ParseError;
-use crate::scope::Scope;
-use crate::statement::{Stated, statement};
-use crate::word::{Word, expect, is_next, line_of};
-use crate::words::words;
-use spf_ast::syntax::{Name, Program, Stmt};
-use spf_text::scan;
-use spf_text::token::{Keyword, Sign, TokenKind};
-use std::alloc::Global;
+use crate::fault::Fault;
+use crate::function::{array, function};
+use crate::lexemes::lexemes;
+use crate::statement::block;
+use crate::step::{expect, is_next, line_of};
+use spf_ast::raw::{RawFunction, RawProgram};
+use spf_ast::syntax::Array;
+use spf_grammar::Lexeme;
+use spf_text::token::{Keyword, TokenKind};
+use spf_text::{ScanError, scan};
+use std::alloc::{AllocError, Global};
 
-/// How many statements and expressions a program may have.
-const MAX_SIZE: usize = 65_536;
-
-/// The statements between braces up to the closing one, and the names of their slots.
-fn statements<'b, 'a>(
-    alloc: Global,
-    words: &'b [Word<'a>],
-) -> Result<(Vec<Stmt>, Vec<Name>, &'b [Word<'a>]), ParseError>
-    ensures { Answers opened_statements Closes (seen_words words.now) (λ x. (seen_block x.0.items, map seen_name x.1.items)) (λ x. seen_words x.2.now) result }
-{
-    let mut rest = expect(words, TokenKind::Sign(Sign::OpenBrace))?;
-    let mut scope = Scope {
-        slots: Vec::new(alloc),
-        visible: Vec::new(alloc),
-    };
-    let mut inside = Vec::new(alloc);
-    let mut size = 0;
-    'inside: while !is_next(rest, TokenKind::Sign(Sign::CloseBrace)) {
-        let line = line_of(rest);
-        let (first, end) = statement(alloc, rest, scope)?;
-        let Stated {
-            kind,
-            size: more,
-            scope: next,
-        } = first;
-        size += more;
-        if size > MAX_SIZE {
-            return Err(ParseError::Refused);
-        }
-        inside.push(Stmt { line, kind })?;
-        scope = next;
-        rest = end;
-    }
-    Ok((inside, scope.slots, rest))
+/// Why a text is no program.
+#[derive(Clone, Copy, PartialEq, Eq, Debug)]
+pub enum ParseError {
+    /// The text has no tokens.
+    Scan(ScanError),
+    /// What stands before byte `at` is the front of a program, and with the token there it isn't. At the end of the text `at` is its length.
+    Unexpected { at: usize },
+    /// The token at byte `at` is allowed there, but opens the 65th level of nesting, or is the 33rd binary operator of one expression outside its brackets.
+    TooDeep { at: usize },
+    /// There was no memory for the program.
+    OutOfMemory,
 }
 
-/// `main`, which is the whole program.
-fn main_of(alloc: Global, words: &[Word]) -> Result<Program, ParseError>
-    ensures { Answers (where_ IsWithinLimits main_relation) IsEnd (seen_words words.now) (λ p. seen_program p) (λ p. []) result }
+/// The arrays, as long as one begins.
+fn arrays<'b, 'a>(
+    alloc: Global,
+    tokens: &'b [Lexeme<'a>],
+) -> Result<(Vec<Array>, &'b [Lexeme<'a>]), Fault>
+    ensures { Answers (many array_part) (seen_lexemes tokens.now) (λ x. map seen_array x.0.items) (λ x. seen_lexemes x.1.now) result }
 {
-    let rest = expect(words, TokenKind::Keyword(Keyword::Main))?;
-    let (main, slots, rest) = statements(alloc, rest)?;
-    let end = expect(rest, TokenKind::Sign(Sign::CloseBrace))?;
-    if !end.is_empty() {
-        return Err(ParseError::Refused);
+    let mut found = Vec::new(alloc);
+    let (_, mut rest) = tokens.split_at(0);
+    'found: while is_next(rest, TokenKind::Keyword(Keyword::Array)) {
+        let (first, end) = array(alloc, rest)?;
+        found.push(first)?;
+        rest = end;
     }
-    Ok(Program {
-        arrays: Vec::new(alloc),
-        functions: Vec::new(alloc),
-        slots,
-        main,
-    })
+    Ok((found, rest))
+}
+
+/// The functions, as long as one begins.
+fn functions<'b, 'a>(
+    alloc: Global,
+    tokens: &'b [Lexeme<'a>],
+) -> Result<(Vec<RawFunction>, &'b [Lexeme<'a>]), Fault>
+    ensures { Answers (many function_part) (seen_lexemes tokens.now) (λ x. map raw_function x.0.items) (λ x. seen_lexemes x.1.now) result }
+{
+    let mut found = Vec::new(alloc);
+    let (_, mut rest) = tokens.split_at(0);
+    'found: while is_next(rest, TokenKind::Keyword(Keyword::Fn)) {
+        let (first, end) = function(alloc, rest)?;
+        found.push(first)?;
+        rest = end;
+    }
+    Ok((found, rest))
+}
+
+/// A program, and the tokens behind it.
+fn program<'b, 'a>(
+    alloc: Global,
+    tokens: &'b [Lexeme<'a>],
+) -> Result<(RawProgram, &'b [Lexeme<'a>]), Fault>
+    ensures { Answers program_part (seen_lexemes tokens.now) (λ x. raw_program x.0) (λ x. seen_lexemes x.1.now) result }
+{
+    let (arrays, after_arrays) = arrays(alloc, tokens)?;
+    let (functions, after_functions) = functions(alloc, after_arrays)?;
+    let main_line = line_of(after_functions);
+    let rest = expect(after_functions, TokenKind::Keyword(Keyword::Main))?;
+    let (main, end) = block(alloc, rest, 0)?;
+    Ok((
+        RawProgram {
+            arrays,
+            functions,
+            main,
+            main_line,
+        },
+        end,
+    ))
+}
+
+/// The program that all these tokens say.
+fn whole(alloc: Global, tokens: &[Lexeme]) -> Result<RawProgram, Fault>
+    ensures { Answered 14 (all program_part) (seen_lexemes tokens.now) (λ p. raw_program p) (λ p. []) result }
+{
+    let (found, end) = program(alloc, tokens)?;
+    if end.len() != 0 {
+        return Err(Fault::Unexpected(end.len()));
+    }
+    Ok(found)
+}
+
+/// The place of the token from which so many are left. The text ends at `end`.
+fn place(tokens: &[Lexeme], end: usize, left: usize) -> usize
+    requires { left ≤ length tokens.now }
+    ensures { result ≡ place_of end (drop (length tokens.now - left) (seen_lexemes tokens.now)) }
+{
+    if left == 0 {
+        end
+    } else {
+        tokens[tokens.len() - left].from
+    }
+}
+
+/// What a refusal of the scanner is for the parser.
+fn of_scan(e: ScanError) -> ParseError
+    ensures { result ≡ as_refusal e }
+{
+    match e {
+        ScanError::OutOfMemory => ParseError::OutOfMemory,
+        ScanError::TooLong { at } => ParseError::Scan(ScanError::TooLong { at }),
+        ScanError::BadByte { at } => ParseError::Scan(ScanError::BadByte { at }),
+        ScanError::NumberTooLarge { at } => ParseError::Scan(ScanError::NumberTooLarge { at }),
+    }
 }
 
 /// The program that a text says.
 ///
 /// # Errors
 ///
-/// `Refused` where the text is that of no program, and `OutOfMemory` where there was too little memory to read it.
-pub fn parse(alloc: Global, text: &[u8]) -> Result<Program, ParseError>
-    // What is given is the text's program, and the text has no other.
-    ensures program { IfOk result (λ p. IsProgramOf text.now (seen_program p)) }
-    // Only a text that is that of no program is refused.
-    ensures refused { result ≡ Err Refused → HasNoProgram text.now }
+/// `Scan` comes first, where the text has no tokens. Otherwise the first token that can't stand where it stands decides: `TooDeep` where the limits alone forbid it, and `Unexpected` where the grammar does. `OutOfMemory` may come in place of each.
+pub fn parse(alloc: Global, text: &[u8]) -> Result<RawProgram, ParseError>
+    // What is given is the program of the text, which has no other.
+    ensures program { IfOk result (λ p. IsProgramOf text.now (raw_program p)) }
+    ensures only { IfOk result (λ p. (q : Program) → IsProgramOf text.now q → q ≡ raw_program p) }
+    ensures writable { IfOk result (λ p. IsWritable (raw_program p)) }
+    // A text that has a program is refused for want of memory alone.
+    ensures accepted { (q : Program) → IsProgramOf text.now q → IsOkUnless result ParseError.OutOfMemory }
+    // When each error comes, and that it comes there.
+    ensures scan { (e : scan_error) → result ≡ Err (ParseError.Scan e) → IsNoTokenText text.now e }
+    ensures scan_refused { (e : scan_error) → IsNoTokenText text.now e
+        → (result ≡ Err (ParseError.Scan e)) ⊎ (result ≡ Err ParseError.OutOfMemory) }
+    ensures too_long_refused { max_text < length text.now → result ≡ Err (ParseError.Scan (TooLong max_text)) }
+    ensures unexpected { (at : ℕ) → result ≡ Err (ParseError.Unexpected at) → IsUnexpectedAt text.now at }
+    ensures unexpected_refused { (at : ℕ) → IsUnexpectedAt text.now at
+        → (result ≡ Err (ParseError.Unexpected at)) ⊎ (result ≡ Err ParseError.OutOfMemory) }
+    ensures too_deep { (at : ℕ) → result ≡ Err (ParseError.TooDeep at) → IsTooDeepAt text.now at }
+    ensures too_deep_refused { (at : ℕ) → IsTooDeepAt text.now at
+        → (result ≡ Err (ParseError.TooDeep at)) ⊎ (result ≡ Err ParseError.OutOfMemory) }
 {
-    let tokens = scan(alloc, text)?;
-    let words = words(alloc, text, &tokens)?;
-    main_of(alloc, &words)
+    let tokens = match scan(alloc, text) {
+        Ok(tokens) => tokens,
+        Err(e) => return Err(of_scan(e)),
+    };
+    let Ok(found) = lexemes(alloc, text, &tokens) else {
+        return Err(ParseError::OutOfMemory);
+    };
+    match whole(alloc, &found) {
+        Ok(program) => Ok(program),
+        Err(Fault::Unexpected(left)) => Err(ParseError::Unexpected {
+            at: place(&found, text.len(), left),
+        }),
+        Err(Fault::TooDeep(left)) => Err(ParseError::TooDeep {
+            at: place(&found, text.len(), left),
+        }),
+        Err(Fault::OutOfMemory) => Err(ParseError::OutOfMemory),
+    }
 }
 
 #[cfg(test)]
 mod tests {
     use super::*;
-    use spf_ast::syntax::{Expr, Op, Predict, StmtKind};
     use std::test::Fail;
 
-    fn shown(alloc: Global, expr: &Expr) -> Result<String, Fail> {
-        Ok(match expr {
-            Expr::Number(n) => format!(in alloc; "{n}")?,
-            Expr::Local(slot) => format!(in alloc; "s{slot}")?,
-            Expr::Binary(op, left, right) => {
-                let left = shown(alloc, left)?;
-                let right = shown(alloc, right)?;
-                match op {
-                    Op::Add => format!(in alloc; "({left} + {right})")?,
-                    Op::Mul => format!(in alloc; "({left} * {right})")?,
-                    _ => format!(in alloc; "?")?,
-                }
-            }
-            _ => format!(in alloc; "?")?,
-        })
-    }
-
-    fn statement_shown(alloc: Global, statement: &Stmt) -> Result<String, Fail> {
-        let line = statement.line;
-        Ok(match &statement.kind {
-            StmtKind::Emit(value) => {
-                let value = shown(alloc, value)?;
-                format!(in alloc; "{line}: emit {value};")?
-            }
-            StmtKind::Fold(fold) => {
-                let (carried, block, next_line) = (fold.carried, fold.block, fold.next_line);
-                let start = shown(alloc, &fold.start)?;
-                let low = shown(alloc, &fold.low)?;
-                let high = shown(alloc, &fold.high)?;
-                let next = shown(alloc, &fold.next)?;
-                let guess = match &fold.predict {
-                    Predict::Expr(guess) => shown(alloc, guess)?,
-                    Predict::Host(_) => format!(in alloc; "?")?,
-                };
-                format!(in alloc;
-                    "{line}: s{carried} = {start} for s{block} in {low}..{high} predict {guess}; {next_line}: next {next};"
-                )?
-            }
-            _ => format!(in alloc; "?")?,
-        })
+    const fn unexpected(at: usize) -> Option<ParseError> {
+        Some(ParseError::Unexpected { at })
     }
 
     #[test]
-    fn reads_programs(rt: HostRuntime) -> Result<(), Fail> {
-        let alloc = rt.alloc();
-        let rows: [(&str, usize, &[&str]); 7] = [
-            ("main { }", 0, &[]),
+    fn tells_where_a_text_goes_wrong(rt: HostRuntime) {
+        let rows: [(&str, Option<ParseError>); 19] = [
+            ("", unexpected(0)),
+            ("# alone\n", unexpected(8)),
             (
-                "main { emit 1 + 2 * 3 * 4 + 5; }",
-                0,
-                &["1: emit ((1 + ((2 * 3) * 4)) + 5);"],
+                "main { } . ",
+                Some(ParseError::Scan(ScanError::BadByte { at: 9 })),
             ),
             (
-                "main { specfold s = 1 for k in 0..5 predict k { next s * 2; } emit s; }",
-                2,
-                &[
-                    "1: s0 = 1 for s1 in 0..5 predict s1; 1: next (s0 * 2);",
-                    "1: emit s0;",
-                ],
+                "main { x x @",
+                Some(ParseError::Scan(ScanError::BadByte { at: 11 })),
             ),
+            ("main { emit 9223372036854775807; }", None),
             (
-                "main {\n specfold a = 1 for k in 0..2 predict k {\n next a + k; }\n specfold b = a for k in a..3 predict a + k { # line\n\n next b; }\n\n emit b; }\n",
-                4,
-                &[
-                    "2: s0 = 1 for s1 in 0..2 predict s1; 3: next (s0 + s1);",
-                    "4: s2 = s0 for s3 in s0..3 predict (s0 + s3); 6: next s2;",
-                    "8: emit s2;",
-                ],
+                "main { emit 9223372036854775808; }",
+                Some(ParseError::Scan(ScanError::NumberTooLarge { at: 12 })),
             ),
-            ("main { emit 1; emit 2; }", 0, &["1: emit 1;", "1: emit 2;"]),
+            ("main { emi", unexpected(10)),
+            ("main { for i in 1..2 { } }", None),
+            ("main { a<<=b; }", unexpected(8)),
+            ("main { let if = 1; }", unexpected(11)),
+            ("main { if a == b == c { } }", unexpected(17)),
+            ("main { if a < b == c { } }", unexpected(16)),
+            ("main { if a == b && c == d { } else { } }", None),
+            ("main { } main { }", unexpected(9)),
             (
-                "main { emit 0+0+0+0+0+0+0+0+0+0+0+0+0+0+0+0+0+0+0+0+0+0+0+0+0+0+0+0+0+0+0+0*1; }",
-                0,
-                &[
-                    "1: emit (((((((((((((((((((((((((((((((0 + 0) + 0) + 0) + 0) + 0) + 0) + 0) + 0) + 0) + 0) + 0) + 0) + 0) + 0) + 0) + 0) + 0) + 0) + 0) + 0) + 0) + 0) + 0) + 0) + 0) + 0) + 0) + 0) + 0) + 0) + (0 * 1));",
-                ],
+                "array a[2*len+1]; fn f(x, y) { return x; } main { f(1, a[0]); }",
+                None,
             ),
+            ("array a[2*3]; main { }", unexpected(10)),
             (
-                "main{emit 9223372036854775807;}",
-                0,
-                &["1: emit 9223372036854775807;"],
+                "main { specfold s = 1 for k in 0..5 predict host 2 { next s * 2; } }",
+                None,
+            ),
+            ("main { spec s = { give 1; } predict 0 { emit s; } }", None),
+            (
+                "main { while 0 == 0 max 3 { fill a[0..1] = -1; fail 7; } }",
+                None,
             ),
         ];
-        for (text, slots, statements) in rows {
-            let program = parse(alloc, text.as_bytes())?;
-            assert_eq!(rt; program.slots.len(), slots, "in {text:?}");
-            assert_eq!(rt; program.main.len(), statements.len(), "in {text:?}");
-            for (statement, want) in program.main.iter().zip(statements) {
-                let got = statement_shown(alloc, statement)?;
-                assert_eq!(rt; got.as_str(), *want, "in {text:?}");
-            }
-        }
-        Ok(())
-    }
-
-    #[test]
-    fn keeps_the_names_of_the_slots(rt: HostRuntime) -> Result<(), Fail> {
-        let program = parse(
-            rt.alloc(),
-            b"main { specfold sum = 1 for at in 0..5 predict at { next sum; } }",
-        )?;
-        let names: [&[u8]; 2] = [b"sum", b"at"];
-        assert_eq!(rt; program.slots.len(), names.len());
-        for (slot, name) in program.slots.iter().zip(names) {
-            assert_eq!(rt; slot.bytes.as_slice(), name);
-        }
-        Ok(())
-    }
-
-    #[test]
-    fn refuses_what_is_no_program(rt: HostRuntime) {
-        let rows: [&str; 19] = [
-            "",
-            "main",
-            "main { emi",
-            "main { emit 1 }",
-            "main { emit @; }",
-            "main { emit 9223372036854775808; }",
-            "main { x = 1; }",
-            "main { emit s; }",
-            "main { emit 1 +; }",
-            "main { emit (1); }",
-            "main { fill a[0..1] = 0; }",
-            "main { emit 0+0+0+0+0+0+0+0+0+0+0+0+0+0+0+0+0+0+0+0+0+0+0+0+0+0+0+0+0+0+0+0*1+0; }",
-            "main { specfold s = 1 for k in 0..5 predict k { next s; } specfold s = 1 for j in 0..5 predict j { next s; } }",
-            "main { specfold s = 1 for s in 0..5 predict s { next s; } }",
-            "main { specfold s = s for k in 0..5 predict k { next s; } }",
-            "main { specfold s = 1 for k in 0..5 predict s { next s; } }",
-            "main { specfold s = 1 for k in 0..5 predict k { next s; } emit k; }",
-            "main { } main { }",
-            "main { } }",
-        ];
-        for text in rows {
+        for (text, want) in rows {
             assert_eq!(rt;
                 parse(rt.alloc(), text.as_bytes()).err(),
-                Some(ParseError::Refused),
+                want,
                 "in {text:?}"
             );
         }
     }
 
     #[test]
-    fn holds_to_the_largest_size(rt: HostRuntime) -> Result<(), Fail> {
-        let alloc = rt.alloc();
-        let rows = [(32_768, None), (32_769, Some(ParseError::Refused))];
-        for (emits, error) in rows {
-            let mut text = String::new(alloc);
-            text.push_str("main{")?;
-            for _ in 0..emits {
-                text.push_str("emit 1;")?;
+    fn ends_too_early_behind_each_token(rt: HostRuntime) -> Result<(), Fail> {
+        let text =
+            "array a [ 2 * len + 1 ] ; fn f ( x , y ) { return x ; } main { let x = - ( a [ 1 ] + f ( 2 , 3 ) ) ; while ! 0 == 0 max 3 { } if x < 1 { } else { f ( ) ; } for i in 0 .. 9 { } spec y = { give 1 ; } predict host 2 { fill a [ 0 .. 1 ] = 1 ; fail 7 ; } specfold s = 1 for k in 0 .. len predict input [ k ] { next s ; } emit 1 ; }";
+        let mut front = Vec::new(rt.alloc());
+        for byte in text.bytes() {
+            if byte == b' ' {
+                assert_eq!(rt; parse(rt.alloc(), &front).err(), unexpected(front.len()));
             }
-            text.push_str("}")?;
-            assert_eq!(rt; parse(alloc, text.as_bytes()).err(), error, "at {emits}");
+            front.push(byte)?;
         }
         Ok(())
     }
 
     #[test]
-    fn holds_to_the_most_slots(rt: HostRuntime) -> Result<(), Fail> {
+    fn holds_to_the_limits(rt: HostRuntime) -> Result<(), Fail> {
         let alloc = rt.alloc();
-        let rows = [(512, None), (513, Some(ParseError::Refused))];
-        for (folds, error) in rows {
+        let rows: [(&str, usize, &str, Option<ParseError>); 7] = [
+            ("(", 63, "1", unexpected(76)),
+            ("(", 64, "1", Some(ParseError::TooDeep { at: 75 })),
+            ("a[", 62, "-1", unexpected(138)),
+            ("a[", 63, "-1", Some(ParseError::TooDeep { at: 138 })),
+            ("1+", 32, "(1+1);}", None),
+            ("1+", 33, "1;}", Some(ParseError::TooDeep { at: 77 })),
+            (
+                "1+",
+                20,
+                "(1+1+1+1+1+1+1+1+1+1+1+1+1+1+1+1+1+1+1+1+1);}",
+                None,
+            ),
+        ];
+        for (piece, times, last, want) in rows {
             let mut text = String::new(alloc);
-            text.push_str("main{")?;
-            for fold in 0..folds {
-                let carried = format!(in alloc;
-                    "specfold s{fold} = 1 for k in 0..2 predict k {{ next 1; }}"
-                )?;
-                text.push_str(&carried)?;
+            text.push_str("main { emit ")?;
+            for _ in 0..times {
+                text.push_str(piece)?;
             }
-            text.push_str("}")?;
-            assert_eq!(rt; parse(alloc, text.as_bytes()).err(), error, "at {folds}");
+            text.push_str(last)?;
+            assert_eq!(rt; parse(alloc, text.as_bytes()).err(), want, "in {text:?}");
         }
         Ok(())
     }

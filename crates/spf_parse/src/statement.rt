@@ -1,247 +1,425 @@
 // Statements.
 
-ghost use Rattle.std.specs.Prelude.{◌≡◌, ◌≤◌, ◌+◌, IfOk, IfErr, length};
-ghost use Rattle.spf_ast.specs.View.{expression as seen, statement as seen_statement};
-ghost use Rattle.spf_parse.specs.declared.fault.ParseError.TheVariants as error;
-ghost use Rattle.spf_parse.specs.Relation.{where_};
-ghost use Rattle.spf_parse.specs.Grammar.{new_name as new_name_relation, emitted as emitted_relation, fold_names as fold_names_relation, range as range_relation, guess as guess_relation, body as body_relation, folded as folded_relation, fold_of as fold_of_parts, statement as statement_relation};
-ghost use Rattle.spf_parse.specs.Limits.{expression_size, statement_size, HasRoom};
-ghost use Rattle.spf_parse.specs.Seen.{seen_words, seen_names, seen_scope};
-ghost use Rattle.spf_parse.specs.Answers.{Answers, Anything, NoOperator};
+ghost use Rattle.std.specs.Prelude.{◌≤◌, ◌<◌, map};
+ghost use Rattle.spf_text.specs.declared.token.TokenKind.TheVariants.{Keyword as keyword_kind};
+ghost use Rattle.spf_ast.specs.View.{name as seen_name};
+ghost use Rattle.spf_ast.specs.RawView.{raw_expression, raw_statement, raw_predictor, raw_block};
+ghost use Rattle.spf_grammar.specs.Lexemes.{lexemes};
+ghost use Rattle.spf_grammar.specs.Parts.{form as form_part, block as block_part, guess as guess_part, otherwise as otherwise_part};
+ghost use Rattle.spf_grammar.specs.Rules as grammar;
+ghost use Rattle.spf_parse.specs.Answers.{Answers, Answered, reach, stated, opened_statements, ended_statements, fold_opening, seen_head};
 
-use crate::expression::expression;
-use crate::fault::ParseError;
-use crate::scope::{Scope, Visible, after_fold, slot_in};
-use crate::word::{Word, after, expect, line_of, name};
-use spf_ast::syntax::{Expr, Fold, Predict, StmtKind};
+use crate::expression::{arguments, expr, value};
+use crate::fault::Fault;
+use crate::step::{
+    after, begins_statement, count, expect, is_next, line_of, name, next, number, open,
+};
+use spf_ast::raw::{RawExpr, RawFold, RawPair, RawPredict, RawStmt, RawStmtKind};
+use spf_ast::syntax::Name;
+use spf_grammar::Lexeme;
 use spf_text::token::{Keyword, Sign, TokenKind};
 use std::alloc::Global;
 
-/// How many slots a program may have.
-const MAX_SLOTS: usize = 1024;
+const ASSIGN: TokenKind = TokenKind::Sign(Sign::Assign);
 
-/// The names of a fold, and its start with its size.
-#[derive(Drop)]
-struct FoldNames<'a> {
-    carried: &'a [u8],
-    start: Expr,
-    size: usize,
-    block: &'a [u8],
-}
+const SEMICOLON: TokenKind = TokenKind::Sign(Sign::Semicolon);
 
-/// The two ends of a range, with the size of both.
-#[derive(Drop)]
-struct Bounds {
-    low: Expr,
-    high: Expr,
-    size: usize,
-}
+const DOTS: TokenKind = TokenKind::Sign(Sign::DotDot);
 
-/// The end of a fold's body: the line and the value of `next`, with its size.
-#[derive(Drop)]
-struct Next {
-    line: u32,
-    value: Expr,
-    size: usize,
-}
+const CLOSE_BRACKET: TokenKind = TokenKind::Sign(Sign::CloseBracket);
 
-/// A statement, its size, and the scope after it.
-#[derive(Drop)]
-pub(crate) struct Stated<'a> {
-    pub kind: StmtKind,
-    pub size: usize,
-    pub scope: Scope<'a>,
-}
+const CLOSE_BRACE: TokenKind = TokenKind::Sign(Sign::CloseBrace);
 
-/// An `emit`, behind its word, with its size.
-fn emit<'b, 'a>(
+/// A statement, or a part of one, and the tokens behind it.
+type Read<'b, 'a, T> = Result<(T, &'b [Lexeme<'a>]), Fault>;
+
+/// An assignment, behind its name.
+fn assign_form<'b, 'a>(
     alloc: Global,
-    words: &'b [Word<'a>],
-    visible: &[Visible],
-) -> Result<(StmtKind, usize, &'b [Word<'a>]), ParseError>
-    ensures answers { Answers (emitted_relation (seen_names visible.now)) Anything (seen_words words.now) (λ x. seen_statement x.0) (λ x. seen_words x.2.now) result }
-    ensures size { IfOk result (λ x. (x.1 ≡ statement_size (seen_statement x.0)) × (x.1 ≤ 66)) }
+    tokens: &'b [Lexeme<'a>],
+    nesting: u32,
+    target: Name,
+) -> Read<'b, 'a, RawStmtKind>
+    requires { nesting ≤ 64 }
+    ensures { Answered 11 (grammar.assign_form nesting (seen_name target)) (lexemes tokens.now) (λ x. raw_statement x.0) (λ x. lexemes x.1.now) result }
 {
-    let (value, size, rest) = expression(alloc, words, visible)?;
-    let end = expect(rest, TokenKind::Sign(Sign::Semicolon))?;
-    Ok((StmtKind::Emit(value), size + 1, end))
+    let rest = expect(tokens, ASSIGN)?;
+    let (a, end) = value(alloc, rest, nesting, SEMICOLON)?;
+    Ok((RawStmtKind::Assign(target, a), end))
 }
 
-/// A name that may be declared: no other of its bytes may be used here.
-fn new_name<'b, 'a>(
-    words: &'b [Word<'a>],
-    visible: &[Visible],
-) -> Result<(&'a [u8], &'b [Word<'a>]), ParseError>
-    ensures { Answers (new_name_relation (seen_names visible.now)) Anything (seen_words words.now) (λ x. x.0.now) (λ x. seen_words x.1.now) result }
+/// A store, behind its name.
+fn store_form<'b, 'a>(
+    alloc: Global,
+    tokens: &'b [Lexeme<'a>],
+    nesting: u32,
+    target: Name,
+) -> Read<'b, 'a, RawStmtKind>
+    requires { nesting ≤ 64 }
+    ensures { Answered 11 (grammar.store_form nesting (seen_name target)) (lexemes tokens.now) (λ x. raw_statement x.0) (λ x. lexemes x.1.now) result }
 {
-    let (found, rest) = name(words)?;
-    match slot_in(visible, found) {
-        Some(_) => Err(ParseError::Refused),
-        None => Ok((found, rest)),
+    let inner = open(tokens, Sign::OpenBracket, nesting)?;
+    let (index, after_index) = value(alloc, inner, nesting + 1, CLOSE_BRACKET)?;
+    let rest = expect(after_index, ASSIGN)?;
+    let (a, end) = value(alloc, rest, nesting, SEMICOLON)?;
+    Ok((RawStmtKind::Store(target, index, a), end))
+}
+
+/// A call, behind its name.
+fn call_form<'b, 'a>(
+    alloc: Global,
+    tokens: &'b [Lexeme<'a>],
+    nesting: u32,
+    function: Name,
+) -> Read<'b, 'a, RawStmtKind>
+    requires { nesting ≤ 64 }
+    ensures { Answered 11 (grammar.call_form nesting (seen_name function)) (lexemes tokens.now) (λ x. raw_statement x.0) (λ x. lexemes x.1.now) result }
+{
+    let inner = open(tokens, Sign::OpenParen, nesting)?;
+    let (given, rest) = arguments(alloc, inner, nesting + 1)?;
+    let end = expect(rest, SEMICOLON)?;
+    Ok((RawStmtKind::Call(function, given), end))
+}
+
+/// A statement that begins with a name.
+fn named_form<'b, 'a>(
+    alloc: Global,
+    tokens: &'b [Lexeme<'a>],
+    nesting: u32,
+) -> Read<'b, 'a, RawStmtKind>
+    requires { nesting ≤ 64 }
+    ensures { Answered 11 (grammar.named_form nesting) (lexemes tokens.now) (λ x. raw_statement x.0) (λ x. lexemes x.1.now) result }
+{
+    let (x, rest) = name(alloc, tokens)?;
+    if is_next(rest, TokenKind::Sign(Sign::OpenBracket)) {
+        return store_form(alloc, rest, nesting, x);
+    }
+    if is_next(rest, TokenKind::Sign(Sign::OpenParen)) {
+        return call_form(alloc, rest, nesting, x);
+    }
+    assign_form(alloc, rest, nesting, x)
+}
+
+/// `let`.
+fn let_form<'b, 'a>(
+    alloc: Global,
+    tokens: &'b [Lexeme<'a>],
+    nesting: u32,
+) -> Read<'b, 'a, RawStmtKind>
+    requires { nesting ≤ 64 }
+    ensures { Answered 11 (grammar.let_form nesting) (lexemes tokens.now) (λ x. raw_statement x.0) (λ x. lexemes x.1.now) result }
+{
+    let rest = expect(tokens, TokenKind::Keyword(Keyword::Let))?;
+    let (x, after_name) = name(alloc, rest)?;
+    let start = expect(after_name, ASSIGN)?;
+    let (a, end) = value(alloc, start, nesting, SEMICOLON)?;
+    Ok((RawStmtKind::Let(x, a), end))
+}
+
+/// `fill`.
+fn fill_form<'b, 'a>(
+    alloc: Global,
+    tokens: &'b [Lexeme<'a>],
+    nesting: u32,
+) -> Read<'b, 'a, RawStmtKind>
+    requires { nesting ≤ 64 }
+    ensures { Answered 11 (grammar.fill_form nesting) (lexemes tokens.now) (λ x. raw_statement x.0) (λ x. lexemes x.1.now) result }
+{
+    let rest = expect(tokens, TokenKind::Keyword(Keyword::Fill))?;
+    let (x, after_name) = name(alloc, rest)?;
+    let inner = open(after_name, Sign::OpenBracket, nesting)?;
+    let (low, after_low) = value(alloc, inner, nesting + 1, DOTS)?;
+    let (high, after_high) = value(alloc, after_low, nesting + 1, CLOSE_BRACKET)?;
+    let start = expect(after_high, ASSIGN)?;
+    let (a, end) = value(alloc, start, nesting, SEMICOLON)?;
+    Ok((RawStmtKind::Fill(x, low, high, a), end))
+}
+
+/// `emit`.
+fn emit_form<'b, 'a>(
+    alloc: Global,
+    tokens: &'b [Lexeme<'a>],
+    nesting: u32,
+) -> Read<'b, 'a, RawStmtKind>
+    requires { nesting ≤ 64 }
+    ensures { Answered 11 (grammar.emit_form nesting) (lexemes tokens.now) (λ x. raw_statement x.0) (λ x. lexemes x.1.now) result }
+{
+    let rest = expect(tokens, TokenKind::Keyword(Keyword::Emit))?;
+    let (a, end) = value(alloc, rest, nesting, SEMICOLON)?;
+    Ok((RawStmtKind::Emit(a), end))
+}
+
+/// `fail`.
+fn fail_form<'b, 'a>(tokens: &'b [Lexeme<'a>], nesting: u32) -> Read<'b, 'a, RawStmtKind>
+    ensures { Answered 11 (grammar.fail_form nesting) (lexemes tokens.now) (λ x. raw_statement x.0) (λ x. lexemes x.1.now) result }
+{
+    let rest = expect(tokens, TokenKind::Keyword(Keyword::Fail))?;
+    let (n, after_number) = number(rest)?;
+    let end = expect(after_number, SEMICOLON)?;
+    Ok((RawStmtKind::Fail(n), end))
+}
+
+/// What stands behind `predict`: a number of a predictor that is handed in, or an expression.
+fn guess<'b, 'a>(alloc: Global, tokens: &'b [Lexeme<'a>], nesting: u32) -> Read<'b, 'a, RawPredict>
+    requires { nesting ≤ 64 }
+    ensures { Answers (guess_part nesting) (lexemes tokens.now) (λ x. raw_predictor x.0) (λ x. lexemes x.1.now) result }
+{
+    if let Some(rest) = after(tokens, TokenKind::Keyword(Keyword::Host)) {
+        let (n, end) = count(rest)?;
+        return Ok((RawPredict::Host(n), end));
+    }
+    let (g, end) = expr(alloc, tokens, nesting)?;
+    Ok((RawPredict::Expr(g), end))
+}
+
+/// `if`.
+#[cycle(statement)]
+fn if_form<'b, 'a>(
+    alloc: Global,
+    tokens: &'b [Lexeme<'a>],
+    nesting: u32,
+) -> Read<'b, 'a, RawStmtKind>
+    requires { nesting ≤ 64 }
+    ensures { Answered 11 (grammar.if_form nesting) (lexemes tokens.now) (λ x. raw_statement x.0) (λ x. lexemes x.1.now) result }
+{
+    let rest = expect(tokens, TokenKind::Keyword(Keyword::If))?;
+    let (test, after_test) = expr(alloc, rest, nesting)?;
+    let (yes, after_yes) = block(alloc, after_test, nesting)?;
+    let (no, end) = otherwise(alloc, after_yes, nesting)?;
+    Ok((RawStmtKind::If(test, yes, no), end))
+}
+
+/// `else` with its block, or nothing.
+#[cycle(statement)]
+fn otherwise<'b, 'a>(
+    alloc: Global,
+    tokens: &'b [Lexeme<'a>],
+    nesting: u32,
+) -> Read<'b, 'a, Vec<RawStmt>>
+    requires { nesting ≤ 64 }
+    ensures { Answers (otherwise_part nesting) (lexemes tokens.now) (λ x. raw_block x.0.items) (λ x. lexemes x.1.now) result }
+{
+    match after(tokens, TokenKind::Keyword(Keyword::Else)) {
+        Some(rest) => block(alloc, rest, nesting),
+        None => Ok((Vec::new(alloc), tokens)),
     }
 }
 
-/// The names of a fold, and its start.
-fn fold_names<'b, 'a>(
+/// `for`.
+#[cycle(statement)]
+fn for_form<'b, 'a>(
     alloc: Global,
-    words: &'b [Word<'a>],
-    visible: &[Visible],
-) -> Result<(FoldNames<'a>, &'b [Word<'a>]), ParseError>
-    ensures answers { Answers (fold_names_relation (seen_names visible.now)) Anything (seen_words words.now) (λ x. (x.0.carried.now, seen x.0.start, x.0.block.now)) (λ x. seen_words x.1.now) result }
-    ensures size { IfOk result (λ x. (x.0.size ≡ expression_size (seen x.0.start)) × (x.0.size ≤ 65)) }
+    tokens: &'b [Lexeme<'a>],
+    nesting: u32,
+) -> Read<'b, 'a, RawStmtKind>
+    requires { nesting ≤ 64 }
+    ensures { Answered 11 (grammar.for_form nesting) (lexemes tokens.now) (λ x. raw_statement x.0) (λ x. lexemes x.1.now) result }
 {
-    let (carried, rest) = new_name(words, visible)?;
-    let rest = expect(rest, TokenKind::Sign(Sign::Assign))?;
-    let (start, size, rest) = expression(alloc, rest, visible)?;
-    let rest = expect(rest, TokenKind::Keyword(Keyword::For))?;
-    let (block, rest) = new_name(rest, visible)?;
-    if block == carried {
-        return Err(ParseError::Refused);
-    }
-    let end = expect(rest, TokenKind::Keyword(Keyword::In))?;
-    Ok((
-        FoldNames {
-            carried,
-            start,
-            size,
-            block,
-        },
-        end,
-    ))
+    let rest = expect(tokens, TokenKind::Keyword(Keyword::For))?;
+    let (x, after_name) = name(alloc, rest)?;
+    let range = expect(after_name, TokenKind::Keyword(Keyword::In))?;
+    let (low, after_low) = value(alloc, range, nesting, DOTS)?;
+    let (high, after_high) = expr(alloc, after_low, nesting)?;
+    let (body, end) = block(alloc, after_high, nesting)?;
+    Ok((RawStmtKind::For(x, low, high, body), end))
 }
 
-/// A range of numbers.
-fn range<'b, 'a>(
+/// `while`.
+#[cycle(statement)]
+fn while_form<'b, 'a>(
     alloc: Global,
-    words: &'b [Word<'a>],
-    visible: &[Visible],
-) -> Result<(Bounds, &'b [Word<'a>]), ParseError>
-    ensures answers { Answers (range_relation (seen_names visible.now)) NoOperator (seen_words words.now) (λ x. (seen x.0.low, seen x.0.high)) (λ x. seen_words x.1.now) result }
-    ensures size { IfOk result (λ x. (x.0.size ≡ expression_size (seen x.0.low) + expression_size (seen x.0.high)) × (x.0.size ≤ 130)) }
+    tokens: &'b [Lexeme<'a>],
+    nesting: u32,
+) -> Read<'b, 'a, RawStmtKind>
+    requires { nesting ≤ 64 }
+    ensures { Answered 11 (grammar.while_form nesting) (lexemes tokens.now) (λ x. raw_statement x.0) (λ x. lexemes x.1.now) result }
 {
-    let (low, low_size, rest) = expression(alloc, words, visible)?;
-    let rest = expect(rest, TokenKind::Sign(Sign::DotDot))?;
-    let (high, high_size, end) = expression(alloc, rest, visible)?;
-    Ok((
-        Bounds {
-            low,
-            high,
-            size: low_size + high_size,
-        },
-        end,
-    ))
+    let rest = expect(tokens, TokenKind::Keyword(Keyword::While))?;
+    let (test, after_test) = value(alloc, rest, nesting, TokenKind::Keyword(Keyword::Max))?;
+    let (most, after_most) = count(after_test)?;
+    let (body, end) = block(alloc, after_most, nesting)?;
+    Ok((RawStmtKind::While(test, most, body), end))
 }
 
-/// The guess of a fold, with its size.
-fn guess<'b, 'a>(
-    alloc: Global,
-    words: &'b [Word<'a>],
-    visible: &[Visible],
-) -> Result<(Expr, usize, &'b [Word<'a>]), ParseError>
-    ensures answers { Answers (guess_relation (seen_names visible.now)) NoOperator (seen_words words.now) (λ x. seen x.0) (λ x. seen_words x.2.now) result }
-    ensures size { IfOk result (λ x. (x.1 ≡ expression_size (seen x.0)) × (x.1 ≤ 65)) }
-{
-    let rest = expect(words, TokenKind::Keyword(Keyword::Predict))?;
-    expression(alloc, rest, visible)
+/// What a fold says before its body.
+#[derive(Drop)]
+struct FoldHead {
+    carried: Name,
+    start: RawExpr,
+    block: Name,
+    low: RawExpr,
+    high: RawExpr,
+    predict: RawPredict,
 }
 
-/// The body of a fold, which is `next` alone.
-fn body<'b, 'a>(
+/// `specfold`, up to its body.
+fn fold_head<'b, 'a>(
     alloc: Global,
-    words: &'b [Word<'a>],
-    visible: &[Visible],
-) -> Result<(Next, &'b [Word<'a>]), ParseError>
-    ensures answers { Answers (body_relation (seen_names visible.now)) Anything (seen_words words.now) (λ x. (x.0.line, seen x.0.value)) (λ x. seen_words x.1.now) result }
-    ensures size { IfOk result (λ x. (x.0.size ≡ expression_size (seen x.0.value)) × (x.0.size ≤ 65)) }
+    tokens: &'b [Lexeme<'a>],
+    nesting: u32,
+) -> Read<'b, 'a, FoldHead>
+    requires { nesting ≤ 64 }
+    ensures { Answered 10 (fold_opening nesting) (lexemes tokens.now) (λ x. seen_head x.0) (λ x. lexemes x.1.now) result }
 {
-    let inside = expect(words, TokenKind::Sign(Sign::OpenBrace))?;
-    let line = line_of(inside);
-    let rest = expect(inside, TokenKind::Keyword(Keyword::Next))?;
-    let (value, size, rest) = expression(alloc, rest, visible)?;
-    let rest = expect(rest, TokenKind::Sign(Sign::Semicolon))?;
-    let end = expect(rest, TokenKind::Sign(Sign::CloseBrace))?;
-    Ok((Next { line, value, size }, end))
-}
-
-/// A fold of these parts, whose names have this slot and the next.
-fn fold_of(
-    alloc: Global,
-    slot: u32,
-    start: Expr,
-    between: Bounds,
-    guessed: Expr,
-    next: Next,
-) -> Result<StmtKind, ParseError>
-    requires { slot ≤ 1022 }
-    ensures value { IfOk result (λ x. seen_statement x ≡ fold_of_parts slot (seen start) (seen between.low, seen between.high) (seen guessed) (next.line, seen next.value)) }
-    ensures memory { IfErr result (λ e. e ≡ error.OutOfMemory) }
-{
-    let fold = Fold {
-        carried: slot,
-        start,
-        block: slot + 1,
-        low: between.low,
-        high: between.high,
-        predict: Predict::Expr(guessed),
-        body: Vec::new(alloc),
-        next: next.value,
-        next_line: next.line,
-    };
-    Ok(StmtKind::Fold(Box::new(alloc, fold)?))
-}
-
-/// A `specfold`, behind its word.
-fn fold<'b, 'a>(
-    alloc: Global,
-    words: &'b [Word<'a>],
-    mut scope: Scope<'a>,
-) -> Result<(Stated<'a>, &'b [Word<'a>]), ParseError>
-    ensures answers { Answers (where_ HasRoom (folded_relation (seen_scope scope.entry))) Anything (seen_words words.now) (λ x. (seen_statement x.0.kind, seen_scope x.0.scope)) (λ x. seen_words x.1.now) result }
-    ensures size { IfOk result (λ x. (x.0.size ≡ statement_size (seen_statement x.0.kind)) × (x.0.size ≤ 326)) }
-{
-    if scope.slots.len() > MAX_SLOTS - 2 {
-        return Err(ParseError::Refused);
-    }
-    let slot = scope.slots.len() as u32;
-    let visible = scope.visible.len();
-    let (names, rest) = fold_names(alloc, words, &scope.visible)?;
-    let FoldNames {
+    let rest = expect(tokens, TokenKind::Keyword(Keyword::Specfold))?;
+    let (carried, after_carried) = name(alloc, rest)?;
+    let value_at = expect(after_carried, ASSIGN)?;
+    let (start, after_start) = value(alloc, value_at, nesting, TokenKind::Keyword(Keyword::For))?;
+    let (block, after_block) = name(alloc, after_start)?;
+    let range = expect(after_block, TokenKind::Keyword(Keyword::In))?;
+    let (low, after_low) = value(alloc, range, nesting, DOTS)?;
+    let (high, after_high) = value(
+        alloc,
+        after_low,
+        nesting,
+        TokenKind::Keyword(Keyword::Predict),
+    )?;
+    let (predict, end) = guess(alloc, after_high, nesting)?;
+    let head = FoldHead {
         carried,
         start,
-        size: start_size,
         block,
-    } = names;
-    let (between, rest) = range(alloc, rest, &scope.visible)?;
-    scope.visible.push(Visible {
-        name: block,
-        slot: slot + 1,
-    })?;
-    let (guessed, guess_size, rest) = guess(alloc, rest, &scope.visible)?;
-    scope.visible.push(Visible {
-        name: carried,
-        slot,
-    })?;
-    let (next, end) = body(alloc, rest, &scope.visible)?;
-    let size = 1 + start_size + between.size + guess_size + next.size;
-    let kind = fold_of(alloc, slot, start, between, guessed, next)?;
-    let scope = after_fold(alloc, scope, visible, carried, block, slot)?;
-    Ok((Stated { kind, size, scope }, end))
+        low,
+        high,
+        predict,
+    };
+    Ok((head, end))
 }
 
-/// A statement.
-pub(crate) fn statement<'b, 'a>(
+/// `specfold`.
+#[cycle(statement)]
+fn fold_form<'b, 'a>(
     alloc: Global,
-    words: &'b [Word<'a>],
-    scope: Scope<'a>,
-) -> Result<(Stated<'a>, &'b [Word<'a>]), ParseError>
-    requires { length scope.slots.items ≤ 1024 }
-    ensures answers { Answers (where_ HasRoom (statement_relation (seen_scope scope.entry))) Anything (seen_words words.now) (λ x. (seen_statement x.0.kind, seen_scope x.0.scope)) (λ x. seen_words x.1.now) result }
-    ensures size { IfOk result (λ x. (x.0.size ≡ statement_size (seen_statement x.0.kind)) × (x.0.size ≤ 326)) }
+    tokens: &'b [Lexeme<'a>],
+    nesting: u32,
+) -> Read<'b, 'a, RawStmtKind>
+    requires { nesting ≤ 64 }
+    ensures { Answered 11 (grammar.fold_form nesting) (lexemes tokens.now) (λ x. raw_statement x.0) (λ x. lexemes x.1.now) result }
 {
-    if let Some(rest) = after(words, TokenKind::Keyword(Keyword::Emit)) {
-        let (kind, size, end) = emit(alloc, rest, &scope.visible)?;
-        return Ok((Stated { kind, size, scope }, end));
+    let (head, rest) = fold_head(alloc, tokens, nesting)?;
+    let ((body, next_line, next), end) = ended(alloc, rest, nesting, Keyword::Next)?;
+    let fold = RawFold {
+        carried: head.carried,
+        start: head.start,
+        block: head.block,
+        low: head.low,
+        high: head.high,
+        predict: head.predict,
+        body,
+        next,
+        next_line,
+    };
+    Ok((RawStmtKind::Fold(Box::new(alloc, fold)?), end))
+}
+
+/// Statements in braces whose last one begins with this word and has an expression, with the line of that word.
+#[cycle(statement)]
+pub(crate) fn ended<'b, 'a>(
+    alloc: Global,
+    tokens: &'b [Lexeme<'a>],
+    nesting: u32,
+    word: Keyword,
+) -> Read<'b, 'a, (Vec<RawStmt>, u32, RawExpr)>
+    requires nesting_in { nesting ≤ 64 }
+    requires ends { 12 < reach (keyword_kind word) }
+    ensures { Answered 0 (ended_statements nesting word) (lexemes tokens.now) (λ x. (map stated x.0.0.items, x.0.1, raw_expression x.0.2)) (λ x. lexemes x.1.now) result }
+{
+    let (body, rest) = opened(alloc, tokens, nesting)?;
+    let line = line_of(rest);
+    let last = expect(rest, TokenKind::Keyword(word))?;
+    let (a, after_value) = value(alloc, last, nesting + 1, SEMICOLON)?;
+    let end = expect(after_value, CLOSE_BRACE)?;
+    Ok(((body, line, a), end))
+}
+
+/// `spec`.
+#[cycle(statement)]
+fn pair_form<'b, 'a>(
+    alloc: Global,
+    tokens: &'b [Lexeme<'a>],
+    nesting: u32,
+) -> Read<'b, 'a, RawStmtKind>
+    requires { nesting ≤ 64 }
+    ensures { Answered 11 (grammar.pair_form nesting) (lexemes tokens.now) (λ x. raw_statement x.0) (λ x. lexemes x.1.now) result }
+{
+    let rest = expect(tokens, TokenKind::Keyword(Keyword::Spec))?;
+    let (carried, after_carried) = name(alloc, rest)?;
+    let open_at = expect(after_carried, ASSIGN)?;
+    let ((producer, give_line, give), closed) = ended(alloc, open_at, nesting, Keyword::Give)?;
+    let guess_at = expect(closed, TokenKind::Keyword(Keyword::Predict))?;
+    let (predict, after_guess) = guess(alloc, guess_at, nesting)?;
+    let (consumer, end) = block(alloc, after_guess, nesting)?;
+    let pair = RawPair {
+        carried,
+        producer,
+        give,
+        give_line,
+        predict,
+        consumer,
+    };
+    Ok((RawStmtKind::Pair(Box::new(alloc, pair)?), end))
+}
+
+/// Statements in braces.
+#[cycle(statement)]
+pub(crate) fn block<'b, 'a>(
+    alloc: Global,
+    tokens: &'b [Lexeme<'a>],
+    nesting: u32,
+) -> Read<'b, 'a, Vec<RawStmt>>
+    requires { nesting ≤ 64 }
+    ensures { Answers (block_part nesting) (lexemes tokens.now) (λ x. raw_block x.0.items) (λ x. lexemes x.1.now) result }
+{
+    let (inside, rest) = opened(alloc, tokens, nesting)?;
+    let end = expect(rest, CLOSE_BRACE)?;
+    Ok((inside, end))
+}
+
+/// An opening brace, and statements as long as one begins.
+#[cycle(statement)]
+pub(crate) fn opened<'b, 'a>(
+    alloc: Global,
+    tokens: &'b [Lexeme<'a>],
+    nesting: u32,
+) -> Read<'b, 'a, Vec<RawStmt>>
+    requires { nesting ≤ 64 }
+    ensures { Answered 12 (opened_statements nesting) (lexemes tokens.now) (λ x. map stated x.0.items) (λ x. lexemes x.1.now) result }
+{
+    let mut rest = open(tokens, Sign::OpenBrace, nesting)?;
+    let mut inside = Vec::new(alloc);
+    'inside: while begins_statement(rest) {
+        let line = line_of(rest);
+        let (kind, end) = form(alloc, rest, nesting + 1)?;
+        inside.push(RawStmt { line, kind })?;
+        rest = end;
     }
-    let rest = expect(words, TokenKind::Keyword(Keyword::Specfold))?;
-    fold(alloc, rest, scope)
+    Ok((inside, rest))
+}
+
+/// A statement, but for its line.
+#[cycle(statement)]
+fn form<'b, 'a>(alloc: Global, tokens: &'b [Lexeme<'a>], nesting: u32) -> Read<'b, 'a, RawStmtKind>
+    requires { nesting ≤ 64 }
+    ensures { Answers (form_part nesting) (lexemes tokens.now) (λ x. raw_statement x.0) (λ x. lexemes x.1.now) result }
+{
+    let Some(kind) = next(tokens) else {
+        return Err(Fault::Unexpected(0));
+    };
+    match kind {
+        TokenKind::Name => named_form(alloc, tokens, nesting),
+        TokenKind::Keyword(word) => match word {
+            Keyword::Let => let_form(alloc, tokens, nesting),
+            Keyword::Fill => fill_form(alloc, tokens, nesting),
+            Keyword::Emit => emit_form(alloc, tokens, nesting),
+            Keyword::Fail => fail_form(tokens, nesting),
+            Keyword::If => if_form(alloc, tokens, nesting),
+            Keyword::For => for_form(alloc, tokens, nesting),
+            Keyword::While => while_form(alloc, tokens, nesting),
+            Keyword::Specfold => fold_form(alloc, tokens, nesting),
+            Keyword::Spec => pair_form(alloc, tokens, nesting),
+            _ => Err(Fault::Unexpected(tokens.len())),
+        },
+        TokenKind::Number(_) => Err(Fault::Unexpected(tokens.len())),
+        TokenKind::Sign(_) => Err(Fault::Unexpected(tokens.len())),
+    }
 }

@@ -1,35 +1,183 @@
-use Rattle.std.proofs.Common.{◌≡◌, sym, ap, ◌∙◌, map, Err, Result}
-use Rattle.std.proofs.lemmas.Result.{err_from_is_err_and}
-use Rattle.spf_parse.specs.declared.fault.ParseError.{ParseError}
-use Rattle.spf_parse.specs.declared.fault.ParseError.TheVariants.{Refused, OutOfMemory}
-use Rattle.spf_parse.specs.Faults.{of_scan}
-use Rattle.spf_parse.specs.Grammar.{word_of}
-use Rattle.spf_parse.specs.Seen.{seen_words}
-use Rattle.spf_parse.proofs.Texts.{accepted, refused}
+use Rattle.std.proofs.Common.{true, false, ◌≡◌, [], length, refl, sym, ap, ◌∙◌, subst, Ok, Err, ◌-◌}
+use Rattle.std.specs.Prelude.{drop}
+use Rattle.spf_ast.specs.RawView.{raw_program}
+use Rattle.spf_grammar.specs.Lexemes.{lexemes, lexemes_of}
+use Rattle.spf_grammar.specs.Parts.{program, give}
+use Rattle.spf_grammar.specs.Rules.{all}
+use Rattle.spf_grammar.specs.Texts.{IsUnexpected, IsTooDeep, place}
+use Rattle.spf_parse.specs.declared.program.ParseError.TheVariants as parse
+use Rattle.spf_parse.specs.Answers.{Leads, Faults}
+use Rattle.spf_parse.proofs.Tokens.{seen_length}
+use Rattle.spf_parse.proofs.Texts.{reads_is, unexpected_is, too_deep_is}
+use Rattle.spf_parse.proofs.Verdicts.{Verdict, read, wrong, deep, refusal, tokens_of, program_of, only_of, accepted_of, scan_of, scan_refused_of, too_long_of, unexpected_of, unexpected_refused_of, too_deep_of, too_deep_refused_of}
+use Rattle.spf_parse.proofs.Writables.{writable, tokens_writable}
 use Rattle.spf_parse.proofs.program.parse.Goals as goal
 
-same_error : {T : Type 0} (result : Result T ParseError) (e f : ParseError) → result ≡ Err e → result ≡ Err f → e ≡ f
-same_error result e f a b = let h : Err e ≡ Err f = sym a ∙ b in cc
+pub returns-in-Ok-whole-clause-program : goal.returns-in-Ok-whole-clause-program
+returns-in-Ok-whole-clause-program c =
+    let h = tokens_of c.args.text.now c.scan.result c.scan.ensures.too_long_refused c.scan.ensures.bad_byte_refused c.scan.ensures.too_large_refused c.in-Ok.tokens c.in-Ok.tokens.items c.in-Ok.is c.in-Ok.ensures.short c.in-Ok.ensures.tokens c.in-Ok.ensures.only in
+    let w = ap lexemes c.deref-2.ensures.value ∙ c.in-Ok-lexemes.ensures ∙ ap (lexemes_of c.args.text.now) c.deref.ensures.value in
+    let v : Verdict c.args.text.now (Ok c.in-Ok-whole.program) = read c.in-Ok-whole.program c.in-Ok.tokens.items refl h (subst (λ l. Leads 14 (all program) l (give (raw_program c.in-Ok-whole.program)) []) w c.in-Ok-whole.ensures) in
+    program_of c.args.text.now (Ok c.in-Ok-whole.program) v
 
-pub returns-in_err-tokens-clause-refused : goal.returns-in_err-tokens-clause-refused
-returns-in_err-tokens-clause-refused c = λ is p r.
-    let x = err_from_is_err_and c.from_residual.result c.from_residual.ensures.1 in
-    let memory = c.in_err-tokens.ensures.accepted r.tokens r.short r.are in
-    let clash : OutOfMemory ≡ Refused = sym (x.2 ∙ ap of_scan memory) ∙ same_error c.from_residual.result x.0 Refused x.1 is in
-    absurd cc
+pub returns-in-Ok-whole-clause-writable : goal.returns-in-Ok-whole-clause-writable
+returns-in-Ok-whole-clause-writable c =
+    let h = tokens_of c.args.text.now c.scan.result c.scan.ensures.too_long_refused c.scan.ensures.bad_byte_refused c.scan.ensures.too_large_refused c.in-Ok.tokens c.in-Ok.tokens.items c.in-Ok.is c.in-Ok.ensures.short c.in-Ok.ensures.tokens c.in-Ok.ensures.only in
+    let w = ap lexemes c.deref-2.ensures.value ∙ c.in-Ok-lexemes.ensures ∙ ap (lexemes_of c.args.text.now) c.deref.ensures.value in
+    let l = subst (λ l. Leads 14 (all program) l (give (raw_program c.in-Ok-whole.program)) []) w c.in-Ok-whole.ensures in
+    writable 0 (lexemes_of c.args.text.now c.in-Ok.tokens.items) (raw_program c.in-Ok-whole.program) (tokens_writable c.args.text.now c.in-Ok.tokens.items c.in-Ok.ensures.slices) (reads_is l)
 
-pub returns-in_err-words-clause-refused : goal.returns-in_err-words-clause-refused
-returns-in_err-words-clause-refused c = λ is p r.
-    let x = err_from_is_err_and c.from_residual-in_err-words.result c.from_residual-in_err-words.ensures.1 in
-    let clash : OutOfMemory ≡ Refused = sym (x.2 ∙ c.in_err-words.ensures.memory) ∙ same_error c.from_residual-in_err-words.result x.0 Refused x.1 is in
-    absurd cc
+pub returns-in-Ok-whole-clause-only : goal.returns-in-Ok-whole-clause-only
+returns-in-Ok-whole-clause-only c =
+    let h = tokens_of c.args.text.now c.scan.result c.scan.ensures.too_long_refused c.scan.ensures.bad_byte_refused c.scan.ensures.too_large_refused c.in-Ok.tokens c.in-Ok.tokens.items c.in-Ok.is c.in-Ok.ensures.short c.in-Ok.ensures.tokens c.in-Ok.ensures.only in
+    let w = ap lexemes c.deref-2.ensures.value ∙ c.in-Ok-lexemes.ensures ∙ ap (lexemes_of c.args.text.now) c.deref.ensures.value in
+    let v : Verdict c.args.text.now (Ok c.in-Ok-whole.program) = read c.in-Ok-whole.program c.in-Ok.tokens.items refl h (subst (λ l. Leads 14 (all program) l (give (raw_program c.in-Ok-whole.program)) []) w c.in-Ok-whole.ensures) in
+    only_of c.args.text.now (Ok c.in-Ok-whole.program) v
 
-pub returns-clause-program : goal.returns-clause-program
-returns-clause-program c =
-    let words_are = ap seen_words c.deref-2.ensures.value ∙ c.in_ok-words.ensures.words ∙ ap (map (word_of c.args.text.now)) c.deref.ensures.value in
-    accepted c.args.text.now c.in_ok-tokens.tokens.items c.in_ok-tokens.ensures.tokens c.in_ok-tokens.ensures.only c.in_ok-tokens.ensures.short (seen_words c.deref-2.result.now) words_are c.main_of.result c.main_of.ensures
+pub returns-in-Ok-whole-clause-scan_refused : goal.returns-in-Ok-whole-clause-scan_refused
+returns-in-Ok-whole-clause-scan_refused c =
+    let h = tokens_of c.args.text.now c.scan.result c.scan.ensures.too_long_refused c.scan.ensures.bad_byte_refused c.scan.ensures.too_large_refused c.in-Ok.tokens c.in-Ok.tokens.items c.in-Ok.is c.in-Ok.ensures.short c.in-Ok.ensures.tokens c.in-Ok.ensures.only in
+    let w = ap lexemes c.deref-2.ensures.value ∙ c.in-Ok-lexemes.ensures ∙ ap (lexemes_of c.args.text.now) c.deref.ensures.value in
+    let v : Verdict c.args.text.now (Ok c.in-Ok-whole.program) = read c.in-Ok-whole.program c.in-Ok.tokens.items refl h (subst (λ l. Leads 14 (all program) l (give (raw_program c.in-Ok-whole.program)) []) w c.in-Ok-whole.ensures) in
+    scan_refused_of c.args.text.now (Ok c.in-Ok-whole.program) v
 
-pub returns-clause-refused : goal.returns-clause-refused
-returns-clause-refused c =
-    let words_are = ap seen_words c.deref-2.ensures.value ∙ c.in_ok-words.ensures.words ∙ ap (map (word_of c.args.text.now)) c.deref.ensures.value in
-    refused c.args.text.now c.in_ok-tokens.tokens.items c.in_ok-tokens.ensures.tokens c.in_ok-tokens.ensures.only c.in_ok-tokens.ensures.short (seen_words c.deref-2.result.now) words_are c.main_of.result c.main_of.ensures
+pub returns-in-Ok-whole-clause-unexpected_refused : goal.returns-in-Ok-whole-clause-unexpected_refused
+returns-in-Ok-whole-clause-unexpected_refused c =
+    let h = tokens_of c.args.text.now c.scan.result c.scan.ensures.too_long_refused c.scan.ensures.bad_byte_refused c.scan.ensures.too_large_refused c.in-Ok.tokens c.in-Ok.tokens.items c.in-Ok.is c.in-Ok.ensures.short c.in-Ok.ensures.tokens c.in-Ok.ensures.only in
+    let w = ap lexemes c.deref-2.ensures.value ∙ c.in-Ok-lexemes.ensures ∙ ap (lexemes_of c.args.text.now) c.deref.ensures.value in
+    let v : Verdict c.args.text.now (Ok c.in-Ok-whole.program) = read c.in-Ok-whole.program c.in-Ok.tokens.items refl h (subst (λ l. Leads 14 (all program) l (give (raw_program c.in-Ok-whole.program)) []) w c.in-Ok-whole.ensures) in
+    unexpected_refused_of c.args.text.now (Ok c.in-Ok-whole.program) v
+
+pub returns-in-Ok-whole-clause-too_deep_refused : goal.returns-in-Ok-whole-clause-too_deep_refused
+returns-in-Ok-whole-clause-too_deep_refused c =
+    let h = tokens_of c.args.text.now c.scan.result c.scan.ensures.too_long_refused c.scan.ensures.bad_byte_refused c.scan.ensures.too_large_refused c.in-Ok.tokens c.in-Ok.tokens.items c.in-Ok.is c.in-Ok.ensures.short c.in-Ok.ensures.tokens c.in-Ok.ensures.only in
+    let w = ap lexemes c.deref-2.ensures.value ∙ c.in-Ok-lexemes.ensures ∙ ap (lexemes_of c.args.text.now) c.deref.ensures.value in
+    let v : Verdict c.args.text.now (Ok c.in-Ok-whole.program) = read c.in-Ok-whole.program c.in-Ok.tokens.items refl h (subst (λ l. Leads 14 (all program) l (give (raw_program c.in-Ok-whole.program)) []) w c.in-Ok-whole.ensures) in
+    too_deep_refused_of c.args.text.now (Ok c.in-Ok-whole.program) v
+
+pub returns-in-Err-Unexpected-clause-accepted : goal.returns-in-Err-Unexpected-clause-accepted
+returns-in-Err-Unexpected-clause-accepted c =
+    let h = tokens_of c.args.text.now c.scan.result c.scan.ensures.too_long_refused c.scan.ensures.bad_byte_refused c.scan.ensures.too_large_refused c.in-Ok.tokens c.in-Ok.tokens.items c.in-Ok.is c.in-Ok.ensures.short c.in-Ok.ensures.tokens c.in-Ok.ensures.only in
+    let w = ap lexemes c.deref-2.ensures.value ∙ c.in-Ok-lexemes.ensures ∙ ap (lexemes_of c.args.text.now) c.deref.ensures.value in
+    let f = subst (λ l. Faults false 14 (all program) l c.in-Err-Unexpected.left) w (rw c.in-Err-Unexpected.field-0-is at c.in-Err-Unexpected.ensures) in
+    let n : length c.deref-in-Err-Unexpected.result.now ≡ length (lexemes_of c.args.text.now c.in-Ok.tokens.items) = sym (seen_length c.deref-in-Err-Unexpected.result.now) ∙ ap length (ap lexemes c.deref-in-Err-Unexpected.ensures.value ∙ sym (ap lexemes c.deref-2.ensures.value) ∙ w) in
+    let q = ap lexemes c.deref-in-Err-Unexpected.ensures.value ∙ sym (ap lexemes c.deref-2.ensures.value) ∙ w in
+    let e = c.place.ensures ∙ (λ i. place (length c.args.text.now) (drop (n i - c.in-Err-Unexpected.left) (q i))) in
+    let v : Verdict c.args.text.now (Err (parse.Unexpected c.place.result)) = wrong c.place.result c.in-Ok.tokens.items refl h (subst (IsUnexpected (lexemes_of c.args.text.now c.in-Ok.tokens.items) (length c.args.text.now)) (sym e) (unexpected_is (length c.args.text.now) f)) in
+    accepted_of c.args.text.now (Err (parse.Unexpected c.place.result)) v
+
+pub returns-in-Err-Unexpected-clause-scan_refused : goal.returns-in-Err-Unexpected-clause-scan_refused
+returns-in-Err-Unexpected-clause-scan_refused c =
+    let h = tokens_of c.args.text.now c.scan.result c.scan.ensures.too_long_refused c.scan.ensures.bad_byte_refused c.scan.ensures.too_large_refused c.in-Ok.tokens c.in-Ok.tokens.items c.in-Ok.is c.in-Ok.ensures.short c.in-Ok.ensures.tokens c.in-Ok.ensures.only in
+    let w = ap lexemes c.deref-2.ensures.value ∙ c.in-Ok-lexemes.ensures ∙ ap (lexemes_of c.args.text.now) c.deref.ensures.value in
+    let f = subst (λ l. Faults false 14 (all program) l c.in-Err-Unexpected.left) w (rw c.in-Err-Unexpected.field-0-is at c.in-Err-Unexpected.ensures) in
+    let n : length c.deref-in-Err-Unexpected.result.now ≡ length (lexemes_of c.args.text.now c.in-Ok.tokens.items) = sym (seen_length c.deref-in-Err-Unexpected.result.now) ∙ ap length (ap lexemes c.deref-in-Err-Unexpected.ensures.value ∙ sym (ap lexemes c.deref-2.ensures.value) ∙ w) in
+    let q = ap lexemes c.deref-in-Err-Unexpected.ensures.value ∙ sym (ap lexemes c.deref-2.ensures.value) ∙ w in
+    let e = c.place.ensures ∙ (λ i. place (length c.args.text.now) (drop (n i - c.in-Err-Unexpected.left) (q i))) in
+    let v : Verdict c.args.text.now (Err (parse.Unexpected c.place.result)) = wrong c.place.result c.in-Ok.tokens.items refl h (subst (IsUnexpected (lexemes_of c.args.text.now c.in-Ok.tokens.items) (length c.args.text.now)) (sym e) (unexpected_is (length c.args.text.now) f)) in
+    scan_refused_of c.args.text.now (Err (parse.Unexpected c.place.result)) v
+
+pub returns-in-Err-Unexpected-clause-unexpected : goal.returns-in-Err-Unexpected-clause-unexpected
+returns-in-Err-Unexpected-clause-unexpected c =
+    let h = tokens_of c.args.text.now c.scan.result c.scan.ensures.too_long_refused c.scan.ensures.bad_byte_refused c.scan.ensures.too_large_refused c.in-Ok.tokens c.in-Ok.tokens.items c.in-Ok.is c.in-Ok.ensures.short c.in-Ok.ensures.tokens c.in-Ok.ensures.only in
+    let w = ap lexemes c.deref-2.ensures.value ∙ c.in-Ok-lexemes.ensures ∙ ap (lexemes_of c.args.text.now) c.deref.ensures.value in
+    let f = subst (λ l. Faults false 14 (all program) l c.in-Err-Unexpected.left) w (rw c.in-Err-Unexpected.field-0-is at c.in-Err-Unexpected.ensures) in
+    let n : length c.deref-in-Err-Unexpected.result.now ≡ length (lexemes_of c.args.text.now c.in-Ok.tokens.items) = sym (seen_length c.deref-in-Err-Unexpected.result.now) ∙ ap length (ap lexemes c.deref-in-Err-Unexpected.ensures.value ∙ sym (ap lexemes c.deref-2.ensures.value) ∙ w) in
+    let q = ap lexemes c.deref-in-Err-Unexpected.ensures.value ∙ sym (ap lexemes c.deref-2.ensures.value) ∙ w in
+    let e = c.place.ensures ∙ (λ i. place (length c.args.text.now) (drop (n i - c.in-Err-Unexpected.left) (q i))) in
+    let v : Verdict c.args.text.now (Err (parse.Unexpected c.place.result)) = wrong c.place.result c.in-Ok.tokens.items refl h (subst (IsUnexpected (lexemes_of c.args.text.now c.in-Ok.tokens.items) (length c.args.text.now)) (sym e) (unexpected_is (length c.args.text.now) f)) in
+    unexpected_of c.args.text.now (Err (parse.Unexpected c.place.result)) v
+
+pub returns-in-Err-Unexpected-clause-unexpected_refused : goal.returns-in-Err-Unexpected-clause-unexpected_refused
+returns-in-Err-Unexpected-clause-unexpected_refused c =
+    let h = tokens_of c.args.text.now c.scan.result c.scan.ensures.too_long_refused c.scan.ensures.bad_byte_refused c.scan.ensures.too_large_refused c.in-Ok.tokens c.in-Ok.tokens.items c.in-Ok.is c.in-Ok.ensures.short c.in-Ok.ensures.tokens c.in-Ok.ensures.only in
+    let w = ap lexemes c.deref-2.ensures.value ∙ c.in-Ok-lexemes.ensures ∙ ap (lexemes_of c.args.text.now) c.deref.ensures.value in
+    let f = subst (λ l. Faults false 14 (all program) l c.in-Err-Unexpected.left) w (rw c.in-Err-Unexpected.field-0-is at c.in-Err-Unexpected.ensures) in
+    let n : length c.deref-in-Err-Unexpected.result.now ≡ length (lexemes_of c.args.text.now c.in-Ok.tokens.items) = sym (seen_length c.deref-in-Err-Unexpected.result.now) ∙ ap length (ap lexemes c.deref-in-Err-Unexpected.ensures.value ∙ sym (ap lexemes c.deref-2.ensures.value) ∙ w) in
+    let q = ap lexemes c.deref-in-Err-Unexpected.ensures.value ∙ sym (ap lexemes c.deref-2.ensures.value) ∙ w in
+    let e = c.place.ensures ∙ (λ i. place (length c.args.text.now) (drop (n i - c.in-Err-Unexpected.left) (q i))) in
+    let v : Verdict c.args.text.now (Err (parse.Unexpected c.place.result)) = wrong c.place.result c.in-Ok.tokens.items refl h (subst (IsUnexpected (lexemes_of c.args.text.now c.in-Ok.tokens.items) (length c.args.text.now)) (sym e) (unexpected_is (length c.args.text.now) f)) in
+    unexpected_refused_of c.args.text.now (Err (parse.Unexpected c.place.result)) v
+
+pub returns-in-Err-Unexpected-clause-too_deep_refused : goal.returns-in-Err-Unexpected-clause-too_deep_refused
+returns-in-Err-Unexpected-clause-too_deep_refused c =
+    let h = tokens_of c.args.text.now c.scan.result c.scan.ensures.too_long_refused c.scan.ensures.bad_byte_refused c.scan.ensures.too_large_refused c.in-Ok.tokens c.in-Ok.tokens.items c.in-Ok.is c.in-Ok.ensures.short c.in-Ok.ensures.tokens c.in-Ok.ensures.only in
+    let w = ap lexemes c.deref-2.ensures.value ∙ c.in-Ok-lexemes.ensures ∙ ap (lexemes_of c.args.text.now) c.deref.ensures.value in
+    let f = subst (λ l. Faults false 14 (all program) l c.in-Err-Unexpected.left) w (rw c.in-Err-Unexpected.field-0-is at c.in-Err-Unexpected.ensures) in
+    let n : length c.deref-in-Err-Unexpected.result.now ≡ length (lexemes_of c.args.text.now c.in-Ok.tokens.items) = sym (seen_length c.deref-in-Err-Unexpected.result.now) ∙ ap length (ap lexemes c.deref-in-Err-Unexpected.ensures.value ∙ sym (ap lexemes c.deref-2.ensures.value) ∙ w) in
+    let q = ap lexemes c.deref-in-Err-Unexpected.ensures.value ∙ sym (ap lexemes c.deref-2.ensures.value) ∙ w in
+    let e = c.place.ensures ∙ (λ i. place (length c.args.text.now) (drop (n i - c.in-Err-Unexpected.left) (q i))) in
+    let v : Verdict c.args.text.now (Err (parse.Unexpected c.place.result)) = wrong c.place.result c.in-Ok.tokens.items refl h (subst (IsUnexpected (lexemes_of c.args.text.now c.in-Ok.tokens.items) (length c.args.text.now)) (sym e) (unexpected_is (length c.args.text.now) f)) in
+    too_deep_refused_of c.args.text.now (Err (parse.Unexpected c.place.result)) v
+
+pub returns-in-Err-TooDeep-clause-accepted : goal.returns-in-Err-TooDeep-clause-accepted
+returns-in-Err-TooDeep-clause-accepted c =
+    let h = tokens_of c.args.text.now c.scan.result c.scan.ensures.too_long_refused c.scan.ensures.bad_byte_refused c.scan.ensures.too_large_refused c.in-Ok.tokens c.in-Ok.tokens.items c.in-Ok.is c.in-Ok.ensures.short c.in-Ok.ensures.tokens c.in-Ok.ensures.only in
+    let w = ap lexemes c.deref-2.ensures.value ∙ c.in-Ok-lexemes.ensures ∙ ap (lexemes_of c.args.text.now) c.deref.ensures.value in
+    let f = subst (λ l. Faults true 14 (all program) l c.in-Err-TooDeep.left) w (rw c.in-Err-TooDeep.field-0-is at c.in-Err-TooDeep.ensures) in
+    let n : length c.deref-in-Err-TooDeep.result.now ≡ length (lexemes_of c.args.text.now c.in-Ok.tokens.items) = sym (seen_length c.deref-in-Err-TooDeep.result.now) ∙ ap length (ap lexemes c.deref-in-Err-TooDeep.ensures.value ∙ sym (ap lexemes c.deref-2.ensures.value) ∙ w) in
+    let q = ap lexemes c.deref-in-Err-TooDeep.ensures.value ∙ sym (ap lexemes c.deref-2.ensures.value) ∙ w in
+    let e = c.place-in-Err-TooDeep.ensures ∙ (λ i. place (length c.args.text.now) (drop (n i - c.in-Err-TooDeep.left) (q i))) in
+    let v : Verdict c.args.text.now (Err (parse.TooDeep c.place-in-Err-TooDeep.result)) = deep c.place-in-Err-TooDeep.result c.in-Ok.tokens.items refl h (subst (IsTooDeep (lexemes_of c.args.text.now c.in-Ok.tokens.items)) (sym e) (too_deep_is (length c.args.text.now) f)) in
+    accepted_of c.args.text.now (Err (parse.TooDeep c.place-in-Err-TooDeep.result)) v
+
+pub returns-in-Err-TooDeep-clause-scan_refused : goal.returns-in-Err-TooDeep-clause-scan_refused
+returns-in-Err-TooDeep-clause-scan_refused c =
+    let h = tokens_of c.args.text.now c.scan.result c.scan.ensures.too_long_refused c.scan.ensures.bad_byte_refused c.scan.ensures.too_large_refused c.in-Ok.tokens c.in-Ok.tokens.items c.in-Ok.is c.in-Ok.ensures.short c.in-Ok.ensures.tokens c.in-Ok.ensures.only in
+    let w = ap lexemes c.deref-2.ensures.value ∙ c.in-Ok-lexemes.ensures ∙ ap (lexemes_of c.args.text.now) c.deref.ensures.value in
+    let f = subst (λ l. Faults true 14 (all program) l c.in-Err-TooDeep.left) w (rw c.in-Err-TooDeep.field-0-is at c.in-Err-TooDeep.ensures) in
+    let n : length c.deref-in-Err-TooDeep.result.now ≡ length (lexemes_of c.args.text.now c.in-Ok.tokens.items) = sym (seen_length c.deref-in-Err-TooDeep.result.now) ∙ ap length (ap lexemes c.deref-in-Err-TooDeep.ensures.value ∙ sym (ap lexemes c.deref-2.ensures.value) ∙ w) in
+    let q = ap lexemes c.deref-in-Err-TooDeep.ensures.value ∙ sym (ap lexemes c.deref-2.ensures.value) ∙ w in
+    let e = c.place-in-Err-TooDeep.ensures ∙ (λ i. place (length c.args.text.now) (drop (n i - c.in-Err-TooDeep.left) (q i))) in
+    let v : Verdict c.args.text.now (Err (parse.TooDeep c.place-in-Err-TooDeep.result)) = deep c.place-in-Err-TooDeep.result c.in-Ok.tokens.items refl h (subst (IsTooDeep (lexemes_of c.args.text.now c.in-Ok.tokens.items)) (sym e) (too_deep_is (length c.args.text.now) f)) in
+    scan_refused_of c.args.text.now (Err (parse.TooDeep c.place-in-Err-TooDeep.result)) v
+
+pub returns-in-Err-TooDeep-clause-unexpected_refused : goal.returns-in-Err-TooDeep-clause-unexpected_refused
+returns-in-Err-TooDeep-clause-unexpected_refused c =
+    let h = tokens_of c.args.text.now c.scan.result c.scan.ensures.too_long_refused c.scan.ensures.bad_byte_refused c.scan.ensures.too_large_refused c.in-Ok.tokens c.in-Ok.tokens.items c.in-Ok.is c.in-Ok.ensures.short c.in-Ok.ensures.tokens c.in-Ok.ensures.only in
+    let w = ap lexemes c.deref-2.ensures.value ∙ c.in-Ok-lexemes.ensures ∙ ap (lexemes_of c.args.text.now) c.deref.ensures.value in
+    let f = subst (λ l. Faults true 14 (all program) l c.in-Err-TooDeep.left) w (rw c.in-Err-TooDeep.field-0-is at c.in-Err-TooDeep.ensures) in
+    let n : length c.deref-in-Err-TooDeep.result.now ≡ length (lexemes_of c.args.text.now c.in-Ok.tokens.items) = sym (seen_length c.deref-in-Err-TooDeep.result.now) ∙ ap length (ap lexemes c.deref-in-Err-TooDeep.ensures.value ∙ sym (ap lexemes c.deref-2.ensures.value) ∙ w) in
+    let q = ap lexemes c.deref-in-Err-TooDeep.ensures.value ∙ sym (ap lexemes c.deref-2.ensures.value) ∙ w in
+    let e = c.place-in-Err-TooDeep.ensures ∙ (λ i. place (length c.args.text.now) (drop (n i - c.in-Err-TooDeep.left) (q i))) in
+    let v : Verdict c.args.text.now (Err (parse.TooDeep c.place-in-Err-TooDeep.result)) = deep c.place-in-Err-TooDeep.result c.in-Ok.tokens.items refl h (subst (IsTooDeep (lexemes_of c.args.text.now c.in-Ok.tokens.items)) (sym e) (too_deep_is (length c.args.text.now) f)) in
+    unexpected_refused_of c.args.text.now (Err (parse.TooDeep c.place-in-Err-TooDeep.result)) v
+
+pub returns-in-Err-TooDeep-clause-too_deep : goal.returns-in-Err-TooDeep-clause-too_deep
+returns-in-Err-TooDeep-clause-too_deep c =
+    let h = tokens_of c.args.text.now c.scan.result c.scan.ensures.too_long_refused c.scan.ensures.bad_byte_refused c.scan.ensures.too_large_refused c.in-Ok.tokens c.in-Ok.tokens.items c.in-Ok.is c.in-Ok.ensures.short c.in-Ok.ensures.tokens c.in-Ok.ensures.only in
+    let w = ap lexemes c.deref-2.ensures.value ∙ c.in-Ok-lexemes.ensures ∙ ap (lexemes_of c.args.text.now) c.deref.ensures.value in
+    let f = subst (λ l. Faults true 14 (all program) l c.in-Err-TooDeep.left) w (rw c.in-Err-TooDeep.field-0-is at c.in-Err-TooDeep.ensures) in
+    let n : length c.deref-in-Err-TooDeep.result.now ≡ length (lexemes_of c.args.text.now c.in-Ok.tokens.items) = sym (seen_length c.deref-in-Err-TooDeep.result.now) ∙ ap length (ap lexemes c.deref-in-Err-TooDeep.ensures.value ∙ sym (ap lexemes c.deref-2.ensures.value) ∙ w) in
+    let q = ap lexemes c.deref-in-Err-TooDeep.ensures.value ∙ sym (ap lexemes c.deref-2.ensures.value) ∙ w in
+    let e = c.place-in-Err-TooDeep.ensures ∙ (λ i. place (length c.args.text.now) (drop (n i - c.in-Err-TooDeep.left) (q i))) in
+    let v : Verdict c.args.text.now (Err (parse.TooDeep c.place-in-Err-TooDeep.result)) = deep c.place-in-Err-TooDeep.result c.in-Ok.tokens.items refl h (subst (IsTooDeep (lexemes_of c.args.text.now c.in-Ok.tokens.items)) (sym e) (too_deep_is (length c.args.text.now) f)) in
+    too_deep_of c.args.text.now (Err (parse.TooDeep c.place-in-Err-TooDeep.result)) v
+
+pub returns-in-Err-TooDeep-clause-too_deep_refused : goal.returns-in-Err-TooDeep-clause-too_deep_refused
+returns-in-Err-TooDeep-clause-too_deep_refused c =
+    let h = tokens_of c.args.text.now c.scan.result c.scan.ensures.too_long_refused c.scan.ensures.bad_byte_refused c.scan.ensures.too_large_refused c.in-Ok.tokens c.in-Ok.tokens.items c.in-Ok.is c.in-Ok.ensures.short c.in-Ok.ensures.tokens c.in-Ok.ensures.only in
+    let w = ap lexemes c.deref-2.ensures.value ∙ c.in-Ok-lexemes.ensures ∙ ap (lexemes_of c.args.text.now) c.deref.ensures.value in
+    let f = subst (λ l. Faults true 14 (all program) l c.in-Err-TooDeep.left) w (rw c.in-Err-TooDeep.field-0-is at c.in-Err-TooDeep.ensures) in
+    let n : length c.deref-in-Err-TooDeep.result.now ≡ length (lexemes_of c.args.text.now c.in-Ok.tokens.items) = sym (seen_length c.deref-in-Err-TooDeep.result.now) ∙ ap length (ap lexemes c.deref-in-Err-TooDeep.ensures.value ∙ sym (ap lexemes c.deref-2.ensures.value) ∙ w) in
+    let q = ap lexemes c.deref-in-Err-TooDeep.ensures.value ∙ sym (ap lexemes c.deref-2.ensures.value) ∙ w in
+    let e = c.place-in-Err-TooDeep.ensures ∙ (λ i. place (length c.args.text.now) (drop (n i - c.in-Err-TooDeep.left) (q i))) in
+    let v : Verdict c.args.text.now (Err (parse.TooDeep c.place-in-Err-TooDeep.result)) = deep c.place-in-Err-TooDeep.result c.in-Ok.tokens.items refl h (subst (IsTooDeep (lexemes_of c.args.text.now c.in-Ok.tokens.items)) (sym e) (too_deep_is (length c.args.text.now) f)) in
+    too_deep_refused_of c.args.text.now (Err (parse.TooDeep c.place-in-Err-TooDeep.result)) v
+
+pub returns-in-Err : goal.returns-in-Err
+returns-in-Err c =
+    let v : Verdict c.args.text.now (Err c.of_scan.result) = subst (λ x. Verdict c.args.text.now (Err x)) (sym c.of_scan.ensures) (refusal c.args.text.now c.scan.result c.scan.ensures.too_long_refused c.scan.ensures.bad_byte_refused c.scan.ensures.too_large_refused c.in-Err.e c.in-Err.is c.scan.ensures.too_long c.scan.ensures.bad_byte c.scan.ensures.too_large c.scan.ensures.accepted) in
+    record {
+      program = tt;
+      only = tt;
+      writable = tt;
+      accepted = accepted_of c.args.text.now (Err c.of_scan.result) v;
+      scan = scan_of c.args.text.now (Err c.of_scan.result) v;
+      scan_refused = scan_refused_of c.args.text.now (Err c.of_scan.result) v;
+      too_long_refused = too_long_of c.args.text.now (Err c.of_scan.result) v;
+      unexpected = unexpected_of c.args.text.now (Err c.of_scan.result) v;
+      unexpected_refused = unexpected_refused_of c.args.text.now (Err c.of_scan.result) v;
+      too_deep = too_deep_of c.args.text.now (Err c.of_scan.result) v;
+      too_deep_refused = too_deep_refused_of c.args.text.now (Err c.of_scan.result) v;
+    }

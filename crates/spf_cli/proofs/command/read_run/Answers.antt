@@ -1,0 +1,15 @@
+use Rattle.std.proofs.Common.{rules, ◌≡◌, ◌∷◌, map, string_bytes, Some}
+use Rattle.spf_cli.specs.Command.{IsFileName}
+use Rattle.spf_cli.specs.Asked.{seen_options}
+use Rattle.spf_cli.specs.Options.{options_in}
+use Rattle.spf_cli.proofs.Words.{run_asked}
+use Rattle.spf_cli.proofs.command.read_run.Goals as goal
+
+pub returns-then-is_file_name-2 : goal.returns-then-is_file_name-2
+returns-then-is_file_name-2 c =
+    let w1 : c.args.words.now ≡ c.in_ok-program.program.now ∷ c.in_ok-program.behind.now = search rules in
+    let w2 : c.in_ok-program.behind.now ≡ c.in_ok-input.input.now ∷ c.in_ok-input.others.now = search rules in
+    let o : options_in (map string_bytes c.in_ok-input.others.now) ≡ Some (seen_options c.in_ok-options.options) = search rules in
+    let p : IsFileName (string_bytes c.in_ok-program.program.now) = search rules in
+    let i : IsFileName (string_bytes c.in_ok-input.input.now) = search rules in
+    rw (w1, w2, c.as_str-program.ensures.value, c.as_str-input.ensures.value) (run_asked _ _ _ _ o p i)

@@ -1,0 +1,15 @@
+use Rattle.std.proofs.Common.{length, map}
+use Rattle.spf_ast.specs.RawView.{raw_function}
+use Rattle.spf_grammar.specs.Lexemes.{lexemes}
+use Rattle.spf_grammar.specs.Parts.{many, function, part}
+use Rattle.spf_grammar.specs.Rules.{all}
+use Rattle.spf_parse.specs.Answers.{Leads}
+use Rattle.spf_parse.proofs.Functions.{last_of}
+use Rattle.spf_parse.proofs.program.functions.Given as goal
+
+-- what is left of them, after these
+abbrev pub invariant-found : goal.invariant-found
+invariant-found l = Leads 13 (all (many function)) (lexemes l.tokens) (part (many function) (last_of (map raw_function l.found.items))) (lexemes l.rest)
+
+abbrev pub decreases-found : goal.decreases-found
+decreases-found l = length l.rest
