@@ -1,4 +1,5 @@
-//! Ranges of cells.
+//! Bounds of numbers at a block, and ranges of cells.
 #![tactic(auto)]
 
+pub mod bound;
 pub mod span;
