@@ -2,4 +2,5 @@
 #![tactic(auto)]
 
 pub mod bound;
+pub mod range;
 pub mod span;
