@@ -1,3 +1,4 @@
 pub mod Bounds
 pub mod Between
 pub mod Ranges
+pub mod Merging
