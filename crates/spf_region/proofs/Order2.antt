@@ -7,7 +7,7 @@ use Rattle.std.proofs.lemmas.Int.{ints, clamps}
 use Rattle.spf_region.specs.declared.range.Range.{Range}
 use Rattle.spf_region.specs.declared.range.Range.TheVariants.{Whole, Affine}
 use Rattle.spf_region.specs.Ranges.{IsBefore, IsFilled, has_offset, is_whole, is_between}
-use Rattle.spf_region.specs.Merging.{hull, overlap}
+use Rattle.spf_region.specs.Merging.{hull, overlap, filled}
 use Rattle.spf_region.proofs.Bools.{and-left, and-right, both-true, or-cases, or-left, or-right, same-bool, int-le-is, int-le-of, int-le-not, never}
 use Rattle.spf_region.proofs.Order.{StartsBy, InOrder, Joins}
 
@@ -24,6 +24,15 @@ if-some false x y e = cc
 and-false : (x : Bool) → (x && false) ≡ false
 and-false true = refl
 and-false false = refl
+
+if-filled : (t : Bool) (x : Option Range) (y : Range) → (if t then x else None) ≡ Some y → (t ≡ true) × (x ≡ Some y)
+if-filled true x y e = (refl, e)
+if-filled false x y e = cc
+
+if-both : (s t : Bool) (x : Range) → (if s then (if t then Some x else None) else None) ≡ None → (s && t) ≡ false
+if-both true true x e = cc
+if-both true false x e = refl
+if-both false t x e = refl
 
 if-none : {A : Type 0} (t : Bool) (x : A) → (if t then Some x else None) ≡ None → t ≡ false
 if-none true x e = cc
@@ -123,13 +132,13 @@ overlap-some (Whole a) (Whole b) q e =
 overlap-some (Whole a) (Affine b g m i) q e = cc
 overlap-some (Affine a f l h) (Whole b) q e = cc
 overlap-some (Affine a f l h) (Affine b g m i) q e =
-    let c = if-some ((a == b) && (int_eq f g && int_le (int_max l m) (int_min h i))) (Affine a f (int_max l m) (int_min h i)) q e in
-    let e0 : (a == b) ≡ true = and-left _ _ c.0 in
-    let e1 = and-right (a == b) _ c.0 in
-    let e2 : int_eq f g ≡ true = and-left _ _ e1 in
+    let d = if-filled ((a == b) && int_eq f g) (filled a f (int_max l m) (int_min h i)) q e in
+    let c = if-some (int_le (int_max l m) (int_min h i)) (Affine a f (int_max l m) (int_min h i)) q d.1 in
+    let e0 : (a == b) ≡ true = and-left _ _ d.0 in
+    let e2 = and-right (a == b) _ d.0 in
     let ab : a ≡ b = grind (arith, e0) in
     let fg : f ≡ g = grind (arith, ints, e2) in
-    let meet = int-le-is (int_max l m) (int_min h i) (and-right (int_eq f g) _ e1) in
+    let meet = int-le-is (int_max l m) (int_min h i) c.0 in
     rw (c.1, ← ab, ← fg) (record {
       filled = meet;
       left_follows = λ x y. left-follow x y;
@@ -176,7 +185,7 @@ overlap-none (Affine a f l h) (Affine b g m i) e = record {
   wholes = λ a'. refl;
 }
   where
-    apart : (p q t : Bool) → (a == b) ≡ p → int_eq f g ≡ q → int_le (int_max l m) (int_min h i) ≡ t → (p && (q && t)) ≡ false → a ≡ b → f ≡ g → (int_max l m ≤ℤ int_min h i) → ⊥
+    apart : (p q t : Bool) → (a == b) ≡ p → int_eq f g ≡ q → int_le (int_max l m) (int_min h i) ≡ t → ((p && q) && t) ≡ false → a ≡ b → f ≡ g → (int_max l m ≤ℤ int_min h i) → ⊥
     apart false q t ep eq et n ab fg le = let ne = ep in grind (arith, ints)
     apart true false t ep eq et n ab fg le = let ne = eq in grind (arith, ints)
     apart true true false ep eq et n ab fg le = let gap = int-le-not (int_max l m) (int_min h i) et in grind (arith, ints)
@@ -198,7 +207,7 @@ overlap-none (Affine a f l h) (Affine b g m i) e = record {
         let yh = int-le-is o i (and-right (int_le m o) _ y2) in
         let ab : a ≡ b = grind (arith, xa, ya) in
         let fg : f ≡ g = grind (arith, ints, xf, yf) in
-        apart (a == b) (int_eq f g) (int_le (int_max l m) (int_min h i)) refl refl refl (if-none _ (Affine a f (int_max l m) (int_min h i)) e) ab fg (omega (arith, ints, clamps))
+        apart (a == b) (int_eq f g) (int_le (int_max l m) (int_min h i)) refl refl refl (if-both ((a == b) && int_eq f g) _ (Affine a f (int_max l m) (int_min h i)) e) ab fg (omega (arith, ints, clamps))
 
 pub before-nothing : (r s : Range) → IsBefore r s → SharesNothing r s
 before-nothing (Whole a) (Whole b) x = record { offsets = λ a' f o. refl; wholes = λ a'. never _ (λ t. apart a' (and-left _ _ t) (and-right (a' == a) _ t)) }
@@ -227,3 +236,9 @@ before-nothing (Affine a f l h) (Affine b g m i) before = record {
         let ab : a ≡ b = grind (arith, xa, ya) in
         let fg : f ≡ g = grind (arith, ints, xf, yf) in
         grind (arith, ints)
+
+pub overlap-same : (r s : Range) (a b : ℕ) (f l h g m i : ℤ) → r ≡ Affine a f l h → s ≡ Affine b g m i → a ≡ b → f ≡ g → overlap r s ≡ filled a f (int_max l m) (int_min h i)
+overlap-same r s a b f l h g m i er es ea ef =
+    let ab : (a == b) ≡ true = grind (arith, ea) in
+    let fg : int_eq f g ≡ true = grind (arith, ints, ef) in
+    rw (er, es, ab, fg) refl

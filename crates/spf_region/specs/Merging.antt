@@ -30,13 +30,17 @@ hull (Affine a f l h) (Whole b) = None
 hull (Affine a f l h) (Affine b g m i) =
     if (a == b) && (int_eq f g && int_le m (h +ℤ pos 1)) then Some (Affine a f l (int_max h i)) else None
 
+-- the range of these offsets, if there are any
+abbrev pub filled : ℕ → ℤ → ℤ → ℤ → Option Range
+filled array factor from to = if int_le from to then Some (Affine array factor from to) else None
+
 -- the range of what both have
 abbrev pub overlap : Range → Range → Option Range
 overlap (Whole a) (Whole b) = if a == b then Some (Whole a) else None
 overlap (Whole a) (Affine b g m i) = None
 overlap (Affine a f l h) (Whole b) = None
 overlap (Affine a f l h) (Affine b g m i) =
-    if (a == b) && (int_eq f g && int_le (int_max l m) (int_min h i)) then Some (Affine a f (int_max l m) (int_min h i)) else None
+    if (a == b) && int_eq f g then filled a f (int_max l m) (int_min h i) else None
 
 -- the ranges of both lists by where they begin
 abbrev pub interleaved : List Range → List Range → List Range

@@ -2,5 +2,6 @@
 #![tactic(auto)]
 
 pub mod bound;
+mod merge;
 pub mod range;
 pub mod span;

@@ -1,0 +1,16 @@
+use Rattle.std.proofs.Common.{rules, ◌≡◌, sym, ◌∙◌, w64, FitsSigned}
+use Rattle.std.proofs.lemmas.Int.{to_z-of_z}
+use Rattle.spf_region.proofs.Order2.{overlap-same}
+use Rattle.spf_region.proofs.merge.overlap.Goals as goal
+
+pub returns-else-f-g : goal.returns-else-f-g
+returns-else-f-g c =
+    let p = c.in-Affine-Affine in
+    let same = overlap-same c.args.range.now c.args.other.now p.a p.b p.f p.l p.h p.g p.m p.i p.is-0 p.is-1 (search rules) (search rules) in
+    let f : FitsSigned w64 p.f = search rules in
+    let l : FitsSigned w64 p.l = search rules in
+    let h : FitsSigned w64 p.h = search rules in
+    let m : FitsSigned w64 p.m = search rules in
+    let i : FitsSigned w64 p.i = search rules in
+    let e = rw (to_z-of_z w64 _ f, to_z-of_z w64 _ l, to_z-of_z w64 _ h, to_z-of_z w64 _ m, to_z-of_z w64 _ i) at c.common.ensures in
+    e ∙ sym same

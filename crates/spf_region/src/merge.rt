@@ -1,0 +1,245 @@
+//! Merging two lists of ranges, and finding their common part, in one pass from the left.
+ghost use Rattle.std.specs.Prelude.{◌≡◌, ◌+ℤ◌, pos, int_le, IfOk};
+ghost use Rattle.std.specs.Int.{int_min, int_max};
+ghost use Rattle.spf_region.specs.Merging.{in_order, starts_by, ends_by, hull, overlap, filled, interleaved, coalesced, met};
+
+use crate::range::Range;
+use std::alloc::{AllocError, Global};
+
+// Whether offset `o` of array `a` and factor `f` doesn't stand behind offset `p` of array `b` and factor `g`.
+fn in_order(a: u32, f: i64, o: i64, b: u32, g: i64, p: i64) -> bool
+    ensures { result ≡ in_order a f o b g p }
+{
+    if a != b {
+        return a < b;
+    }
+    if f != g {
+        return f < g;
+    }
+    o <= p
+}
+
+// Whether `range` doesn't begin behind `other`.
+fn starts_by(range: &Range, other: &Range) -> bool
+    ensures { result ≡ starts_by range.now other.now }
+{
+    match (*range, *other) {
+        (Range::Whole { array }, two) => array <= two.array(),
+        (Range::Affine { array: a, .. }, Range::Whole { array: b }) => a < b,
+        (
+            Range::Affine {
+                array: a,
+                factor: f,
+                from: l,
+                ..
+            },
+            Range::Affine {
+                array: b,
+                factor: g,
+                from: m,
+                ..
+            },
+        ) => in_order(a, f, l, b, g, m),
+    }
+}
+
+// Whether `range` doesn't end behind `other`.
+fn ends_by(range: &Range, other: &Range) -> bool
+    ensures { result ≡ ends_by range.now other.now }
+{
+    match (*range, *other) {
+        (Range::Whole { array }, two) => array <= two.array(),
+        (Range::Affine { array: a, .. }, Range::Whole { array: b }) => a < b,
+        (
+            Range::Affine {
+                array: a,
+                factor: f,
+                to: h,
+                ..
+            },
+            Range::Affine {
+                array: b,
+                factor: g,
+                to: i,
+                ..
+            },
+        ) => in_order(a, f, h, b, g, i),
+    }
+}
+
+// Whether an interval that begins at `from` meets or touches one before it that ends at `to`.
+fn touches(to: i64, from: i64) -> bool
+    ensures { result ≡ int_le from (to +ℤ pos 1) }
+{
+    from <= to || from - 1 == to
+}
+
+// The range of both, where they meet or touch. `next` doesn't begin before `range`.
+fn hull(range: &Range, next: &Range) -> Option<Range>
+    ensures { result ≡ hull range.now next.now }
+{
+    match (*range, *next) {
+        (Range::Whole { array: a }, Range::Whole { array: b }) => {
+            if a == b { Some(*range) } else { None }
+        }
+        (
+            Range::Affine {
+                array: a,
+                factor: f,
+                from: l,
+                to: h,
+            },
+            Range::Affine {
+                array: b,
+                factor: g,
+                from: m,
+                to: i,
+            },
+        ) => {
+            if a == b && f == g && touches(h, m) {
+                Some(Range::Affine {
+                    array: a,
+                    factor: f,
+                    from: l,
+                    to: h.max(i),
+                })
+            } else {
+                None
+            }
+        }
+        _ => None,
+    }
+}
+
+// The range of the offsets that are both from `l` to `h` and from `m` to `i`, if there are any.
+fn common(array: u32, factor: i64, l: i64, h: i64, m: i64, i: i64) -> Option<Range>
+    ensures { result ≡ filled array factor (int_max l m) (int_min h i) }
+{
+    let from = l.max(m);
+    let to = h.min(i);
+    if from <= to {
+        Some(Range::Affine {
+            array,
+            factor,
+            from,
+            to,
+        })
+    } else {
+        None
+    }
+}
+
+// The range of what both have.
+fn overlap(range: &Range, other: &Range) -> Option<Range>
+    ensures { result ≡ overlap range.now other.now }
+{
+    match (*range, *other) {
+        (Range::Whole { array: a }, Range::Whole { array: b }) => {
+            if a == b { Some(*range) } else { None }
+        }
+        (
+            Range::Affine {
+                array: a,
+                factor: f,
+                from: l,
+                to: h,
+            },
+            Range::Affine {
+                array: b,
+                factor: g,
+                from: m,
+                to: i,
+            },
+        ) => {
+            if a != b {
+                return None;
+            }
+            if f != g {
+                return None;
+            }
+            common(a, f, l, h, m, i)
+        }
+        _ => None,
+    }
+}
+
+// The ranges of both lists by where they begin.
+fn interleaved(
+    alloc: Global,
+    left: &[Range],
+    right: &[Range],
+) -> Result<Vec<Range>, AllocError>
+    ensures { IfOk result (λ all. all.items ≡ interleaved left.now right.now) }
+{
+    let mut all = Vec::new(alloc);
+    let (mut i, mut j) = (0, 0);
+    while i < left.len() && j < right.len() {
+        if starts_by(&left[i], &right[j]) {
+            all.push(left[i])?;
+            i += 1;
+        } else {
+            all.push(right[j])?;
+            j += 1;
+        }
+    }
+    all.extend_from_slice(&left[i..])?;
+    all.extend_from_slice(&right[j..])?;
+    Ok(all)
+}
+
+// The ranges of a list, of which each begins no later than the next, joined where they touch.
+fn coalesced(alloc: Global, ranges: &[Range]) -> Result<Vec<Range>, AllocError>
+    ensures { IfOk result (λ joined. joined.items ≡ coalesced ranges.now) }
+{
+    let mut joined = Vec::new(alloc);
+    let Some((first, rest)) = ranges.split_first() else {
+        return Ok(joined);
+    };
+    let mut pending = *first;
+    for range in rest {
+        match hull(&pending, range) {
+            Some(wider) => pending = wider,
+            None => {
+                joined.push(pending)?;
+                pending = *range;
+            }
+        }
+    }
+    joined.push(pending)?;
+    Ok(joined)
+}
+
+/// The list of what either of two lists in normal form has.
+pub(crate) fn merged(
+    alloc: Global,
+    left: &[Range],
+    right: &[Range],
+) -> Result<Vec<Range>, AllocError>
+    ensures { IfOk result (λ list. list.items ≡ coalesced (interleaved left.now right.now)) }
+{
+    let all = interleaved(alloc, left, right)?;
+    coalesced(alloc, &all)
+}
+
+/// The list of what both of two lists in normal form have.
+pub(crate) fn met(
+    alloc: Global,
+    left: &[Range],
+    right: &[Range],
+) -> Result<Vec<Range>, AllocError>
+    ensures { IfOk result (λ list. list.items ≡ met left.now right.now) }
+{
+    let mut common = Vec::new(alloc);
+    let (mut i, mut j) = (0, 0);
+    while i < left.len() && j < right.len() {
+        if let Some(range) = overlap(&left[i], &right[j]) {
+            common.push(range)?;
+        }
+        if ends_by(&left[i], &right[j]) {
+            i += 1;
+        } else {
+            j += 1;
+        }
+    }
+    Ok(common)
+}
