@@ -2,3 +2,4 @@ pub mod Bounds
 pub mod Between
 pub mod Ranges
 pub mod Merging
+pub mod Spanning
