@@ -2,8 +2,10 @@
 use Rattle.std.proofs.Common.{◌≡◌, ◌⊎◌, inl, inr, ℕ, Bool, true, false, List, [], ◌∷◌, ℤ, refl, sym, ap, ◌∙◌, arith}
 use Rattle.std.specs.Prelude.{Option, Some, None, if◌then◌else◌, ◌&&◌, ◌||◌}
 use Rattle.std.specs.List.{list_any}
+use Rattle.std.proofs.lemmas.Int.{ints}
 use Rattle.spf_region.specs.declared.range.Range.{Range}
-use Rattle.spf_region.specs.Ranges.{IsBefore, IsBeforeEach, IsFilled, IsNormal, Offsets, Arrays, has_offset, is_whole, offsets_of, wholes_of, in_either, in_both, whole_in_either, whole_in_both, joined, whole_joined}
+use Rattle.spf_region.specs.declared.range.Range.TheVariants.{Whole, Affine}
+use Rattle.spf_region.specs.Ranges.{IsBefore, IsBeforeEach, IsFilled, IsNormal, Offsets, Arrays, has_offset, is_whole, offsets_of, wholes_of, in_either, in_both, whole_in_either, whole_in_both, joined, whole_joined, is_empty}
 use Rattle.spf_region.specs.Merging.{hull, overlap, starts_by, ends_by, interleaved, joined_or, coalesced_after, coalesced, preceded, met}
 use Rattle.spf_region.proofs.Bools.{or-assoc, or-swap}
 use Rattle.spf_region.proofs.Order.{StartsBy, EndsBy, Joins, starts-true, starts-false, ends-true, ends-false, starts-trans, before-starts, before-then, ends-before}
@@ -240,3 +242,34 @@ met-offsets xs ys p q = λ j a f o. met-any (λ r. has_offset r a f o) (record {
 
 pub met-wholes : (xs ys : List Range) → IsNormal xs → IsNormal ys → wholes_of (met xs ys) ≡ whole_in_both (wholes_of xs) (wholes_of ys)
 met-wholes xs ys p q = λ j a. met-any (λ r. is_whole r a) (record { both = λ r s x h. h.wholes a; none = λ r s h. h.wholes a }) xs ys p q j
+
+-- ---- one range more
+
+or-false : (b : Bool) → (b || false) ≡ b
+or-false true = refl
+or-false false = refl
+
+single-normal : (r : Range) → is_empty r ≡ false → IsNormal (r ∷ [])
+single-normal (Whole a) e = (tt, tt, tt)
+single-normal (Affine a f l h) e = (grind (arith, ints, e), tt, tt)
+
+pub added-offsets : (r : Range) (xs : List Range) → is_empty r ≡ false → IsNormal xs → offsets_of (coalesced (interleaved (r ∷ []) xs)) ≡ joined r (offsets_of xs)
+added-offsets r xs e q = merged-offsets (r ∷ []) xs (single-normal r e) q ∙ (λ j a f o. or-false (has_offset r a f o) j || offsets_of xs a f o)
+
+pub added-wholes : (r : Range) (xs : List Range) → is_empty r ≡ false → IsNormal xs → wholes_of (coalesced (interleaved (r ∷ []) xs)) ≡ whole_joined r (wholes_of xs)
+added-wholes r xs e q = merged-wholes (r ∷ []) xs (single-normal r e) q ∙ (λ j a. or-false (is_whole r a) j || wholes_of xs a)
+
+pub added-normal : (r : Range) (xs : List Range) → is_empty r ≡ false → IsNormal xs → IsNormal (coalesced (interleaved (r ∷ []) xs))
+added-normal r xs e q = merged-normal (r ∷ []) xs (single-normal r e) q
+
+-- an empty range adds nothing
+pub empty-offsets : (r : Range) (w : Offsets) → is_empty r ≡ true → w ≡ joined r w
+empty-offsets (Whole a) w e = cc
+empty-offsets (Affine a f l h) w e = λ j b g o. ap (λ t. t || w b g o) (sym (none b g o)) j
+  where
+    none : (b : ℕ) (g o : ℤ) → has_offset (Affine a f l h) b g o ≡ false
+    none b g o = grind (arith, ints, e)
+
+pub empty-wholes : (r : Range) (w : Arrays) → is_empty r ≡ true → w ≡ whole_joined r w
+empty-wholes (Whole a) w e = cc
+empty-wholes (Affine a f l h) w e = refl

@@ -22,6 +22,11 @@ abbrev pub array_of : Range → ℕ
 array_of (Whole a) = a
 array_of (Affine a f from to) = a
 
+-- an affine range without an offset
+abbrev pub is_empty : Range → Bool
+is_empty (Whole a) = false
+is_empty (Affine a f from to) = int_lt to from
+
 -- the offsets of a range; a whole array has none
 abbrev pub has_offset : Range → Offsets
 has_offset (Whole a) array factor offset = false

@@ -2,6 +2,8 @@
 #![tactic(auto)]
 
 pub mod bound;
+pub mod list;
 mod merge;
+mod query;
 pub mod range;
 pub mod span;

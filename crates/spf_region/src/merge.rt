@@ -1,7 +1,8 @@
 //! Merging two lists of ranges, and finding their common part, in one pass from the left.
-ghost use Rattle.std.specs.Prelude.{◌≡◌, ◌+ℤ◌, pos, int_le, IfOk};
+ghost use Rattle.std.specs.Prelude.{◌≡◌, ◌+ℤ◌, pos, int_le, false, IfOk};
 ghost use Rattle.std.specs.Int.{int_min, int_max};
 ghost use Rattle.spf_region.specs.Merging.{in_order, starts_by, ends_by, hull, overlap, filled, interleaved, coalesced, met};
+ghost use Rattle.spf_region.specs.Ranges.{offsets_of, wholes_of, joined, whole_joined, in_either, whole_in_either, in_both, whole_in_both, is_empty, IsNormal};
 
 use crate::range::Range;
 use std::alloc::{AllocError, Global};
@@ -164,11 +165,7 @@ fn overlap(range: &Range, other: &Range) -> Option<Range>
 }
 
 // The ranges of both lists by where they begin.
-fn interleaved(
-    alloc: Global,
-    left: &[Range],
-    right: &[Range],
-) -> Result<Vec<Range>, AllocError>
+fn interleaved(alloc: Global, left: &[Range], right: &[Range]) -> Result<Vec<Range>, AllocError>
     ensures { IfOk result (λ all. all.items ≡ interleaved left.now right.now) }
 {
     let mut all = Vec::new(alloc);
@@ -209,24 +206,36 @@ fn coalesced(alloc: Global, ranges: &[Range]) -> Result<Vec<Range>, AllocError>
     Ok(joined)
 }
 
-/// The list of what either of two lists in normal form has.
+/// The list in normal form of what either of two such lists has.
 pub(crate) fn merged(
     alloc: Global,
     left: &[Range],
     right: &[Range],
 ) -> Result<Vec<Range>, AllocError>
-    ensures { IfOk result (λ list. list.items ≡ coalesced (interleaved left.now right.now)) }
+    requires left { IsNormal left.now }
+    requires right { IsNormal right.now }
+    ensures offsets { IfOk result (λ list. offsets_of list.items ≡ in_either (offsets_of left.now) (offsets_of right.now)) }
+    ensures wholes { IfOk result (λ list. wholes_of list.items ≡ whole_in_either (wholes_of left.now) (wholes_of right.now)) }
+    ensures normal { IfOk result (λ list. IsNormal list.items) }
 {
     let all = interleaved(alloc, left, right)?;
     coalesced(alloc, &all)
 }
 
-/// The list of what both of two lists in normal form have.
-pub(crate) fn met(
-    alloc: Global,
-    left: &[Range],
-    right: &[Range],
-) -> Result<Vec<Range>, AllocError>
+/// The list in normal form of what a range that isn't empty and such a list have.
+pub(crate) fn added(alloc: Global, range: Range, ranges: &[Range]) -> Result<Vec<Range>, AllocError>
+    requires filled { is_empty range ≡ false }
+    requires normal { IsNormal ranges.now }
+    ensures offsets { IfOk result (λ list. offsets_of list.items ≡ joined range (offsets_of ranges.now)) }
+    ensures wholes { IfOk result (λ list. wholes_of list.items ≡ whole_joined range (wholes_of ranges.now)) }
+    ensures normal { IfOk result (λ list. IsNormal list.items) }
+{
+    let all = interleaved(alloc, &[range], ranges)?;
+    coalesced(alloc, &all)
+}
+
+// The common ranges of two lists in normal form.
+fn common_ranges(alloc: Global, left: &[Range], right: &[Range]) -> Result<Vec<Range>, AllocError>
     ensures { IfOk result (λ list. list.items ≡ met left.now right.now) }
 {
     let mut common = Vec::new(alloc);
@@ -242,4 +251,15 @@ pub(crate) fn met(
         }
     }
     Ok(common)
+}
+
+/// The list in normal form of what both of two such lists have.
+pub(crate) fn met(alloc: Global, left: &[Range], right: &[Range]) -> Result<Vec<Range>, AllocError>
+    requires left { IsNormal left.now }
+    requires right { IsNormal right.now }
+    ensures offsets { IfOk result (λ list. offsets_of list.items ≡ in_both (offsets_of left.now) (offsets_of right.now)) }
+    ensures wholes { IfOk result (λ list. wholes_of list.items ≡ whole_in_both (wholes_of left.now) (wholes_of right.now)) }
+    ensures normal { IfOk result (λ list. IsNormal list.items) }
+{
+    common_ranges(alloc, left, right)
 }

@@ -1,7 +1,7 @@
 //! Ranges of cells, and when two of them can't share one.
 ghost use Rattle.std.specs.Prelude.{◌≡◌, ◌-ℤ◌, pos, int_lt};
 ghost use Rattle.std.specs.Int.{int_min, int_max};
-ghost use Rattle.spf_region.specs.Ranges.{array_of, separate, disjoint, separate_offsets, disjoint_offsets};
+ghost use Rattle.spf_region.specs.Ranges.{array_of, is_empty, separate, disjoint, separate_offsets, disjoint_offsets};
 
 /// A whole array, or at block k the cells `factor * k + from` to `factor * k + to` of an array,
 /// the last one included.
@@ -26,6 +26,16 @@ impl Range {
         match *self {
             Range::Whole { array } => array,
             Range::Affine { array, .. } => array,
+        }
+    }
+
+    /// Whether the range has no offset, and is no whole array.
+    pub fn is_empty(&self) -> bool
+        ensures empty { result ≡ is_empty self.now }
+    {
+        match *self {
+            Range::Whole { .. } => false,
+            Range::Affine { from, to, .. } => to < from,
         }
     }
 

@@ -1,6 +1,6 @@
 use Rattle.std.proofs.Common.{◌≡◌, ◌++◌, ◌+◌, ◌-◌, ◌≤◌, drop, length}
 use Rattle.spf_region.specs.Merging.{met}
-use Rattle.spf_region.proofs.merge.met.Given as goal
+use Rattle.spf_region.proofs.merge.common_ranges.Given as goal
 
 -- the common ranges so far, and those to come
 abbrev pub invariant-loop-i : goal.invariant-loop-i
