@@ -3,3 +3,5 @@ pub mod Between
 pub mod Ranges
 pub mod Merging
 pub mod Spanning
+pub mod Cells
+pub mod Joining

@@ -2,6 +2,8 @@
 #![tactic(auto)]
 
 pub mod bound;
+mod cells;
+pub mod laws;
 pub mod list;
 mod merge;
 mod query;

@@ -1,10 +1,14 @@
 //! Lists of ranges in their normal form.
-ghost use Rattle.std.specs.Prelude.{◌≡◌, [], OnOk, OnErr, IfOk};
-ghost use Rattle.spf_region.specs.Ranges.{offsets_of, wholes_of, joined, whole_joined, in_either, whole_in_either, in_both, whole_in_both, covers, has_array, first_unseparated, first_meeting, IsNormal};
+ghost use Rattle.std.specs.Prelude.{◌≡◌, [], ℕ, ◌+◌, ◌<◌, ◌^◌, length, OnOk, OnErr, IfOk};
+ghost use Rattle.std.specs.List.{All};
+ghost use Rattle.spf_region.specs.Cells.{in_spans, cells_at, AreAscending};
+ghost use Rattle.spf_region.specs.Ranges.{array_of, offsets_of, wholes_of, joined, whole_joined, in_either, whole_in_either, in_both, whole_in_both, covers, has_array, first_unseparated, first_meeting, IsNormal};
 
+use crate::cells::spans_at;
 use crate::merge::{added, merged, met};
 use crate::query::{covers_offsets, first_meeting, first_unseparated, has_array};
 use crate::range::Range;
+use crate::span::Span;
 use std::alloc::{AllocError, Global};
 use std::marker::Model;
 
@@ -124,5 +128,27 @@ impl RangeList {
         ensures first { result ≡ first_meeting self.now others.now }
     {
         first_meeting(&self.items, &others.items)
+    }
+
+    /// The cells of the ranges at block k, clipped to their arrays, as ascending spans, none empty
+    /// and with a gap between each and the next.
+    ///
+    /// `extents` has the base and the size of each array.
+    ///
+    /// # Errors
+    ///
+    /// `AllocError` where there is no memory for the spans.
+    pub fn spans_at(
+        &self,
+        alloc: Global,
+        extents: &[(u64, u64)],
+        k: i64,
+    ) -> Result<Vec<Span>, AllocError>
+        requires inside { All (λ r. array_of r < length extents.now) self.now }
+        requires fits { All (λ e. e.0 + e.1 < 2 ^ 64) extents.now }
+        ensures cells { IfOk result (λ v. (cell : ℕ) → in_spans v.items cell ≡ cells_at extents.now k self.now cell) }
+        ensures ascending { IfOk result (λ v. AreAscending v.items) }
+    {
+        spans_at(alloc, &self.items, extents, k)
     }
 }
