@@ -1,6 +1,6 @@
 -- Tests and what they say.
 use Rattle.std.proofs.Common.{◌≡◌, ◌⊎◌, inl, inr, Bool, true, false, ℤ, refl, sym, arith}
-use Rattle.std.specs.Prelude.{◌≤ℤ◌, ◌<ℤ◌, ◌&&◌, ◌||◌, not, int_le, int_lt}
+use Rattle.std.specs.Prelude.{◌≤ℤ◌, ◌<ℤ◌, ◌&&◌, ◌||◌, int_le, int_lt}
 use Rattle.std.proofs.lemmas.Int.{ints}
 
 pub and-left : (x y : Bool) → (x && y) ≡ true → x ≡ true

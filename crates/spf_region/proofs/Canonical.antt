@@ -1,13 +1,13 @@
 -- Two lists in normal form that have the same offsets and whole arrays are one.
-use Rattle.std.proofs.Common.{◌≡◌, ◌⊎◌, inl, inr, ℕ, ◌<◌, ◌≤◌, Bool, true, false, List, [], ◌∷◌, ℤ, pos, refl, sym, ap, ◌∙◌, subst, arith}
-use Rattle.std.specs.Prelude.{◌+ℤ◌, ◌≤ℤ◌, ◌<ℤ◌, ◌==◌, ◌&&◌, ◌||◌}
+use Rattle.std.proofs.Common.{◌≡◌, ◌⊎◌, inl, inr, ℕ, Bool, true, List, [], ◌∷◌, ℤ, pos, refl, sym, ap, ◌∙◌, arith}
+use Rattle.std.specs.Prelude.{◌+ℤ◌, ◌<ℤ◌, ◌==◌}
 use Rattle.std.specs.List.{list_any}
 use Rattle.std.proofs.lemmas.Int.{ints}
 use Rattle.spf_region.specs.declared.range.Range.{Range}
 use Rattle.spf_region.specs.declared.range.Range.TheVariants.{Whole, Affine}
 use Rattle.spf_region.specs.Ranges.{IsBefore, IsBeforeEach, IsFilled, IsNormal, has_offset, is_whole, offsets_of, wholes_of}
 use Rattle.spf_region.proofs.Bools.{or-cases, or-left, or-right, same-bool}
-use Rattle.spf_region.proofs.Order.{StartsBy, InOrder, before-then}
+use Rattle.spf_region.proofs.Order.{StartsBy, before-then}
 use Rattle.spf_region.proofs.Covers.{has-parts, has-of}
 
 -- an offset of an array and a factor, or a whole array

@@ -1,15 +1,15 @@
 -- Two lists merged have what either has, and their common part what both have; both are in normal form.
-use Rattle.std.proofs.Common.{◌≡◌, ◌⊎◌, inl, inr, ℕ, Bool, true, false, List, [], ◌∷◌, ℤ, refl, sym, ap, ◌∙◌, arith}
-use Rattle.std.specs.Prelude.{Option, Some, None, if◌then◌else◌, ◌&&◌, ◌||◌}
+use Rattle.std.proofs.Common.{◌≡◌, ℕ, Bool, true, false, List, [], ◌∷◌, ℤ, refl, sym, ap, ◌∙◌, arith}
+use Rattle.std.specs.Prelude.{Option, Some, None, if◌then◌else◌, not, ◌==◌, ◌&&◌, ◌||◌}
 use Rattle.std.specs.List.{list_any}
 use Rattle.std.proofs.lemmas.Int.{ints}
 use Rattle.spf_region.specs.declared.range.Range.{Range}
 use Rattle.spf_region.specs.declared.range.Range.TheVariants.{Whole, Affine}
-use Rattle.spf_region.specs.Ranges.{IsBefore, IsBeforeEach, IsFilled, IsNormal, Offsets, Arrays, has_offset, is_whole, offsets_of, wholes_of, in_either, in_both, whole_in_either, whole_in_both, joined, whole_joined, is_empty}
+use Rattle.spf_region.specs.Ranges.{IsBefore, IsBeforeEach, IsFilled, IsNormal, Offsets, Arrays, has_offset, is_whole, offsets_of, wholes_of, in_either, in_both, whole_in_either, whole_in_both, joined, whole_joined, array_joined, array_of, has_array, is_empty}
 use Rattle.spf_region.specs.Merging.{hull, overlap, starts_by, ends_by, interleaved, joined_or, coalesced_after, coalesced, preceded, met}
 use Rattle.spf_region.proofs.Bools.{or-assoc, or-swap}
 use Rattle.spf_region.proofs.Order.{StartsBy, EndsBy, Joins, starts-true, starts-false, ends-true, ends-false, starts-trans, before-starts, before-then, ends-before}
-use Rattle.spf_region.proofs.Order2.{hull-some, hull-none, Shares, SharesNothing, overlap-some, overlap-none, before-nothing}
+use Rattle.spf_region.proofs.Pairs.{hull-some, hull-none, Shares, SharesNothing, overlap-some, overlap-none, before-nothing}
 
 abbrev StartsByEach : Range → List Range → Type 0
 StartsByEach r [] = Unit {0}
@@ -138,6 +138,9 @@ merged-offsets xs ys p q = λ j a f o. merged-any (λ r. has_offset r a f o) (λ
 pub merged-wholes : (xs ys : List Range) → IsNormal xs → IsNormal ys → wholes_of (coalesced (interleaved xs ys)) ≡ whole_in_either (wholes_of xs) (wholes_of ys)
 merged-wholes xs ys p q = λ j a. merged-any (λ r. is_whole r a) (λ r s x h. h.wholes a) xs ys p q j
 
+pub merged-arrays : (xs ys : List Range) → IsNormal xs → IsNormal ys → has_array (coalesced (interleaved xs ys)) ≡ whole_in_either (has_array xs) (has_array ys)
+merged-arrays xs ys p q = λ j a. merged-any (λ r. array_of r == a) (λ r s x h. h.arrays a) xs ys p q j
+
 -- ---- met
 
 met-before-left : (q : Range) (xs ys : List Range) → IsBeforeEach q xs → IsBeforeEach q (met xs ys)
@@ -258,6 +261,12 @@ added-offsets r xs e q = merged-offsets (r ∷ []) xs (single-normal r e) q ∙ 
 
 pub added-wholes : (r : Range) (xs : List Range) → is_empty r ≡ false → IsNormal xs → wholes_of (coalesced (interleaved (r ∷ []) xs)) ≡ whole_joined r (wholes_of xs)
 added-wholes r xs e q = merged-wholes (r ∷ []) xs (single-normal r e) q ∙ (λ j a. or-false (is_whole r a) j || wholes_of xs a)
+
+pub added-arrays : (r : Range) (xs : List Range) → is_empty r ≡ false → IsNormal xs → has_array (coalesced (interleaved (r ∷ []) xs)) ≡ array_joined r (has_array xs)
+added-arrays r xs e q = merged-arrays (r ∷ []) xs (single-normal r e) q ∙ (λ j a. (or-false (array_of r == a) ∙ sym (ap (λ b. not b && (array_of r == a)) e)) j || has_array xs a)
+
+pub empty-arrays : (r : Range) (w : Arrays) → is_empty r ≡ true → w ≡ array_joined r w
+empty-arrays r w e = λ j a. sym (ap (λ b. (not b && (array_of r == a)) || w a) e) j
 
 pub added-normal : (r : Range) (xs : List Range) → is_empty r ≡ false → IsNormal xs → IsNormal (coalesced (interleaved (r ∷ []) xs))
 added-normal r xs e q = merged-normal (r ∷ []) xs (single-normal r e) q

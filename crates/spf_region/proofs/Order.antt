@@ -1,13 +1,12 @@
 -- How ranges follow each other, and what is joined and common of two.
-use Rattle.std.proofs.Common.{◌≡◌, ◌⊎◌, inl, inr, ℕ, ◌<◌, ◌≤◌, ◌+◌, Bool, true, false, List, [], ◌∷◌, ℤ, pos, refl, sym, ap, ◌∙◌, arith}
-use Rattle.std.specs.Prelude.{◌≤ℤ◌, ◌<ℤ◌, ◌+ℤ◌, Option, Some, None, if◌then◌else◌, ◌==◌, ◌&&◌, ◌||◌, nat_lt, nat_le, int_le, int_lt}
+use Rattle.std.proofs.Common.{◌≡◌, ◌⊎◌, inl, inr, ℕ, ◌<◌, ◌≤◌, Bool, true, false, ℤ, refl, sym, arith}
+use Rattle.std.specs.Prelude.{◌≤ℤ◌, ◌<ℤ◌, ◌==◌, ◌&&◌, ◌||◌, nat_lt, int_le, int_lt}
 use Rattle.std.specs.Ordering.{int_eq}
-use Rattle.std.specs.Int.{int_min, int_max}
-use Rattle.std.proofs.lemmas.Int.{ints, clamps}
+use Rattle.std.proofs.lemmas.Int.{ints}
 use Rattle.spf_region.specs.declared.range.Range.{Range}
 use Rattle.spf_region.specs.declared.range.Range.TheVariants.{Whole, Affine}
-use Rattle.spf_region.specs.Ranges.{array_of, IsBefore, IsBeforeEach, IsFilled, IsNormal, has_offset, is_whole, is_between}
-use Rattle.spf_region.specs.Merging.{in_order, starts_by, ends_by, hull, overlap}
+use Rattle.spf_region.specs.Ranges.{array_of, IsBefore, IsFilled, has_offset, is_whole}
+use Rattle.spf_region.specs.Merging.{in_order, starts_by, ends_by}
 
 -- offset o of array a and factor f doesn't stand behind offset p of array b and factor g
 abbrev pub InOrder : (a : ℕ) (f o : ℤ) (b : ℕ) (g p : ℤ) → Type 0
@@ -119,3 +118,4 @@ pub record Joins (r s q : Range) : Type 0 where
   pub follows : (x : Range) → IsBefore x r → IsBefore x q
   pub offsets : (a : ℕ) (f o : ℤ) → has_offset q a f o ≡ (has_offset r a f o || has_offset s a f o)
   pub wholes : (a : ℕ) → is_whole q a ≡ (is_whole r a || is_whole s a)
+  pub arrays : (a : ℕ) → (array_of q == a) ≡ ((array_of r == a) || (array_of s == a))

@@ -1,14 +1,14 @@
 -- Spans, their cells, and how they are joined.
-use Rattle.std.proofs.Common.{◌≡◌, ◌⊎◌, inl, inr, ℕ, suc, ◌+◌, ◌-◌, ◌<◌, ◌≤◌, Bool, true, false, not, List, [], ◌∷◌, ◌++◌, length, take, get_or, ℤ, pos, refl, sym, ap, ◌∙◌, arith, add-one}
-use Rattle.std.specs.Prelude.{◌+ℤ◌, ◌-ℤ◌, ◌≤ℤ◌, ◌<ℤ◌, ◌&&◌, ◌||◌, max, nat_le, nat_lt, int_le, if◌then◌else◌, slice_index_or}
+use Rattle.std.proofs.Common.{◌≡◌, ℕ, suc, ◌+◌, ◌<◌, ◌≤◌, Bool, true, false, not, List, [], ◌∷◌, ◌++◌, length, take, get_or, ℤ, pos, refl, sym, ap, ◌∙◌, arith}
+use Rattle.std.specs.Prelude.{◌+ℤ◌, ◌-ℤ◌, ◌==◌, ◌&&◌, ◌||◌, nat_le, nat_lt, int_le, if◌then◌else◌, slice_index_or}
 use Rattle.std.specs.List.{list_any}
 use Rattle.std.specs.List.Sorted.{IsNonDecreasingBy}
 use Rattle.std.specs.Int.{int_min, int_max}
 use Rattle.std.proofs.lemmas.Int.{ints, clamps}
-use Rattle.std.proofs.lemmas.List.Folds.{list_any-append, list_any_more}
+use Rattle.std.proofs.lemmas.List.Folds.{list_any-append, list_any_at, list_any_more}
 use Rattle.spf_region.specs.declared.range.Range.{Range}
 use Rattle.spf_region.specs.declared.span.Span.{Span}
-use Rattle.spf_region.specs.Ranges.{array_of, is_between}
+use Rattle.spf_region.specs.Ranges.{array_of, has_array, is_between}
 use Rattle.spf_region.specs.Cells.{Extent, in_extent, is_cell, cells_at, in_span, in_spans, EndsBeforeEach, AreAscending}
 use Rattle.spf_region.specs.Joining.{wider, joined_after, joined_spans}
 use Rattle.spf_region.proofs.Bools.{and-left, and-right, both-true, or-assoc, same-bool, int-le-is, int-le-of}
@@ -155,3 +155,7 @@ joined-all-ascending xs h e = go xs (sorted-each xs h e)
     go : (xs : List Span) → AreSorted xs → AreAscending (joined_spans xs)
     go [] o = tt
     go (x ∷ xs) o = joined-ascending x xs o.0 o.1 o.2
+
+-- a list has the array of each of its ranges
+pub has-own-array : (xs : List Range) (i : ℕ) (d : Range) → i < length xs → has_array xs (array_of (get_or xs i d)) ≡ true
+has-own-array xs i d below = list_any_at (λ r. array_of r == array_of (get_or xs i d)) xs i d below (grind arith)

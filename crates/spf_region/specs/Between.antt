@@ -2,7 +2,7 @@
 use Rattle.std.specs.Prelude.{Option, Some, None, ℤ}
 use Rattle.std.specs.Int.{int_min, int_max}
 use Rattle.spf_region.specs.declared.bound.Bound.{Bound}
-use Rattle.spf_region.specs.declared.bound.Bound.TheVariants.{Known, Unknown}
+use Rattle.spf_region.specs.declared.bound.Bound.TheVariants.{Unknown}
 use Rattle.spf_region.specs.Bounds.{known}
 
 -- known where all three numbers are there, of which the last two stand in any order

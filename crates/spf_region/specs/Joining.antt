@@ -1,5 +1,5 @@
 -- How spans that are sorted by where they begin are joined, in one pass from the left.
-use Rattle.std.specs.Prelude.{ℕ, Bool, if◌then◌else◌, max, nat_le, List, [], ◌∷◌}
+use Rattle.std.specs.Prelude.{if◌then◌else◌, max, nat_le, List, [], ◌∷◌}
 use Rattle.spf_region.specs.declared.span.Span.{Span}
 
 -- the span of both

@@ -45,8 +45,8 @@ offsets_of list array factor offset = list_any (λ r. has_offset r array factor 
 abbrev pub wholes_of : List Range → Arrays
 wholes_of list array = list_any (λ r. is_whole r array) list
 
--- some range of the list has that array
-abbrev pub has_array : List Range → ℕ → Bool
+-- the arrays of a list: some range has that array
+abbrev pub has_array : List Range → Arrays
 has_array list array = list_any (λ r. array_of r == array) list
 
 -- the set and the offsets of a range
@@ -56,6 +56,10 @@ joined r set array factor offset = has_offset r array factor offset || set array
 -- the set and the array that a range is the whole of
 abbrev pub whole_joined : Range → Arrays → Arrays
 whole_joined r set array = is_whole r array || set array
+
+-- the set and the array of a range that isn't empty
+abbrev pub array_joined : Range → Arrays → Arrays
+array_joined r set array = (not (is_empty r) && (array_of r == array)) || set array
 
 -- union
 abbrev pub in_either : Offsets → Offsets → Offsets

@@ -52,7 +52,10 @@ fn span_of(range: &Range, base: u64, size: u64, k: i64) -> Span
             to: base + size,
         },
         Range::Affine {
-            factor, from, to, ..
+            factor,
+            from,
+            to,
+            ..
         } => {
             let first = clamped(at_block(factor, k, from), size);
             let end = clamped(at_block(factor, k, to) + 1, size);

@@ -9,3 +9,7 @@ mod merge;
 mod query;
 pub mod range;
 pub mod span;
+#[cfg(test)]
+mod spans_tests;
+#[cfg(test)]
+mod tests;

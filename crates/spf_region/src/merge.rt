@@ -2,7 +2,7 @@
 ghost use Rattle.std.specs.Prelude.{◌≡◌, ◌+ℤ◌, pos, int_le, false, IfOk};
 ghost use Rattle.std.specs.Int.{int_min, int_max};
 ghost use Rattle.spf_region.specs.Merging.{in_order, starts_by, ends_by, hull, overlap, filled, interleaved, coalesced, met};
-ghost use Rattle.spf_region.specs.Ranges.{offsets_of, wholes_of, joined, whole_joined, in_either, whole_in_either, in_both, whole_in_both, is_empty, IsNormal};
+ghost use Rattle.spf_region.specs.Ranges.{offsets_of, wholes_of, has_array, joined, whole_joined, array_joined, in_either, whole_in_either, in_both, whole_in_both, is_empty, IsNormal};
 
 use crate::range::Range;
 use std::alloc::{AllocError, Global};
@@ -216,6 +216,7 @@ pub(crate) fn merged(
     requires right { IsNormal right.now }
     ensures offsets { IfOk result (λ list. offsets_of list.items ≡ in_either (offsets_of left.now) (offsets_of right.now)) }
     ensures wholes { IfOk result (λ list. wholes_of list.items ≡ whole_in_either (wholes_of left.now) (wholes_of right.now)) }
+    ensures arrays { IfOk result (λ list. has_array list.items ≡ whole_in_either (has_array left.now) (has_array right.now)) }
     ensures normal { IfOk result (λ list. IsNormal list.items) }
 {
     let all = interleaved(alloc, left, right)?;
@@ -228,6 +229,7 @@ pub(crate) fn added(alloc: Global, range: Range, ranges: &[Range]) -> Result<Vec
     requires normal { IsNormal ranges.now }
     ensures offsets { IfOk result (λ list. offsets_of list.items ≡ joined range (offsets_of ranges.now)) }
     ensures wholes { IfOk result (λ list. wholes_of list.items ≡ whole_joined range (wholes_of ranges.now)) }
+    ensures arrays { IfOk result (λ list. has_array list.items ≡ array_joined range (has_array ranges.now)) }
     ensures normal { IfOk result (λ list. IsNormal list.items) }
 {
     let all = interleaved(alloc, &[range], ranges)?;

@@ -1,4 +1,4 @@
-use Rattle.std.proofs.Common.{rules, arith, ◌≡◌, ap, sym, subst, ◌∙◌, w64, FitsSigned, ◌+ℤ◌, ◌+◌, pos, ℕ}
+use Rattle.std.proofs.Common.{rules, ◌≡◌, sym, subst, w64, FitsSigned, ◌+ℤ◌, ◌+◌, pos}
 use Rattle.std.proofs.lemmas.Int.{to_z-of_z}
 use mir.Syntax.{w128}
 use Rattle.spf_region.specs.Cells.{at_block, in_span, is_cell}

@@ -1,7 +1,7 @@
-use Rattle.std.proofs.Common.{rules, arith, ◌≡◌, ◌+◌, ◌<◌, ◌≤◌, length, take, get_or, ap, sym, subst, ◌∙◌, List, w64, to_z, of_z}
+use Rattle.std.proofs.Common.{take, ap, ◌∙◌, w64, to_z, of_z}
 use Rattle.std.proofs.lemmas.Int.{to_z-of_z}
 use Rattle.std.proofs.lemmas.List.{take_all}
-use Rattle.spf_region.specs.Cells.{cells_at, in_spans}
+use Rattle.spf_region.specs.Cells.{cells_at}
 use Rattle.spf_region.specs.declared.range.Range.TheVariants.{Whole}
 use Rattle.spf_region.proofs.Spans.{more-cells, skipped-cells, more-filled}
 use Rattle.spf_region.proofs.cells.spans_of.Goals as goal

@@ -1,5 +1,4 @@
-use Rattle.std.proofs.Common.{◌≡◌, ◌⊎◌, inl, inr, ◌≤◌, length, ◌++◌, arith, sym, ap, ◌∙◌}
-use Rattle.spf_region.specs.Merging.{met}
+use Rattle.std.proofs.Common.{◌⊎◌, inl, inr, ◌≤◌, length, ◌++◌, arith, sym, ap, ◌∙◌}
 use Rattle.spf_region.proofs.MergeEnds.{append-none, met-end}
 use Rattle.spf_region.proofs.merge.common_ranges.Goals as goal
 use Rattle.spf_region.proofs.merge.common_ranges.Goals.{then-loop-i-test+else-j-right, else-loop-i-test}

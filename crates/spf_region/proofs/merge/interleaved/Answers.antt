@@ -1,5 +1,4 @@
-use Rattle.std.proofs.Common.{◌≡◌, ◌⊎◌, inl, inr, ◌≤◌, length, ◌++◌, drop, arith, sym, ap, ◌∙◌, append_assoc}
-use Rattle.spf_region.specs.Merging.{interleaved}
+use Rattle.std.proofs.Common.{◌⊎◌, inl, inr, ◌≤◌, length, ◌++◌, drop, arith, sym, ap, ◌∙◌, append_assoc}
 use Rattle.spf_region.proofs.MergeEnds.{interleaved-end, whole-rest}
 use Rattle.spf_region.proofs.merge.interleaved.Goals as goal
 use Rattle.spf_region.proofs.merge.interleaved.Goals.{then-loop-i-test+else-j-right, else-loop-i-test}

@@ -1,6 +1,6 @@
-use Rattle.std.proofs.Common.{rules, ◌≡◌, sym, ◌∙◌, w64, FitsSigned}
+use Rattle.std.proofs.Common.{rules, sym, ◌∙◌, w64, FitsSigned}
 use Rattle.std.proofs.lemmas.Int.{to_z-of_z}
-use Rattle.spf_region.proofs.Order2.{overlap-same}
+use Rattle.spf_region.proofs.Pairs.{overlap-same}
 use Rattle.spf_region.proofs.merge.overlap.Goals as goal
 
 pub returns-else-f-g : goal.returns-else-f-g

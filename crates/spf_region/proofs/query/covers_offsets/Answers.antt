@@ -1,4 +1,4 @@
-use Rattle.std.proofs.Common.{rules, arith, ◌≡◌, ◌≤ℤ◌, sym, ap, ◌∙◌}
+use Rattle.std.proofs.Common.{arith, ◌≤ℤ◌, sym, ap, ◌∙◌}
 use Rattle.std.specs.List.{list_any}
 use Rattle.std.proofs.lemmas.Int.{ints}
 use Rattle.spf_region.specs.Ranges.{covers, offsets_of}

@@ -1,4 +1,4 @@
-use Rattle.std.proofs.Common.{rules, ◌≡◌, ◌∙◌, ap, sym, ◌*ℤ◌, FitsSigned, w64}
+use Rattle.std.proofs.Common.{rules, ◌∙◌, ap, sym, ◌*ℤ◌, FitsSigned, w64}
 use Rattle.std.proofs.lemmas.Int.{to_z-of_z}
 use Rattle.spf_region.specs.Bounds.{small, scaled}
 use Rattle.spf_region.proofs.Bounds.{between_products}

@@ -1,6 +1,6 @@
 -- What is joined and common of two ranges.
-use Rattle.std.proofs.Common.{◌≡◌, ◌⊎◌, inl, inr, ℕ, ◌<◌, ◌≤◌, ◌+◌, Bool, true, false, List, [], ◌∷◌, ℤ, pos, refl, sym, ap, ◌∙◌, arith}
-use Rattle.std.specs.Prelude.{◌≤ℤ◌, ◌<ℤ◌, ◌+ℤ◌, Option, Some, None, if◌then◌else◌, ◌==◌, ◌&&◌, ◌||◌, nat_lt, nat_le, int_le, int_lt}
+use Rattle.std.proofs.Common.{◌≡◌, ℕ, Bool, true, false, ℤ, pos, refl, ap, ◌∙◌, arith}
+use Rattle.std.specs.Prelude.{◌≤ℤ◌, ◌+ℤ◌, Option, Some, None, if◌then◌else◌, ◌==◌, ◌&&◌, ◌||◌, int_le}
 use Rattle.std.specs.Ordering.{int_eq}
 use Rattle.std.specs.Int.{int_min, int_max}
 use Rattle.std.proofs.lemmas.Int.{ints, clamps}
@@ -8,8 +8,8 @@ use Rattle.spf_region.specs.declared.range.Range.{Range}
 use Rattle.spf_region.specs.declared.range.Range.TheVariants.{Whole, Affine}
 use Rattle.spf_region.specs.Ranges.{IsBefore, IsFilled, has_offset, is_whole, is_between}
 use Rattle.spf_region.specs.Merging.{hull, overlap, filled}
-use Rattle.spf_region.proofs.Bools.{and-left, and-right, both-true, or-cases, or-left, or-right, same-bool, int-le-is, int-le-of, int-le-not, never}
-use Rattle.spf_region.proofs.Order.{StartsBy, InOrder, Joins}
+use Rattle.spf_region.proofs.Bools.{and-left, and-right, int-le-is, int-le-not, never}
+use Rattle.spf_region.proofs.Order.{StartsBy, Joins}
 
 between-joined : (l h m i o : ℤ) → l ≤ℤ m → m ≤ℤ (h +ℤ pos 1) → m ≤ℤ i → is_between l (int_max h i) o ≡ (is_between l h o || is_between m i o)
 between-joined l h m i o p q r = grind (arith, ints, clamps)
@@ -58,6 +58,7 @@ hull-some (Whole a) (Whole b) q u v w e =
       follows = λ x h. h;
       offsets = λ a' f o. refl;
       wholes = λ a'. twice (a' == a);
+      arrays = λ a'. twice (a == a');
     })
   where
     twice : (t : Bool) → t ≡ (t || t)
@@ -80,8 +81,13 @@ hull-some (Affine a f l h) (Affine b g m i) q u v w e =
       follows = λ x y. follow x y;
       offsets = λ a' f' o. ap (λ t. (a' == a) && (int_eq f' f && t)) (between-joined l h m i o below touch v) ∙ spread (a' == a) (int_eq f' f) (is_between l h o) (is_between m i o);
       wholes = λ a'. refl;
+      arrays = λ a'. twice (a == a');
     })
   where
+    twice : (t : Bool) → t ≡ (t || t)
+    twice true = refl
+    twice false = refl
+
     begins : (x : Range) → StartsBy (Affine a f l h) x → StartsBy (Affine a f l (int_max h i)) x
     begins (Whole c) y = y
     begins (Affine c k n j) y = y
