@@ -5,3 +5,4 @@ pub mod Merging
 pub mod Spanning
 pub mod Cells
 pub mod Joining
+pub mod Laws
