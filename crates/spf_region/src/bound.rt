@@ -129,17 +129,19 @@ impl Bound {
     {
         match (self, other) {
             (
+                Bound::Known { factor, low, high },
                 Bound::Known {
-                    factor: a,
-                    low: l,
-                    high: h,
+                    factor: other_factor,
+                    low: other_low,
+                    high: other_high,
                 },
-                Bound::Known {
-                    factor: b,
-                    low: m,
-                    high: i,
-                },
-            ) => { known(small_sum(a, b), small_sum(l, m), small_sum(h, i)) }
+            ) => {
+                known(
+                    small_sum(factor, other_factor),
+                    small_sum(low, other_low),
+                    small_sum(high, other_high),
+                )
+            }
             _ => Bound::Unknown,
         }
     }
@@ -150,21 +152,17 @@ impl Bound {
     {
         match (self, other) {
             (
+                Bound::Known { factor, low, high },
                 Bound::Known {
-                    factor: a,
-                    low: l,
-                    high: h,
-                },
-                Bound::Known {
-                    factor: b,
-                    low: m,
-                    high: i,
+                    factor: other_factor,
+                    low: other_low,
+                    high: other_high,
                 },
             ) => {
                 known(
-                    small_difference(a, b),
-                    small_difference(l, i),
-                    small_difference(h, m),
+                    small_difference(factor, other_factor),
+                    small_difference(low, other_high),
+                    small_difference(high, other_low),
                 )
             }
             _ => Bound::Unknown,

@@ -19,29 +19,24 @@ pub fn covers_each_offset()
 /// A list in normal form has the arrays of its entries.
 pub fn arrays_of_entries()
     ensures { (xs : List Range) (a : ℕ) → IsNormal xs → (has_array xs a ≡ true) ↔ HasEntry (offsets_of xs) (wholes_of xs) a }
-{
-}
+{}
 
 /// No range of a list in normal form is unseparated exactly where its offsets are separate.
 pub fn separate_offset_by_offset()
     ensures { (xs : List Range) → IsNormal xs → (first_unseparated xs ≡ None) ↔ AreSeparate (offsets_of xs) (wholes_of xs) }
-{
-}
+{}
 
 /// No range of a list in normal form meets another list exactly where their offsets are disjoint.
 pub fn disjoint_offset_by_offset()
     ensures { (xs ys : List Range) → IsNormal xs → IsNormal ys → (first_meeting xs ys ≡ None) ↔ AreDisjoint (offsets_of xs) (wholes_of xs) (has_array xs) (offsets_of ys) (wholes_of ys) (has_array ys) }
-{
-}
+{}
 
 /// Separate ranges share no cell at different blocks, where the arrays lie apart.
 pub fn separate_ranges_share_no_cell()
     ensures { (extents : List Extent) (k j : ℤ) (r s : Range) (cell : ℕ) → LieApart extents → k ≢ j → separate r s ≡ true → IsCellAt extents k r cell → IsCellAt extents j s cell → ⊥ }
-{
-}
+{}
 
 /// Disjoint ranges share no cell at any blocks, where the arrays lie apart.
 pub fn disjoint_ranges_share_no_cell()
     ensures { (extents : List Extent) (k j : ℤ) (r s : Range) (cell : ℕ) → LieApart extents → disjoint r s ≡ true → IsCellAt extents k r cell → IsCellAt extents j s cell → ⊥ }
-{
-}
+{}

@@ -7,17 +7,24 @@ ghost use Rattle.spf_region.specs.Ranges.{offsets_of, wholes_of, has_array, join
 use crate::range::Range;
 use std::alloc::{AllocError, Global};
 
-// Whether offset `o` of array `a` and factor `f` doesn't stand behind offset `p` of array `b` and factor `g`.
-fn in_order(a: u32, f: i64, o: i64, b: u32, g: i64, p: i64) -> bool
-    ensures { result ≡ in_order a f o b g p }
+// Whether an offset of an array and a factor doesn't stand behind another one.
+fn in_order(
+    array: u32,
+    factor: i64,
+    offset: i64,
+    other_array: u32,
+    other_factor: i64,
+    other_offset: i64,
+) -> bool
+    ensures { result ≡ in_order array factor offset other_array other_factor other_offset }
 {
-    if a != b {
-        return a < b;
+    if array != other_array {
+        return array < other_array;
     }
-    if f != g {
-        return f < g;
+    if factor != other_factor {
+        return factor < other_factor;
     }
-    o <= p
+    offset <= other_offset
 }
 
 // Whether `range` doesn't begin behind `other`.
@@ -26,21 +33,21 @@ fn starts_by(range: &Range, other: &Range) -> bool
 {
     match (*range, *other) {
         (Range::Whole { array }, two) => array <= two.array(),
-        (Range::Affine { array: a, .. }, Range::Whole { array: b }) => a < b,
+        (Range::Affine { array, .. }, Range::Whole { array: other_array }) => array < other_array,
         (
             Range::Affine {
-                array: a,
-                factor: f,
-                from: l,
+                array,
+                factor,
+                from,
                 ..
             },
             Range::Affine {
-                array: b,
-                factor: g,
-                from: m,
+                array: other_array,
+                factor: other_factor,
+                from: other_from,
                 ..
             },
-        ) => in_order(a, f, l, b, g, m),
+        ) => in_order(array, factor, from, other_array, other_factor, other_from),
     }
 }
 
@@ -50,21 +57,21 @@ fn ends_by(range: &Range, other: &Range) -> bool
 {
     match (*range, *other) {
         (Range::Whole { array }, two) => array <= two.array(),
-        (Range::Affine { array: a, .. }, Range::Whole { array: b }) => a < b,
+        (Range::Affine { array, .. }, Range::Whole { array: other_array }) => array < other_array,
         (
             Range::Affine {
-                array: a,
-                factor: f,
-                to: h,
+                array,
+                factor,
+                to,
                 ..
             },
             Range::Affine {
-                array: b,
-                factor: g,
-                to: i,
+                array: other_array,
+                factor: other_factor,
+                to: other_to,
                 ..
             },
-        ) => in_order(a, f, h, b, g, i),
+        ) => in_order(array, factor, to, other_array, other_factor, other_to),
     }
 }
 
@@ -80,29 +87,33 @@ fn hull(range: &Range, next: &Range) -> Option<Range>
     ensures { result ≡ hull range.now next.now }
 {
     match (*range, *next) {
-        (Range::Whole { array: a }, Range::Whole { array: b }) => {
-            if a == b { Some(*range) } else { None }
+        (Range::Whole { array }, Range::Whole { array: other_array }) => {
+            if array == other_array {
+                Some(*range)
+            } else {
+                None
+            }
         }
         (
             Range::Affine {
-                array: a,
-                factor: f,
-                from: l,
-                to: h,
+                array,
+                factor,
+                from,
+                to,
             },
             Range::Affine {
-                array: b,
-                factor: g,
-                from: m,
-                to: i,
+                array: other_array,
+                factor: other_factor,
+                from: other_from,
+                to: other_to,
             },
         ) => {
-            if a == b && f == g && touches(h, m) {
+            if array == other_array && factor == other_factor && touches(to, other_from) {
                 Some(Range::Affine {
-                    array: a,
-                    factor: f,
-                    from: l,
-                    to: h.max(i),
+                    array,
+                    factor,
+                    from,
+                    to: to.max(other_to),
                 })
             } else {
                 None
@@ -112,18 +123,26 @@ fn hull(range: &Range, next: &Range) -> Option<Range>
     }
 }
 
-// The range of the offsets that are both from `l` to `h` and from `m` to `i`, if there are any.
-fn common(array: u32, factor: i64, l: i64, h: i64, m: i64, i: i64) -> Option<Range>
-    ensures { result ≡ filled array factor (int_max l m) (int_min h i) }
+// The range of the offsets that are both from `from` to `to` and from `other_from` to `other_to`, if
+// there are any.
+fn common(
+    array: u32,
+    factor: i64,
+    from: i64,
+    to: i64,
+    other_from: i64,
+    other_to: i64,
+) -> Option<Range>
+    ensures { result ≡ filled array factor (int_max from other_from) (int_min to other_to) }
 {
-    let from = l.max(m);
-    let to = h.min(i);
-    if from <= to {
+    let first = from.max(other_from);
+    let last = to.min(other_to);
+    if first <= last {
         Some(Range::Affine {
             array,
             factor,
-            from,
-            to,
+            from: first,
+            to: last,
         })
     } else {
         None
@@ -135,30 +154,34 @@ fn overlap(range: &Range, other: &Range) -> Option<Range>
     ensures { result ≡ overlap range.now other.now }
 {
     match (*range, *other) {
-        (Range::Whole { array: a }, Range::Whole { array: b }) => {
-            if a == b { Some(*range) } else { None }
+        (Range::Whole { array }, Range::Whole { array: other_array }) => {
+            if array == other_array {
+                Some(*range)
+            } else {
+                None
+            }
         }
         (
             Range::Affine {
-                array: a,
-                factor: f,
-                from: l,
-                to: h,
+                array,
+                factor,
+                from,
+                to,
             },
             Range::Affine {
-                array: b,
-                factor: g,
-                from: m,
-                to: i,
+                array: other_array,
+                factor: other_factor,
+                from: other_from,
+                to: other_to,
             },
         ) => {
-            if a != b {
+            if array != other_array {
                 return None;
             }
-            if f != g {
+            if factor != other_factor {
                 return None;
             }
-            common(a, f, l, h, m, i)
+            common(array, factor, from, to, other_from, other_to)
         }
         _ => None,
     }

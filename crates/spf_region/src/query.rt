@@ -13,25 +13,25 @@ fn spans(range: &Range, other: &Range) -> bool
     match (*range, *other) {
         (
             Range::Affine {
-                array: a,
-                factor: f,
-                from: l,
-                to: h,
+                array,
+                factor,
+                from,
+                to,
             },
             Range::Affine {
-                array: b,
-                factor: g,
-                from: m,
-                to: i,
+                array: other_array,
+                factor: other_factor,
+                from: other_from,
+                to: other_to,
             },
         ) => {
-            if a != b {
+            if array != other_array {
                 return false;
             }
-            if f != g {
+            if factor != other_factor {
                 return false;
             }
-            m <= l && h <= i
+            other_from <= from && to <= other_to
         }
         _ => false,
     }

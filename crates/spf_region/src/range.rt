@@ -46,18 +46,19 @@ impl Range {
         match (*self, *other) {
             (
                 Range::Affine {
-                    array: a,
-                    factor: f,
-                    from: l,
-                    to: h,
+                    array,
+                    factor,
+                    from,
+                    to,
                 },
                 Range::Affine {
-                    array: b,
-                    factor: g,
-                    from: m,
-                    to: i,
+                    array: other_array,
+                    factor: other_factor,
+                    from: other_from,
+                    to: other_to,
                 },
-            ) => a != b || are_separate_offsets(f, l, h, g, m, i),
+            ) => array != other_array
+                || are_separate_offsets(factor, from, to, other_factor, other_from, other_to),
             (one, two) => one.array() != two.array(),
         }
     }
@@ -69,56 +70,71 @@ impl Range {
         match (*self, *other) {
             (
                 Range::Affine {
-                    array: a,
-                    factor: f,
-                    from: l,
-                    to: h,
+                    array,
+                    factor,
+                    from,
+                    to,
                 },
                 Range::Affine {
-                    array: b,
-                    factor: g,
-                    from: m,
-                    to: i,
+                    array: other_array,
+                    factor: other_factor,
+                    from: other_from,
+                    to: other_to,
                 },
-            ) => a != b || are_disjoint_offsets(f, l, h, g, m, i),
+            ) => array != other_array
+                || are_disjoint_offsets(factor, from, to, other_factor, other_from, other_to),
             (one, two) => one.array() != two.array(),
         }
     }
 }
 
-// Whether offsets of one array and a factor, from one to another, are within less than one factor.
-fn are_separate_offsets(f: i64, l: i64, h: i64, g: i64, m: i64, i: i64) -> bool
-    ensures { result ≡ separate_offsets f l h g m i }
+// Whether offsets of an array are of one factor over 0, and less than it apart.
+fn are_separate_offsets(
+    factor: i64,
+    from: i64,
+    to: i64,
+    other_factor: i64,
+    other_from: i64,
+    other_to: i64,
+) -> bool
+    ensures { result ≡ separate_offsets factor from to other_factor other_from other_to }
 {
-    if f != g {
+    if factor != other_factor {
         return false;
     }
-    if f <= 0 {
+    if factor <= 0 {
         return false;
     }
-    is_within(h, m, f) && is_within(i, l, f)
+    is_within(to, other_from, factor) && is_within(other_to, from, factor)
 }
 
-// Whether no number lies both from `l` to `h` and from `m` to `i`.
-fn have_none_in_common(l: i64, h: i64, m: i64, i: i64) -> bool
-    ensures { result ≡ int_lt (int_min h i) (int_max l m) }
+// Whether no offset is both from `from` to `to` and from `other_from` to `other_to`.
+fn have_none_in_common(from: i64, to: i64, other_from: i64, other_to: i64) -> bool
+    ensures { result ≡ int_lt (int_min to other_to) (int_max from other_from) }
 {
-    let last = h.min(i);
-    let first = l.max(m);
+    let last = to.min(other_to);
+    let first = from.max(other_from);
     last < first
 }
 
-// Whether two factors are 0 and no offset stands in both.
-fn are_disjoint_offsets(f: i64, l: i64, h: i64, g: i64, m: i64, i: i64) -> bool
-    ensures { result ≡ disjoint_offsets f l h g m i }
+// Whether offsets of an array are of factor 0, with none in common.
+fn are_disjoint_offsets(
+    factor: i64,
+    from: i64,
+    to: i64,
+    other_factor: i64,
+    other_from: i64,
+    other_to: i64,
+) -> bool
+    ensures { result ≡ disjoint_offsets factor from to other_factor other_from other_to }
 {
-    if f != 0 {
+    if factor != 0 {
         return false;
     }
-    if g != 0 {
+    if other_factor != 0 {
         return false;
     }
-    have_none_in_common(l, h, m, i)
+    have_none_in_common(from, to, other_from, other_to)
 }
 
 // Whether the offset `high` is less than `factor` above `low`.

@@ -9,7 +9,7 @@ of_zeros f l h g m i e d = rw (e, d) refl
 
 pub returns : goal.returns
 returns c =
-    let f : c.args.f ≡ pos 0 = search rules in
-    let g : c.args.g ≡ pos 0 = search rules in
-    let e = rw (to_z-of_z w64 _ c.ranges.l, to_z-of_z w64 _ c.ranges.h, to_z-of_z w64 _ c.ranges.m, to_z-of_z w64 _ c.ranges.i) at c.have_none_in_common.ensures in
-    e ∙ sym (of_zeros _ c.args.l c.args.h _ c.args.m c.args.i f g)
+    let f : c.args.factor ≡ pos 0 = search rules in
+    let g : c.args.other_factor ≡ pos 0 = search rules in
+    let e = rw (to_z-of_z w64 _ c.ranges.from, to_z-of_z w64 _ c.ranges.to, to_z-of_z w64 _ c.ranges.other_from, to_z-of_z w64 _ c.ranges.other_to) at c.have_none_in_common.ensures in
+    e ∙ sym (of_zeros _ c.args.from c.args.to _ c.args.other_from c.args.other_to f g)
