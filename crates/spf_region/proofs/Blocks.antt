@@ -1,13 +1,13 @@
 -- Separate ranges share no cell at different blocks, and disjoint ones at none.
-use Rattle.std.proofs.Common.{◌≡◌, ◌≢◌, ◌⊎◌, inl, inr, ℕ, zero, suc, Bool, true, false, not, List, ℤ, pos, negsuc, refl, sym, ap, ◌∙◌, subst, arith}
-use Rattle.std.specs.Prelude.{◌+ℤ◌, ◌-ℤ◌, ◌*ℤ◌, ◌≤ℤ◌, ◌<ℤ◌, ◌==◌, ◌&&◌, ◌||◌, int_le, int_lt, slice_index_or}
+use Rattle.std.proofs.Common.{◌≡◌, ◌≢◌, ◌⊎◌, inl, inr, ℕ, zero, suc, Bool, true, false, not, List, ℤ, pos, negsuc, refl, arith}
+use Rattle.std.specs.Prelude.{◌+ℤ◌, ◌-ℤ◌, ◌*ℤ◌, ◌≤ℤ◌, ◌<ℤ◌, ◌==◌, ◌||◌, int_le, int_lt, slice_index_or}
 use Rattle.std.specs.Ordering.{int_eq}
 use Rattle.std.specs.Int.{int_min, int_max}
 use lib.IntN.{suc_ℤ-*ℤ, pred_ℤ-*ℤ, *ℤ_comm, zero-*ℤ}
 use Rattle.std.proofs.lemmas.Int.{ints, clamps}
 use Rattle.spf_region.specs.declared.range.Range.{Range}
 use Rattle.spf_region.specs.declared.range.Range.TheVariants.{Whole, Affine}
-use Rattle.spf_region.specs.Ranges.{array_of, is_between, separate, separate_offsets, disjoint, disjoint_offsets}
+use Rattle.spf_region.specs.Ranges.{array_of, separate, separate_offsets, disjoint, disjoint_offsets}
 use Rattle.spf_region.specs.Cells.{Extent, at_block, in_extent, is_cell}
 use Rattle.spf_region.specs.Laws.{LieApart, IsCellAt}
 use Rattle.spf_region.proofs.Bools.{and-left, and-right, int-le-is, int-lt-is}

@@ -1,5 +1,5 @@
 -- What separate and disjoint lists mean for single offsets, and for cells.
-use Rattle.std.specs.Prelude.{◌≡◌, ◌≢◌, ◌⊎◌, ℕ, Bool, true, false, ℤ, pos, ◌-ℤ◌, ◌<ℤ◌, List, slice_index_or}
+use Rattle.std.specs.Prelude.{◌≡◌, ◌≢◌, ◌⊎◌, ℕ, true, false, ℤ, pos, ◌-ℤ◌, ◌<ℤ◌, List, slice_index_or}
 use Rattle.spf_region.specs.declared.range.Range.{Range}
 use Rattle.spf_region.specs.Ranges.{Offsets, Arrays, array_of}
 use Rattle.spf_region.specs.Cells.{Extent, in_extent, is_cell}

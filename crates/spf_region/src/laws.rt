@@ -3,7 +3,8 @@ ghost use Rattle.std.specs.Prelude.{None, ◌≢◌, ◌≡◌, ℕ, ℤ, List, 
 ghost use Rattle.spf_region.specs.declared.range.Range.{Range};
 ghost use Rattle.spf_region.specs.declared.range.Range.TheVariants.{Affine};
 ghost use Rattle.spf_region.specs.Ranges.{IsNormal, Offsets, offsets_of, wholes_of, covers, has_array, first_unseparated, first_meeting, separate, disjoint};
-ghost use Rattle.spf_region.specs.Cells.{Extent};
+ghost use Rattle.spf_region.specs.Cells.{Extent, AreAscending, in_spans};
+ghost use Rattle.spf_region.specs.declared.span.Span.{Span};
 ghost use Rattle.spf_region.specs.Laws.{HasEntry, AreSeparate, AreDisjoint, LieApart, IsCellAt};
 
 /// A set of offsets and whole arrays has one list in normal form.
@@ -39,4 +40,9 @@ pub fn separate_ranges_share_no_cell()
 /// Disjoint ranges share no cell at any blocks, where the arrays lie apart.
 pub fn disjoint_ranges_share_no_cell()
     ensures { (extents : List Extent) (k j : ℤ) (r s : Range) (cell : ℕ) → LieApart extents → disjoint r s ≡ true → IsCellAt extents k r cell → IsCellAt extents j s cell → ⊥ }
+{}
+
+/// Cells have one list of ascending spans with gaps.
+pub fn one_ascending_list()
+    ensures { (xs ys : List Span) → AreAscending xs → AreAscending ys → ((cell : ℕ) → in_spans xs cell ≡ in_spans ys cell) → xs ≡ ys }
 {}
