@@ -1,0 +1,15 @@
+use Rattle.std.proofs.Common.{◌≡◌, ◌∙◌, ◌++◌, sym, ap}
+use Rattle.spf_chain.specs.Chain.{history}
+use Rattle.spf_chain.proofs.Views.{kept_history}
+use Rattle.spf_chain.proofs.Laws.{history_front, history_whole}
+use Rattle.spf_chain.proofs.chain.Chain.history.Goals as goal
+
+pub returns : goal.returns
+returns c =
+    let d = c.args.self.now in
+    let is : c.history.result.now ≡ history d = c.history.ensures ∙ sym (kept_history c.self.inside c.self.invariant) ∙ ap history c.self.view_is in
+    record {
+      history = is;
+      front = λ f h. let front = history_front f d h in (front.0, front.1 ∙ ap (λ l. l ++ front.0) (sym is));
+      whole = λ f h ended. is ∙ history_whole f d h ended;
+    }

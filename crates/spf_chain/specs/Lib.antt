@@ -1,0 +1,3 @@
+pub mod Validation
+pub mod Chain
+pub mod Kept
