@@ -56,7 +56,7 @@ one_block start gs i n d w old new low value is count added =
     let entry : ℕ → ℤ → Validated = λ m x. record { block = m; guess = Some x; real = x } in
     let size : n ≡ 0 + length hs = omega (arith, count, ap length is ∙ length-unvalidated 0 start hs) in
     let more : guesses_for (take (i + 1) gs) ≡ hs ++ Some g ∷ [] =
-        ap guesses_for (take_more gs i d low) ∙ ap (λ l. None ∷ l) (map-append (λ (x : Guess). Some x.value) (take i gs) (get_or gs i d ∷ [])) in
+    ap guesses_for (take_more gs i d low) ∙ ap (λ l. None ∷ l) (map-append (λ (x : Guess). Some x.value) (take i gs) (get_or gs i d ∷ [])) in
     added
     ∙ ap (λ l. l ++ entry n w ∷ []) is
     ∙ ap (λ m. unvalidated 0 start hs ++ entry m w ∷ []) size

@@ -90,8 +90,8 @@ module _ (ps : List Place) (start : ℤ) (gs : List (Option ℤ)) (bs : List Val
         h.front.validated r (λ n w low. agree n w (omega (arith, low)))
         ∙ ap (λ l. take k bs ++ l) (rest_at r k v o b.guess (drop k gs) (drop (k + 1) gs) (drop_at gs k b.guess guess_here) (agree k v (omega arith) ∙ known))
         ∙ sym (ap (λ l. l ++ rest_validated r o (k + 1) (drop (k + 1) gs)) (take_more_set bs k (with_real b v) (omega (arith, below, h.size)))
-            ∙ append_assoc (take k bs) (with_real b v ∷ []) (rest_validated r o (k + 1) (drop (k + 1) gs))
-            ∙ ap (λ n. take k bs ++ (let c : Validated = record { block = n; guess = b.guess; real = v } in c ∷ rest_validated r o (k + 1) (drop (k + 1) gs))) (h.blocks.blocks k b here));
+        ∙ append_assoc (take k bs) (with_real b v ∷ []) (rest_validated r o (k + 1) (drop (k + 1) gs))
+        ∙ ap (λ n. take k bs ++ (let c : Validated = record { block = n; guess = b.guess; real = v } in c ∷ rest_validated r o (k + 1) (drop (k + 1) gs))) (h.blocks.blocks k b here));
     settled = λ r agree.
         h.front.settled r (λ n w low. agree n w (omega (arith, low)))
         ∙ rest_settled_at r k v o b.guess (drop k gs) (drop (k + 1) gs) (drop_at gs k b.guess guess_here) (agree k v (omega arith) ∙ known);
@@ -200,10 +200,10 @@ known_home p v o attempt carried known out =
 pub out_above : (ps : List Place) (start : ℤ) (gs : List (Option ℤ)) (n attempt : ℕ) (carried : ℤ) → slice_get ps n ≡ Some (Out attempt carried) → length (validated_from (results_in ps) 0 start gs) ≤ n
 out_above ps start gs n attempt carried out =
     let no : n < length (validated_from (results_in ps) 0 start gs) → ⊥ = λ low.
-        let u = validated_known (results_in ps) 0 start gs n low in
-        let e : 0 + n ≡ n = omega arith in
-        let at : results_in ps n u.value ≡ Some u.result = ap (λ m. results_in ps m u.value) (sym e) ∙ u.known in
-        known_home (slice_get ps n) u.value u.result attempt carried at out in
+    let u = validated_known (results_in ps) 0 start gs n low in
+    let e : 0 + n ≡ n = omega arith in
+    let at : results_in ps n u.value ≡ Some u.result = ap (λ m. results_in ps m u.value) (sym e) ∙ u.known in
+    known_home (slice_get ps n) u.value u.result attempt carried at out in
     omega (arith, no)
 
 -- ---- a place changes

@@ -195,8 +195,8 @@ module _ (a : Inside) (h : IsKept a) (t : Task) (s : Stop) (ran : IsNotCancelled
       let known : results_in new_places k v ≡ Some o = ap (known_in v) at ∙ ap (λ b. if b then result_of s else None) ((Decides-int_eq t.carried v).1 value) ∙ came_to in
       let entry : Validated = record { block = k; guess = g; real = v } in
       let rest : rest_validated (results_in new_places) a.validation.settled k (drop k (guesses_of bs)) ≡ entry ∷ rest_validated (results_in new_places) o (k + 1) (drop (k + 1) (guesses_of bs)) =
-          ap (λ x. rest_validated (results_in new_places) x k (drop k (guesses_of bs))) real
-          ∙ rest_at (results_in new_places) k v o g (drop k (guesses_of bs)) (drop (k + 1) (guesses_of bs)) (drop_at (guesses_of bs) k g guess) known in
+      ap (λ x. rest_validated (results_in new_places) x k (drop k (guesses_of bs))) real
+      ∙ rest_at (results_in new_places) k v o g (drop k (guesses_of bs)) (drop (k + 1) (guesses_of bs)) (drop_at (guesses_of bs) k g guess) known in
       let all = ap length (new_history ∙ ap (λ l. take k bs ++ l) rest) ∙ length-append (take k bs) (entry ∷ rest_validated (results_in new_places) o (k + 1) (drop (k + 1) (guesses_of bs))) in
       let front_part = length-take-le k bs (omega (arith, h.stands.within, h.stands.size)) in
       omega (arith, all, front_part)

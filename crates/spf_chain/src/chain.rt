@@ -1,5 +1,5 @@
 // The chain: tasks come home with their reports, and the blocks are validated in their order.
-ghost use Rattle.std.specs.Prelude.{◌≡◌, ℕ, ◌+◌, ◌≤◌, ◌<◌, ◌++◌, ◌↔◌, List, map, length, IfOk, ℤ, pos, ◌+ℤ◌, ◌≤ℤ◌, slice_get, Some, MatchOption};
+ghost use Rattle.std.specs.Prelude.{◌≡◌, ℕ, ◌+◌, ◌≤◌, ◌<◌, ◌++◌, ◌↔◌, List, map, length, IfOk, ℤ, pos, ◌+ℤ◌, ◌≤ℤ◌, slice_get, Some, MatchOption, IsTrue};
 ghost use Rattle.spf_chain.specs.declared.task.Task.{Task as SeenTask};
 ghost use Rattle.spf_chain.specs.declared.task.Validated.{Validated as SeenValidated};
 ghost use Rattle.spf_chain.specs.declared.task.Filed.TheVariants.{Rerun, Waiting, Ended};
@@ -43,7 +43,10 @@ fn first_places(alloc: Global, blocks: &[Validated]) -> Result<Vec<Place>, Alloc
 {
     blocks
         .iter()
-        .map(|block| Place::Out { attempt: 1, carried: block.real })
+        .map(|block| Place::Out {
+            attempt: 1,
+            carried: block.real,
+        })
         .collect(alloc)
 }
 
@@ -90,7 +93,14 @@ impl Chain {
         let validation = Validation::start(alloc, start, guesses)?;
         let places = first_places(alloc, validation.blocks.as_slice())?;
         let tasks = tasks_of(alloc, low, validation.blocks.as_slice())?;
-        Ok((Chain { low, places, validation }, tasks))
+        Ok((
+            Chain {
+                low,
+                places,
+                validation,
+            },
+            tasks,
+        ))
     }
 
     // The real value of the front block, where its task is home and so was run at another value.
@@ -115,7 +125,10 @@ impl Chain {
         ensures history { history self.new ≡ history self.old }
     {
         let front = self.validation.count;
-        self.places[front] = Place::Out { attempt: 2, carried: real };
+        self.places[front] = Place::Out {
+            attempt: 2,
+            carried: real,
+        };
         Task {
             block: front as u64,
             number: self.low + front as i64,
@@ -190,5 +203,25 @@ impl Chain {
         ensures whole { (f : Answers) → IsChainOf f self → result ≡ all_settled f self.start self.guesses }
     {
         self.validation.settled
+    }
+
+    // Whether the task is out of this chain.
+    #[cfg(test)]
+    pub(crate) fn is_out(&self, task: &Task) -> bool
+        ensures { IsTrue result → IsOut self.now task.now }
+    {
+        let Some(Place::Out { attempt, carried }) = self.places.get(task.block as usize) else {
+            return false;
+        };
+        if *attempt != task.attempt {
+            return false;
+        }
+        if *carried != task.carried {
+            return false;
+        }
+        if task.number != self.low + task.block as i64 {
+            return false;
+        }
+        true
     }
 }

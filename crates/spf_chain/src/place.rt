@@ -10,9 +10,16 @@ use spf_exec::block_run::Stop;
 #[derive(Clone, Copy, PartialEq, Eq, Debug)]
 pub enum Place {
     /// It is out, with this attempt at this carried value.
-    Out { attempt: u64, carried: i64 },
+    Out {
+        attempt: u64,
+        carried: i64,
+    },
     /// It came home: this attempt at this carried value ended so.
-    Home { attempt: u64, carried: i64, stop: Stop },
+    Home {
+        attempt: u64,
+        carried: i64,
+        stop: Stop,
+    },
 }
 
 // What a run came to.

@@ -25,24 +25,40 @@ fn blocks_of(alloc: Global, start: i64, guesses: &[Guess]) -> Result<Vec<Validat
     ensures { IfOk result (λ r. r.items ≡ unvalidated 0 start (guesses_for guesses.now)) }
 {
     let mut blocks = Vec::with_capacity(alloc, guesses.len() + 1)?;
-    blocks.push(Validated { block: 0, guess: None, real: start })?;
+    blocks.push(Validated {
+        block: 0,
+        guess: None,
+        real: start,
+    })?;
     for guess in guesses {
         let block = blocks.len() as u64;
-        blocks.push(Validated { block, guess: Some(guess.value), real: guess.value })?;
+        blocks.push(Validated {
+            block,
+            guess: Some(guess.value),
+            real: guess.value,
+        })?;
     }
     Ok(blocks)
 }
 
 impl Validation {
     // Nothing is validated yet.
-    pub(crate) fn start(alloc: Global, start: i64, guesses: &[Guess]) -> Result<Validation, AllocError>
+    pub(crate) fn start(
+        alloc: Global,
+        start: i64,
+        guesses: &[Guess],
+    ) -> Result<Validation, AllocError>
         requires { length guesses.now ≤ 4095 }
         ensures blocks { IfOk result (λ r. r.blocks.items ≡ unvalidated 0 start (guesses_for guesses.now)) }
         ensures count { IfOk result (λ r. r.count ≡ 0) }
         ensures settled { IfOk result (λ r. r.settled ≡ Carried start) }
     {
         let blocks = blocks_of(alloc, start, guesses)?;
-        Ok(Validation { blocks, count: 0, settled: Settled::Carried(start) })
+        Ok(Validation {
+            blocks,
+            count: 0,
+            settled: Settled::Carried(start),
+        })
     }
 
     // Validates blocks while the next one is home and was run at its real value.

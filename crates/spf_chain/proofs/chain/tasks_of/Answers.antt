@@ -15,6 +15,6 @@ loop-block-preserved c =
     let low = to_z w64 (of_z w64 c.args.low) in
     let low_is = to_z-of_z w64 c.args.low c.ranges.low in
     let number : to_z w64 (of_z w64 (low +ℤ to_z w64 i)) ≡ low +ℤ pos i =
-        number_is c.args.low i c.ranges.low (omega (arith, c.loop-block-test.true, c.requires.few)) (smaller c.args.low i (length bs) (omega (arith, c.loop-block-test.true)) c.requires.fits)
-        ∙ sym (ap (λ x. x +ℤ pos i) low_is) in
+    number_is c.args.low i c.ranges.low (omega (arith, c.loop-block-test.true, c.requires.few)) (smaller c.args.low i (length bs) (omega (arith, c.loop-block-test.true)) c.requires.fits)
+    ∙ sym (ap (λ x. x +ℤ pos i) low_is) in
     one_task low bs i d (to_z w64 (of_z w64 (low +ℤ to_z w64 i))) (to_z w64 (of_z w64 v)) c.loop-block.tasks.items c.push.new.self.items c.loop-block-test.true number word c.loop-block.invariant c.in_ok-push.ensures.items

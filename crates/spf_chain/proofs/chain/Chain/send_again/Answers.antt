@@ -32,7 +32,7 @@ returns-clause-task c =
     let l : a.low ≡ d.low = ap (λ (w : ChainValue). w.low) c.self.view_is in
     let fits : FitsSigned w64 a.low = search rules in
     let n : to_z w64 (of_z w64 (to_z w64 (of_z w64 a.low) +ℤ to_z w64 a.validation.count)) ≡ d.low +ℤ pos (front d) =
-        number_is a.low a.validation.count fits (omega (arith, c.self.invariant.stands.within, c.self.invariant.stands.few)) (smaller a.low a.validation.count (length a.places.items) c.self.invariant.stands.within c.self.invariant.fits) ∙ ap (λ x. x +ℤ pos a.validation.count) l ∙ ap (λ x. d.low +ℤ pos x) (sym k) in
+    number_is a.low a.validation.count fits (omega (arith, c.self.invariant.stands.within, c.self.invariant.stands.few)) (smaller a.low a.validation.count (length a.places.items) c.self.invariant.stands.within c.self.invariant.fits) ∙ ap (λ x. x +ℤ pos a.validation.count) l ∙ ap (λ x. d.low +ℤ pos x) (sym k) in
     ap (λ x. let t : Task = record { block = x; number = to_z w64 (of_z w64 (to_z w64 (of_z w64 a.low) +ℤ to_z w64 a.validation.count)); attempt = 2; carried = to_z w64 (of_z w64 c.args.real) } in t) (sym k)
     ∙ ap (λ x. let t : Task = record { block = front d; number = x; attempt = 2; carried = to_z w64 (of_z w64 c.args.real) } in t) n
     ∙ ap (again d) e
