@@ -4,3 +4,4 @@ pub mod Steps
 pub mod Views
 pub mod Start
 pub mod Laws
+pub mod Reals

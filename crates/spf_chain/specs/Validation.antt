@@ -1,5 +1,5 @@
 -- Validation: which blocks are validated by what is known of block runs, and what comes of them.
-use Rattle.std.specs.Prelude.{ℕ, ◌+◌, List, [], ◌∷◌, map, Option, Some, None, ℤ}
+use Rattle.std.specs.Prelude.{◌≡◌, ℕ, zero, suc, ◌+◌, List, [], ◌∷◌, map, Option, Some, None, ℤ, slice_get}
 use Rattle.spf_exec.specs.declared.block_run.Stop.{Stop}
 use Rattle.spf_exec.specs.declared.block_run.Stop.TheVariants as stop
 use Rattle.spf_chain.specs.declared.task.Guess.{Guess}
@@ -70,3 +70,27 @@ all_validated f start guesses = validated_from (results_of f) 0 start guesses
 -- by these answers: the trap of the first block that traps at its real value, or else the real value behind the last block
 abbrev pub all_settled : Answers → ℤ → List (Option ℤ) → Settled
 all_settled f start guesses = settled_from (results_of f) 0 start guesses
+
+-- ---- real values
+
+-- the value that a run ended with, where it did
+abbrev pub value_of : Stop → Option ℤ
+value_of (stop.Ended value) = Some value
+value_of (stop.Trapped trap) = None
+value_of (stop.Cancelled seen) = None
+
+-- the value that block n's run at this value ended with, where there is such a value
+abbrev pub value_after : Answers → ℕ → Option ℤ → Option ℤ
+value_after f n None = None
+value_after f n (Some v) = value_of (f n v)
+
+-- the real value of block n: of block 0 the start value, and of any other block the value with which the block before it ended at its real value
+abbrev pub real : Answers → ℤ → ℕ → Option ℤ
+real f start zero = Some start
+real f start (suc n) = value_after f n (real f start n)
+
+-- block n is validated with its guess and its real value
+pub record IsValidated (f : Answers) (start : ℤ) (guesses : List (Option ℤ)) (n : ℕ) (b : Validated) : Type 0 where
+  pub block : b.block ≡ n
+  pub guess : slice_get guesses n ≡ Some b.guess
+  pub real_value : real f start n ≡ Some b.real

@@ -1,10 +1,10 @@
 // The chain: tasks come home with their reports, and the blocks are validated in their order.
-ghost use Rattle.std.specs.Prelude.{◌≡◌, ℕ, ◌+◌, ◌≤◌, ◌<◌, ◌++◌, ◌↔◌, List, map, length, IfOk, ℤ, pos, ◌+ℤ◌, ◌≤ℤ◌, slice_get, Some, MatchOption, IsTrue};
+ghost use Rattle.std.specs.Prelude.{◌≡◌, ℕ, ◌+◌, ◌≤◌, ◌<◌, ◌++◌, ◌↔◌, List, map, length, IfOk, ℤ, pos, ◌+ℤ◌, ◌≤ℤ◌, slice_get, Some, MatchOption};
 ghost use Rattle.spf_chain.specs.declared.task.Task.{Task as SeenTask};
 ghost use Rattle.spf_chain.specs.declared.task.Validated.{Validated as SeenValidated};
 ghost use Rattle.spf_chain.specs.declared.task.Filed.TheVariants.{Rerun, Waiting, Ended};
 ghost use Rattle.spf_chain.specs.declared.place.Place.TheVariants.{Out};
-ghost use Rattle.spf_chain.specs.Validation.{Answers, IsNotCancelled, guesses_for, all_validated, all_settled};
+ghost use Rattle.spf_chain.specs.Validation.{Answers, IsNotCancelled, IsValidated, guesses_for, all_validated, all_settled};
 ghost use Rattle.spf_chain.specs.Chain.{new_chain, first_tasks, came_home, sent_out, after, history, settled, front, IsOut, NeedsRerun, WaitsFor, HasEnded, IsBlockOut, IsChainOf};
 ghost use Rattle.spf_chain.specs.Kept.{MatchFiled, IsSettledOrOut, IsLowestOut, again, tasks_for};
 
@@ -20,9 +20,9 @@ use std::marker::Model;
 /// Contracts see of it the start value, the number of block 0, and for each block its guess and its task's place.
 #[derive(Drop)]
 pub struct Chain {
-    low: i64,
-    places: Vec<Place>,
-    validation: Validation,
+    pub(crate) low: i64,
+    pub(crate) places: Vec<Place>,
+    pub(crate) validation: Validation,
 }
 
 impl Model for Chain {
@@ -190,6 +190,7 @@ impl Chain {
     /// The validated blocks, in order from 0 on.
     pub fn history(&self) -> &[Validated]
         ensures history { result.now ≡ history self.now }
+        ensures blocks { (f : Answers) (n : ℕ) (b : SeenValidated) → IsChainOf f self.now → slice_get result.now n ≡ Some b → IsValidated f self.now.start self.now.guesses n b }
         ensures front { (f : Answers) → IsChainOf f self.now → (more : List SeenValidated) × (all_validated f self.now.start self.now.guesses ≡ result.now ++ more) }
         ensures whole { (f : Answers) → IsChainOf f self.now → HasEnded self.now → result.now ≡ all_validated f self.now.start self.now.guesses }
     {
@@ -203,25 +204,5 @@ impl Chain {
         ensures whole { (f : Answers) → IsChainOf f self → result ≡ all_settled f self.start self.guesses }
     {
         self.validation.settled
-    }
-
-    // Whether the task is out of this chain.
-    #[cfg(test)]
-    pub(crate) fn is_out(&self, task: &Task) -> bool
-        ensures { IsTrue result → IsOut self.now task.now }
-    {
-        let Some(Place::Out { attempt, carried }) = self.places.get(task.block as usize) else {
-            return false;
-        };
-        if *attempt != task.attempt {
-            return false;
-        }
-        if *carried != task.carried {
-            return false;
-        }
-        if task.number != self.low + task.block as i64 {
-            return false;
-        }
-        true
     }
 }

@@ -1,10 +1,11 @@
 //! Folds whose blocks are filed in order and against it, and what comes of them.
-ghost use Rattle.std.specs.Prelude.{◌≡◌, Some, IfOk, length};
+ghost use Rattle.std.specs.Prelude.{◌≡◌, Some, IfOk, IsTrue, length};
 ghost use Rattle.spf_chain.specs.declared.task.Filed.TheVariants.{Ended};
 ghost use Rattle.spf_chain.specs.Validation.{IsNotCancelled};
-ghost use Rattle.spf_chain.specs.Chain.{HasEnded};
+ghost use Rattle.spf_chain.specs.Chain.{HasEnded, IsOut};
 
 use crate::chain::Chain;
+use crate::place::Place;
 use crate::task::{Filed, Guess, Settled, Task, Validated};
 use spf_ast::outcome::{Trap, TrapKind};
 use spf_exec::block_run::Stop;
@@ -68,11 +69,30 @@ fn next_of(filed: &Filed) -> Next {
     }
 }
 
+// Whether the task is out of the chain.
+fn is_out(chain: &Chain, task: &Task) -> bool
+    ensures { IsTrue result → IsOut chain.now task.now }
+{
+    let Some(Place::Out { attempt, carried }) = chain.places.get(task.block as usize) else {
+        return false;
+    };
+    if *attempt != task.attempt {
+        return false;
+    }
+    if *carried != task.carried {
+        return false;
+    }
+    if task.number != chain.low + task.block as i64 {
+        return false;
+    }
+    true
+}
+
 // Runs a task and files it, where it is out.
 fn file(chain: &mut Chain, body: Body, task: Task) -> Option<Filed>
     ensures { result ≡ Some Ended → HasEnded chain.new }
 {
-    if chain.is_out(&task) {
+    if is_out(chain, &task) {
         let stop = run(body, task.block(), task.carried());
         Some(chain.file(task, stop))
     } else {

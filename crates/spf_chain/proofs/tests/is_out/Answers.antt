@@ -5,11 +5,11 @@ use Rattle.spf_chain.specs.declared.place.Place.TheVariants.{Out}
 use Rattle.spf_chain.specs.Chain.{ChainValue}
 use Rattle.spf_chain.proofs.Numbers.{number_is, smaller}
 use Rattle.spf_chain.proofs.Views.{read_at}
-use Rattle.spf_chain.proofs.chain.Chain.is_out.Goals as goal
+use Rattle.spf_chain.proofs.tests.is_out.Goals as goal
 
 pub returns : goal.returns
 returns c = λ yes.
-    let a = c.self.inside in
+    let a = c.chain.inside in
     let t = c.args.task.now in
     let at = read_at c.deref.result.now a.places.items t.block c.in-Some-Out.field-0.now c.deref.ensures.value c.in-Some-Out.ensures.lookup.3.0 c.in-Some-Out.ensures.lookup.1 in
     let low : t.block < length a.places.items = slice_get_within a.places.items t.block c.in-Some-Out.field-0.now at in
@@ -18,8 +18,8 @@ returns c = λ yes.
     let carried : c.in-Some-Out.carried ≡ t.carried = sym found ∙ ap (to_z w64) c.if-carried-task.false ∙ mine in
     let number : to_z w64 (of_z w64 t.number) ≡ t.number = grind (arith, to_z-of_z) in
     let fits : FitsSigned w64 a.low = search rules in
-    let sum = number_is a.low t.block fits (omega (arith, low, c.self.invariant.stands.few)) (smaller a.low t.block (length a.places.items) (omega (arith, low)) c.self.invariant.fits) in
+    let sum = number_is a.low t.block fits (omega (arith, low, c.chain.invariant.stands.few)) (smaller a.low t.block (length a.places.items) (omega (arith, low)) c.chain.invariant.fits) in
     record {
-      place = ap (λ ps. slice_get ps t.block) (ap (λ (w : ChainValue). w.places) (sym c.self.view_is)) ∙ at ∙ ap Some (c.in-Some-Out.field-0-is ∙ ap (λ x. Out x c.in-Some-Out.carried) c.if-attempt-task.false ∙ ap (Out t.attempt) carried);
-      number = sym number ∙ ap (to_z w64) c.if-task-self.false ∙ sum ∙ ap (λ (w : ChainValue). w.low +ℤ pos t.block) c.self.view_is;
+      place = ap (λ ps. slice_get ps t.block) (ap (λ (w : ChainValue). w.places) (sym c.chain.view_is)) ∙ at ∙ ap Some (c.in-Some-Out.field-0-is ∙ ap (λ x. Out x c.in-Some-Out.carried) c.if-attempt-task.false ∙ ap (Out t.attempt) carried);
+      number = sym number ∙ ap (to_z w64) c.if-task-chain.false ∙ sum ∙ ap (λ (w : ChainValue). w.low +ℤ pos t.block) c.chain.view_is;
     }
