@@ -1,5 +1,5 @@
 -- What is to be done next, and that exactly one thing is.
-use Rattle.std.proofs.Common.{◌≡◌, ◌⊎◌, ◌↔◌, ℕ, ◌+◌, ◌<◌, ◌≤◌, zero, suc, List, [], ◌∷◌, ◌++◌, length, sym, ap, ◌∙◌, subst, inl, inr, refl, Option, Some, None, ℤ, pos, ◌+ℤ◌, arith, slice_get, set, Bool, true, false, if◌then◌else◌}
+use Rattle.std.proofs.Common.{◌≡◌, ◌⊎◌, ◌↔◌, ℕ, ◌+◌, ◌<◌, ◌≤◌, suc, List, [], ◌∷◌, ◌++◌, length, sym, ap, ◌∙◌, subst, inl, inr, refl, Option, Some, None, ℤ, pos, ◌+ℤ◌, arith, slice_get, set, Bool, true, false, if◌then◌else◌}
 use Rattle.std.specs.Ordering.{int_eq}
 use Rattle.std.proofs.lemmas.Option.{slice_get_within}
 use Rattle.std.proofs.lemmas.Bool.Decides.{Decides-int_eq}
@@ -14,8 +14,8 @@ use Rattle.spf_chain.specs.declared.task.Settled.TheVariants.{Carried, Trapped}
 use Rattle.spf_chain.specs.declared.task.Task.{Task}
 use Rattle.spf_chain.specs.declared.task.Validated.{Validated}
 use Rattle.spf_chain.specs.Validation.{Answers, Results, results_of, result_of, validated_then, validated_from, settled_then, settled_from}
-use Rattle.spf_chain.specs.Chain.{ChainValue, came_home, sent_out, after, history, settled, front, known_at, known_in, results_in, IsOut, NeedsRerun, IsBlockOut, HasTrapped, IsAwaited, WaitsFor, HasEnded, IsChainOf}
-use Rattle.spf_chain.specs.Kept.{again, IsSettledOrOut, AreAllValidated, IsLowestOut, MatchFiled}
+use Rattle.spf_chain.specs.Chain.{ChainValue, came_home, sent_out, after, history, settled, front, known_in, results_in, IsOut, NeedsRerun, IsBlockOut, HasTrapped, WaitsFor, HasEnded, IsChainOf}
+use Rattle.spf_chain.specs.Kept.{IsSettledOrOut, IsLowestOut, MatchFiled}
 use Rattle.spf_chain.proofs.Steps.{out_above, set_cases, set_other, set_here}
 
 -- ---- the answer is right

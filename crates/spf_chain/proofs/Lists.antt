@@ -1,9 +1,8 @@
 -- Lists of blocks, guesses, places and tasks at the start.
-use Rattle.std.proofs.Common.{◌≡◌, ◌⊎◌, ℕ, ◌+◌, ◌-◌, ◌<◌, ◌≤◌, zero, suc, List, [], ◌∷◌, ◌++◌, length, map, take, drop, get_or, set, refl, sym, ap, ◌∙◌, Option, Some, None, ℤ, pos, ◌+ℤ◌, arith, slice_get, add-zero}
+use Rattle.std.proofs.Common.{◌≡◌, ℕ, ◌+◌, ◌<◌, suc, List, [], ◌∷◌, ◌++◌, length, map, take, get_or, refl, sym, ap, ◌∙◌, Option, Some, None, ℤ, pos, ◌+ℤ◌, arith, add-zero}
 use Rattle.std.proofs.lemmas.List.{take_more, map-append, length-take-le}
 use Rattle.spf_chain.specs.declared.task.Guess.{Guess}
-use Rattle.spf_chain.specs.declared.place.Place.{Place}
-use Rattle.spf_chain.specs.declared.place.Place.TheVariants.{Out, Home}
+use Rattle.spf_chain.specs.declared.place.Place.TheVariants.{Out}
 use Rattle.spf_chain.specs.declared.task.Task.{Task}
 use Rattle.spf_chain.specs.declared.task.Validated.{Validated}
 use Rattle.spf_chain.specs.Validation.{first_value, guesses_for}

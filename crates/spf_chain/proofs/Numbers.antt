@@ -1,5 +1,5 @@
 -- Numbers of blocks, as code computes them.
-use Rattle.std.proofs.Common.{◌≡◌, ℕ, ◌+◌, ◌<◌, ◌≤◌, ℤ, pos, ◌+ℤ◌, ◌≤ℤ◌, w64, to_z, of_z, FitsSigned, arith, ap, ◌∙◌, rules}
+use Rattle.std.proofs.Common.{◌≡◌, ℕ, ◌≤◌, ℤ, pos, ◌+ℤ◌, ◌≤ℤ◌, w64, to_z, of_z, FitsSigned, arith, ap, ◌∙◌, rules}
 use Rattle.std.proofs.lemmas.Int.{ints, to_z-of_z, to_z_pos}
 
 -- a sum that isn't above the greatest word fits

@@ -1,5 +1,5 @@
 -- Validated blocks have their real values.
-use Rattle.std.proofs.Common.{◌≡◌, ℕ, ◌+◌, ◌<◌, zero, suc, List, [], ◌∷◌, ◌++◌, length, sym, ap, ◌∙◌, subst, refl, Option, Some, None, ℤ, arith, slice_get, add-zero}
+use Rattle.std.proofs.Common.{◌≡◌, ℕ, ◌+◌, zero, suc, List, [], ◌∷◌, ◌++◌, sym, ap, ◌∙◌, subst, refl, Option, Some, None, ℤ, arith, slice_get, add-zero}
 use Rattle.spf_exec.specs.declared.block_run.Stop.{Stop}
 use Rattle.spf_exec.specs.declared.block_run.Stop.TheVariants as stop
 use Rattle.spf_chain.specs.declared.task.Settled.{Settled}

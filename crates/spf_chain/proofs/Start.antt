@@ -1,18 +1,17 @@
 -- A chain that starts.
-use Rattle.std.proofs.Common.{◌≡◌, ◌⊎◌, ℕ, ◌+◌, ◌<◌, ◌≤◌, zero, suc, List, [], ◌∷◌, ◌++◌, length, map, sym, ap, ◌∙◌, subst, inl, inr, refl, Option, Some, None, ℤ, pos, ◌+ℤ◌, ◌≤ℤ◌, arith, slice_get, add-zero}
+use Rattle.std.proofs.Common.{◌≡◌, ℕ, ◌+◌, ◌≤◌, zero, suc, List, [], ◌∷◌, length, map, sym, ap, ◌∙◌, subst, inl, refl, Option, Some, None, ℤ, pos, ◌+ℤ◌, ◌≤ℤ◌, arith, slice_get, add-zero}
 use Rattle.std.proofs.lemmas.List.{length-map}
 use Rattle.spf_exec.specs.declared.block_run.Stop.{Stop}
 use Rattle.spf_chain.specs.declared.chain.Chain.TheInside.{Inside}
 use Rattle.spf_chain.specs.declared.place.Place.{Place}
 use Rattle.spf_chain.specs.declared.place.Place.TheVariants.{Out, Home}
 use Rattle.spf_chain.specs.declared.task.Guess.{Guess}
-use Rattle.spf_chain.specs.declared.task.Settled.{Settled}
 use Rattle.spf_chain.specs.declared.task.Settled.TheVariants.{Carried}
 use Rattle.spf_chain.specs.declared.task.Task.{Task}
 use Rattle.spf_chain.specs.declared.task.Validated.{Validated}
 use Rattle.spf_chain.specs.Validation.{Answers, first_value, guesses_for}
 use Rattle.spf_chain.specs.Chain.{ChainValue, new_chain, first_tasks, IsOut, IsChainOf, results_in}
-use Rattle.spf_chain.specs.Kept.{unvalidated, first_real, guesses_of, IsFirst, IsFrontOf, AreBlocksOf, AreAttempts, Stands, IsDone, StandsOver, chain_value, IsKept}
+use Rattle.spf_chain.specs.Kept.{unvalidated, first_real, guesses_of, IsFirst, AreBlocksOf, Stands, IsDone, StandsOver, chain_value, IsKept}
 use Rattle.spf_chain.proofs.Lists.{guesses_of-unvalidated, places-unvalidated, length-unvalidated}
 
 -- the place of a first attempt

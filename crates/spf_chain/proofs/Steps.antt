@@ -1,20 +1,18 @@
 -- How a validation goes on: a block is validated, a task comes home, and a task goes out again.
-use Rattle.std.proofs.Common.{◌≡◌, ◌≢◌, ◌⊎◌, ℕ, ◌+◌, ◌-◌, ◌<◌, ◌≤◌, zero, suc, List, [], ◌∷◌, ◌++◌, length, map, take, drop, get_or, set, refl, sym, ap, ◌∙◌, subst, inl, inr, append_assoc, add-zero, Option, Some, None, ℤ, pos, arith, slice_get, true, false, if◌then◌else◌}
-use Rattle.std.specs.Ordering.{int_eq}
+use Rattle.std.proofs.Common.{◌≡◌, ◌≢◌, ◌⊎◌, ℕ, ◌+◌, ◌<◌, ◌≤◌, zero, suc, List, [], ◌∷◌, ◌++◌, length, take, drop, get_or, set, refl, sym, ap, ◌∙◌, subst, inl, inr, append_assoc, add-zero, Option, Some, None, ℤ, arith, slice_get}
 use Rattle.std.specs.Option.{option_map}
 use Rattle.std.proofs.lemmas.List.{length-set, length-take-le}
-use Rattle.std.proofs.lemmas.Option.{slice_get-map, slice_get_within, slice_get-get_or, slice_get_read, slice_get_past}
-use Rattle.std.proofs.lemmas.List.{take_more_set, take-set-le, map-set, append-nil}
+use Rattle.std.proofs.lemmas.Option.{slice_get-map, slice_get-get_or, slice_get_read, slice_get_past}
+use Rattle.std.proofs.lemmas.List.{take_more_set, append-nil}
 use Rattle.spf_exec.specs.declared.block_run.Stop.{Stop}
-use Rattle.spf_exec.specs.declared.block_run.Stop.TheVariants as stop
 use Rattle.spf_chain.specs.declared.place.Place.{Place}
 use Rattle.spf_chain.specs.declared.place.Place.TheVariants.{Out, Home}
 use Rattle.spf_chain.specs.declared.task.Settled.{Settled}
 use Rattle.spf_chain.specs.declared.task.Settled.TheVariants.{Carried, Trapped}
 use Rattle.spf_chain.specs.declared.task.Validated.{Validated}
-use Rattle.spf_chain.specs.Validation.{Results, IsNotCancelled, result_of, first_value, validated_then, validated_from, settled_then, settled_from}
+use Rattle.spf_chain.specs.Validation.{Results, IsNotCancelled, validated_then, validated_from, settled_then, settled_from}
 use Rattle.spf_chain.specs.Chain.{known_at, known_in, results_in}
-use Rattle.spf_chain.specs.Kept.{first_real, guesses_of, AgreeBelow, rest_validated, rest_settled, IsFirst, IsSecond, IsFrontOf, AreBlocksOf, AreAttempts, Stands, IsDone, attempt_at, carried_at}
+use Rattle.spf_chain.specs.Kept.{first_real, guesses_of, AgreeBelow, rest_validated, rest_settled, IsFirst, IsSecond, IsFrontOf, AreBlocksOf, AreAttempts, Stands, IsDone}
 
 -- ---- lists
 

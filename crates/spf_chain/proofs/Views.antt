@@ -1,5 +1,5 @@
 -- What contracts see of a chain, from its fields.
-use Rattle.std.proofs.Common.{◌≡◌, ◌⊎◌, ℕ, ◌+◌, ◌<◌, ◌≤◌, List, ◌∷◌, ◌++◌, length, length-append, take, drop, get_or, set, sym, ap, ◌∙◌, subst, inl, inr, refl, Option, Some, None, ℤ, pos, ◌+ℤ◌, ◌≤ℤ◌, arith, slice_get, true, false, if◌then◌else◌}
+use Rattle.std.proofs.Common.{◌≡◌, ℕ, ◌+◌, ◌<◌, ◌≤◌, List, ◌∷◌, ◌++◌, length, length-append, take, drop, get_or, set, sym, ap, ◌∙◌, subst, inl, inr, refl, Option, Some, None, ℤ, pos, ◌+ℤ◌, ◌≤ℤ◌, arith, slice_get, true, if◌then◌else◌}
 use Rattle.std.specs.Ordering.{int_eq}
 use Rattle.std.proofs.lemmas.Option.{slice_get_within, slice_get_read}
 use Rattle.std.specs.Vec.{with_item}
@@ -16,8 +16,8 @@ use Rattle.spf_chain.specs.declared.validation.Validation.{Validation}
 use Rattle.spf_chain.specs.declared.task.Settled.{Settled}
 use Rattle.spf_chain.specs.declared.task.Settled.TheVariants.{Carried, Trapped}
 use Rattle.spf_chain.specs.Validation.{IsNotCancelled, result_of}
-use Rattle.spf_chain.specs.Chain.{ChainValue, history, settled, front, known_at, known_in, NeedsRerun, IsBlockOut, HasTrapped, IsOutPlace, IsOut, came_home, results_in}
-use Rattle.spf_chain.specs.Kept.{rest_validated, Stands, IsDone, chain_value, IsKept, guesses_of, first_real, again, IsFirst, IsSecond, IsSettledOrOut, AreAllValidated}
+use Rattle.spf_chain.specs.Chain.{ChainValue, history, settled, front, known_at, known_in, NeedsRerun, IsBlockOut, IsOutPlace, IsOut, came_home, results_in}
+use Rattle.spf_chain.specs.Kept.{rest_validated, Stands, chain_value, IsKept, guesses_of, first_real, again, IsFirst, IsSettledOrOut}
 use Rattle.spf_chain.proofs.Steps.{validated_is, settled_is, front_is, at_index, drop_at, set_here, rest_at, out_above, came, sent, sent_done}
 
 -- the history is the validated blocks

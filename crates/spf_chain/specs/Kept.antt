@@ -12,7 +12,7 @@ use Rattle.spf_chain.specs.declared.task.Task.{Task}
 use Rattle.spf_chain.specs.declared.task.Validated.{Validated}
 use Rattle.spf_chain.specs.declared.validation.Validation.{Validation}
 use Rattle.spf_chain.specs.Validation.{Results, IsNotCancelled, first_value, validated_from, settled_from}
-use Rattle.spf_chain.specs.Chain.{ChainValue, sent_out, results_in, front, settled, NeedsRerun, IsBlockOut, HasTrapped, WaitsFor, HasEnded}
+use Rattle.spf_chain.specs.Chain.{ChainValue, sent_out, results_in, front, NeedsRerun, IsBlockOut, HasTrapped, WaitsFor, HasEnded}
 
 -- ---- how far blocks are validated
 

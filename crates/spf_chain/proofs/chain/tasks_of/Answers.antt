@@ -1,5 +1,5 @@
-use Rattle.std.proofs.Common.{◌≡◌, ◌∙◌, ◌+◌, ◌+ℤ◌, arith, sym, ap, get_or, pos, length, w64, to_z, of_z, ℤ, None}
-use Rattle.std.proofs.lemmas.Int.{ints, to_z-of_z}
+use Rattle.std.proofs.Common.{◌≡◌, ◌∙◌, ◌+ℤ◌, arith, sym, ap, get_or, pos, length, w64, to_z, of_z, ℤ, None}
+use Rattle.std.proofs.lemmas.Int.{to_z-of_z}
 use Rattle.spf_chain.specs.declared.task.Validated.{Validated}
 use Rattle.spf_chain.proofs.Lists.{one_task}
 use Rattle.spf_chain.proofs.Numbers.{number_is, smaller}

@@ -1,4 +1,4 @@
-use Rattle.std.proofs.Common.{◌≡◌, ◌∙◌, ◌+◌, arith, false, get_or, pos, length, w64, to_z, of_z, ℤ}
+use Rattle.std.proofs.Common.{◌≡◌, ◌∙◌, arith, false, get_or, pos, length, w64, to_z, of_z, ℤ}
 use Rattle.std.proofs.lemmas.Int.{to_z-of_z}
 use Rattle.spf_chain.specs.declared.task.Guess.{Guess}
 use Rattle.spf_chain.proofs.Lists.{one_block}

@@ -2,7 +2,7 @@ use Rattle.std.proofs.Common.{◌≡◌, ◌∙◌, sym, ap, subst, arith, w64, 
 use Rattle.std.proofs.lemmas.Int.{to_z-of_z}
 use Rattle.spf_chain.specs.Chain.{NeedsRerun}
 use Rattle.spf_chain.specs.Kept.{again}
-use Rattle.spf_chain.proofs.Laws.{waits, ends}
+use Rattle.spf_chain.proofs.Laws.{waits}
 use Rattle.spf_chain.proofs.chain.Chain.answer.Goals as goal
 
 pub returns-in-Some : goal.returns-in-Some

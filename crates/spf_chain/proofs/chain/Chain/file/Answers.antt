@@ -1,8 +1,8 @@
-use Rattle.std.proofs.Common.{◌≡◌, ◌∙◌, ◌<◌, ◌++◌, sym, ap, subst, arith, w64, to_z, of_z, ℕ, List, length, set}
+use Rattle.std.proofs.Common.{◌≡◌, ◌∙◌, sym, ap, subst, arith, w64, to_z, of_z, length, set}
 use Rattle.std.proofs.lemmas.Int.{to_z-of_z}
 use Rattle.std.specs.Vec.{with_item}
 use Rattle.spf_chain.specs.declared.place.Place.TheVariants.{Home}
-use Rattle.spf_chain.specs.Chain.{IsOut, came_home, history, front}
+use Rattle.spf_chain.specs.Chain.{IsOut, came_home, history}
 use Rattle.spf_chain.specs.Kept.{MatchFiled, Stands, chain_value, first_real, guesses_of}
 use Rattle.spf_chain.proofs.Laws.{rerun_exact, waiting_exact, ended_exact, again_out, others_out, filed_of, after_is}
 use Rattle.spf_chain.proofs.Views.{Extends, filed_stands, filed_view, extends_view}

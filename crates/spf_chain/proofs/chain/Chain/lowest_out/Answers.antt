@@ -1,6 +1,6 @@
-use Rattle.std.proofs.Common.{◌≡◌, ℕ, ◌<◌, arith, below_more, refl, Some, slice_get}
+use Rattle.std.proofs.Common.{◌≡◌, arith, below_more, refl, Some, slice_get}
 use Rattle.std.proofs.lemmas.Bool.{false≢true}
-use Rattle.spf_chain.specs.Chain.{IsBlockOut, IsOutPlace}
+use Rattle.spf_chain.specs.Chain.{IsBlockOut}
 use Rattle.spf_chain.proofs.Views.{read_at, above, out_at, not_out_at, within}
 use Rattle.spf_chain.proofs.chain.Chain.lowest_out.Goals as goal
 

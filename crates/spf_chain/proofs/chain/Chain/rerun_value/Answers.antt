@@ -1,10 +1,8 @@
-use Rattle.std.proofs.Common.{◌≡◌, ◌∙◌, sym, ap, subst, arith, w64, to_z, of_z, refl, inl, inr, Some, slice_get, length}
+use Rattle.std.proofs.Common.{◌≡◌, ◌∙◌, sym, ap, subst, arith, w64, to_z, of_z, Some, slice_get}
 use Rattle.std.proofs.lemmas.Int.{to_z-of_z}
-use Rattle.std.proofs.lemmas.Option.{slice_get_read}
-use Rattle.spf_chain.specs.declared.place.Place.TheVariants.{Out, Home}
 use Rattle.spf_chain.specs.Chain.{NeedsRerun}
 use Rattle.spf_chain.specs.Kept.{again, IsSettledOrOut, chain_value}
-use Rattle.spf_chain.proofs.Views.{read_at, home_needs_rerun, front_out, all_done}
+use Rattle.spf_chain.proofs.Views.{read_at, home_needs_rerun, front_out}
 use Rattle.spf_chain.proofs.chain.Chain.rerun_value.Goals as goal
 
 pub returns-in-Some-Home : goal.returns-in-Some-Home

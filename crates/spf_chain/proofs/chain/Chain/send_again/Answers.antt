@@ -1,11 +1,8 @@
-use Rattle.std.proofs.Common.{◌≡◌, ◌∙◌, ◌<◌, sym, ap, subst, arith, w64, to_z, of_z, length, ℕ, ℤ, pos, ◌+ℤ◌, FitsSigned, rules}
-use Rattle.std.proofs.lemmas.Int.{ints, to_z-of_z}
-use Rattle.std.proofs.lemmas.Option.{slice_get_within}
-use Rattle.spf_chain.specs.declared.place.Place.TheVariants.{Home}
-use Rattle.spf_chain.specs.declared.task.Settled.TheVariants.{Carried}
+use Rattle.std.proofs.Common.{◌≡◌, ◌∙◌, sym, ap, arith, w64, to_z, of_z, length, pos, ◌+ℤ◌, FitsSigned, rules}
+use Rattle.std.proofs.lemmas.Int.{to_z-of_z}
 use Rattle.spf_chain.specs.declared.task.Task.{Task}
-use Rattle.spf_chain.specs.Chain.{ChainValue, front, settled}
-use Rattle.spf_chain.specs.Kept.{again, chain_value}
+use Rattle.spf_chain.specs.Chain.{ChainValue, front}
+use Rattle.spf_chain.specs.Kept.{again}
 use Rattle.spf_chain.proofs.Numbers.{number_is, smaller}
 use Rattle.spf_chain.proofs.Views.{kept_front, sent_kept, sent_history}
 use Rattle.spf_chain.proofs.chain.Chain.send_again.Goals as goal

@@ -1,12 +1,12 @@
-use Rattle.std.proofs.Common.{◌≡◌, ◌∙◌, ◌+◌, ◌+ℤ◌, ◌≤ℤ◌, sym, ap, subst, arith, length, map, pos, w64, to_z, of_z, ℤ, slice_get}
+use Rattle.std.proofs.Common.{◌≡◌, ◌∙◌, ◌+◌, ◌+ℤ◌, ◌≤ℤ◌, sym, ap, subst, arith, length, map, pos, w64, to_z, of_z, slice_get}
 use Rattle.std.proofs.lemmas.Int.{to_z-of_z}
 use Rattle.spf_chain.specs.declared.chain.Chain.TheInside.{Inside}
 use Rattle.spf_chain.specs.declared.place.Place.TheVariants.{Out}
 use Rattle.spf_chain.specs.declared.task.Settled.TheVariants.{Carried}
 use Rattle.spf_chain.specs.declared.task.Validated.{Validated}
 use Rattle.spf_chain.specs.Validation.{guesses_for}
-use Rattle.spf_chain.specs.Chain.{ChainValue, new_chain, first_tasks, IsOut, IsChainOf}
-use Rattle.spf_chain.specs.Kept.{unvalidated, tasks_for, chain_value, IsKept}
+use Rattle.spf_chain.specs.Chain.{new_chain, first_tasks, IsOut, IsChainOf}
+use Rattle.spf_chain.specs.Kept.{unvalidated, tasks_for, chain_value}
 use Rattle.spf_chain.proofs.Lists.{tasks-unvalidated}
 use Rattle.spf_chain.proofs.Start.{blocks_size, start_kept, start_view, start_out, start_answers}
 use Rattle.spf_chain.proofs.chain.Chain.start.Goals as goal

@@ -1,7 +1,5 @@
-use Rattle.std.proofs.Common.{◌≡◌, ◌∙◌, sym, arith, w64, to_z, of_z, refl}
+use Rattle.std.proofs.Common.{◌≡◌, arith, w64, to_z, of_z, refl}
 use Rattle.std.proofs.lemmas.Int.{to_z-of_z}
-use Rattle.spf_chain.specs.declared.place.Place.TheVariants.{Out}
-use Rattle.spf_chain.specs.Kept.{first_real, guesses_of}
 use Rattle.spf_chain.proofs.Steps.{one_more_at, past_none}
 use Rattle.spf_chain.proofs.validation.Validation.advance.Goals as goal
 
