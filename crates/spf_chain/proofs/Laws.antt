@@ -206,7 +206,7 @@ pub filed_of : (f : Answers) (c d : ChainValue) (t : Task) (s : Stop) (r : Filed
 filed_of f c d t s r is h right = subst (IsChainOf f) (sym is) (after_of f (came_home c t s) r (came_of f c t s h right))
 
 -- the rerun is out
-pub again_out : (c d : ChainValue) (r : Filed) → MatchFiled c r d → (t : Task) → r ≡ Rerun t → IsOut d t
+again_out : (c d : ChainValue) (r : Filed) → MatchFiled c r d → (t : Task) → r ≡ Rerun t → IsOut d t
 again_out c d (Waiting b) h t e = absurd cc
 again_out c d Ended h t e = absurd cc
 again_out c d (Rerun u) h t e =
@@ -226,5 +226,41 @@ others_after c d (Rerun u) h t out =
     let other : t.block ≡ u.block → ⊥ = λ e. not_both c u.block 1 h.0.guess h.0.stop h.0.first (record { attempt = t.attempt; carried = t.carried; place = ap (slice_get c.places) (sym e) ∙ out.place }) in
     subst (λ x. IsOut x t) (sym h.1) (moved c (Out u.attempt u.carried) u.block t other out)
 
-pub others_out : (c d : ChainValue) (t : Task) (s : Stop) (r : Filed) → MatchFiled (came_home c t s) r d → (u : Task) → IsOut c u → (u.block ≡ t.block → ⊥) → IsOut d u
+others_out : (c d : ChainValue) (t : Task) (s : Stop) (r : Filed) → MatchFiled (came_home c t s) r d → (u : Task) → IsOut c u → (u.block ≡ t.block → ⊥) → IsOut d u
 others_out c d t s r h u out other = others_after (came_home c t s) d r h u (moved c (Home t.attempt t.carried s) t.block u other out)
+
+-- a task that is out is one that was, or the rerun's
+still_out : (c d : ChainValue) (r : Filed) → MatchFiled c r d → (t : Task) → IsOut d t → IsOut c t ⊎ (r ≡ Rerun t)
+still_out c d (Waiting b) h t out = inl (subst (λ x. IsOut x t) h.1 out)
+still_out c d Ended h t out = inl (subst (λ x. IsOut x t) h.1 out)
+still_out c d (Rerun u) h t out =
+    let o : IsOut (sent_out c u) t = subst (λ x. IsOut x t) h.1 out in
+    elim (set_cases c.places u.block t.block (Out u.attempt u.carried) (Out t.attempt t.carried) o.place) [
+      | inl e ↦
+          let attempt : u.attempt ≡ t.attempt = let same : Out t.attempt t.carried ≡ Out u.attempt u.carried = e.1 in cc in
+          let carried : u.carried ≡ t.carried = let same : Out t.attempt t.carried ≡ Out u.attempt u.carried = e.1 in cc in
+          let number : u.number ≡ t.number = h.0.number ∙ ap (λ n. c.low +ℤ pos n) (sym e.0) ∙ sym o.number in
+          inr (ap Rerun (same_task u t (sym e.0) number attempt carried))
+      | inr old ↦ inl (record { place = old; number = o.number })
+    ]
+
+-- a task that is out after a report came home was out, and is of another block
+was_out : (c : ChainValue) (t : Task) (s : Stop) (u : Task) → IsOut c t → IsOut (came_home c t s) u → IsOut c u × (u.block ≡ t.block → ⊥)
+was_out c t s u mine out = elim (set_cases c.places t.block u.block (Home t.attempt t.carried s) (Out u.attempt u.carried) out.place) [
+  | inl e ↦ absurd (let bad : Out u.attempt u.carried ≡ Home t.attempt t.carried s = e.1 in cc)
+  | inr old ↦ (
+    record { place = old; number = out.number },
+    λ e.
+        let low = slice_get_within c.places t.block (Out t.attempt t.carried) mine.place in
+        let home : slice_get (set c.places t.block (Home t.attempt t.carried s)) t.block ≡ Some (Home t.attempt t.carried s) = set_here c.places t.block (Home t.attempt t.carried s) low in
+        let there : slice_get (set c.places t.block (Home t.attempt t.carried s)) t.block ≡ Some (Out u.attempt u.carried) = ap (slice_get (set c.places t.block (Home t.attempt t.carried s))) (sym e) ∙ out.place in
+        let bad : Some (Home t.attempt t.carried s) ≡ Some (Out u.attempt u.carried) = sym home ∙ there in
+        absurd cc,
+  )
+]
+
+pub out_exact : (c d : ChainValue) (t : Task) (s : Stop) (r : Filed) → IsOut c t → MatchFiled (came_home c t s) r d → (u : Task) → IsOut d u ↔ ((IsOut c u × (u.block ≡ t.block → ⊥)) ⊎ (r ≡ Rerun u))
+out_exact c d t s r mine h u = (
+  λ out. elim (still_out (came_home c t s) d r h u out) [ inl o ↦ inl (was_out c t s u mine o) | inr e ↦ inr e ],
+  λ either. elim either [ inl o ↦ others_out c d t s r h u o.0 o.1 | inr e ↦ again_out (came_home c t s) d r h u e ],
+)

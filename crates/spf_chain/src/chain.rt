@@ -1,5 +1,5 @@
 // The chain: tasks come home with their reports, and the blocks are validated in their order.
-ghost use Rattle.std.specs.Prelude.{◌≡◌, ℕ, ◌+◌, ◌≤◌, ◌<◌, ◌++◌, ◌↔◌, List, map, length, IfOk, ℤ, pos, ◌+ℤ◌, ◌≤ℤ◌, slice_get, Some, MatchOption};
+ghost use Rattle.std.specs.Prelude.{◌≡◌, ◌⊎◌, ℕ, ◌+◌, ◌≤◌, ◌<◌, ◌++◌, ◌↔◌, List, map, length, IfOk, ℤ, pos, ◌+ℤ◌, ◌≤ℤ◌, slice_get, Some, MatchOption};
 ghost use Rattle.spf_chain.specs.declared.task.Task.{Task as SeenTask};
 ghost use Rattle.spf_chain.specs.declared.task.Validated.{Validated as SeenValidated};
 ghost use Rattle.spf_chain.specs.declared.task.Filed.TheVariants.{Rerun, Waiting, Ended};
@@ -172,8 +172,7 @@ impl Chain {
         ensures rerun { (t : SeenTask) → (result ≡ Rerun t) ↔ NeedsRerun (came_home self.old task stop) t }
         ensures waiting { (block : ℕ) → (result ≡ Waiting block) ↔ WaitsFor (came_home self.old task stop) block }
         ensures ended { (result ≡ Ended) ↔ HasEnded (came_home self.old task stop) }
-        ensures again { (t : SeenTask) → result ≡ Rerun t → IsOut self.new t }
-        ensures others { (t : SeenTask) → IsOut self.old t → (t.block ≡ task.block → ⊥) → IsOut self.new t }
+        ensures out { (t : SeenTask) → IsOut self.new t ↔ ((IsOut self.old t × (t.block ≡ task.block → ⊥)) ⊎ (result ≡ Rerun t)) }
         ensures history { (more : List SeenValidated) × (history self.new ≡ history self.old ++ more) }
         ensures second { task.attempt ≡ 2 → front self.old < front self.new }
         ensures answers { (f : Answers) → IsChainOf f self.old → f task.block task.carried ≡ stop → IsChainOf f self.new }

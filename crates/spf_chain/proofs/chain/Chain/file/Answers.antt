@@ -4,7 +4,7 @@ use Rattle.std.specs.Vec.{with_item}
 use Rattle.spf_chain.specs.declared.place.Place.TheVariants.{Home}
 use Rattle.spf_chain.specs.Chain.{IsOut, came_home, history}
 use Rattle.spf_chain.specs.Kept.{MatchFiled, Stands, chain_value, first_real, guesses_of}
-use Rattle.spf_chain.proofs.Laws.{rerun_exact, waiting_exact, ended_exact, again_out, others_out, filed_of, after_is}
+use Rattle.spf_chain.proofs.Laws.{rerun_exact, waiting_exact, ended_exact, out_exact, filed_of, after_is}
 use Rattle.spf_chain.proofs.Views.{Extends, filed_stands, filed_view, extends_view}
 use Rattle.spf_chain.proofs.chain.Chain.file.Goals as goal
 
@@ -41,11 +41,8 @@ returns-clause-waiting c = waiting_exact (came_home c.args.self.now c.args.task 
 pub returns-clause-ended : goal.returns-clause-ended
 returns-clause-ended c = ended_exact (came_home c.args.self.now c.args.task c.args.stop) c.answer.new.self c.answer.result (answer_is c)
 
-pub returns-clause-again : goal.returns-clause-again
-returns-clause-again c = again_out (came_home c.args.self.now c.args.task c.args.stop) c.answer.new.self c.answer.result (answer_is c)
-
-pub returns-clause-others : goal.returns-clause-others
-returns-clause-others c = others_out c.args.self.now c.answer.new.self c.args.task c.args.stop c.answer.result (answer_is c)
+pub returns-clause-out : goal.returns-clause-out
+returns-clause-out c = out_exact c.args.self.now c.answer.new.self c.args.task c.args.stop c.answer.result c.requires.out (answer_is c)
 
 -- what filing does to the history
 more_is : (c : goal.After-answer) → Extends c.args.self.now c.args.task c.args.stop
