@@ -15,25 +15,25 @@ use Rattle.spf_exec.proofs.Forms.{expr_means-call, call_means-is, slot_count, ki
 use Rattle.spf_exec.specs.Performs.{block_value, environment, state, at_line}
 use Rattle.spf_exec.proofs.Steps.{at_once, checked_is, traps_now, load_now, store_now, then_value, then_halt, exit_left, along, in_own, steps}
 use Rattle.spf_exec.proofs.Turns.{no_statements, next_statement, still, next_fits, to_z_fits, for_turn, while_is, while_last, while_turn, after_sets, block_turn, int_gap_none}
-use Rattle.spf_exec.proofs.Calls.{call_of, room_of, depth_at, own_is, filled, none_left}
+use Rattle.spf_exec.proofs.Calls.{call_of, room_of, depth_at, own_is, filled, filled_one, filled_two, none_left, one_left, two_left, first_left, rest_is}
 use Rattle.spf_exec.proofs.run.+run.Goals as goal
 
 pub call-returns-in_default-clause-performs : goal.call-returns-in_default-clause-performs
 call-returns-in_default-clause-performs g t c =
     along (call_means-is (environment c.args.context.now c.args.below) c.args.line c.args.function c.args.arguments.now false (c.in_default.ensures {u = tt})) (at_once g.met.M.Memory.laws _ _ _)
 
-pub call-pass_arguments-requires : goal.call-pass_arguments-requires
-call-pass_arguments-requires g t c =
+pub call-pass-requires : goal.call-pass-requires
+call-pass-requires g t c =
     let p = c.in-Some.ensures {u = tt} in
     let m : t ≡ weight_before (map function c.args.context.now.functions.now) c.args.below + 2 * exprs_weight c.args.arguments.now + 1 = sym c.decreases in
     let r = room_of (map function c.args.context.now.functions.now) c.args.function c.args.below p.1 in
     let k : weight_before (map function c.args.context.now.functions.now) c.args.below + 2 * exprs_weight c.args.arguments.now < t = omega (arith, m) in
     λ κs h. (k, (h, (c.requires.within, (c.requires.short, (c.requires.room, omega (arith, r, ap slots_of p.2, p.3, c.requires.room))))))
 
-pub call-returns-in_err-pass_arguments-clause-performs : goal.call-returns-in_err-pass_arguments-clause-performs
-call-returns-in_err-pass_arguments-clause-performs g t c =
+pub call-returns-in_err-pass-clause-performs : goal.call-returns-in_err-pass-clause-performs
+call-returns-in_err-pass-clause-performs g t c =
     let p = c.in-Some.ensures {u = tt} in
-    along (call_means-is (environment c.args.context.now c.args.below) c.args.line c.args.function c.args.arguments.now true p.0) (exit_left _ (err_from_is_err_and c.from_residual.result c.from_residual.ensures.1).1 c.in_err-pass_arguments.ensures.performs)
+    along (call_means-is (environment c.args.context.now c.args.below) c.args.line c.args.function c.args.arguments.now true p.0) (exit_left _ (err_from_is_err_and c.from_residual.result c.from_residual.ensures.1).1 c.in_err-pass.ensures.performs)
 
 pub call-split_at_mut-own-requires : goal.call-split_at_mut-own-requires
 call-split_at_mut-own-requires g t c =
@@ -51,41 +51,41 @@ call-exec_block-requires g t c =
     let q = depth_at (map function c.args.context.now.functions.now) c.args.function c.args.below p.1 in
     let d = ap stmts_weight c.deref.ensures.value in
     let k : weight_before (map function c.args.context.now.functions.now) c.args.function + 2 * stmts_weight c.deref.result.now < t = omega (arith, m, q, ap weight_of p.2, d) in
-    λ κs h. (k, (h, (rw c.in_ok-pass_arguments.ensures.cells c.requires.within, (c.requires.short, omega (arith, r, ap slots_of p.2, count, c.requires.room, c.split_at_mut-own.ensures.back_len)))))
+    λ κs h. (k, (h, (rw c.in_ok-pass.ensures.cells c.requires.within, (c.requires.short, omega (arith, r, ap slots_of p.2, count, c.requires.room, c.split_at_mut-own.ensures.back_len)))))
 
 pub call-returns-in_err-exec_block-clause-performs : goal.call-returns-in_err-exec_block-clause-performs
 call-returns-in_err-exec_block-clause-performs g t c =
     let p = c.in-Some.ensures {u = tt} in
     let count = slot_count c.in-Some.callee.now c.len.result (search rules) in
-    let vs : List ℤ = take (length c.args.arguments.now) (drop 0 c.pass_arguments.new.scratch) in
+    let vs : List ℤ = take (length c.args.arguments.now) (drop 0 c.pass.new.scratch) in
     let called = call_of c.args.context.now.input.now c.args.context.now.extents.now (map function c.args.context.now.functions.now) c.args.function c.args.below vs p.1 ∙ ap (λ o. function_means (environment c.args.context.now c.args.function) o vs) p.2 in
     let le : length c.args.arguments.now ≤ c.len.result = omega (arith, count, p.3) in
-    let own = own_is c.pass_arguments.new.scratch _ _ (length c.args.arguments.now) c.len.result c.split_at_mut-own.ensures.value c.split_at_mut-own.ensures.front_len le in
+    let own = own_is c.pass.new.scratch _ _ (length c.args.arguments.now) c.len.result c.split_at_mut-own.ensures.value c.split_at_mut-own.ensures.front_len le in
     let same = ap (λ k. own_slots k vs) (sym count) ∙ own ∙ sym c.clear.ensures in
-    let run = in_own (own_slots (length (function c.in-Some.callee.now).slots) vs) (stmts_mean (environment c.args.context.now c.args.function) c.in-Some.callee.now.body.items >> expr_means (environment c.args.context.now c.args.function) c.in-Some.callee.now.answer_line c.in-Some.callee.now.answer) (state c.args.slots.now (g.M.Memory.output c.pass_arguments.new.memory)) (exit_left (λ _. expr_means (environment c.args.context.now c.args.function) c.in-Some.callee.now.answer_line c.in-Some.callee.now.answer) (err_from_is_err_and c.from_residual-in_err-exec_block.result c.from_residual-in_err-exec_block.ensures.1).1 (rw (c.deref.ensures.value, ← same) at c.in_err-exec_block.ensures.performs)) in
-    along (call_means-is (environment c.args.context.now c.args.below) c.args.line c.args.function c.args.arguments.now true p.0) (then_value _ g.met.M.Memory.laws c.in_ok-pass_arguments.ensures.performs (along called run))
+    let run = in_own (own_slots (length (function c.in-Some.callee.now).slots) vs) (stmts_mean (environment c.args.context.now c.args.function) c.in-Some.callee.now.body.items >> expr_means (environment c.args.context.now c.args.function) c.in-Some.callee.now.answer_line c.in-Some.callee.now.answer) (state c.args.slots.now (g.M.Memory.output c.pass.new.memory)) (exit_left (λ _. expr_means (environment c.args.context.now c.args.function) c.in-Some.callee.now.answer_line c.in-Some.callee.now.answer) (err_from_is_err_and c.from_residual-in_err-exec_block.result c.from_residual-in_err-exec_block.ensures.1).1 (rw (c.deref.ensures.value, ← same) at c.in_err-exec_block.ensures.performs)) in
+    along (call_means-is (environment c.args.context.now c.args.below) c.args.line c.args.function c.args.arguments.now true p.0) (then_value _ g.met.M.Memory.laws c.in_ok-pass.ensures.performs (along called run))
 
-pub call-eval-requires : goal.call-eval-requires
-call-eval-requires g t c =
+pub call-eval_value-requires : goal.call-eval_value-requires
+call-eval_value-requires g t c =
     let p = c.in-Some.ensures {u = tt} in
     let m : t ≡ weight_before (map function c.args.context.now.functions.now) c.args.below + 2 * exprs_weight c.args.arguments.now + 1 = sym c.decreases in
     let r = room_of (map function c.args.context.now.functions.now) c.args.function c.args.below p.1 in
     let count = slot_count c.in-Some.callee.now c.len.result (search rules) in
     let q = depth_at (map function c.args.context.now.functions.now) c.args.function c.args.below p.1 in
     let k : weight_before (map function c.args.context.now.functions.now) c.args.function + 2 * expr_weight c.in-Some.callee.now.answer + 1 < t = omega (arith, m, q, ap weight_of p.2) in
-    λ κs h. (k, (h, (rw (c.in_ok-exec_block.ensures.cells, c.in_ok-pass_arguments.ensures.cells) c.requires.within, (c.requires.short, omega (arith, r, ap slots_of p.2, count, c.requires.room, c.split_at_mut-own.ensures.back_len)))))
+    λ κs h. (k, (h, (rw (c.in_ok-exec_block.ensures.cells, c.in_ok-pass.ensures.cells) c.requires.within, (c.requires.short, omega (arith, r, ap slots_of p.2, count, c.requires.room, c.split_at_mut-own.ensures.back_len)))))
 
 pub call-returns-clause-performs : goal.call-returns-clause-performs
 call-returns-clause-performs g t c =
     let p = c.in-Some.ensures {u = tt} in
     let count = slot_count c.in-Some.callee.now c.len.result (search rules) in
-    let vs : List ℤ = take (length c.args.arguments.now) (drop 0 c.pass_arguments.new.scratch) in
+    let vs : List ℤ = take (length c.args.arguments.now) (drop 0 c.pass.new.scratch) in
     let called = call_of c.args.context.now.input.now c.args.context.now.extents.now (map function c.args.context.now.functions.now) c.args.function c.args.below vs p.1 ∙ ap (λ o. function_means (environment c.args.context.now c.args.function) o vs) p.2 in
     let le : length c.args.arguments.now ≤ c.len.result = omega (arith, count, p.3) in
-    let own = own_is c.pass_arguments.new.scratch _ _ (length c.args.arguments.now) c.len.result c.split_at_mut-own.ensures.value c.split_at_mut-own.ensures.front_len le in
+    let own = own_is c.pass.new.scratch _ _ (length c.args.arguments.now) c.len.result c.split_at_mut-own.ensures.value c.split_at_mut-own.ensures.front_len le in
     let same = ap (λ k. own_slots k vs) (sym count) ∙ own ∙ sym c.clear.ensures in
-    let run = in_own (own_slots (length (function c.in-Some.callee.now).slots) vs) (stmts_mean (environment c.args.context.now c.args.function) c.in-Some.callee.now.body.items >> expr_means (environment c.args.context.now c.args.function) c.in-Some.callee.now.answer_line c.in-Some.callee.now.answer) (state c.args.slots.now (g.M.Memory.output c.pass_arguments.new.memory)) (then_value (λ _. expr_means (environment c.args.context.now c.args.function) c.in-Some.callee.now.answer_line c.in-Some.callee.now.answer) g.met.M.Memory.laws (rw (c.deref.ensures.value, ← same) at c.in_ok-exec_block.ensures.performs) c.eval.ensures.performs) in
-    along (call_means-is (environment c.args.context.now c.args.below) c.args.line c.args.function c.args.arguments.now true p.0) (then_value _ g.met.M.Memory.laws c.in_ok-pass_arguments.ensures.performs (along called run))
+    let run = in_own (own_slots (length (function c.in-Some.callee.now).slots) vs) (stmts_mean (environment c.args.context.now c.args.function) c.in-Some.callee.now.body.items >> expr_means (environment c.args.context.now c.args.function) c.in-Some.callee.now.answer_line c.in-Some.callee.now.answer) (state c.args.slots.now (g.M.Memory.output c.pass.new.memory)) (then_value (λ _. expr_means (environment c.args.context.now c.args.function) c.in-Some.callee.now.answer_line c.in-Some.callee.now.answer) g.met.M.Memory.laws (rw (c.deref.ensures.value, ← same) at c.in_ok-exec_block.ensures.performs) c.eval_value.ensures.performs) in
+    along (call_means-is (environment c.args.context.now c.args.below) c.args.line c.args.function c.args.arguments.now true p.0) (then_value _ g.met.M.Memory.laws c.in_ok-pass.ensures.performs (along called run))
 
 pub compute-returns-in_err-x-in-Neg-clause-performs : goal.compute-returns-in_err-x-in-Neg-clause-performs
 compute-returns-in_err-x-in-Neg-clause-performs g t c =
@@ -176,6 +176,75 @@ compute-returns-in_ok-i-in-Input-clause-performs g t c =
 
 pub compute-returns-in-Call-clause-performs : goal.compute-returns-in-Call-clause-performs
 compute-returns-in-Call-clause-performs g t c =
+    rw c.in-Call.is
+    (along (expr_means-call (environment c.args.context.now c.args.below) c.args.line c.in-Call.function c.in-Call.arguments)
+    (rw (← c.deref-in-Call.ensures.value) c.call.ensures.performs))
+
+pub eval_operand-returns-in-Number-clause-performs : goal.eval_operand-returns-in-Number-clause-performs
+eval_operand-returns-in-Number-clause-performs g t c =
+    let f : FitsSigned w64 c.in-Number.n = search rules in
+    rw (to_z-of_z w64 c.in-Number.n f, c.in-Number.is) (at_once g.met.M.Memory.laws _ _ _)
+
+pub eval_operand-returns-in-Local-clause-performs : goal.eval_operand-returns-in-Local-clause-performs
+eval_operand-returns-in-Local-clause-performs g t c =
+    let f : FitsSigned w64 c.read_slot.result = search rules in
+    rw (to_z-of_z w64 c.read_slot.result f, c.read_slot.ensures, c.in-Local.is) (at_once g.met.M.Memory.laws _ _ _)
+
+pub eval_value-returns-in-Number-clause-performs : goal.eval_value-returns-in-Number-clause-performs
+eval_value-returns-in-Number-clause-performs g t c =
+    let f : FitsSigned w64 c.in-Number.n = search rules in
+    rw (to_z-of_z w64 c.in-Number.n f, c.in-Number.is) (at_once g.met.M.Memory.laws _ _ _)
+
+pub eval_value-returns-in-Local-clause-performs : goal.eval_value-returns-in-Local-clause-performs
+eval_value-returns-in-Local-clause-performs g t c =
+    let f : FitsSigned w64 c.read_slot.result = search rules in
+    rw (to_z-of_z w64 c.read_slot.result f, c.read_slot.ensures, c.in-Local.is) (at_once g.met.M.Memory.laws _ _ _)
+
+pub eval_operand-returns-in_err-i-in-Load-clause-performs : goal.eval_operand-returns-in_err-i-in-Load-clause-performs
+eval_operand-returns-in_err-i-in-Load-clause-performs g t c =
+    rw (c.in-Load.is, ← c.deref.ensures) (exit_left _ (err_from_is_err_and c.from_residual.result c.from_residual.ensures.1).1 c.in_err-i-in-Load.ensures.performs)
+
+pub eval_operand-returns-in_err-cell-in-Load-clause-performs : goal.eval_operand-returns-in_err-cell-in-Load-clause-performs
+eval_operand-returns-in_err-cell-in-Load-clause-performs g t c =
+    let f : FitsSigned w64 c.in_ok-i-in-Load.i = search rules in
+    let e2 = rw (to_z-of_z w64 c.in_ok-i-in-Load.i f) at c.cell_of.ensures.value in
+    rw (c.in-Load.is, ← c.deref.ensures)
+    (then_value _ g.met.M.Memory.laws c.in_ok-i-in-Load.ensures.performs (exit_left _ (err_from_is_err_and c.from_residual-in_err-cell-in-Load.result c.from_residual-in_err-cell-in-Load.ensures.1).1 (checked_is g.met.M.Memory.laws _ _ _ _ (ap (at_line c.args.line) (sym e2) ∙ sym c.in_err-cell-in-Load.ensures))))
+
+pub eval_operand-returns-in_ok-cell-in-Load-clause-performs : goal.eval_operand-returns-in_ok-cell-in-Load-clause-performs
+eval_operand-returns-in_ok-cell-in-Load-clause-performs g t c =
+    let f : FitsSigned w64 c.in_ok-i-in-Load.i = search rules in
+    let fw : FitsSigned w64 c.load.result = search rules in
+    let e2 = rw (to_z-of_z w64 c.in_ok-i-in-Load.i f) at c.cell_of.ensures.value in
+    rw (to_z-of_z w64 c.load.result fw, c.load.ensures.output, c.in-Load.is, ← c.deref.ensures)
+    (then_value _ g.met.M.Memory.laws c.in_ok-i-in-Load.ensures.performs (then_value _ g.met.M.Memory.laws (checked_is g.met.M.Memory.laws _ _ _ _ (ap (at_line c.args.line) (sym e2) ∙ sym c.in_ok-cell-in-Load.ensures)) (load_now _ _ _ _ _ c.load.ensures.leads)))
+
+pub eval_value-returns-in_err-a-in-Binary-clause-performs : goal.eval_value-returns-in_err-a-in-Binary-clause-performs
+eval_value-returns-in_err-a-in-Binary-clause-performs g t c =
+    rw (c.in-Binary.is, ← c.deref.ensures) (exit_left _ (err_from_is_err_and c.from_residual.result c.from_residual.ensures.1).1 c.in_err-a-in-Binary.ensures.performs)
+
+pub eval_value-returns-in_err-b-in-Binary-clause-performs : goal.eval_value-returns-in_err-b-in-Binary-clause-performs
+eval_value-returns-in_err-b-in-Binary-clause-performs g t c =
+    rw (c.in-Binary.is, ← c.deref.ensures, ← c.deref-in-Binary.ensures)
+    (then_value _ g.met.M.Memory.laws c.in_ok-a-in-Binary.ensures.performs (exit_left _ (err_from_is_err_and c.from_residual-in_err-b-in-Binary.result c.from_residual-in_err-b-in-Binary.ensures.1).1 c.in_err-b-in-Binary.ensures.performs))
+
+pub eval_value-returns-in_ok-b-in-Binary-clause-performs : goal.eval_value-returns-in_ok-b-in-Binary-clause-performs
+eval_value-returns-in_ok-b-in-Binary-clause-performs g t c =
+    let fx : FitsSigned w64 c.in_ok-a-in-Binary.a = search rules in
+    let fy : FitsSigned w64 c.in_ok-b-in-Binary.b = search rules in
+    rw (c.binary.ensures, to_z-of_z w64 c.in_ok-a-in-Binary.a fx, to_z-of_z w64 c.in_ok-b-in-Binary.b fy, c.in-Binary.is, ← c.deref.ensures, ← c.deref-in-Binary.ensures)
+    (then_value _ g.met.M.Memory.laws c.in_ok-a-in-Binary.ensures.performs (then_value _ g.met.M.Memory.laws c.in_ok-b-in-Binary.ensures.performs (checked_is g.met.M.Memory.laws _ _ _ _ refl)))
+
+pub eval_value-call-requires : goal.eval_value-call-requires
+eval_value-call-requires g t c =
+    let m : t ≡ weight_before (map function c.args.context.now.functions.now) c.args.below + 2 * expr_weight c.args.expr.now + 1 = sym c.decreases in
+    let e = ap expr_weight c.in-Call.is ∙ expr_weight-call c.in-Call.function c.in-Call.arguments in
+    let d = ap exprs_weight c.deref-in-Call.ensures.value in
+    let k : weight_before (map function c.args.context.now.functions.now) c.args.below + 2 * exprs_weight c.deref-in-Call.result.now + 1 < t = omega (arith, m, e, d) in
+    λ κs h. (k, (h, (c.requires.within, (c.requires.short, c.requires.room))))
+
+pub eval_value-returns-in-Call-clause-performs : goal.eval_value-returns-in-Call-clause-performs
+eval_value-returns-in-Call-clause-performs g t c =
     rw c.in-Call.is
     (along (expr_means-call (environment c.args.context.now c.args.below) c.args.line c.in-Call.function c.in-Call.arguments)
     (rw (← c.deref-in-Call.ensures.value) c.call.ensures.performs))
@@ -591,27 +660,89 @@ pub exec_while-returns-clause-performs : goal.exec_while-returns-clause-performs
 exec_while-returns-clause-performs g t c =
     (rw c.if-branch.false at (steps _ g.met.M.Memory.laws (still (while_is c.args.line c.loop-halt.left (cond_means (environment c.args.context.now c.args.below) c.args.line c.args.cond.now) (stmts_mean (environment c.args.context.now c.args.below) c.args.body.now)) c.loop-halt.invariant.goes) c.in_ok-test.ensures.performs)).with _ _ _ (at_once g.met.M.Memory.laws _ _ _)
 
-pub pass_arguments-returns-in_err-value-in-Some-clause-performs : goal.pass_arguments-returns-in_err-value-in-Some-clause-performs
-pass_arguments-returns-in_err-value-in-Some-clause-performs g t c =
+pub pass-returns-in_err-value-in-len1-clause-performs : goal.pass-returns-in_err-value-in-len1-clause-performs
+pass-returns-in_err-value-in-len1-clause-performs g t c =
+    let q = err_from_is_err_and c.from_residual.result c.from_residual.ensures.1 in
+    let xs = one_left c.args.arguments.now c.only-item.result (omega (arith, c.in-len1.len_at_least)) (omega (arith, c.in-len1.len_below)) c.only-item.is in
+    rw (q.1, xs) (then_halt _ c.in_err-value-in-len1.ensures.performs)
+
+pub pass-returns-in_err-x-in-len2-clause-performs : goal.pass-returns-in_err-x-in-len2-clause-performs
+pass-returns-in_err-x-in-len2-clause-performs g t c =
+    let q = err_from_is_err_and c.from_residual-in_err-x-in-len2.result c.from_residual-in_err-x-in-len2.ensures.1 in
+    let xs = two_left c.args.arguments.now c.first-item.result c.second-item.result (omega (arith, c.in-len2.len_at_least)) (omega (arith, c.in-len2.len_below)) c.first-item.is c.second-item.is in
+    rw (q.1, xs) (then_halt _ c.in_err-x-in-len2.ensures.performs)
+
+pub pass-returns-in_err-y-in-len2-clause-performs : goal.pass-returns-in_err-y-in-len2-clause-performs
+pass-returns-in_err-y-in-len2-clause-performs g t c =
+    let q = err_from_is_err_and c.from_residual-in_err-y-in-len2.result c.from_residual-in_err-y-in-len2.ensures.1 in
+    let xs = two_left c.args.arguments.now c.first-item.result c.second-item.result (omega (arith, c.in-len2.len_at_least)) (omega (arith, c.in-len2.len_below)) c.first-item.is c.second-item.is in
+    rw (q.1, xs) (then_value _ g.met.M.Memory.laws c.in_ok-x-in-len2.ensures.performs (then_halt _ (then_halt _ c.in_err-y-in-len2.ensures.performs)))
+
+pub pass-returns-in_err-value-in-len1-up-clause-performs : goal.pass-returns-in_err-value-in-len1-up-clause-performs
+pass-returns-in_err-value-in-len1-up-clause-performs g t c =
+    let q = err_from_is_err_and c.from_residual-in_err-value-in-len1-up.result c.from_residual-in_err-value-in-len1-up.ensures.1 in
+    let xs = first_left c.args.arguments.now (drop 1 c.args.arguments.now) c.first-item-2.result (omega (arith, c.in-len1-up.len_at_least)) c.first-item-2.is refl in
+    rw (q.1, xs) (then_halt _ c.in_err-value-in-len1-up.ensures.performs)
+
+pub pass-returns-in-empty-clause-performs : goal.pass-returns-in-empty-clause-performs
+pass-returns-in-empty-clause-performs g t c =
+    rw (none_left c.args.arguments.now (omega (arith, c.in-empty.len_below))) (at_once g.met.M.Memory.laws _ _ _)
+
+pub pass-returns-in_ok-value-in-len1-clause-performs : goal.pass-returns-in_ok-value-in-len1-clause-performs
+pass-returns-in_ok-value-in-len1-clause-performs g t c =
+    let f : FitsSigned w64 c.in_ok-value-in-len1.value = search rules in
+    let xs = one_left c.args.arguments.now c.only-item.result (omega (arith, c.in-len1.len_at_least)) (omega (arith, c.in-len1.len_below)) c.only-item.is in
+    let long : 1 ≤ length c.eval.new.scratch = omega (arith, c.requires.fits, c.in-len1.len_at_least) in
+    rw (to_z-of_z w64 c.in_ok-value-in-len1.value f, xs, filled_one c.eval.new.scratch c.in_ok-value-in-len1.value long)
+    (then_value _ g.met.M.Memory.laws c.in_ok-value-in-len1.ensures.performs (at_once g.met.M.Memory.laws _ _ _))
+
+pub pass-returns-in_ok-y-in-len2-clause-performs : goal.pass-returns-in_ok-y-in-len2-clause-performs
+pass-returns-in_ok-y-in-len2-clause-performs g t c =
+    let fx : FitsSigned w64 c.in_ok-x-in-len2.x = search rules in
+    let fy : FitsSigned w64 c.in_ok-y-in-len2.y = search rules in
+    let xs = two_left c.args.arguments.now c.first-item.result c.second-item.result (omega (arith, c.in-len2.len_at_least)) (omega (arith, c.in-len2.len_below)) c.first-item.is c.second-item.is in
+    let long : 2 ≤ length c.eval-in-len2-2.new.scratch = omega (arith, c.requires.fits, c.in-len2.len_at_least) in
+    rw (to_z-of_z w64 c.in_ok-x-in-len2.x fx, to_z-of_z w64 c.in_ok-y-in-len2.y fy, xs, filled_two c.eval-in-len2-2.new.scratch c.in_ok-x-in-len2.x c.in_ok-y-in-len2.y long)
+    (then_value _ g.met.M.Memory.laws c.in_ok-x-in-len2.ensures.performs (then_value _ g.met.M.Memory.laws (then_value _ g.met.M.Memory.laws c.in_ok-y-in-len2.ensures.performs (at_once g.met.M.Memory.laws _ _ _)) (at_once g.met.M.Memory.laws _ _ _)))
+
+pub pass-returns-in_err-pass_others-in-len1-up-clause-performs : goal.pass-returns-in_err-pass_others-in-len1-up-clause-performs
+pass-returns-in_err-pass_others-in-len1-up-clause-performs g t c =
+    let q = err_from_is_err_and c.from_residual-in_err-pass_others-in-len1-up.result c.from_residual-in_err-pass_others-in-len1-up.ensures.1 in
+    let xs = first_left c.args.arguments.now (drop 1 c.args.arguments.now) c.first-item-2.result (omega (arith, c.in-len1-up.len_at_least)) c.first-item-2.is refl in
+    let p = rw (rest_is c.args.arguments.now) at c.in_err-pass_others-in-len1-up.ensures.performs in
+    rw (q.1, xs) (then_value _ g.met.M.Memory.laws c.in_ok-value-in-len1-up.ensures.performs (then_halt _ p))
+
+pub pass-returns-in_ok-pass_others-in-len1-up-clause-performs : goal.pass-returns-in_ok-pass_others-in-len1-up-clause-performs
+pass-returns-in_ok-pass_others-in-len1-up-clause-performs g t c =
+    let f : FitsSigned w64 c.in_ok-value-in-len1-up.value = search rules in
+    let xs = first_left c.args.arguments.now (drop 1 c.args.arguments.now) c.first-item-2.result (omega (arith, c.in-len1-up.len_at_least)) c.first-item-2.is refl in
+    let n = length (drop 1 c.args.arguments.now) in
+    let within : 0 < length c.pass_others.new.scratch = omega (arith, c.requires.fits, c.in-len1-up.len_at_least) in
+    let p = rw (rest_is c.args.arguments.now) at c.in_ok-pass_others-in-len1-up.ensures.performs in
+    rw (to_z-of_z w64 c.in_ok-value-in-len1-up.value f, xs, filled c.pass_others.new.scratch 0 n c.in_ok-value-in-len1-up.value within)
+    (then_value _ g.met.M.Memory.laws c.in_ok-value-in-len1-up.ensures.performs (then_value _ g.met.M.Memory.laws p (at_once g.met.M.Memory.laws _ _ _)))
+
+pub pass_others-returns-in_err-value-in-Some-clause-performs : goal.pass_others-returns-in_err-value-in-Some-clause-performs
+pass_others-returns-in_err-value-in-Some-clause-performs g t c =
     let q = err_from_is_err_and c.from_residual.result c.from_residual.ensures.1 in
     rw (q.1, c.in-Some.ensures.cases.0) (then_halt _ c.in_err-value-in-Some.ensures.performs)
 
-pub pass_arguments-returns-in_err-pass_arguments-in-Some-clause-performs : goal.pass_arguments-returns-in_err-pass_arguments-in-Some-clause-performs
-pass_arguments-returns-in_err-pass_arguments-in-Some-clause-performs g t c =
-    let q = err_from_is_err_and c.from_residual-in_err-pass_arguments-in-Some.result c.from_residual-in_err-pass_arguments-in-Some.ensures.1 in
-    rw (q.1, c.in-Some.ensures.cases.0) (then_value _ g.met.M.Memory.laws c.in_ok-value-in-Some.ensures.performs (then_halt _ c.in_err-pass_arguments-in-Some.ensures.performs))
+pub pass_others-returns-in_err-pass_others-in-Some-clause-performs : goal.pass_others-returns-in_err-pass_others-in-Some-clause-performs
+pass_others-returns-in_err-pass_others-in-Some-clause-performs g t c =
+    let q = err_from_is_err_and c.from_residual-in_err-pass_others-in-Some.result c.from_residual-in_err-pass_others-in-Some.ensures.1 in
+    rw (q.1, c.in-Some.ensures.cases.0) (then_value _ g.met.M.Memory.laws c.in_ok-value-in-Some.ensures.performs (then_halt _ c.in_err-pass_others-in-Some.ensures.performs))
 
-pub pass_arguments-returns-in-None-clause-performs : goal.pass_arguments-returns-in-None-clause-performs
-pass_arguments-returns-in-None-clause-performs g t c =
+pub pass_others-returns-in-None-clause-performs : goal.pass_others-returns-in-None-clause-performs
+pass_others-returns-in-None-clause-performs g t c =
     rw (none_left c.args.arguments.now c.in-None.ensures.cases) (at_once g.met.M.Memory.laws _ _ _)
 
-pub pass_arguments-returns-in_ok-pass_arguments-in-Some-clause-performs : goal.pass_arguments-returns-in_ok-pass_arguments-in-Some-clause-performs
-pass_arguments-returns-in_ok-pass_arguments-in-Some-clause-performs g t c =
+pub pass_others-returns-in_ok-pass_others-in-Some-clause-performs : goal.pass_others-returns-in_ok-pass_others-in-Some-clause-performs
+pass_others-returns-in_ok-pass_others-in-Some-clause-performs g t c =
     let f : FitsSigned w64 c.in_ok-value-in-Some.value = search rules in
     let n = length c.in-Some.others.now in
-    let within : c.args.place < length c.pass_arguments.new.scratch = omega (arith, c.requires.fits, c.in-Some.ensures.cases.1) in
-    rw (to_z-of_z w64 c.in_ok-value-in-Some.value f, c.in-Some.ensures.cases.0, filled c.pass_arguments.new.scratch c.args.place n c.in_ok-value-in-Some.value within)
-    (then_value _ g.met.M.Memory.laws c.in_ok-value-in-Some.ensures.performs (then_value _ g.met.M.Memory.laws c.in_ok-pass_arguments-in-Some.ensures.performs (at_once g.met.M.Memory.laws _ _ _)))
+    let within : c.args.place < length c.pass_others.new.scratch = omega (arith, c.requires.fits, c.in-Some.ensures.cases.1) in
+    rw (to_z-of_z w64 c.in_ok-value-in-Some.value f, c.in-Some.ensures.cases.0, filled c.pass_others.new.scratch c.args.place n c.in_ok-value-in-Some.value within)
+    (then_value _ g.met.M.Memory.laws c.in_ok-value-in-Some.ensures.performs (then_value _ g.met.M.Memory.laws c.in_ok-pass_others-in-Some.ensures.performs (at_once g.met.M.Memory.laws _ _ _)))
 
 pub test-returns-in_err-x-in-Compare-clause-performs : goal.test-returns-in_err-x-in-Compare-clause-performs
 test-returns-in_err-x-in-Compare-clause-performs g t c =

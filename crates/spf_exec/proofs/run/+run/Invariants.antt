@@ -13,14 +13,23 @@ use Rattle.spf_exec.proofs.run.+run.Given as goal
 abbrev pub decreases-eval : goal.decreases-eval
 decreases-eval g l = weight_before (map function l.context.now.functions.now) l.below + 2 * expr_weight l.expr.now + 1
 
+abbrev pub decreases-eval_operand : goal.decreases-eval_operand
+decreases-eval_operand g l = weight_before (map function l.context.now.functions.now) l.below + 2 * expr_weight l.expr.now + 1
+
+abbrev pub decreases-eval_value : goal.decreases-eval_value
+decreases-eval_value g l = weight_before (map function l.context.now.functions.now) l.below + 2 * expr_weight l.expr.now + 1
+
 abbrev pub decreases-compute : goal.decreases-compute
 decreases-compute g l = weight_before (map function l.context.now.functions.now) l.below + 2 * expr_weight l.expr.now
 
 abbrev pub decreases-call : goal.decreases-call
 decreases-call g l = weight_before (map function l.context.now.functions.now) l.below + 2 * exprs_weight l.arguments.now + 1
 
-abbrev pub decreases-pass_arguments : goal.decreases-pass_arguments
-decreases-pass_arguments g l = weight_before (map function l.context.now.functions.now) l.below + 2 * exprs_weight l.arguments.now
+abbrev pub decreases-pass : goal.decreases-pass
+decreases-pass g l = weight_before (map function l.context.now.functions.now) l.below + 2 * exprs_weight l.arguments.now
+
+abbrev pub decreases-pass_others : goal.decreases-pass_others
+decreases-pass_others g l = weight_before (map function l.context.now.functions.now) l.below + 2 * exprs_weight l.arguments.now
 
 abbrev pub decreases-test : goal.decreases-test
 decreases-test g l = weight_before (map function l.context.now.functions.now) l.below + 2 * cond_weight l.cond.now + 1
