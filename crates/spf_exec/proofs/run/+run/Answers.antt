@@ -1,4 +1,4 @@
-use Rattle.std.proofs.Common.{rules, arith, refl, ◌≡◌, ◌+◌, ◌-◌, ◌*◌, ◌<◌, ◌≤◌, List, take, drop, length, true, false, w64, ℤ, pos, ◌+ℤ◌, to_z, FitsSigned, sym, ap, ◌∙◌}
+use Rattle.std.proofs.Common.{rules, inl, inr, arith, refl, ◌≡◌, ◌+◌, ◌-◌, ◌*◌, ◌<◌, ◌≤◌, List, take, drop, length, true, false, w64, ℤ, pos, ◌+ℤ◌, to_z, FitsSigned, sym, ap, ◌∙◌}
 use Rattle.std.proofs.lemmas.Result.{err_from_is_err_and}
 use Rattle.std.proofs.lemmas.Int.{to_z-of_z, to_z_pos, ints}
 use Rattle.std.specs.Prelude.{map, ◌<ℤ◌, ◌≤ℤ◌}
@@ -251,15 +251,21 @@ eval_value-returns-in-Call-clause-performs g t c =
 
 pub exec-returns-in_err-value-in-Let-clause-performs : goal.exec-returns-in_err-value-in-Let-clause-performs
 exec-returns-in_err-value-in-Let-clause-performs g t c =
-    rw c.in-Let.is (exit_left _ (err_from_is_err_and c.from_residual.result c.from_residual.ensures.1).1 c.in_err-value-in-Let.ensures.performs)
+    let p = exit_left (sets c.in-Let.slot) (err_from_is_err_and c.from_residual-in_err-value-in-Let.result c.from_residual-in_err-value-in-Let.ensures.1).1 c.in_err-value-in-Let.ensures.performs in
+    elim c.in-Let.is [ inl e ↦ rw e p | inr e ↦ rw e p ]
 
-pub exec-returns-in_err-value-in-Assign-clause-performs : goal.exec-returns-in_err-value-in-Assign-clause-performs
-exec-returns-in_err-value-in-Assign-clause-performs g t c =
-    rw c.in-Assign.is (exit_left _ (err_from_is_err_and c.from_residual-in_err-value-in-Assign.result c.from_residual-in_err-value-in-Assign.ensures.1).1 c.in_err-value-in-Assign.ensures.performs)
+pub exec-returns-in_ok-value-in-Let-clause-performs : goal.exec-returns-in_ok-value-in-Let-clause-performs
+exec-returns-in_ok-value-in-Let-clause-performs g t c =
+    let f : FitsSigned w64 c.in_ok-value-in-Let.value = search rules in
+    let p = then_value (sets c.in-Let.slot) g.met.M.Memory.laws c.in_ok-value-in-Let.ensures.performs (at_once g.met.M.Memory.laws _ _ _) in
+    elim c.in-Let.is [
+      | inl e ↦ rw (e, c.write_slot.ensures, to_z-of_z w64 c.in_ok-value-in-Let.value f) p
+      | inr e ↦ rw (e, c.write_slot.ensures, to_z-of_z w64 c.in_ok-value-in-Let.value f) p
+    ]
 
 pub exec-returns-in_err-i-in-Store-clause-performs : goal.exec-returns-in_err-i-in-Store-clause-performs
 exec-returns-in_err-i-in-Store-clause-performs g t c =
-    rw c.in-Store.is (exit_left _ (err_from_is_err_and c.from_residual-in_err-i-in-Store.result c.from_residual-in_err-i-in-Store.ensures.1).1 c.in_err-i-in-Store.ensures.performs)
+    rw c.in-Store.is (exit_left _ (err_from_is_err_and c.from_residual.result c.from_residual.ensures.1).1 c.in_err-i-in-Store.ensures.performs)
 
 pub exec-returns-in_err-value-in-Store-clause-performs : goal.exec-returns-in_err-value-in-Store-clause-performs
 exec-returns-in_err-value-in-Store-clause-performs g t c =
@@ -357,16 +363,6 @@ pub exec-returns-in_err-call-in-Call-clause-performs : goal.exec-returns-in_err-
 exec-returns-in_err-call-in-Call-clause-performs g t c =
     rw (c.in-Call.is, ← c.deref-in-Call.ensures.value)
     (exit_left _ (err_from_is_err_and c.from_residual-in_err-call-in-Call.result c.from_residual-in_err-call-in-Call.ensures.1).1 c.in_err-call-in-Call.ensures.performs)
-
-pub exec-returns-in_ok-value-in-Let-clause-performs : goal.exec-returns-in_ok-value-in-Let-clause-performs
-exec-returns-in_ok-value-in-Let-clause-performs g t c =
-    let f : FitsSigned w64 c.in_ok-value-in-Let.value = search rules in
-    rw (c.in-Let.is, c.write_slot.ensures, to_z-of_z w64 c.in_ok-value-in-Let.value f) (then_value _ g.met.M.Memory.laws c.in_ok-value-in-Let.ensures.performs (at_once g.met.M.Memory.laws _ _ _))
-
-pub exec-returns-in_ok-value-in-Assign-clause-performs : goal.exec-returns-in_ok-value-in-Assign-clause-performs
-exec-returns-in_ok-value-in-Assign-clause-performs g t c =
-    let f : FitsSigned w64 c.in_ok-value-in-Assign.value = search rules in
-    rw (c.in-Assign.is, c.write_slot-in-Assign.ensures, to_z-of_z w64 c.in_ok-value-in-Assign.value f) (then_value _ g.met.M.Memory.laws c.in_ok-value-in-Assign.ensures.performs (at_once g.met.M.Memory.laws _ _ _))
 
 pub exec-returns-in_ok-cell-in-Store-clause-performs : goal.exec-returns-in_ok-cell-in-Store-clause-performs
 exec-returns-in_ok-cell-in-Store-clause-performs g t c =
