@@ -1,11 +1,23 @@
 // Programs that are built by hand, and how their runs end.
+
+ghost use Rattle.std.specs.Prelude.{◌≡◌, [], length, pos, IfOk};
+ghost use Rattle.spf_ast.specs.Syntax.{Binary as binary_form, Emit as emit_form, Fold as fold_form, Local as local_form, Number as number_form, By as by_form, end, on_line};
+ghost use Rattle.spf_ast.specs.declared.syntax.Op.TheVariants.{Mul};
+ghost use Rattle.spf_ast.specs.declared.syntax.Part.TheVariants.{Body};
+ghost use Rattle.spf_ast.specs.View.{program as seen_program};
+ghost use Rattle.spf_exec.specs.BlockRuns.{IsSilentPart, top_construct};
+ghost use Rattle.spf_exec.specs.Pieces.{IsRunOf};
+
+use crate::block_run::{Block, Stop, exec_block, exec_predictor};
 use crate::frame::Frame;
 use crate::layout::RunError;
-use crate::pieces::{Pause, Run};
+use crate::pieces::{Header, Pause, Run};
+use crate::plain::Plain;
 use crate::plain_run::run_plain;
+use spf_ast::construct::top_constructs;
 use spf_ast::outcome::{Outcome, Trap, TrapKind};
 use spf_ast::syntax::{
-    Array, Cond, Expr, Fold, Function, Name, Op, Pair, Predict, Program, Stmt, StmtKind, Test,
+    Array, Cond, Expr, Fold, Function, Name, Op, Pair, Part, Predict, Program, Stmt, StmtKind, Test,
 };
 use std::alloc::{AllocError, Global};
 use std::test::Fail;
@@ -260,5 +272,122 @@ fn a_run_in_pieces_comes_to_its_end(rt: HostRuntime) -> Result<(), Fail> {
     let (cells, output) = run.finish();
     assert!(rt; cells.is_empty());
     assert_eq!(rt; output.as_slice(), [65].as_slice());
+    Ok(())
+}
+
+// specfold s = 1 for k in 0..5 predict k { next s * 2; } emit s;
+fn doubled(alloc: Global) -> Result<Program, AllocError>
+    ensures main { IfOk result (λ p. (seen_program p).main
+        ≡ on_line 1 (fold_form (record { carried = 0; start = number_form (pos 1); block = 1; low = number_form (pos 0); high = number_form (pos 5); predict = by_form (local_form 1); next = binary_form Mul (local_form 0) (number_form (pos 2)); next_line = 2 }) end)
+        (on_line 3 (emit_form (local_form 0)) end)) }
+    ensures functions { IfOk result (λ p. (seen_program p).functions ≡ []) }
+{
+    let left = Box::new(alloc, Expr::Local(0))?;
+    let right = Box::new(alloc, Expr::Number(2))?;
+    let fold = Fold {
+        carried: 0,
+        start: Expr::Number(1),
+        block: 1,
+        low: Expr::Number(0),
+        high: Expr::Number(5),
+        predict: Predict::Expr(Expr::Local(1)),
+        body: Vec::new(alloc),
+        next: Expr::Binary(Op::Mul, left, right),
+        next_line: 2,
+    };
+    let fold = StmtKind::Fold(Box::new(alloc, fold)?);
+    let mut main = Vec::new(alloc);
+    main.push(Stmt {
+        line: 1,
+        kind: fold,
+    })?;
+    main.push(Stmt {
+        line: 3,
+        kind: StmtKind::Emit(Expr::Local(0)),
+    })?;
+    Ok(Program {
+        arrays: Vec::new(alloc),
+        functions: Vec::new(alloc),
+        slots: names(alloc, 2)?,
+        main,
+    })
+}
+
+// Runs the body of the first construct over a frame and cells of its own.
+fn run_body(
+    alloc: Global,
+    program: &Program,
+    run: &Run,
+    number: i64,
+    value: i64,
+) -> Result<Stop, AllocError>
+    requires run { IsRunOf (seen_program program.now) 0 run.now }
+    requires silent { IsSilentPart (seen_program program.now) (top_construct (seen_program program.now) 0) Body }
+{
+    let mut frame = run.frame().copy(alloc)?;
+    let mut memory = Plain {
+        cells: vec![in alloc; 0i64; run.layout().cells as usize]?,
+        output: Vec::new(alloc),
+    };
+    let block = Block {
+        construct: 0,
+        part: Part::Body,
+        number,
+        value,
+    };
+    Ok(exec_block(program, run.layout(), &[], block, &mut frame, &mut memory))
+}
+
+#[test]
+fn a_fold_is_settled_with_the_value_of_its_last_block(rt: HostRuntime) -> Result<(), Fail> {
+    let alloc = rt.alloc();
+    let program = doubled(alloc)?;
+    assert_eq!(rt; top_constructs(&program), 1);
+    let Ok(mut run) = Run::start(alloc, &program, &[]) else {
+        assert!(rt; false);
+        return Ok(());
+    };
+    let Pause::AtConstruct(number) = run.advance(&program, &[])? else {
+        assert!(rt; false);
+        return Ok(());
+    };
+    assert_eq!(rt; number, 0);
+    let Ok(header) = run.header(&program, &[]) else {
+        assert!(rt; false);
+        return Ok(());
+    };
+    let wanted = Header {
+        low: 0,
+        blocks: 5,
+        start: 1,
+    };
+    assert_eq!(rt; header, wanted);
+    let mut value = header.start;
+    for number in 0..5 {
+        let Stop::Ended(next) = run_body(alloc, &program, &run, number, value)? else {
+            assert!(rt; false);
+            return Ok(());
+        };
+        value = next;
+    }
+    assert_eq!(rt; value, 32);
+    run.settle(&program, value);
+    assert_eq!(rt; run.advance(&program, &[])?, Pause::Finished);
+    let (_, output) = run.finish();
+    assert_eq!(rt; output.as_slice(), [32].as_slice());
+    Ok(())
+}
+
+#[test]
+fn a_guess_is_made_on_cells_that_are_only_read(rt: HostRuntime) -> Result<(), Fail> {
+    let alloc = rt.alloc();
+    let program = doubled(alloc)?;
+    let Ok(run) = Run::start(alloc, &program, &[]) else {
+        assert!(rt; false);
+        return Ok(());
+    };
+    let mut frame = run.frame().copy(alloc)?;
+    let guess = exec_predictor(&program, run.layout(), &[], 0, 3, &mut frame, run.cells());
+    assert_eq!(rt; guess, Ok(3));
     Ok(())
 }
