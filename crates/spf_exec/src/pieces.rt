@@ -1,11 +1,11 @@
 // Plain runs in pieces: `main` is run from one top construct to the next, and each construct is settled by who runs it.
 
-ghost use Rattle.std.specs.Prelude.{◌≡◌, ◌+◌, ◌-◌, ◌<◌, ◌≤◌, ◌^◌, ℤ, ℕ, List, [], length, map, pos, replicate, drop, take, None, Some, IfOk, IfErr, IsErrAnd, MatchOption};
+ghost use Rattle.std.specs.Prelude.{◌≡◌, ◌+◌, ◌-◌, ◌<◌, ◌≤◌, ◌^◌, ◌+ℤ◌, ◌≤ℤ◌, ℤ, ℕ, List, [], length, map, pos, replicate, drop, take, None, Some, IfOk, IfErr, IsErrAnd, MatchOption};
 ghost use Rattle.spf_ast.specs.declared.syntax.Fold.{out-Fold};
 ghost use Rattle.std.specs.Borrow.{Lends, Array, sem, i64 as word};
 ghost use Rattle.spf_exec.specs.contracts.pieces.Run.{the_row};
 ghost use Rattle.spf_ast.specs.View.{block as block_of, statement as statement_of, fold_head, function as function_of, program as seen_program};
-ghost use Rattle.spf_ast.specs.Meaning.{block_means};
+ghost use Rattle.spf_ast.specs.Meaning.{block_means, max_blocks};
 ghost use Rattle.spf_ast.specs.Construct.{constructs_in, construct_of, header_means, fold as fold_construct};
 ghost use Rattle.spf_ast.specs.Plain.{plain_memory};
 ghost use Rattle.spf_ast.specs.Pieces.{rest_from, before_construct, from_construct, construct_first, carried_of, statement_count};
@@ -163,6 +163,8 @@ fn perform_header<M: Memory>(
         (state slots.now (M.output memory.old)))
         memory.old memory.new (header_result result) (state slots.now (M.output memory.new)) }
     ensures cells { M.cell_count memory.new ≡ M.cell_count memory.old }
+    ensures few { IfOk result (λ h. h.blocks ≤ max_blocks) }
+    ensures numbers { IfOk result (λ h. (h.low +ℤ pos h.blocks) ≤ℤ i64.MAX) }
 {
     let start = entry::eval(context, below, line, &fold.start, slots, scratch, memory)?;
     let low = entry::eval(context, below, line, &fold.low, slots, scratch, memory)?;
@@ -212,6 +214,8 @@ fn header_quietly(
     ensures cells { length quiet.new.memory.now.cells.items ≡ length quiet.old.memory.now.cells.items }
     ensures kept { main_slots (seen_program program.now) frame.new ≡ main_slots (seen_program program.now) frame.old }
     ensures size { length frame.new ≡ length frame.old }
+    ensures few { IfOk result (λ h. h.blocks ≤ max_blocks) }
+    ensures numbers { IfOk result (λ h. (h.low +ℤ pos h.blocks) ≤ℤ i64.MAX) }
 {
     let context = Context {
         functions: &program.functions,
@@ -301,6 +305,8 @@ fn fold_header(
     ensures cells { length memory.new.cells.items ≡ length memory.old.cells.items }
     ensures kept { main_slots (seen_program program.now) frame.new ≡ main_slots (seen_program program.now) frame.old }
     ensures size { length frame.new ≡ length frame.old }
+    ensures few { IfOk result (λ h. h.blocks ≤ max_blocks) }
+    ensures numbers { IfOk result (λ h. (h.low +ℤ pos h.blocks) ≤ℤ i64.MAX) }
 {
     let mut quiet = Quiet { memory };
     match header_quietly(program, layout, input, line, fold, frame, &mut quiet) {
@@ -332,6 +338,8 @@ fn header_of(
     ensures cells { length memory.new.cells.items ≡ length memory.old.cells.items }
     ensures kept { main_slots (seen_program program.now) frame.new ≡ main_slots (seen_program program.now) frame.old }
     ensures size { length frame.new ≡ length frame.old }
+    ensures few { IfOk result (λ h. h.blocks ≤ max_blocks) }
+    ensures numbers { IfOk result (λ h. (h.low +ℤ pos h.blocks) ≤ℤ i64.MAX) }
 {
     match &statement.kind {
         StmtKind::Fold(fold) => {
@@ -373,6 +381,8 @@ fn header_at(
     ensures cells { length memory.new.cells.items ≡ length memory.old.cells.items }
     ensures kept { main_slots (seen_program program.now) frame.new ≡ main_slots (seen_program program.now) frame.old }
     ensures size { length frame.new ≡ length frame.old }
+    ensures few { IfOk result (λ h. h.blocks ≤ max_blocks) }
+    ensures numbers { IfOk result (λ h. (h.low +ℤ pos h.blocks) ≤ℤ i64.MAX) }
 {
     header_of(program, layout, input, &program.main[place], frame, memory)
 }
@@ -458,6 +468,8 @@ impl Run {
             (construct_first (ahead (seen_program program.now) self.old)) self.old self.new result }
         ensures place { self.new.place ≡ self.old.place }
         ensures run { IsRunOf (seen_program program.now) (length input.now) self.new }
+        ensures few { IfOk result (λ h. h.blocks ≤ max_blocks) }
+        ensures numbers { IfOk result (λ h. (h.low +ℤ pos h.blocks) ≤ℤ i64.MAX) }
     {
         header_at(
             program,

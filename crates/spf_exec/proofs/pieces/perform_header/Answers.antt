@@ -35,7 +35,7 @@ returns-clause-performs g c =
     let fl : FitsSigned w64 c.in_ok-low.low = search rules in
     let fh : FitsSigned w64 c.in_ok-high.high = search rules in
     let e = rw (to_z-of_z w64 c.in_ok-low.low fl, to_z-of_z w64 c.in_ok-high.high fh) at (sym c.are_too_many.ensures ∙ c.if-are_too_many.false) in
-    let b = rw (to_z-of_z w64 c.in_ok-low.low fl, to_z-of_z w64 c.in_ok-high.high fh) at c.block_count.ensures in
+    let b = rw (to_z-of_z w64 c.in_ok-low.low fl, to_z-of_z w64 c.in_ok-high.high fh) at c.block_count.ensures.count in
     rw (to_z-of_z w64 c.in_ok-start.start fs, to_z-of_z w64 c.in_ok-low.low fl, b)
     (then_value _ g.met.M.Memory.laws c.in_ok-start.ensures.performs
     (then_value _ g.met.M.Memory.laws c.in_ok-low.ensures.performs
