@@ -116,7 +116,7 @@ range-sees {visible} line head start low high body s =
 -- ---- statements and blocks
 
 -- an expression in a statement
-operand-sees : (g : Environment) → CallsSee g → (names : Names) (scope : Scope) (line : ℕ) (e : Expression) → IsLawfulExpression names scope e → Sees (LookAlike scope.visible) (LookAlike scope.visible) (expression_means g line e)
+pub operand-sees : (g : Environment) → CallsSee g → (names : Names) (scope : Scope) (line : ℕ) (e : Expression) → IsLawfulExpression names scope e → Sees (LookAlike scope.visible) (LookAlike scope.visible) (expression_means g line e)
 operand-sees g calls names scope line e l = expression-sees g calls names scope (LookAlike scope.visible) (looking scope.visible) line e l
 
 -- a condition in a statement

@@ -1,6 +1,7 @@
 //! Laws about what programs mean. Each is the contract of a function that does nothing.
 #![tactic(auto)]
 
+ghost use Rattle.spf_laws.specs.Chained.{ConstructsAreTheirBlocks, HeadersTrap};
 ghost use Rattle.spf_laws.specs.Agreement.{ExpressionsSeeVisibleSlots, ConditionsSeeVisibleSlots, StatementsSeeVisibleSlots, BlocksSeeVisibleSlots};
 
 /// From states that agree on the visible slots each lawful form goes on alike: with the same events, to the same value, trap, stop or misfit, and to states that agree on the slots that are visible then.
@@ -9,4 +10,10 @@ pub fn each_form_sees_visible_slots_alone()
     ensures conditions { ConditionsSeeVisibleSlots }
     ensures statements { StatementsSeeVisibleSlots }
     ensures blocks { BlocksSeeVisibleSlots }
+{}
+
+/// What a construct of `main` means is what its block runs come to, one after another, each at the value that the one before it gave: its value or its trap, the memory, and its real values. A construct whose header traps ends with that trap.
+pub fn each_construct_is_its_block_runs()
+    ensures constructs { ConstructsAreTheirBlocks }
+    ensures headers { HeadersTrap }
 {}

@@ -1,0 +1,49 @@
+-- A run in pieces that goes on as the plain run of its program does.
+use Rattle.std.specs.Prelude.{◌≡◌, ℕ, true, List, length, Result, ℤ, pos, ◌+ℤ◌}
+use Rattle.spf_ast.specs.declared.outcome.Trap.{Trap}
+use Rattle.spf_ast.specs.declared.syntax.Part.TheVariants.{Predictor}
+use Rattle.spf_ast.specs.Syntax.{Program}
+use Rattle.spf_ast.specs.Meaning.{Environment, block_means}
+use Rattle.spf_ast.specs.Plain.{plain_answer, plain_memory}
+use Rattle.spf_ast.specs.Program.{environment_of, Outcome, outcome, outcome_from}
+use Rattle.spf_ast.specs.Construct.{Moment, Construct, Header, constructs_in, block_asks, reached_from}
+use Rattle.spf_ast.specs.Lawful.{Scope, names_at, IsLawfulBlock}
+use Rattle.spf_exec.specs.Frame.{main_slots}
+use Rattle.spf_exec.specs.Pieces.{Stand, moment_of, ahead}
+use Rattle.spf_laws.specs.Agreement.{LookAlike}
+use Rattle.spf_laws.specs.Chained.{AreDeclared, chained}
+use Rattle.spf_guess.specs.declared.stats.Stats.{Stats}
+use Rattle.spf_guess.specs.Statistics.{Guess, guess_of, plus, statistics, statistics_of, statistics_with}
+
+-- A run of a lawful program stands where its plain run comes too, at some moment: they agree on the slots that are visible there, on the output and on the memory. What the plain run does from this moment on gives the program's outcome, and, with what was counted so far, its statistics.
+pub record GoesOn (p : Program) (input : List ℕ) (s : Stand) (counted : Stats) : Type 0 where
+  pub scope : Scope
+  pub moment : Moment
+  pub lawful : IsLawfulBlock (names_at p (length p.functions) p.slots) true scope (ahead p s)
+  pub declared : AreDeclared scope
+  pub alike : LookAlike scope.visible moment.state (moment_of p s).state
+  pub memory : moment.memory ≡ s.cells
+  pub outcome_is : outcome_from (plain_answer (block_means (environment_of p input) (ahead p s) moment.state) moment.memory)
+      (plain_memory (block_means (environment_of p input) (ahead p s) moment.state) moment.memory)
+      ≡ outcome p input
+  pub statistics_are : plus counted (statistics_of (environment_of p input) (constructs_in (ahead p s)) (reached_from (environment_of p input) (ahead p s) moment))
+      ≡ statistics p input
+
+-- the guesses for a construct's blocks, by their places, where its predictor is performed with these slots and on this memory
+abbrev pub guesses_from : Environment → Construct → List ℤ → ℤ → List ℤ → ℕ → Guess
+guesses_from g construct slots low memory place = guess_of (plain_answer (block_asks g construct Predictor slots (low +ℤ pos place) (pos 0)) memory)
+
+-- A construct's blocks, run one after another from where the run stands, come to this result, which is the value behind the last one or the first trap, begin at these values, and leave this memory.
+pub record CameOut (p : Program) (input : List ℕ) (c : Construct) (h : Header) (s : Stand) (r : Result ℤ Trap) (values : List ℤ) (memory : List ℤ) : Type 0 where
+  pub result : (chained (environment_of p input) c (main_slots p s.frame) 0 h.blocks h.low h.start s.cells).result ≡ r
+  pub values_are : (chained (environment_of p input) c (main_slots p s.frame) 0 h.blocks h.low h.start s.cells).values ≡ values
+  pub memory_is : (chained (environment_of p input) c (main_slots p s.frame) 0 h.blocks h.low h.start s.cells).memory ≡ memory
+
+-- what the construct counts whose blocks began at these values
+abbrev pub counts : Program → List ℕ → Construct → Header → Stand → List ℤ → Stats
+counts p input c h s values = statistics_with (guesses_from (environment_of p input) c (main_slots p s.frame) h.low s.cells) values
+
+-- a run has come to its end: with the program's outcome, and what was counted are its statistics
+pub record HasCome (p : Program) (input : List ℕ) (o : Outcome) (counted : Stats) : Type 0 where
+  pub outcome_is : o ≡ outcome p input
+  pub statistics_are : counted ≡ statistics p input

@@ -1,0 +1,4 @@
+//! Guesses, and how good those of a run are.
+#![tactic(auto)]
+
+pub mod stats;
