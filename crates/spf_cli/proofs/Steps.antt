@@ -12,10 +12,11 @@ use Rattle.spf_edge.specs.declared.sink.PutError.TheVariants as put_error
 use Rattle.spf_edge.proofs.Taking.{adds_empty_prefix}
 use Rattle.spf_cli.specs.Answer.{Answer, not_built, text_refused, file_failed, file_too_long, too_many_cells, ran}
 use Rattle.spf_cli.specs.Answering.{seen_answer, FetchAnswer, IsFetchLeft, IsReadLeft, IsWholeUnless, IsCaused, AnswersWith, IsPutFault}
-use Rattle.spf_cli.specs.Command.{Command, Run, Print, Options, Asks}
-use Rattle.spf_cli.specs.Reading.{Verdict, Says, Refuses, IsVerdict, Refusal}
+use Rattle.spf_cli.specs.Command.{Command, Run, Options, Asks}
+use Rattle.spf_cli.specs.Reading.{Says, Refuses, IsVerdict, Refusal}
 use Rattle.spf_cli.specs.Status.{put_status}
-use Rattle.spf_cli.specs.Whole.{Wanted, Either, Fetched, Judged, Read, Runs, is_built, WholeOf, Whole, IsOnly, IsReached, IsFaultOf, IsFaultAnswer, IsGiven, IsGivenInPart, IsAnswered, IsAnsweredInPart, max_program, max_input}
+use Rattle.spf_guess.specs.declared.stats.Stats.{Stats}
+use Rattle.spf_cli.specs.Whole.{Wanted, Either, Fetched, Judged, Read, Runs, stats_of, is_built, WholeOf, Whole, IsOnly, IsFaultOf, IsFaultAnswer, IsGiven, IsGivenInPart, IsAnswered, IsAnsweredInPart, max_program, max_input}
 use Rattle.spf_cli.specs.declared.answer.Answer as made
 use Rattle.spf_cli.specs.declared.answer.Left.{Left}
 use Rattle.spf_cli.specs.declared.answer.Left.TheVariants.{Answered, NoMemory}
@@ -149,9 +150,9 @@ caused_by_neither told Fault answer file put = record { file = λ s. absurd (fil
 other_status : (n : ℕ) (answer same : Answer) → answer ≡ same → (same.status ≡ n → ⊥) → answer.status ≡ n → ⊥
 other_status n answer same e differs s = differs (sym (ap (λ (a : Answer). a.status) e) ∙ s)
 
-ran_status : (n : ℕ) → 1 < n → (options : Options) (p : Program) (len : ℕ) (o : Outcome) → (ran options p len o).status ≡ n → ⊥
-ran_status n l options p len (Done cells output) e = omega (arith, l, e)
-ran_status n l options p len (Stopped trap output) e = omega (arith, l, e)
+ran_status : (n : ℕ) → 1 < n → (options : Options) (p : Program) (len : ℕ) (o : Outcome) (stats : Stats) → (ran options p len o stats).status ≡ n → ⊥
+ran_status n l options p len (Done cells output) stats e = omega (arith, l, e)
+ran_status n l options p len (Stopped trap output) stats e = omega (arith, l, e)
 
 either_apart : {A : Type 0} (P Q : Wanted) (a : Answer) (b : Bool) → Either b P Q a → (P a → A) → (Q a → A) → A
 either_apart P Q a true h f g = f h
@@ -160,10 +161,11 @@ either_apart P Q a false h f g = g h
 -- a run never has the status for a file or a put
 pub run_cause : (options : Options) (p : Program) (input : List ℕ) (answer : Answer) (told : Option (List Entry)) (Fault : Type 0) → Runs options p input answer → IsCaused told Fault answer
 run_cause options p input answer told Fault r =
-    let done = ran options p (length input) (outcome p input) in
+    let stats = stats_of options p input in
+    let done = ran options p (length input) (outcome p input) stats in
     let many = too_many_cells (counted (cell_count_of p (length input))) in
     either_apart (λ a. a ≡ done) (λ a. a ≡ many) answer (nat_le (cell_count_of p (length input)) max_cells) r
-    (λ e. caused_by_neither told Fault answer (other_status 5 answer done e (ran_status 5 (omega arith) options p (length input) (outcome p input))) (other_status 6 answer done e (ran_status 6 (omega arith) options p (length input) (outcome p input))))
+    (λ e. caused_by_neither told Fault answer (other_status 5 answer done e (ran_status 5 (omega arith) options p (length input) (outcome p input) stats)) (other_status 6 answer done e (ran_status 6 (omega arith) options p (length input) (outcome p input) stats)))
     (λ e. caused_by_neither told Fault answer (other_status 5 answer many e (λ z. omega (arith, z))) (other_status 6 answer many e (λ z. omega (arith, z))))
 
 -- names that are missing are told

@@ -1,6 +1,6 @@
 -- What a text says, from what its parser and its resolver answer.
-use Rattle.std.proofs.Common.{◌≡◌, ◌<◌, ◌≤◌, ◌⊎◌, ℕ, List, length, refl, sym, ap, ◌∙◌, subst, inl, inr}
-use Rattle.std.specs.Prelude.{Result, Ok, Err, IsOkUnless, Option, Some, None}
+use Rattle.std.proofs.Common.{◌≡◌, ◌⊎◌, ℕ, List, refl, sym, ap, ◌∙◌, subst, inl, inr}
+use Rattle.std.specs.Prelude.{Result, Ok, Err, IsOkUnless, Some, None}
 use Rattle.spf_text.specs.declared.scanner.ScanError.{ScanError}
 use Rattle.spf_text.specs.declared.scanner.ScanError.TheVariants as scan
 use Rattle.spf_ast.specs.Syntax.{Program}

@@ -2,7 +2,7 @@
 use Rattle.std.proofs.lemmas.List.{append-nil}
 use Rattle.std.proofs.lemmas.Slice.Eq.{bytes_eq-Decides}
 use Rattle.std.specs.Prelude.{bytes_eq}
-use Rattle.std.proofs.Common.{◌≡◌, ℕ, Bool, true, false, List, [], ◌∷◌, ◌++◌, codes, Option, Some, None, refl, sym, ap, ◌∙◌, if◌then◌else◌}
+use Rattle.std.proofs.Common.{◌≡◌, ℕ, Bool, true, false, List, [], ◌∷◌, ◌++◌, codes, Some, refl, sym, ap, ◌∙◌, if◌then◌else◌}
 use Rattle.spf_cli.specs.Command.{Options, option, option_words, words_of, Command, Run, Print, IsFileName, Asks}
 use Rattle.spf_cli.specs.Whole.{IsOnly}
 use Rattle.spf_cli.specs.Options.{taken, whole_options, options_in}

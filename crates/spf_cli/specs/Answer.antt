@@ -4,6 +4,7 @@ use Rattle.spf_ast.specs.Syntax.{Program}
 use Rattle.spf_ast.specs.Program.{Outcome, Done, Stopped}
 use Rattle.spf_ast.specs.Spelling.{spelled}
 use Rattle.spf_ast.specs.Canonical.{canonical_text}
+use Rattle.spf_guess.specs.declared.stats.Stats.{Stats}
 use Rattle.spf_cli.specs.Message.{trap_line, words_line, failed_line, long_line, too_many_line, not_built_line, stats_line, array_lines}
 use Rattle.spf_cli.specs.Command.{Options}
 use Rattle.spf_cli.specs.Reading.{Refusal, refusal_line}
@@ -51,12 +52,12 @@ abbrev pub asked : Bool → List ℕ → List ℕ
 asked true text = text
 asked false text = []
 
--- the statistics of a run by the plain meaning: no block was guessed
-abbrev pub plain_stats : Options → List ℕ
-plain_stats options = asked options.stats (stats_line 0 0 0 0)
+-- the statistics of a run
+abbrev pub stats_text : Options → Stats → List ℕ
+stats_text options stats = asked options.stats (stats_line stats.blocks stats.hits stats.misses stats.blind)
 
--- a program was run, on an input of this length, to its end or to a trap
-abbrev pub ran : Options → Program → ℕ → Outcome → Answer
-ran options p len (Done cells output) =
-    record { status = 0; out = output; err = plain_stats options ++ asked options.cells (array_lines len p.arrays cells) }
-ran options p len (Stopped trap output) = record { status = 1; out = output; err = trap_line trap ++ plain_stats options }
+-- a program was run, on an input of this length, to its end or to a trap, with guesses that were so good
+abbrev pub ran : Options → Program → ℕ → Outcome → Stats → Answer
+ran options p len (Done cells output) stats =
+    record { status = 0; out = output; err = stats_text options stats ++ asked options.cells (array_lines len p.arrays cells) }
+ran options p len (Stopped trap output) stats = record { status = 1; out = output; err = trap_line trap ++ stats_text options stats }

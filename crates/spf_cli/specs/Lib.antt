@@ -1,6 +1,5 @@
 pub mod Message
 pub mod Command
-pub mod FirstForm
 pub mod Reading
 pub mod Answer
 pub mod Status

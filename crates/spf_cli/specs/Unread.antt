@@ -3,7 +3,6 @@ use Rattle.std.specs.Prelude.{◌≡◌, ℕ, List, Option, Some, None}
 use Rattle.spf_parse.specs.declared.program.ParseError.{ParseError}
 use Rattle.spf_parse.specs.declared.program.ParseError.TheVariants as error
 use Rattle.spf_text.specs.declared.scanner.ScanError.TheVariants as scan
-use Rattle.spf_types.specs.declared.fault.TypeFault.{TypeFault}
 use Rattle.spf_cli.specs.Reading as said
 use Rattle.spf_cli.specs.Reading.{Refuses, IsVerdict, IsTextRefused}
 use Rattle.spf_cli.specs.Whole.{IsOnly}

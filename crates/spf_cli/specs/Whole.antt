@@ -1,5 +1,5 @@
 -- The whole answer of the program: what it says to these words, where these are the files.
-use Rattle.std.specs.Prelude.{◌≡◌, ◌⊎◌, ℕ, ◌≤◌, Bool, true, false, ◌||◌, nat_le, List, length, Option, Some, None}
+use Rattle.std.specs.Prelude.{◌≡◌, ◌⊎◌, ℕ, ◌≤◌, Bool, true, false, if◌then◌else◌, ◌||◌, nat_le, List, length, Option, Some, None}
 use Rattle.spf_ast.specs.Syntax.{Program}
 use Rattle.spf_ast.specs.Program.{outcome, cell_count_of, max_cells}
 use Rattle.spf_exec.specs.RunErrors.{counted}
@@ -7,7 +7,9 @@ use Rattle.spf_edge.specs.Entries.{Entry, lookup}
 use Rattle.spf_edge.specs.Bytes.{Adds, AddsPrefix}
 use Rattle.spf_cli.specs.Answer.{Answer, not_understood, text_refused, not_built, file_failed, file_too_long, too_many_cells, printed, ran}
 use Rattle.spf_cli.specs.Command.{Command, Run, Print, Options, Asks}
-use Rattle.spf_cli.specs.FirstForm.{is_first_form}
+use Rattle.spf_guess.specs.declared.stats.Stats.{Stats}
+use Rattle.spf_guess.specs.Statistics.{none, statistics}
+use Rattle.spf_engine.specs.FirstForm.{is_first_form}
 use Rattle.spf_cli.specs.Reading.{Verdict, Says, Refuses, IsVerdict}
 
 -- how many bytes the file of a program, and that of an input, may have
@@ -43,15 +45,19 @@ Judged (Refuses refusal) next = Is (text_refused refusal)
 abbrev pub Read : List ℕ → (Program → Wanted) → Wanted
 Read text next answer = (v : Verdict) × IsVerdict text v × Judged v next answer
 
--- whether what runs this program so is built: all programs go by the plain meaning, those of the first form also without the word
+-- whether what runs this program so is built: all programs go by the plain meaning, those of the first form also by blocks
 abbrev pub is_built : Options → Program → Bool
 is_built options p = options.plain || is_first_form p
+
+-- the statistics of a run; by the plain meaning no block is guessed
+abbrev pub stats_of : Options → Program → List ℕ → Stats
+stats_of options p input = if options.plain then none else statistics p input
 
 -- a program is run on an input
 abbrev pub Runs : Options → Program → List ℕ → Wanted
 Runs options p input =
     Either (nat_le (cell_count_of p (length input)) max_cells)
-    (Is (ran options p (length input) (outcome p input)))
+    (Is (ran options p (length input) (outcome p input) (stats_of options p input)))
     (Is (too_many_cells (counted (cell_count_of p (length input)))))
 
 -- the answer to a command: its files in their order, each with its tests

@@ -1,21 +1,22 @@
 // What the program answers, before any of it is put anywhere.
 
-ghost use Rattle.std.specs.Prelude.{◌≡◌, ◌≤◌, ◌<◌, ◌^◌, ◌++◌, List, Option, Some, IfOk, IfErr, map, length, string_bytes};
+ghost use Rattle.std.specs.Prelude.{◌≡◌, ◌≤◌, ◌<◌, ◌^◌, ◌++◌, List, Option, Some, IfOk, IfErr, map, length, string_bytes, true};
 ghost use Rattle.spf_ast.specs.View.{program as program_of, array as array_of};
-ghost use Rattle.spf_ast.specs.Program.{extents_from, extents_of, seen_outcome};
+ghost use Rattle.spf_ast.specs.Program.{extents_from, extents_of, cell_count_of, max_cells, outcome as outcome_of, seen_outcome};
+ghost use Rattle.spf_ast.specs.Lawful.{IsLawful};
+ghost use Rattle.spf_exec.specs.declared.layout.RunError.TheVariants.{OutOfMemory};
 ghost use Rattle.spf_edge.specs.Entries.{Entry, HasContent};
 ghost use Rattle.spf_edge.specs.Faults.{Rose};
 ghost use Rattle.spf_cli.specs.Message.{array_lines};
 ghost use Rattle.spf_cli.specs.Command.{Run as run_command, Print as print_command};
 ghost use Rattle.spf_cli.specs.Reading.{IsVerdict, Says};
-ghost use Rattle.spf_cli.specs.Answer.{refused as refused_answer, file_failed, too_many_cells, printed, plain_stats, ran as ran_answer};
+ghost use Rattle.spf_cli.specs.Answer.{refused as refused_answer, file_failed, too_many_cells, printed, stats_text, ran as ran_answer};
 ghost use Rattle.spf_cli.specs.Asked.{seen_command, seen_options};
 ghost use Rattle.spf_cli.specs.Status.{status_number};
-ghost use Rattle.spf_cli.specs.Whole.{IsOnly, Runs, Whole, WholeOf, IsFaultOf, IsFaultAnswer, is_built as is_built_program};
+ghost use Rattle.spf_cli.specs.Whole.{IsOnly, Runs, Whole, WholeOf, IsFaultOf, IsFaultAnswer, stats_of, is_built as is_built_program};
 ghost use Rattle.spf_cli.specs.Answering.{bytes_of, seen_answer, IsFetchLeft, IsReadLeft, IsNotRun, IsWholeUnless, IsCaused, AnswersWith};
 
 use crate::command::{Command, Options, read_words};
-use crate::first_form::is_first_form;
 use crate::message::{array_line, failed_line, long_line, stats_line, too_many_line, trap_line};
 use crate::reading::{Unread, read_program, refusal_line};
 use crate::status::Status;
@@ -23,9 +24,12 @@ use spf_ast::canonical::print;
 use spf_ast::outcome::Outcome;
 use spf_ast::syntax::{Array, Program};
 use spf_edge::{FetchError, Files};
+use spf_engine::first_form::is_first_form;
+use spf_engine::run::{RunReport, run_by_blocks};
 use spf_exec::arrays::layout;
 use spf_exec::layout::{Layout, RunError};
 use spf_exec::plain_run::run_plain;
+use spf_guess::stats::Stats;
 use std::alloc::{AllocError, Global};
 
 /// How many bytes the file of a program may have.
@@ -137,11 +141,13 @@ fn push_stats(
     alloc: Global,
     messages: &mut Vec<Vec<u8>>,
     options: Options,
+    stats: Stats,
 ) -> Result<(), AllocError>
-    ensures { IfOk result (λ _. bytes_of messages.new.items ≡ bytes_of messages.old.items ++ plain_stats (seen_options options)) }
+    ensures { IfOk result (λ _. bytes_of messages.new.items ≡ bytes_of messages.old.items ++ stats_text (seen_options options) stats) }
 {
     if options.stats {
-        push_line(messages, stats_line(alloc, 0, 0, 0, 0)?)?;
+        let line = stats_line(alloc, stats.blocks, stats.hits, stats.misses, stats.blind)?;
+        push_line(messages, line)?;
     }
     Ok(())
 }
@@ -175,15 +181,16 @@ fn ran(
     program: &Program,
     layout: &Layout,
     len: u64,
-    outcome: Outcome,
+    report: RunReport,
 ) -> Result<Answer, AllocError>
     requires { layout.now.extents.items ≡ extents_of (program_of program.now) len }
-    ensures { IfOk result (λ a. seen_answer a ≡ ran_answer (seen_options options) (program_of program.now) len (seen_outcome outcome)) }
+    ensures { IfOk result (λ a. seen_answer a ≡ ran_answer (seen_options options) (program_of program.now) len (seen_outcome report.outcome) report.stats) }
 {
+    let RunReport { outcome, stats } = report;
     let mut messages = Vec::new(alloc);
     match outcome {
         Outcome::Done { cells, output } => {
-            push_stats(alloc, &mut messages, options)?;
+            push_stats(alloc, &mut messages, options, stats)?;
             if options.cells {
                 push_arrays(
                     alloc,
@@ -202,7 +209,7 @@ fn ran(
         }
         Outcome::Trapped { trap, output } => {
             push_line(&mut messages, trap_line(alloc, trap)?)?;
-            push_stats(alloc, &mut messages, options)?;
+            push_stats(alloc, &mut messages, options, stats)?;
             Ok(Answer {
                 status: Status::Trapped,
                 output,
@@ -232,9 +239,36 @@ fn too_many(alloc: Global, count: u128) -> Result<Answer, AllocError>
     refused(alloc, Status::OverLimit, too_many_line(alloc, count)?)
 }
 
+/// Runs a program: by its plain meaning where that is asked for, or by blocks from guesses.
+fn run_program(
+    alloc: Global,
+    options: Options,
+    program: &Program,
+    input: &[u8],
+) -> Result<RunReport, RunError>
+    requires lawful { IsLawful (program_of program.now) }
+    requires built { is_built_program (seen_options options) (program_of program.now) ≡ true }
+    requires few { cell_count_of (program_of program.now) (length input.now) ≤ max_cells }
+    requires short { length input.now < 2 ^ 63 }
+    ensures outcome { IfOk result (λ r. seen_outcome r.outcome ≡ outcome_of (program_of program.now) input.now) }
+    ensures stats { IfOk result (λ r. r.stats ≡ stats_of (seen_options options) (program_of program.now) input.now) }
+    ensures want { IfErr result (λ why. why ≡ OutOfMemory) }
+{
+    if !options.plain {
+        return run_by_blocks(alloc, program, input);
+    }
+    let outcome = run_plain(alloc, program, input)?;
+    Ok(RunReport {
+        outcome,
+        stats: Stats::none(),
+    })
+}
+
 /// The answer of a run.
 fn run(alloc: Global, options: Options, program: &Program, input: &[u8]) -> Result<Answer, Left>
-    requires { length input.now < 2 ^ 63 }
+    requires lawful { IsLawful (program_of program.now) }
+    requires built { is_built_program (seen_options options) (program_of program.now) ≡ true }
+    requires short { length input.now < 2 ^ 63 }
     ensures { AnswersWith (IsOnly (Runs (seen_options options) (program_of program.now) input.now)) result }
 {
     let len = input.len() as u64;
@@ -242,8 +276,8 @@ fn run(alloc: Global, options: Options, program: &Program, input: &[u8]) -> Resu
         Ok(layout) => layout,
         Err(error) => return Err(not_run(alloc, error)),
     };
-    match run_plain(alloc, program, input) {
-        Ok(outcome) => Ok(ran(alloc, options, program, &layout, len, outcome)?),
+    match run_program(alloc, options, program, input) {
+        Ok(report) => Ok(ran(alloc, options, program, &layout, len, report)?),
         Err(error) => Err(not_run(alloc, error)),
     }
 }

@@ -3,7 +3,6 @@
 
 mod answer;
 mod command;
-mod first_form;
 mod message;
 mod reading;
 mod status;

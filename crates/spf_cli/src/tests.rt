@@ -60,45 +60,73 @@ fn answer(alloc: Global, words: &[&str], program: &str) -> Result<Given, AllocEr
 }
 
 #[test]
-fn programs_of_the_first_form_are_run(rt: HostRuntime) -> Result<(), Fail> {
+fn programs_of_the_first_form_are_run_by_blocks(rt: HostRuntime) -> Result<(), Fail> {
     let alloc = rt.alloc();
-    let rows: [(&str, u8, &[u8], &str); 8] = [
-        (DOUBLING, 0, &[32], ""),
+    let rows: [(&str, u8, &[u8], &str); 11] = [
+        (DOUBLING, 0, &[32], "blocks 5 hits 0 misses 4 blind 0\n"),
         (
-            "main { specfold s = 9 for k in 0..1 predict 0 { next s + 1; } emit s; }",
+            "main { specfold s = 1 for k in 0..5 predict 1 << k { next s * 2; } emit s; }",
             0,
-            &[10],
-            "",
+            &[32],
+            "blocks 5 hits 4 misses 0 blind 0\n",
         ),
         (
             "main { specfold s = 9 for k in 3..3 predict 0 { next 1 / 0; } emit s; }",
             0,
             &[9],
-            "",
-        ),
-        ("main { emit 65; emit 66 + 1 * 2; }", 0, &[65, 68], ""),
-        (
-            "main { emit 65; emit 256; }",
-            1,
-            &[65],
-            "trap emit line 1\n",
+            "blocks 0 hits 0 misses 0 blind 0\n",
         ),
         (
-            "main {\n  emit 65;\n  specfold s = 0 for k in 0..5 predict 0 {\n    next 10 / (3 - k); } }",
-            1,
-            &[65],
-            "trap divide-by-zero line 4\n",
+            "main { specfold s = 9 for k in 0..1 predict 0 { next s + 1; } emit s; }",
+            0,
+            &[10],
+            "blocks 1 hits 0 misses 0 blind 0\n",
         ),
         (
             "main { specfold s = 5 for k in 0..4 predict 0 { next 10 / s; } emit s; }",
             0,
             &[5],
-            "",
+            "blocks 4 hits 0 misses 3 blind 0\n",
         ),
-        (TOO_MANY_BLOCKS, 1, &[], "trap blocks line 1\n"),
+        (
+            "main {\n  emit 65;\n  specfold s = 0 for k in 0..5 predict 0 {\n    next 10 / (3 - k); } }",
+            1,
+            &[65],
+            "trap divide-by-zero line 4\nblocks 4 hits 0 misses 3 blind 0\n",
+        ),
+        (
+            TOO_MANY_BLOCKS,
+            1,
+            &[],
+            "trap blocks line 1\nblocks 0 hits 0 misses 0 blind 0\n",
+        ),
+        (
+            "main { specfold s = 0 for k in 0..4096 predict k { next s + 1; } emit s & 255; }",
+            0,
+            &[0],
+            "blocks 4096 hits 4095 misses 0 blind 0\n",
+        ),
+        (
+            "main { specfold s = 0 for k in 0..3 predict 1 / 0 { next 0; } emit s; }",
+            0,
+            &[0],
+            "blocks 3 hits 2 misses 0 blind 2\n",
+        ),
+        (
+            "main { specfold s = 0 for k in 0..3 predict 1 { let t = s + 1; next t; } let u = s; specfold t = u for k in -2..2 predict 3 { next t; } emit t; }",
+            0,
+            &[3],
+            "blocks 7 hits 4 misses 1 blind 0\n",
+        ),
+        (
+            "main { emit 65; emit 256; }",
+            1,
+            &[65],
+            "trap emit line 1\nblocks 0 hits 0 misses 0 blind 0\n",
+        ),
     ];
     for (program, status, output, message) in rows {
-        let given = answer(alloc, &RUN, program)?;
+        let given = answer(alloc, &["run", "P", "I", "--stats"], program)?;
         assert_eq!(rt; given.status, status, "of {program}");
         assert_eq!(rt; given.out.bytes(), output, "of {program}");
         assert_eq!(rt; given.err.bytes(), message.as_bytes(), "of {program}");
@@ -125,13 +153,7 @@ fn all_programs_are_run_plainly(rt: HostRuntime) -> Result<(), Fail> {
             "",
         ),
         (PAIRS, &RUN, 4, &[], "refused not-built\n"),
-        (
-            DOUBLING,
-            &["run", "P", "I", "--stats"],
-            0,
-            &[32],
-            "blocks 0 hits 0 misses 0 blind 0\n",
-        ),
+        (DOUBLING, &RUN, 0, &[32], ""),
         (
             "main { while 1 == 1 max 2 { } }",
             &["run", "P", "I", "--plain"],

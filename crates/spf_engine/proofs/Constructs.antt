@@ -47,7 +47,7 @@ stands-before end c e = cc
 stands-before (on_line line first rest) c e = record { line = line; statement = first; rest = rest; is = refl; construct = e }
 
 -- what stands behind it
-rest-next : (place : ℕ) (b : Block) (line : ℕ) (s : Statement) (rest : Block) → rest_from place b ≡ on_line line s rest → rest_from (place + 1) b ≡ rest
+pub rest-next : (place : ℕ) (b : Block) (line : ℕ) (s : Statement) (rest : Block) → rest_from place b ≡ on_line line s rest → rest_from (place + 1) b ≡ rest
 rest-next place b line s rest e = ap (λ n. rest_from n b) (add-one place) ∙ go place b e
   where
     tail : Block → Block
@@ -170,7 +170,7 @@ shows-carried line s c e scope =
     is-statement line s c (λ t k. (scope_after scope t).visible ≡ carried_of k ∷ scope.visible) (λ head body. refl) (λ head producer consumer. refl) e
 
 -- a construct is the first of those of its block
-counts-first : (line : ℕ) (s : Statement) (rest : Block) (c : Construct) → construct_of line s ≡ Some c → constructs_in (on_line line s rest) ≡ c ∷ constructs_in rest
+pub counts-first : (line : ℕ) (s : Statement) (rest : Block) (c : Construct) → construct_of line s ≡ Some c → constructs_in (on_line line s rest) ≡ c ∷ constructs_in rest
 counts-first line s rest c e =
     is-statement line s c (λ t k. constructs_in (on_line line t rest) ≡ k ∷ constructs_in rest) (λ head body. refl) (λ head producer consumer. refl) e
 

@@ -1,3 +1,11 @@
 pub mod Fronts
 pub mod Standing
 pub mod Constructs
+pub mod PlainBlocks
+pub mod Filing
+pub mod Counting
+pub mod Starting
+pub mod FirstFolds
+pub mod Linking
+pub mod Coming
+pub mod Ending

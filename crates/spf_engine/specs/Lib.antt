@@ -1,2 +1,5 @@
+pub mod FirstForm
 pub mod Standing
 pub mod Laws
+pub mod Blocks
+pub mod Runs

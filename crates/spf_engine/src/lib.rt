@@ -1,4 +1,7 @@
-//! Whole runs of programs, by blocks. What stands here yet is why runs in pieces mean what plain runs do.
+//! Whole runs of programs, by blocks from guesses, and why they mean what plain runs do.
 #![tactic(auto)]
 
+mod blocks;
+pub mod first_form;
 pub mod laws;
+pub mod run;

@@ -1,4 +1,4 @@
-use Rattle.std.proofs.Common.{rules, arith, ◌≡◌, ◌++◌, List, length, ap, sym, ◌∙◌, append_assoc, map, take, drop, ◌+◌, ℕ, slice_index_or}
+use Rattle.std.proofs.Common.{arith, ◌++◌, List, length, ap, ◌∙◌, append_assoc, map, take, drop, ◌+◌, ℕ, slice_index_or}
 use Rattle.spf_ast.specs.View.{array}
 use Rattle.spf_cli.specs.Message.{array_lines}
 use Rattle.spf_cli.specs.Answering.{bytes_of}

@@ -1,5 +1,3 @@
-use Rattle.std.proofs.Common.{List, ℕ}
-use Rattle.spf_cli.specs.Unread.{IsRefusalOf, IsUnread}
 use Rattle.spf_cli.proofs.Verdicts.{exact_of, right_of, faultless_of, unread_by}
 use Rattle.spf_cli.proofs.reading.read_raw.Goals as goal
 

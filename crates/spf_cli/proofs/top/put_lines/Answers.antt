@@ -1,4 +1,4 @@
-use Rattle.std.proofs.Common.{rules, ◌≡◌, ◌++◌, drop, ◌+◌, sym, ap, ◌∙◌}
+use Rattle.std.proofs.Common.{drop, ◌+◌}
 use Rattle.spf_cli.specs.Answering.{bytes_of}
 use Rattle.spf_cli.proofs.Lines.{from_line}
 use Rattle.spf_cli.proofs.Pieces.{put_more, put_broken}

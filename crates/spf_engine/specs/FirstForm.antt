@@ -1,6 +1,6 @@
 -- Programs of the first form: no array and no function, only `let`, `emit` and `specfold`, whose bodies declare locals alone.
 use Rattle.std.specs.Prelude.{Bool, true, false, ◌&&◌, List, [], ◌∷◌}
-use Rattle.spf_ast.specs.Syntax.{Expression, Number, Local, Len, Input, Load, Call, Neg, Binary, Predictor, By, Host, Statement, Let, Assign, Store, Fill, Emit, Fail, If, For, While, Do, Fold, Pair, Block, end, on_line, Program}
+use Rattle.spf_ast.specs.Syntax.{Expression, Number, Local, Len, Input, Load, Call, Neg, Binary, Predictor, By, Host, Statement, Let, Emit, Fold, Block, end, on_line, Program}
 
 -- an expression without arrays and calls
 abbrev pub is_simple : Expression → Bool

@@ -1,8 +1,8 @@
-use Rattle.std.proofs.Common.{ap, sym, refl, ◌∙◌}
+use Rattle.std.proofs.Common.{ap, sym, ◌∙◌}
 use Rattle.spf_ast.specs.View.{statement}
 use Rattle.spf_ast.proofs.Views.{statement-fold, statement-pair}
-use Rattle.spf_cli.specs.FirstForm.{is_first_statement}
-use Rattle.spf_cli.proofs.first_form.is_first_statement.Goals as goal
+use Rattle.spf_engine.specs.FirstForm.{is_first_statement}
+use Rattle.spf_engine.proofs.first_form.is_first_statement.Goals as goal
 
 pub returns-in-Fold : goal.returns-in-Fold
 returns-in-Fold c =

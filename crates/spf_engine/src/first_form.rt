@@ -4,7 +4,7 @@ ghost use Rattle.std.specs.Prelude.{◌≡◌};
 ghost use Rattle.spf_ast.specs.declared.syntax.Fold.{out-Fold};
 ghost use Rattle.spf_ast.specs.Syntax.{Fold as fold_form};
 ghost use Rattle.spf_ast.specs.View.{expression, predictor, fold_head, statement, block, program as program_of};
-ghost use Rattle.spf_cli.specs.FirstForm.{is_simple as is_simple_form, is_simple_guess as is_simple_predictor, is_declaration as is_declaration_form, declares_alone as declares_alone_form, is_first_statement as is_first_statement_form, is_first_block as is_first_block_form, is_first_form as is_first_program};
+ghost use Rattle.spf_engine.specs.FirstForm.{is_simple as is_simple_form, is_simple_guess as is_simple_predictor, is_declaration as is_declaration_form, declares_alone as declares_alone_form, is_first_statement as is_first_statement_form, is_first_block as is_first_block_form, is_first_form as is_first_program};
 
 use spf_ast::syntax::{Expr, Fold, Predict, Program, Stmt, StmtKind};
 
@@ -110,7 +110,7 @@ fn is_first_block(statements: &[Stmt]) -> bool
 }
 
 /// Whether a program is of the first form.
-pub(crate) fn is_first_form(program: &Program) -> bool
+pub fn is_first_form(program: &Program) -> bool
     ensures { result ≡ is_first_program (program_of program.now) }
 {
     program.arrays.is_empty() && program.functions.is_empty() && is_first_block(&program.main)

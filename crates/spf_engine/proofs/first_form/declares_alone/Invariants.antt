@@ -1,7 +1,7 @@
 use Rattle.std.proofs.Common.{◌≡◌, drop}
 use Rattle.spf_ast.specs.View.{block}
-use Rattle.spf_cli.specs.FirstForm.{declares_alone}
-use Rattle.spf_cli.proofs.first_form.declares_alone.Given as goal
+use Rattle.spf_engine.specs.FirstForm.{declares_alone}
+use Rattle.spf_engine.proofs.first_form.declares_alone.Given as goal
 
 -- what is left decides
 abbrev pub invariant-loop-statement : goal.invariant-loop-statement

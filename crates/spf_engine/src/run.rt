@@ -1,0 +1,129 @@
+// Whole runs of programs of the first form, by blocks from guesses.
+
+ghost use Rattle.std.specs.Prelude.{◌≡◌, ◌<◌, ◌≤◌, ◌^◌, ◌+◌, length, IfOk, IfErr, None, true};
+ghost use Rattle.spf_ast.specs.View.{program as seen_program};
+ghost use Rattle.spf_ast.specs.Lawful.{IsLawful};
+ghost use Rattle.spf_ast.specs.Construct.{constructs_in};
+ghost use Rattle.spf_ast.specs.Pieces.{construct_first};
+ghost use Rattle.spf_ast.specs.Program.{cell_count_of, outcome as outcome_of, seen_outcome, Done, Stopped};
+ghost use Rattle.spf_exec.specs.declared.layout.RunError.TheVariants.{OutOfMemory};
+ghost use Rattle.spf_exec.specs.Pieces.{IsRunOf, ahead};
+ghost use Rattle.spf_guess.specs.Statistics.{statistics as statistics_of_run};
+ghost use Rattle.spf_engine.specs.FirstForm.{is_first_form as is_first_program};
+ghost use Rattle.spf_engine.specs.Standing.{HasCome};
+ghost use Rattle.spf_engine.specs.Blocks.{AreAtMost};
+ghost use Rattle.spf_engine.specs.Runs.{LeadsOn};
+
+use crate::blocks::{Came, Job, run_blocks};
+use spf_ast::outcome::{Outcome, Trap};
+use spf_ast::syntax::Program;
+use spf_chain::task::Settled;
+use spf_exec::layout::RunError;
+use spf_exec::pieces::{Pause, Run};
+use spf_guess::stats::Stats;
+use std::alloc::{AllocError, Global};
+
+/// How a whole run came out, and how good its guesses were.
+#[derive(Drop)]
+pub struct RunReport {
+    pub outcome: Outcome,
+    pub stats: Stats,
+}
+
+/// Runs the construct that stands next, of this number.
+fn run_construct(
+    alloc: Global,
+    program: &Program,
+    input: &[u8],
+    construct: u32,
+    run: &mut Run,
+) -> Result<Came, AllocError>
+    requires first_form { is_first_program (seen_program program.now) ≡ true }
+    requires short { length input.now < 2 ^ 63 }
+    requires run { IsRunOf (seen_program program.now) (length input.now) run.old }
+    requires construct { construct_first (ahead (seen_program program.now) run.old) ≡ None → ⊥ }
+    requires number { construct + length (constructs_in (ahead (seen_program program.now) run.old)) ≡ length (constructs_in (seen_program program.now).main) }
+    ensures run { IsRunOf (seen_program program.now) (length input.now) run.new }
+    ensures place { run.new.place ≡ run.old.place }
+    ensures came { IfOk result (LeadsOn (seen_program program.now) input.now run.old run.new) }
+    ensures few { IfOk result (λ r. AreAtMost r.stats 4096) }
+{
+    let header = match run.header(program, input) {
+        Ok(header) => header,
+        Err(trap) => {
+            return Ok(Came {
+                settled: Settled::Trapped(trap),
+                stats: Stats::none(),
+            });
+        }
+    };
+    if header.blocks == 0 {
+        return Ok(Came {
+            settled: Settled::Carried(header.start),
+            stats: Stats::none(),
+        });
+    }
+    let job = Job {
+        program,
+        layout: run.layout(),
+        input,
+        construct,
+    };
+    run_blocks(alloc, &job, header, run.frame())
+}
+
+/// The report of a run that came to its end.
+fn finished(run: Run, stats: Stats) -> RunReport
+    ensures outcome { seen_outcome result.outcome ≡ Done run.cells run.output }
+    ensures stats { result.stats ≡ stats }
+{
+    let (cells, output) = run.finish();
+    RunReport {
+        outcome: Outcome::Done { cells, output },
+        stats,
+    }
+}
+
+/// The report of a run that trapped.
+fn trapped(run: Run, trap: Trap, stats: Stats) -> RunReport
+    ensures outcome { seen_outcome result.outcome ≡ Stopped trap run.output }
+    ensures stats { result.stats ≡ stats }
+{
+    let (_, output) = run.finish();
+    RunReport {
+        outcome: Outcome::Trapped { trap, output },
+        stats,
+    }
+}
+
+/// Runs a program of the first form on an input. The blocks of each fold of `main` are run from guesses, and those again whose
+/// guesses were wrong. What comes of it is the plain outcome, whatever the guesses are.
+///
+/// # Errors
+///
+/// `OutOfMemory` where there is no memory for the run.
+pub fn run_by_blocks(alloc: Global, program: &Program, input: &[u8]) -> Result<RunReport, RunError>
+    requires lawful { IsLawful (seen_program program.now) }
+    requires first_form { is_first_program (seen_program program.now) ≡ true }
+    requires short { length input.now < 2 ^ 63 }
+    ensures outcome { IfOk result (λ r. seen_outcome r.outcome ≡ outcome_of (seen_program program.now) input.now) }
+    ensures statistics { IfOk result (λ r. r.stats ≡ statistics_of_run (seen_program program.now) input.now) }
+    ensures want { IfErr result (λ why. why ≡ OutOfMemory) }
+{
+    let mut run = Run::start(alloc, program, input)?;
+    let mut stats = Stats::none();
+    loop {
+        match run.advance(program, input)? {
+            Pause::Finished => return Ok(finished(run, stats)),
+            Pause::Trapped(trap) => return Ok(trapped(run, trap, stats)),
+            Pause::AtConstruct(construct) => {
+                let came = run_construct(alloc, program, input, construct, &mut run)?;
+                stats = stats.plus(came.stats);
+                match came.settled {
+                    Settled::Carried(value) => run.settle(program, value),
+                    Settled::Trapped(trap) => return Ok(trapped(run, trap, stats)),
+                }
+            }
+        }
+    }
+}
