@@ -1,8 +1,7 @@
 -- What the warden's steps ask, as its type has them.
-use Rattle.std.proofs.Common.{◌≡◌, ℕ, ◌+◌, ◌<◌, ◌≤◌, max, List, [], length, take, get_or, ◌^◌, sym, refl, ap, ◌∙◌, subst, arith}
+use Rattle.std.proofs.Common.{◌≡◌, ℕ, ◌+◌, ◌<◌, ◌≤◌, max, List, [], length, get_or, ◌^◌, sym, refl, ap, ◌∙◌, subst}
 use Rattle.std.specs.List.{Contains}
-use mathlib.Core.Option.{some, none}
-use lib.ListN.{get_elem?}
+use mathlib.Core.Option.{none}
 use Rattle.atomic_table.specs.Table.{Me, step, Allows, Joins, Splits}
 use Rattle.spf_cells.specs.declared.view.Setting.{Setting}
 use Rattle.spf_cells.specs.declared.view.LogEntry.{LogEntry}

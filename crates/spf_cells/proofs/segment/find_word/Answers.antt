@@ -1,4 +1,4 @@
-use Rattle.std.proofs.Common.{rules, ℕ, ◌<◌, ◌≤◌, length, get_or, leb, leb-true, arith}
+use Rattle.std.proofs.Common.{rules, leb, leb-true, arith}
 use Rattle.std.proofs.lemmas.Bool.{leb-false}
 use Rattle.std.proofs.lemmas.List.Sorted.{IsPartitionPoint-from_clause, IsPartitionedBy-leb}
 use Rattle.spf_cells.specs.declared.segment.Segment.{Segment}

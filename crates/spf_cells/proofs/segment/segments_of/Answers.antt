@@ -1,4 +1,4 @@
-use Rattle.std.proofs.Common.{rules, ℕ, ◌+◌, ◌-◌, arith, get_or, length, ap, subst, sym, ◌∙◌, take, List}
+use Rattle.std.proofs.Common.{rules, ℕ, ◌+◌, arith, ap, subst, sym, ◌∙◌, take, List}
 use Rattle.std.proofs.lemmas.List.Sorted.{IsNonDecreasingBy-from_sort_by_key}
 use Rattle.spf_region.specs.declared.span.Span.{Span}
 use Rattle.spf_cells.specs.declared.segment.Segment.{Segment}

@@ -1,4 +1,4 @@
-use Rattle.std.proofs.Common.{◌≡◌, ℕ, ap, sym, subst, List, Option, Some, None, IfSome, IfNone, Bool, refl, ◌↔◌, IsTrue}
+use Rattle.std.proofs.Common.{◌≡◌, ℕ, sym, subst, List, Option, Some, None, IfSome, IfNone, Bool, refl, ◌↔◌, IsTrue}
 use Rattle.std.specs.List.{Contains}
 use Rattle.std.specs.Option.{is_some}
 use Rattle.spf_cells.specs.declared.segment.Segment.{Segment}

@@ -1,9 +1,9 @@
-use Rattle.std.proofs.Common.{◌≡◌, ℕ, ◌<◌, arith, ap, subst, List}
+use Rattle.std.proofs.Common.{◌<◌, subst, List}
 use Rattle.std.specs.List.{Contains}
 use Rattle.spf_cells.specs.declared.segment.Segment.{Segment}
 use Rattle.spf_cells.specs.Segments.{Holds}
 use Rattle.spf_cells.specs.Values.{LaneValue, IsWordOf}
-use Rattle.spf_cells.proofs.LaneSteps.{segment_fits, cell_word, cell_held}
+use Rattle.spf_cells.proofs.LaneSteps.{segment_fits, cell_word}
 use Rattle.spf_cells.proofs.lane.Lane.word.Goals as goal
 
 pub find_word-requires-clause-order : goal.find_word-requires-clause-order

@@ -1,4 +1,4 @@
-use Rattle.std.proofs.Common.{subst, ◌≡◌, ℕ, ◌<◌, length, take, ap, sym, ◌∙◌, [], get_or, arith}
+use Rattle.std.proofs.Common.{subst, ◌≡◌, ℕ, ◌<◌, length, ap, sym, ◌∙◌, [], get_or, arith}
 use Rattle.spf_cells.specs.declared.view.Setting.{Setting}
 use Rattle.spf_cells.specs.Rule.{blocks, handed_out}
 use Rattle.spf_cells.specs.Spans.{cells_of, IsDisjointWithin}

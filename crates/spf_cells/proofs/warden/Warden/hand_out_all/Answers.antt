@@ -1,4 +1,4 @@
-use Rattle.std.proofs.Common.{◌≡◌, ℕ, ◌+◌, length, ap, sym, ◌∙◌, subst, List, [], ◌∷◌, ◌++◌, arith, Vec, Global}
+use Rattle.std.proofs.Common.{◌≡◌, ◌+◌, length, ap, sym, ◌∙◌, subst, List, [], ◌∷◌, ◌++◌, arith, Vec, Global}
 use Rattle.spf_region.specs.declared.span.Span.{Span}
 use Rattle.spf_cells.specs.Spans.{cells_of}
 use Rattle.spf_cells.specs.Segments.{HasNoCellTwice}
