@@ -3,7 +3,7 @@ use Rattle.std.proofs.Common.{length, ◌++◌, take, get_or, refl, ◌∙◌, s
 use Rattle.std.proofs.Math.Seq.{take-append_seam}
 use mathlib.Core.Option.{some, some-ne-none, some-injective}
 use lib.ListN.{get_elem?}
-use Rattle.spf_cells.specs.Examples.{two_blocks_spans, four_blocks_spans, AreSameLanes}
+use Rattle.spf_cells.specs.Examples.{two_blocks_spans, four_blocks_spans, mixed_spans, AreSameLanes}
 use Rattle.spf_cells.specs.Values.{LaneValue, CellsValue, IsLaneOf}
 use Rattle.spf_cells.specs.Finish.{AreAllLanes}
 use Rattle.spf_cells.proofs.Spans.{below}
@@ -36,6 +36,37 @@ pub four_blocks_disjoint : IsDisjointWithin four_blocks_spans 8
 four_blocks_disjoint = record {
   once = λ i j c e f. let x = four_at i c e in let y = four_at j c f in omega arith;
   inside = λ i c e. let x = four_at i c e in omega arith;
+}
+
+mixed_place : ℕ → ℕ
+mixed_place zero = 2
+mixed_place (suc zero) = 3
+mixed_place (suc (suc zero)) = 7
+mixed_place (suc (suc (suc zero))) = 4
+mixed_place (suc (suc (suc (suc zero)))) = 5
+mixed_place (suc (suc (suc (suc (suc zero))))) = 6
+mixed_place (suc (suc (suc (suc (suc (suc zero)))))) = 0
+mixed_place (suc (suc (suc (suc (suc (suc (suc c))))))) = 1
+
+mixed_from : (i c d : ℕ) → mixed_place d ≡ i → d < 8 → some d ≡ some c → (i ≡ mixed_place c) × (c < 8)
+mixed_from i c d place low e = subst (λ (x : ℕ). (i ≡ mixed_place x) × (x < 8)) (some-injective d c e) (sym place, low)
+
+mixed_at : (i c : ℕ) → get_elem? (6 ∷ 7 ∷ 0 ∷ 1 ∷ 3 ∷ 4 ∷ 5 ∷ 2 ∷ []) i ≡ some c → (i ≡ mixed_place c) × (c < 8)
+unfolding mixed_place
+mixed_at zero c e = mixed_from 0 c 6 refl (omega arith) e
+mixed_at (suc zero) c e = mixed_from 1 c 7 refl (omega arith) e
+mixed_at (suc (suc zero)) c e = mixed_from 2 c 0 refl (omega arith) e
+mixed_at (suc (suc (suc zero))) c e = mixed_from 3 c 1 refl (omega arith) e
+mixed_at (suc (suc (suc (suc zero)))) c e = mixed_from 4 c 3 refl (omega arith) e
+mixed_at (suc (suc (suc (suc (suc zero))))) c e = mixed_from 5 c 4 refl (omega arith) e
+mixed_at (suc (suc (suc (suc (suc (suc zero)))))) c e = mixed_from 6 c 5 refl (omega arith) e
+mixed_at (suc (suc (suc (suc (suc (suc (suc zero))))))) c e = mixed_from 7 c 2 refl (omega arith) e
+mixed_at (suc (suc (suc (suc (suc (suc (suc (suc i)))))))) c e = absurd (some-ne-none c (sym e))
+
+pub mixed_disjoint : IsDisjointWithin mixed_spans 8
+mixed_disjoint = record {
+  once = λ i j c e f. (mixed_at i c e).0 ∙ sym (mixed_at j c f).0;
+  inside = λ i c e. (mixed_at i c e).1;
 }
 
 at_or : {A : Type 0} (l : List A) (i : ℕ) (a d : A) → get_elem? l i ≡ some a → get_or l i d ≡ a

@@ -15,6 +15,14 @@ two_blocks_spans = (record { from = 0; to = 2 } ∷ []) ∷ (record { from = 3; 
 abbrev pub four_blocks_spans : List (List Span)
 four_blocks_spans = (cell 0 ∷ cell 4 ∷ []) ∷ (cell 1 ∷ cell 5 ∷ []) ∷ (cell 2 ∷ cell 6 ∷ []) ∷ (cell 3 ∷ cell 7 ∷ []) ∷ []
 
+-- the span from a cell up to and without another
+abbrev span : ℕ → ℕ → Span
+span from to = record { from = from; to = to }
+
+-- two blocks of spans out of order: block 0 with the cells 6, 7, 0, 1 and 3, and block 1 with the cells 4, 5 and 2
+abbrev pub mixed_spans : List (List Span)
+mixed_spans = (span 6 8 ∷ span 0 2 ∷ span 3 4 ∷ []) ∷ (span 4 6 ∷ span 2 3 ∷ []) ∷ []
+
 -- the lane is the same one, perhaps with another log
 abbrev pub IsSameLane : LaneValue → LaneValue → Type 0
 IsSameLane old new = (new.table ≡ old.table) × (new.setting ≡ old.setting) × (new.block ≡ old.block)

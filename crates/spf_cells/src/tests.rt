@@ -1,10 +1,10 @@
-//! The worked example on one thread and on two, and four lanes of interleaved spans, each on a thread of its own.
+//! The worked example on one thread and on two, spans out of order, and four lanes of interleaved spans, each on a thread of its own.
 ghost use Rattle.std.specs.Prelude.{◌≡◌, ℕ, ◌+◌, ◌<◌, List, [], ◌∷◌, All, IfOk, length, pos};
 ghost use Rattle.std.specs.List.{Contains};
 ghost use Rattle.spf_cells.specs.Spans.{Covers};
 ghost use Rattle.spf_cells.specs.Finish.{AreAllLanes};
 ghost use Rattle.spf_cells.specs.Made.{spans_in, new_warden, new_lane};
-ghost use Rattle.spf_cells.specs.Examples.{two_blocks_spans, four_blocks_spans, IsSameLane, AreSameLanes};
+ghost use Rattle.spf_cells.specs.Examples.{two_blocks_spans, four_blocks_spans, mixed_spans, IsSameLane, AreSameLanes};
 ghost use Rattle.spf_cells.specs.Values.{LaneValue, spans_of, content_at, logged, IsWardenOf};
 ghost use Rattle.spf_cells.specs.declared.view.LogEntry.TheVariants.{Load, Store, Turn};
 
@@ -112,6 +112,85 @@ fn two_lanes_in_threads(rt: HostRuntime) -> Result<(), Fail> {
     let mut into = [5, 5, 5, 5];
     let _trace = cells.finish(warden, lanes, &mut into);
     assert!(rt; found == 4 && turns == (1, 0) && into == [9, 2, 5, 4]);
+    Ok(())
+}
+
+// Block 0 with the spans 6..8, 0..2 and 3..4, and block 1 with the spans 4..6 and 2..3: out of order, and each between the other's.
+fn mixed_blocks(alloc: Global) -> Result<Plan, AllocError>
+    ensures { IfOk result (λ p. spans_in p ≡ mixed_spans) }
+{
+    let mut front = Vec::new(alloc);
+    front.push(Span { from: 6, to: 8 })?;
+    front.push(Span { from: 0, to: 2 })?;
+    front.push(Span { from: 3, to: 4 })?;
+    let mut back = Vec::new(alloc);
+    back.push(Span { from: 4, to: 6 })?;
+    back.push(Span { from: 2, to: 3 })?;
+    let mut blocks = Vec::new(alloc);
+    blocks.push(front)?;
+    blocks.push(back)?;
+    Ok(Plan { blocks })
+}
+
+// The cells of these blocks over the entry `0 10 20 .. 70`, and both lanes. No block may be raised.
+fn mixed_lanes(alloc: Global) -> Result<(Cells, Warden, Lane, Lane), AllocError>
+    ensures plan { IfOk result (λ r. r.0.setting.plan ≡ mixed_spans) }
+    ensures entry { IfOk result (λ r. length r.0.setting.entry ≡ 8) }
+    ensures warden { IfOk result (λ r. r.1 ≡ new_warden r.0 2) }
+    ensures lanes { IfOk result (λ r. (r.2 ≡ new_lane r.0 0) × (r.3 ≡ new_lane r.0 1)) }
+{
+    let plan = mixed_blocks(alloc)?;
+    let entry = [0, 10, 20, 30, 40, 50, 60, 70];
+    let (cells, warden, mut lanes) = Cells::make(alloc, &entry, &plan)?;
+    let two = lanes.pop().unwrap();
+    let one = lanes.pop().unwrap();
+    Ok((cells, warden, one, two))
+}
+
+// Which of the cells up to 8 the lane has.
+fn held(lane: &Lane) -> [bool; 9] {
+    let mut held = [false; 9];
+    for cell in 0..9 {
+        held[cell] = lane.has(cell as u64);
+    }
+    held
+}
+
+// Stores the values to those cells that the lane has, and then loads each of its cells. A cell that it has not gives -1.
+fn store_and_load(cells: &Cells, lane: &mut Lane, values: &[(u64, i64)]) -> [i64; 8]
+    requires { lane.old.table ≡ cells.now.table }
+    ensures { IsSameLane lane.old lane.new }
+{
+    for &(cell, value) in values {
+        if lane.has(cell) {
+            lane.store(cells, cell, value);
+        }
+    }
+    let mut found = [-1; 8];
+    for cell in 0..8 {
+        if lane.has(cell as u64) {
+            found[cell] = lane.load(cells, cell as u64);
+        }
+    }
+    found
+}
+
+#[test]
+fn spans_out_of_order(rt: HostRuntime) -> Result<(), Fail> {
+    let (cells, warden, mut one, mut two) = mixed_lanes(rt.alloc())?;
+    assert!(rt; held(&one) == [true, true, false, true, false, false, true, true, false]);
+    assert!(rt; held(&two) == [false, false, true, false, true, true, false, false, false]);
+    let values = [(7, 97), (2, 92), (0, 90), (5, 95), (3, 93)];
+    let first = store_and_load(&cells, &mut one, &values);
+    let second = store_and_load(&cells, &mut two, &values);
+    assert!(rt; first == [90, 10, -1, 93, -1, -1, 60, 97]);
+    assert!(rt; second == [-1, -1, 92, -1, 40, 95, -1, -1]);
+    let mut lanes = Vec::new(rt.alloc());
+    lanes.push(one)?;
+    lanes.push(two)?;
+    let mut into = [5; 8];
+    let _trace = cells.finish(warden, lanes, &mut into);
+    assert!(rt; into == [90, 10, 92, 93, 40, 95, 60, 97]);
     Ok(())
 }
 
