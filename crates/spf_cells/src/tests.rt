@@ -1,4 +1,4 @@
-//! The worked example on one thread and on two, spans out of order, and four lanes of interleaved spans, each on a thread of its own.
+//! The worked example on one thread and on two, spans out of order, and four lanes of interleaved spans, each on a thread of its own, while the warden raises.
 ghost use Rattle.std.specs.Prelude.{◌≡◌, ℕ, ◌+◌, ◌<◌, List, [], ◌∷◌, All, IfOk, length, pos};
 ghost use Rattle.std.specs.List.{Contains};
 ghost use Rattle.spf_cells.specs.Spans.{Covers};
@@ -236,30 +236,53 @@ fn interleaved(alloc: Global) -> Result<(Cells, Warden, Vec<Lane>), AllocError>
     Cells::make(alloc, &[0, 10, 20, 30, 40, 50, 60, 70], &plan)
 }
 
-// Adds 1 to each cell of the lane 100 times, and polls between.
+// Adds 1 to each cell of the lane 20000 times, and polls between. Once the flag has fallen, it adds 1000000, so that the cells show it.
 fn count(cells: &Cells, lane: &mut Lane)
     requires { lane.old.table ≡ cells.now.table }
     ensures { IsSameLane lane.old lane.new }
 {
-    for _ in 0..100 {
+    let mut step = 1;
+    let mut last = 0;
+    for _ in 0..20000 {
         for cell in 0..8 {
             if lane.has(cell) {
                 let found = lane.load(cells, cell);
-                lane.store(cells, cell, found.wrapping_add(1));
+                lane.store(cells, cell, found.wrapping_add(step));
             }
         }
-        lane.poll(cells);
+        let turn = lane.poll(cells);
+        if turn < last {
+            step = 1000000;
+        }
+        last = turn;
     }
 }
 
-// Raises both odd blocks.
-fn raise_odd(cells: &Cells, warden: &mut Warden)
+// A random number after so many others.
+fn random_after(count: u64) -> u64 {
+    let mut random = count;
+    for _ in 0..count {
+        random = random
+            .wrapping_mul(6364136223846793005)
+            .wrapping_add(1442695040888963407);
+    }
+    random >> 40
+}
+
+// Raises both odd blocks, in an order and at moments that the seed decides, and then both again.
+fn raise_odd(cells: &Cells, warden: &mut Warden, seed: u64)
     requires own { IsWardenOf cells.now warden.old }
     requires blocks { length cells.now.setting.plan ≡ 4 }
     requires raisable { cells.now.setting.raisable ≡ 1 ∷ 3 ∷ [] }
     ensures own { IsWardenOf cells.now warden.new }
     ensures taken { warden.new.view.taken ≡ warden.old.view.taken }
 {
+    if random_after(seed & 0x7fffff) & 1 == 0 {
+        warden.raise(cells, 1, 1);
+    }
+    if random_after((seed >> 24) & 0x7fffff) & 1 == 0 {
+        warden.raise(cells, 3, 1);
+    }
     warden.raise(cells, 1, 1);
     warden.raise(cells, 3, 1);
 }
@@ -278,6 +301,7 @@ fn count_and_raise<R: Threads + Sync>(
     cells: &Cells,
     warden: &mut Warden,
     lanes: &mut [Lane],
+    seed: u64,
 )
     requires own { IsWardenOf cells.now warden.old }
     requires blocks { length cells.now.setting.plan ≡ 4 }
@@ -293,16 +317,25 @@ fn count_and_raise<R: Threads + Sync>(
             requires { All (λ l. l.table ≡ cells.now.table) lanes.now }
             ensures { AreSameLanes lanes.entry.now lanes.exit.now }
         { count_each(rt, cells, lanes) },
-        &mut || raise_odd(cells, warden),
+        &mut || raise_odd(cells, warden, seed),
     );
+}
+
+// What all cells hold after four lanes counted while the warden raised.
+fn counted<R: Threads + Sync>(rt: &R, alloc: Global, seed: u64) -> Result<[i64; 8], AllocError> {
+    let (cells, mut warden, mut lanes) = interleaved(alloc)?;
+    count_and_raise(rt, &cells, &mut warden, lanes.as_mut_slice(), seed);
+    let mut into = [0; 8];
+    let _trace = cells.finish(warden, lanes, &mut into);
+    Ok(into)
 }
 
 #[test]
 fn four_lanes_in_threads(rt: HostRuntime) -> Result<(), Fail> {
-    let (cells, mut warden, mut lanes) = interleaved(rt.alloc())?;
-    count_and_raise(&rt, &cells, &mut warden, lanes.as_mut_slice());
-    let mut into = [0; 8];
-    let _trace = cells.finish(warden, lanes, &mut into);
-    assert!(rt; into == [100, 110, 120, 130, 140, 150, 160, 170]);
+    for round in 1..21u64 {
+        let seed = random_after(round) ^ (random_after(round + 20) << 24);
+        let into = counted(&rt, rt.alloc(), seed)?;
+        assert!(rt; into == [20000, 20010, 20020, 20030, 20040, 20050, 20060, 20070]);
+    }
     Ok(())
 }
