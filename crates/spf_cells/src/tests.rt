@@ -100,18 +100,27 @@ fn both<R: Threads + Sync>(rt: &R, cells: &Cells, one: &mut Lane, two: &mut Lane
     found
 }
 
+// Both lanes poll, each in a thread of its own.
+fn poll_both<R: Threads + Sync>(rt: &R, cells: &Cells, one: &mut Lane, two: &mut Lane) -> (u64, u64)
+    requires { (one.old.table ≡ cells.now.table) × (two.old.table ≡ cells.now.table) }
+    ensures one { one.new ≡ logged one.old (Turn result.0) }
+    ensures two { two.new ≡ logged two.old (Turn result.1) }
+{
+    join_mut(rt, &mut || one.poll(cells), &mut || two.poll(cells))
+}
+
 #[test]
 fn two_lanes_in_threads(rt: HostRuntime) -> Result<(), Fail> {
     let (cells, mut warden, mut one, mut two) = two_lanes(rt.alloc())?;
     let found = both(&rt, &cells, &mut one, &mut two);
     warden.raise(&cells, 1, 1);
-    let turns = (two.poll(&cells), one.poll(&cells));
+    let turns = poll_both(&rt, &cells, &mut one, &mut two);
     let mut lanes = Vec::new(rt.alloc());
     lanes.push(one)?;
     lanes.push(two)?;
     let mut into = [5, 5, 5, 5];
     let _trace = cells.finish(warden, lanes, &mut into);
-    assert!(rt; found == 4 && turns == (1, 0) && into == [9, 2, 5, 4]);
+    assert!(rt; found == 4 && turns == (0, 1) && into == [9, 2, 5, 4]);
     Ok(())
 }
 
