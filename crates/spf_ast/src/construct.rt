@@ -1,8 +1,8 @@
 // The top constructs of a program.
 
-ghost use Rattle.std.specs.Prelude.{◌≡◌, ◌^◌, ◌<◌, length};
+ghost use Rattle.std.specs.Prelude.{◌≡◌, ◌^◌, ◌<◌, length, slice_get, MatchOption, None};
 ghost use Rattle.spf_ast.specs.View.{block as block_of, statement as statement_of, program as program_of};
-ghost use Rattle.spf_ast.specs.Construct.{constructs_in, is_construct as is_construct_form};
+ghost use Rattle.spf_ast.specs.Construct.{construct_of, constructs_in, is_construct as is_construct_form};
 
 use crate::syntax::{Program, Stmt, StmtKind};
 
@@ -18,7 +18,7 @@ pub fn is_construct(kind: &StmtKind) -> bool
 }
 
 /// How many of these statements are constructs.
-fn count_constructs(main: &[Stmt]) -> u32
+pub fn count_constructs(main: &[Stmt]) -> u32
     requires { length (constructs_in (block_of main.now)) < 2 ^ 32 }
     ensures { result ≡ length (constructs_in (block_of main.now)) }
 {
@@ -29,6 +29,24 @@ fn count_constructs(main: &[Stmt]) -> u32
         }
     }
     count
+}
+
+/// The statement among these that is the construct of this number, where there are so many; they are numbered from 0.
+pub fn find_construct<'a>(main: &'a [Stmt], number: u32) -> Option<&'a Stmt>
+    ensures { MatchOption result
+        (slice_get (constructs_in (block_of main.now)) number ≡ None)
+        (λ s. slice_get (constructs_in (block_of main.now)) number ≡ construct_of s.now.line (statement_of s.now.kind)) }
+{
+    let mut left = number;
+    for statement in main {
+        if is_construct(&statement.kind) {
+            if left == 0 {
+                return Some(statement);
+            }
+            left -= 1;
+        }
+    }
+    None
 }
 
 /// How many top constructs a program has: folds and pairs that are direct statements of `main`.
