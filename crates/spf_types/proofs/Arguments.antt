@@ -1,7 +1,6 @@
 -- Arguments one after another.
 use Rattle.std.proofs.Common.{◌≡◌, ℕ, ◌+◌, ◌<◌, ◌≤◌, suc, List, [], ◌∷◌, ◌++◌, length, get_or, drop, map, refl, sym, ap, ◌∙◌, arith}
 use Rattle.std.proofs.lemmas.List.{map-append, drop_all}
-use Rattle.std.proofs.Math.Seq.{drop-cons}
 use Rattle.spf_ast.specs.declared.syntax.Expr.{Expr}
 use Rattle.std.specs.declared.vec.Vec.{Vec}
 use Rattle.std.specs.declared.alloc.Global.{Global}
@@ -18,11 +17,7 @@ use Rattle.spf_types.specs.Globals.{Globals}
 use Rattle.spf_types.specs.Locals.{Local}
 use Rattle.spf_types.specs.Faults.{Setting, Scope, Fault, Value, arguments_faults, expression_faults, called_faults, count_of, no_truth, a_number}
 use Rattle.spf_types.specs.Resolved.{scope, place_of, resolved_expression, resolved_arguments}
-
--- what is left of a list at an item
-pub item_at : {A : Type 0} (xs : List A) (i : ℕ) (x : A) → i < length xs → x ≡ get_or xs i x → drop i xs ≡ x ∷ drop (i + 1) xs
-item_at xs i x h e =
-    drop-cons xs i x h ∙ ap (λ z. z ∷ drop (suc i) xs) (sym e) ∙ ap (λ n. x ∷ drop n xs) (let n : suc i ≡ i + 1 = omega arith in n)
+use Rattle.spf_size.proofs.Lists.{item_at}
 
 -- these expressions, and then arguments
 abbrev pub joined : List Expression → Arguments → Arguments

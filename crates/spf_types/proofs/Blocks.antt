@@ -10,7 +10,7 @@ use Rattle.spf_ast.specs.RawView.{raw_statement, raw_block}
 use Rattle.spf_types.specs.Locals.{Local, Seen}
 use Rattle.spf_types.specs.Faults.{Setting, Fault, scope_after, scope_at_end, block_faults, statement_faults}
 use Rattle.spf_types.specs.Resolved.{scope, names_of, names_in, locals_after, locals_at_end, resolved_statement, resolved_block, after_statement, after_block}
-use Rattle.spf_types.proofs.Arguments.{item_at}
+use Rattle.spf_size.proofs.Lists.{item_at}
 
 -- the scope behind a statement is that of the locals behind it
 pub scope_after-is : (ls : List Local) (n : ℕ) (s : r.RawStatement) → scope (locals_after ls n s) ≡ scope_after (scope ls) s

@@ -11,36 +11,28 @@ use Rattle.spf_ast.specs.declared.syntax.Function as code_function
 use Rattle.spf_ast.specs.Syntax.{Array, Function, Program}
 use Rattle.spf_ast.specs.View.{array, function, name}
 use Rattle.spf_ast.specs.Size.{by_size, by_depth, by_slots, block_measure, function_measure, counted_before, function_sizes, function_depths, function_slots, IsWithinLimits}
-use Rattle.spf_types.specs.declared.size.Size.{Size}
+use Rattle.spf_size.specs.declared.size.Size.{Size}
 use Rattle.spf_types.specs.declared.fault.TypeFault.TheVariants.{TooLarge}
 use Rattle.spf_types.specs.declared.fault.TypeError.TheVariants.{Refused}
 use Rattle.spf_types.specs.Faults.{when, first}
-use Rattle.spf_types.specs.Sizes.{capped, counts_before, all_counts, HasSize, IsTable}
+use Rattle.spf_size.specs.Sizes.{capped, counts_before, all_counts, HasSize, IsTable}
 use Rattle.spf_types.specs.TooLarge.{large_array, large_arrays, large_functions, is_main_small, limits_passed}
-use Rattle.spf_types.proofs.Arguments.{item_at}
-use Rattle.spf_types.proofs.Counted.{counted_at, counted_stays, counted_beyond, added, table_none, table_more}
+use Rattle.spf_size.proofs.Lists.{item_at, get_is}
+use Rattle.spf_size.proofs.Counted.{counted_at, counted_stays, counted_beyond, added}
+use Rattle.spf_size.proofs.Tables.{AreCounted, none_counted, one_counted, all_counted, function_there}
 use Rattle.spf_types.proofs.Steps.{none_in, behind, append_none}
 
 -- a count passes a limit exactly where the capped one does
 pub same_small : (s n limit : ℕ) → s ≡ capped n → limit < 2 ^ 64 - 1 → nat_le s limit ≡ nat_le n limit
 same_small s n limit e h = grind (arith, nat_tests)
 
-get_is : {A : Type 0} (xs : List A) (i : ℕ) (x : A) → i < length xs → x ≡ get_or xs i x → slice_get xs i ≡ Some x
-get_is [] i x h e = absurd (omega (arith, h))
-get_is (y ∷ ys) zero x h e = ap Some (sym e)
-get_is (y ∷ ys) (suc i) x h e = get_is ys i x (omega (arith, h)) e
-
--- the first functions are measured and keep their limits; the list has their sizes
+-- the first functions are measured and keep their limits
 pub record AreMeasured (raw : List code_function.Function) (sizes : List Size) (place : ℕ) : Type 0 where
-  pub count : length sizes ≡ place
-  pub table : IsTable (counts_before (map function raw) place) sizes
+  pub counted : AreCounted raw sizes place
   pub faults : large_functions (all_counts (map function raw)).nodes 0 (map function raw) ≡ large_functions (all_counts (map function raw)).nodes place (map function (drop place raw))
 
 pub none_measured : (raw : List code_function.Function) → AreMeasured raw [] 0
-none_measured raw = record { count = refl; table = table_none (map function raw); faults = refl }
-
-place_there : (raw : List code_function.Function) (place : ℕ) (f : code_function.Function) → place < length raw → f ≡ get_or raw place f → slice_get (map function raw) place ≡ Some (function f)
-place_there raw place f h is = slice_get-map function raw place ∙ ap (option_map function) (get_is raw place f h is)
+none_measured raw = record { counted = none_counted raw; faults = refl }
 
 -- what is left of the functions at a place
 pub functions_behind : (raw : List code_function.Function) (sizes : List Size) (place : ℕ) (f : code_function.Function) (size : Size) → place < length raw → f ≡ get_or raw place f → AreMeasured raw sizes place → HasSize (counts_before (map function raw) place) (λ m. function_measure m (function f)) size →
@@ -50,7 +42,7 @@ functions_behind raw sizes place f size h is so has =
     let all = (all_counts fs).nodes in
     let measure = λ (sizes : ℕ → ℕ) (g : Function). function_measure (by_size sizes) g in
     let count : length (map function raw) ≡ (length raw - suc place) + suc place = simp length-map (omega arith) in
-    let counts : all place ≡ function_measure (by_size (counts_before fs place).nodes) (function f) = ap (λ n. counted_before fs measure n place) count ∙ counted_stays fs measure (suc place) place (length raw - suc place) (omega arith) ∙ counted_at fs measure place (function f) (place_there raw place f h is) in
+    let counts : all place ≡ function_measure (by_size (counts_before fs place).nodes) (function f) = ap (λ n. counted_before fs measure n place) count ∙ counted_stays fs measure (suc place) place (length raw - suc place) (omega arith) ∙ counted_at fs measure place (function f) (function_there raw place f h is) in
     let small : nat_le (all place) 65536 ≡ nat_le size.nodes 65536 = ap (λ n. nat_le n 65536) counts ∙ sym (same_small size.nodes (function_measure (by_size (counts_before fs place).nodes) (function f)) 65536 has.nodes_is (omega arith)) in
     so.faults ∙ ap (λ xs. large_functions all place (map function xs)) (item_at raw place f h is)
     ∙ ap (λ b. when (not (nat_lt place 256 && b)) TooLarge f.line ++ large_functions all (place + 1) (map function (drop (place + 1) raw))) small
@@ -60,13 +52,8 @@ pub one_measured : (raw : List code_function.Function) (sizes : List Size) (plac
     (nat_lt place 256 && nat_le size.nodes 65536) ≡ true → now.nodes ≡ size.nodes → now.depth ≡ size.depth → now.slots ≡ capped (length f.slots.items + size.slots) → later ≡ sizes ++ now ∷ [] → AreMeasured raw later (place + 1)
 one_measured raw sizes place f size now later h is so has small a b c push =
     let fs = map function raw in
-    let more : suc place ≡ place + 1 = omega arith in
-    let slots : now.slots ≡ capped (length (map name f.slots.items) + size.slots) = c ∙ ap (λ n. capped (n + size.slots)) (sym (length-map f.slots.items name)) in
-    let count = so.count in
-    let length_now : length (sizes ++ now ∷ []) ≡ place + 1 = simp length-append (omega (arith, count)) in
     record {
-      count = ap length push ∙ length_now;
-      table = subst (λ n. IsTable (counts_before fs n) later) more (subst (IsTable (counts_before fs (suc place))) (sym push) (table_more fs sizes place (function f) size now so.count (place_there raw place f h is) so.table has a b slots));
+      counted = one_counted raw sizes place f size now later h is so.counted has a b c push;
       faults =
           functions_behind raw sizes place f size h is so has
           ∙ ap (λ t. when (not t) TooLarge f.line ++ large_functions (all_counts fs).nodes (place + 1) (map function (drop (place + 1) raw))) small;
@@ -82,11 +69,10 @@ refused_function raw sizes place f size h is so has large =
 -- all functions are measured
 pub all_measured : (raw : List code_function.Function) (sizes : List Size) (place : ℕ) → length raw ≤ place → place ≤ length raw → AreMeasured raw sizes place →
     (large_functions (all_counts (map function raw)).nodes 0 (map function raw) ≡ []) × IsTable (all_counts (map function raw)) sizes
-all_measured raw sizes place h k so =
-    let same : place ≡ length (map function raw) = simp length-map (omega arith) in (
-      so.faults ∙ ap (λ xs. large_functions (all_counts (map function raw)).nodes place (map function xs)) (drop_all place raw h),
-      subst (λ n. IsTable (counts_before (map function raw) n) sizes) same so.table,
-    )
+all_measured raw sizes place h k so = (
+  so.faults ∙ ap (λ xs. large_functions (all_counts (map function raw)).nodes place (map function xs)) (drop_all place raw h),
+  all_counted raw sizes place h k so.counted,
+)
 
 -- ---- arrays
 

@@ -13,7 +13,5 @@ pub mod Alike
 pub mod SoundPrograms
 pub mod Unique
 pub mod UniquePrograms
-pub mod Measures
-pub mod Counted
 pub mod Kept
 pub mod Whole

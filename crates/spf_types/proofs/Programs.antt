@@ -19,7 +19,7 @@ use Rattle.spf_types.specs.Globals.{Globals, globals_of, either, global_named, i
 use Rattle.spf_types.specs.Locals.{Local, Seen}
 use Rattle.spf_types.specs.Faults.{Setting, Fault, when, showing, declared_faults, params_faults, arrays_faults, function_faults, functions_faults, scope_of, valued_faults}
 use Rattle.spf_types.specs.Resolved.{scope, free, params_of, after_params, names_in, locals_at_end, resolved_expression, resolved_block, resolved_function}
-use Rattle.spf_types.proofs.Arguments.{item_at}
+use Rattle.spf_size.proofs.Lists.{item_at}
 use Rattle.spf_types.proofs.Blocks.{append_nil}
 use Rattle.spf_types.proofs.Tables.{bytes_are, map_twice, global_named-seen}
 

@@ -8,6 +8,5 @@ pub mod Faults
 pub mod Resolved
 pub mod HereView
 pub mod Answers
-pub mod Sizes
 pub mod TooLarge
 pub mod Contract

@@ -7,11 +7,9 @@ mod globals;
 mod header;
 mod limits;
 mod locals;
-mod measure;
 mod names;
 mod program;
 mod simple;
-mod size;
 mod statement;
 #[cfg(test)]
 mod tests;

@@ -1,18 +1,18 @@
 // The limits of the language.
 
-ghost use Rattle.std.specs.Prelude.{◌≡◌, ◌+◌, ◌&&◌, nat_le, nat_lt, length, map, IfOk};
+ghost use Rattle.std.specs.Prelude.{◌≡◌, ◌&&◌, nat_le, nat_lt, length, map, IfOk};
 ghost use Rattle.spf_ast.specs.View.{program as seen_program, array as seen_array, function as seen_function};
-ghost use Rattle.spf_ast.specs.Size.{function_measure};
 ghost use Rattle.spf_types.specs.declared.fault.TypeError.TheVariants.{Refused};
 ghost use Rattle.spf_types.specs.declared.fault.TypeFault.TheVariants.{TooLarge};
-ghost use Rattle.spf_types.specs.Sizes.{Counts, HasSize, IsTable, capped, all_counts};
+ghost use Rattle.spf_size.specs.Sizes.{IsTable, all_counts};
 ghost use Rattle.spf_types.specs.TooLarge.{large_arrays, large_functions, limits_passed};
 ghost use Rattle.spf_types.specs.Answers.{Answers};
 
 use crate::fault::{TypeError, TypeFault};
-use crate::measure::{block, expression};
-use crate::size::{Size, beside};
 use spf_ast::syntax::{Array, Function, Program};
+use spf_size::functions::{function_size, with_slots};
+use spf_size::measure::block;
+use spf_size::size::Size;
 use std::alloc::Global;
 
 const MAX_ARRAYS: usize = 64;
@@ -31,27 +31,6 @@ fn too_large(line: u32) -> TypeError
 {
     let fault = TypeFault::TooLarge;
     TypeError::Refused { fault, line }
-}
-
-/// The size of a function.
-fn function_size(sizes: &[Size], function: &Function) -> Size
-    ensures { (counts : Counts) → IsTable counts sizes.now → HasSize counts (λ m. function_measure m (seen_function function.now)) result }
-{
-    let body = block(sizes, &function.body);
-    beside(body, expression(sizes, &function.answer))
-}
-
-/// The size of a form together with so many slots of its own.
-fn with_slots(size: Size, count: usize) -> Size
-    ensures nodes { result.nodes ≡ size.nodes }
-    ensures depth { result.depth ≡ size.depth }
-    ensures slots { result.slots ≡ capped (count + size.slots) }
-{
-    Size {
-        nodes: size.nodes,
-        depth: size.depth,
-        slots: size.slots.saturating_add(count as u64),
-    }
 }
 
 /// Whether the function at a place keeps the limits.

@@ -5,7 +5,8 @@ use Rattle.spf_types.specs.HereView.{setting}
 use Rattle.spf_types.specs.Faults.{arguments_faults, a_number}
 use Rattle.spf_types.specs.Resolved.{scope}
 use Rattle.spf_types.proofs.Weight.{expr_weight, exprs_weight, expr_weight-call, weight_at}
-use Rattle.spf_types.proofs.Arguments.{one_more, all_resolved, item_at, call_faults, call_form}
+use Rattle.spf_size.proofs.Lists.{item_at}
+use Rattle.spf_types.proofs.Arguments.{one_more, all_resolved, call_faults, call_form}
 use Rattle.spf_types.proofs.Steps.{ahead, behind, along, none_in}
 use Rattle.spf_types.proofs.expression.+number.Goals as goal
 

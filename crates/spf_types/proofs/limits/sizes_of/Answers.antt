@@ -1,6 +1,6 @@
 use Rattle.std.proofs.Common.{◌≡◌, ◌+◌, length, map, rules, refl, sym, ap, ◌∙◌, subst}
 use Rattle.spf_ast.specs.View.{function}
-use Rattle.spf_types.specs.Sizes.{capped, IsTable, counts_before}
+use Rattle.spf_size.specs.Sizes.{capped, IsTable, counts_before}
 use Rattle.spf_types.proofs.Kept.{none_measured, one_measured, refused_function, all_measured}
 use Rattle.spf_types.proofs.limits.sizes_of.Goals as goal
 
@@ -14,7 +14,7 @@ loop-place-preserved c =
     let f = c.index-functions-place.result in
     let size = c.function_size-size.result in
     let counts = counts_before (map function raw) i in
-    let has = c.function_size-size.ensures counts (subst (IsTable counts) (sym c.deref.ensures.value) c.loop-place.invariant.table) in
+    let has = c.function_size-size.ensures counts (subst (IsTable counts) (sym c.deref.ensures.value) c.loop-place.invariant.counted.table) in
     let slots : c.len.result ≡ length f.slots.items = c.len.ensures ∙ search rules in
     one_measured raw c.loop-place.sizes.items i f size c.with_slots.result c.push.new.self.items c.loop-place-test.true c.index-functions-place.is c.loop-place.invariant has
     (sym c.is_function_small.ensures ∙ c.if-not-is_function_small.false) c.with_slots.ensures.nodes c.with_slots.ensures.depth (c.with_slots.ensures.slots ∙ ap (λ n. capped (n + size.slots)) slots) (c.in_ok-push.ensures {u = tt}).items
@@ -24,7 +24,7 @@ returns-then-not-is_function_small-clause-answers c =
     let raw = c.args.functions.now in
     let i = c.loop-place.place in
     let counts = counts_before (map function raw) i in
-    let has = c.function_size-size.ensures counts (subst (IsTable counts) (sym c.deref.ensures.value) c.loop-place.invariant.table) in
+    let has = c.function_size-size.ensures counts (subst (IsTable counts) (sym c.deref.ensures.value) c.loop-place.invariant.counted.table) in
     rw c.too_large.ensures (refused_function raw c.loop-place.sizes.items i c.index-functions-place.result c.function_size-size.result c.loop-place-test.true c.index-functions-place.is c.loop-place.invariant has (sym c.is_function_small.ensures ∙ c.if-not-is_function_small.true))
 
 pub returns-clause-answers : goal.returns-clause-answers

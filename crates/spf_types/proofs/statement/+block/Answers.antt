@@ -10,7 +10,7 @@ use Rattle.spf_types.specs.Locals.{Seen}
 use Rattle.spf_types.specs.Faults.{block_faults, predictor_faults, valued_faults, in_body, showing_fixed}
 use Rattle.spf_types.specs.Resolved.{scope, free, fixed, names_in, after_inner}
 use Rattle.spf_types.proofs.Weight.{kind_weight, stmts_weight, kind_weight-if, kind_weight-for, kind_weight-while, kind_weight-fold, kind_weight-pair, stmt_weight_at}
-use Rattle.spf_types.proofs.Arguments.{item_at}
+use Rattle.spf_size.proofs.Lists.{item_at}
 use Rattle.spf_types.proofs.Blocks.{one_statement, all_statements, scope_at_end-is}
 use Rattle.spf_types.proofs.Grown.{closed, shown}
 use Rattle.spf_types.proofs.Forms.{form_along, after_along, if_is, for_is, while_is, fold_is, pair_is, if_form, for_form, while_form, fold_form, pair_form}

@@ -3,8 +3,8 @@ use Rattle.spf_ast.specs.Syntax.{Call}
 use Rattle.spf_ast.specs.View.{expression, arguments}
 use Rattle.spf_ast.specs.Size.{expression_measure, arguments_measure}
 use Rattle.spf_ast.proofs.Views.{expression-call}
-use Rattle.spf_types.proofs.Measures.{none_behind, one_behind, all_behind, around_two, has_along, arguments_from, arguments_split, arguments_end}
-use Rattle.spf_types.proofs.measure.+expression.Goals as goal
+use Rattle.spf_size.proofs.Measures.{none_behind, one_behind, all_behind, around_two, has_along, arguments_from, arguments_split, arguments_end}
+use Rattle.spf_size.proofs.measure.+expression.Goals as goal
 
 pub expression-returns-in-Call : goal.expression-returns-in-Call
 expression-returns-in-Call t c = λ counts h.

@@ -1,24 +1,27 @@
 // How large forms are, with calls unfolded.
 
-ghost use Rattle.spf_types.specs.Sizes.{IsBeside, IsWithin};
+ghost use Rattle.spf_size.specs.Sizes.{IsBeside, IsWithin};
 
-/// How many statements and expressions a form has, how many of them stand within each other, and how many slots a chain of its calls has. A number that doesn't fit is the largest.
+/// How many statements and expressions a form has, how many of them stand within each other, and how many slots a chain of its calls has at most. A number that doesn't fit is the largest.
 #[derive(Clone, Copy)]
-pub(crate) struct Size {
+pub struct Size {
+    /// The statements and expressions.
     pub nodes: u64,
+    /// How many of them stand within each other at most.
     pub depth: u64,
+    /// The slots that the longest chain of calls has.
     pub slots: u64,
 }
 
 /// The size of nothing.
-pub(crate) const NONE: Size = Size {
+pub const NONE: Size = Size {
     nodes: 0,
     depth: 0,
     slots: 0,
 };
 
 /// The size of two forms beside each other.
-pub(crate) fn beside(one: Size, other: Size) -> Size
+pub fn beside(one: Size, other: Size) -> Size
     ensures { IsBeside one other result }
 {
     Size {
@@ -29,7 +32,7 @@ pub(crate) fn beside(one: Size, other: Size) -> Size
 }
 
 /// The size of a form around others.
-pub(crate) fn within(inner: Size) -> Size
+pub fn within(inner: Size) -> Size
     ensures { IsWithin inner result }
 {
     Size {

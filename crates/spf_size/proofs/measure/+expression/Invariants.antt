@@ -1,6 +1,6 @@
-use Rattle.spf_types.specs.Sizes.{Counts, IsTable}
-use Rattle.spf_types.proofs.Measures.{SizeBehind, arguments_from}
-use Rattle.spf_types.proofs.measure.+expression.Given as goal
+use Rattle.spf_size.specs.Sizes.{Counts, IsTable}
+use Rattle.spf_size.proofs.Measures.{SizeBehind, arguments_from}
+use Rattle.spf_size.proofs.measure.+expression.Given as goal
 
 abbrev pub invariant-arguments-loop-expr : goal.invariant-arguments-loop-expr
 invariant-arguments-loop-expr l =

@@ -2,7 +2,7 @@
 use Rattle.std.specs.Prelude.{◌≡◌, ℕ, ◌+◌, ◌-◌, ◌^◌, min, max, List, length, slice_index_or}
 use Rattle.spf_ast.specs.Syntax.{Function}
 use Rattle.spf_ast.specs.Size.{Measure, by_size, by_depth, by_slots, function_measure, counted_before}
-use Rattle.spf_types.specs.declared.size.Size.{Size}
+use Rattle.spf_size.specs.declared.size.Size.{Size}
 
 -- a count that stands still at the largest number of 64 bits
 abbrev pub capped : ℕ → ℕ

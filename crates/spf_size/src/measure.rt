@@ -5,7 +5,7 @@ ghost use Rattle.spf_ast.specs.declared.syntax.Pair.{out-Pair};
 ghost use Rattle.spf_ast.specs.Syntax as form;
 ghost use Rattle.spf_ast.specs.View.{expression as seen_expression, arguments as seen_arguments, condition as seen_condition, predictor as seen_predictor, block as seen_block, statement as seen_statement, fold_head, pair_head};
 ghost use Rattle.spf_ast.specs.Size.{expression_measure, arguments_measure, condition_measure, predictor_measure, block_measure, statement_measure};
-ghost use Rattle.spf_types.specs.Sizes.{Counts, HasSize, IsSize, IsTable};
+ghost use Rattle.spf_size.specs.Sizes.{Counts, HasSize, IsSize, IsTable};
 
 use crate::size::{NONE, Size, beside, within};
 use spf_ast::syntax::{Cond, Expr, Fold, Pair, Predict, Stmt, StmtKind};
@@ -22,7 +22,7 @@ fn called(sizes: &[Size], function: u32) -> Size
 
 /// An expression.
 #[cycle(expression)]
-pub(crate) fn expression(sizes: &[Size], expr: &Expr) -> Size
+pub fn expression(sizes: &[Size], expr: &Expr) -> Size
     ensures { (counts : Counts) → IsTable counts sizes.now → HasSize counts (λ m. expression_measure m (seen_expression expr.now)) result }
 {
     match expr {
@@ -86,7 +86,7 @@ fn predictor(sizes: &[Size], predict: &Predict) -> Size
 
 /// Statements one after another.
 #[cycle(statement)]
-pub(crate) fn block(sizes: &[Size], statements: &[Stmt]) -> Size
+pub fn block(sizes: &[Size], statements: &[Stmt]) -> Size
     ensures { (counts : Counts) → IsTable counts sizes.now → HasSize counts (λ m. block_measure m (seen_block statements.now)) result }
 {
     let mut size = NONE;

@@ -5,9 +5,9 @@ use Rattle.spf_ast.specs.declared.syntax.Expr.{Expr}
 use Rattle.spf_ast.specs.declared.syntax.Stmt.{Stmt}
 use Rattle.spf_ast.specs.View.{expression, arguments, statement, block}
 use Rattle.spf_ast.specs.Size.{Measure, by_size, by_depth, by_slots, expression_measure, arguments_measure, statement_measure, block_measure}
-use Rattle.spf_types.specs.declared.size.Size.{Size}
-use Rattle.spf_types.specs.Sizes.{IsBeside, IsWithin, IsSize, Counts, HasSize}
-use Rattle.spf_types.proofs.Arguments.{item_at}
+use Rattle.spf_size.specs.declared.size.Size.{Size}
+use Rattle.spf_size.specs.Sizes.{IsBeside, IsWithin, IsSize, Counts, HasSize}
+use Rattle.spf_size.proofs.Lists.{item_at}
 
 -- nothing has this size
 pub nothing_has : (counts : Counts) (s : Size) → s.nodes ≡ 0 → s.depth ≡ 0 → s.slots ≡ 0 → HasSize counts (λ m. 0) s

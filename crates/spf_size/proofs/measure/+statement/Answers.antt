@@ -5,8 +5,8 @@ use Rattle.spf_ast.specs.Syntax.{If, For, While, Fold, Pair}
 use Rattle.spf_ast.specs.View.{expression, condition, statement, block, fold_head, pair_head}
 use Rattle.spf_ast.specs.Size.{expression_measure, condition_measure, statement_measure, block_measure}
 use Rattle.spf_ast.proofs.Views.{statement-if, statement-for, statement-while, statement-fold, statement-pair}
-use Rattle.spf_types.proofs.Measures.{none_behind, one_behind, all_behind, around_two, around_three, has_along, block_from, block_split, block_end}
-use Rattle.spf_types.proofs.measure.+statement.Goals as goal
+use Rattle.spf_size.proofs.Measures.{none_behind, one_behind, all_behind, around_two, around_three, has_along, block_from, block_split, block_end}
+use Rattle.spf_size.proofs.measure.+statement.Goals as goal
 
 pub block-loop-stmt-init : goal.block-loop-stmt-init
 block-loop-stmt-init t c = λ counts h. none_behind counts (block_from c.args.statements.now 0) (record { nodes = 0; depth = 0; slots = 0 }) refl refl refl

@@ -6,8 +6,8 @@ use Rattle.std.proofs.lemmas.Bool.Decides.{nat_tests}
 use Rattle.std.proofs.Math.Seq.{get_or-append_seam}
 use Rattle.spf_ast.specs.Syntax.{Function}
 use Rattle.spf_ast.specs.Size.{by_size, by_depth, by_slots, function_measure, counted_before}
-use Rattle.spf_types.specs.declared.size.Size.{Size}
-use Rattle.spf_types.specs.Sizes.{capped, IsSize, counts_before, HasSize, IsTable}
+use Rattle.spf_size.specs.declared.size.Size.{Size}
+use Rattle.spf_size.specs.Sizes.{capped, IsSize, counts_before, HasSize, IsTable}
 
 same_number : (n : ℕ) → nat_eq n n ≡ true
 same_number n = grind (arith, nat_tests)

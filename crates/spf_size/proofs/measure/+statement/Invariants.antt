@@ -1,6 +1,6 @@
-use Rattle.spf_types.specs.Sizes.{Counts, IsTable}
-use Rattle.spf_types.proofs.Measures.{SizeBehind, block_from}
-use Rattle.spf_types.proofs.measure.+statement.Given as goal
+use Rattle.spf_size.specs.Sizes.{Counts, IsTable}
+use Rattle.spf_size.proofs.Measures.{SizeBehind, block_from}
+use Rattle.spf_size.proofs.measure.+statement.Given as goal
 
 abbrev pub invariant-block-loop-stmt : goal.invariant-block-loop-stmt
 invariant-block-loop-stmt l =
