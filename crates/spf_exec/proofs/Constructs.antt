@@ -1,10 +1,9 @@
 -- The top constructs among statements.
 use Rattle.std.proofs.Common.{◌≡◌, ℕ, suc, ◌+◌, ◌<◌, Bool, true, false, List, length, get_or, drop, drop-cons, add-one, refl, sym, ap, ◌∙◌, arith}
-use Rattle.std.specs.Prelude.{slice_get}
 use Rattle.spf_ast.specs.declared.syntax.Stmt.{Stmt}
 use Rattle.spf_ast.specs.Syntax.{Statement, Let, Assign, Store, Fill, Emit, Fail, If, For, While, Do, Fold, Pair, Block, on_line}
 use Rattle.spf_ast.specs.View.{statement, block}
-use Rattle.spf_ast.specs.Construct.{constructs_in, construct_of, is_construct}
+use Rattle.spf_ast.specs.Construct.{constructs_in, is_construct}
 
 -- the block from one place on
 pub next_block : (xs : List Stmt) (i : ℕ) (x : Stmt) → i < length xs → x ≡ get_or xs i x → block (drop i xs) ≡ on_line x.line (statement x.kind) (block (drop (i + 1) xs))
@@ -27,36 +26,6 @@ constructs-skip line (While test most body) rest e = refl
 constructs-skip line (Do f given) rest e = refl
 constructs-skip line (Fold head body) rest e = cc
 constructs-skip line (Pair head producer consumer) rest e = cc
-
--- a construct is the first one
-pub construct-first : (line : ℕ) (s : Statement) (rest : Block) → is_construct s ≡ true → slice_get (constructs_in (on_line line s rest)) 0 ≡ construct_of line s
-construct-first line (Let slot value) rest e = cc
-construct-first line (Assign slot value) rest e = cc
-construct-first line (Store array index value) rest e = cc
-construct-first line (Fill array low high value) rest e = cc
-construct-first line (Emit value) rest e = cc
-construct-first line (Fail number) rest e = cc
-construct-first line (If test a b) rest e = cc
-construct-first line (For slot low high body) rest e = cc
-construct-first line (While test most body) rest e = cc
-construct-first line (Do f given) rest e = cc
-construct-first line (Fold head body) rest e = refl
-construct-first line (Pair head producer consumer) rest e = refl
-
--- and the others follow it
-pub construct-later : (line : ℕ) (s : Statement) (rest : Block) (n : ℕ) → is_construct s ≡ true → slice_get (constructs_in (on_line line s rest)) (suc n) ≡ slice_get (constructs_in rest) n
-construct-later line (Let slot value) rest n e = cc
-construct-later line (Assign slot value) rest n e = cc
-construct-later line (Store array index value) rest n e = cc
-construct-later line (Fill array low high value) rest n e = cc
-construct-later line (Emit value) rest n e = cc
-construct-later line (Fail number) rest n e = cc
-construct-later line (If test a b) rest n e = cc
-construct-later line (For slot low high body) rest n e = cc
-construct-later line (While test most body) rest n e = cc
-construct-later line (Do f given) rest n e = cc
-construct-later line (Fold head body) rest n e = refl
-construct-later line (Pair head producer consumer) rest n e = refl
 
 -- how many constructs there are
 abbrev pub one_if : Bool → ℕ

@@ -1,5 +1,5 @@
 -- What the code's forms mean, and what they weigh.
-use Rattle.std.proofs.Common.{◌≡◌, ℕ, zero, suc, ◌+◌, ◌<◌, Bool, List, [], ◌∷◌, length, get_or, refl, sym, ap, ◌∙◌, ℤ, pos, arith}
+use Rattle.std.proofs.Common.{◌≡◌, ℕ, zero, suc, ◌+◌, ◌<◌, ◌≤◌, max, Bool, List, [], ◌∷◌, length, get_or, refl, sym, ap, ◌∙◌, ℤ, pos, arith}
 use Rattle.std.proofs.Math.ListN.{length-map}
 use Rattle.std.specs.Prelude.{if◌then◌else◌}
 use Rattle.std.specs.declared.vec.Vec.{Vec}
@@ -20,6 +20,7 @@ use Rattle.spf_ast.specs.Syntax.{Call, If, For, While, Fold, Pair}
 use Rattle.spf_ast.specs.View.{expression, arguments, condition, statement, block, fold_head, pair_head, function, name}
 use Rattle.spf_ast.specs.Interaction.{Meaning, ◌>>=◌}
 use Rattle.spf_ast.specs.Meaning.{Environment, expression_means, arguments_mean, condition_means, statement_means, block_means, count_of, gives}
+use Rattle.spf_ast.specs.Size.{Measure, statement_measure, block_measure}
 use Rattle.spf_ast.proofs.Views.{expression-call, statement-if, statement-for, statement-while, statement-fold, statement-pair}
 use Rattle.spf_exec.proofs.Weight.{expression_weight, arguments_weight, condition_weight, statement_weight, block_weight}
 
@@ -130,3 +131,23 @@ pub weight_at : (xs : List Stmt) (i : ℕ) (x : Stmt) → i < length xs → x �
 weight_at [] i x h e = let no : ⊥ = omega arith in absurd no
 weight_at (y ∷ ys) zero x h e = let w : kind_weight x.kind ≡ kind_weight y.kind = ap (λ (s : Stmt). kind_weight s.kind) e in omega (arith, w)
 weight_at (y ∷ ys) (suc i) x h e = let r = weight_at ys i x (omega arith) e in omega (arith, r)
+
+-- ---- the room that the calls of the code's forms need
+
+abbrev pub fold_room : Measure → code_fold.Fold → ℕ
+fold_room m f = statement_measure m (Fold (fold_head f) (block (out-Fold f).body.items))
+
+abbrev pub pair_room : Measure → code_pair.Pair → ℕ
+pair_room m p = statement_measure m (Pair (pair_head p) (block (out-Pair p).producer.items) (block (out-Pair p).consumer.items))
+
+-- a statement of a list needs no more than the list
+pub room_at : (m : Measure) → m.join ≡ max → (xs : List Stmt) (i : ℕ) (x : Stmt) → i < length xs → x ≡ get_or xs i x → statement_measure m (statement x.kind) ≤ block_measure m (block xs)
+room_at m j [] i x h e = let no : ⊥ = omega (arith, h) in absurd no
+room_at m j (y ∷ ys) zero x h e =
+    let same : statement_measure m (statement x.kind) ≡ statement_measure m (statement y.kind) = ap (λ (s : Stmt). statement_measure m (statement s.kind)) e in
+    let all : block_measure m (block (y ∷ ys)) ≡ max (statement_measure m (statement y.kind)) (block_measure m (block ys)) = ap (λ k. k (statement_measure m (statement y.kind)) (block_measure m (block ys))) j in
+    omega (arith, same, all)
+room_at m j (y ∷ ys) (suc i) x h e =
+    let r = room_at m j ys i x (omega (arith, h)) e in
+    let all : block_measure m (block (y ∷ ys)) ≡ max (statement_measure m (statement y.kind)) (block_measure m (block ys)) = ap (λ k. k (statement_measure m (statement y.kind)) (block_measure m (block ys))) j in
+    omega (arith, r, all)

@@ -3,6 +3,7 @@ pub mod Forms
 pub mod Steps
 pub mod Turns
 pub mod Calls
+pub mod Rooms
 pub mod Outcome
 pub mod Cells
 pub mod Constructs

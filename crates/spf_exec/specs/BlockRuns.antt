@@ -4,9 +4,10 @@ use Rattle.spf_ast.specs.declared.outcome.Trap.{Trap}
 use Rattle.spf_ast.specs.declared.syntax.Part.{Part}
 use Rattle.spf_ast.specs.Event.{Event, Turn}
 use Rattle.spf_ast.specs.Interaction.{Interaction, Answer, AskLoad, AskStore, AskTurn, perform, State, Ending, Value}
-use Rattle.spf_ast.specs.Syntax.{Program}
+use Rattle.spf_ast.specs.Syntax.{Program, Fold, Pair}
 use Rattle.spf_ast.specs.Program.{environment_of, extents_of, cell_count_of, max_cells}
-use Rattle.spf_ast.specs.Construct.{Construct, constructs_in, block_asks}
+use Rattle.spf_ast.specs.Construct.{Construct, fold, pair, constructs_in, block_asks}
+use Rattle.spf_ast.specs.Size.{Measure, statement_measure}
 use Rattle.spf_ast.specs.Silence.{FunctionsAreSilent, PartIsSilent}
 use Rattle.spf_exec.specs.declared.layout.Layout as code_layout
 use Rattle.spf_exec.specs.declared.memory.Halt.{Halt}
@@ -24,6 +25,11 @@ pub record IsLayoutOf (p : Program) (len : ℕ) (l : code_layout.Layout) : Type 
 -- the top construct with this number
 abbrev pub top_construct : Program → ℕ → Option Construct
 top_construct p number = slice_get (constructs_in p.main) number
+
+-- a construct, measured as the statement that it is
+abbrev pub construct_measure : Measure → Construct → ℕ
+construct_measure m (fold line head body) = statement_measure m (Fold head body)
+construct_measure m (pair line head producer consumer) = statement_measure m (Pair head producer consumer)
 
 -- this part of a construct that is there holds no `emit`, and no function does
 abbrev pub IsSilentPart : Program → Option Construct → Part → Type 0

@@ -1,20 +1,19 @@
--- How many slots calls need, and frames.
-use Rattle.std.specs.Prelude.{ℕ, zero, suc, ◌+◌, List, length, take, Option, Some, None, slice_get, ℤ}
+-- Frames, and how many slots calls need.
+use Rattle.std.specs.Prelude.{ℕ, ◌+◌, List, length, take, ℤ}
 use Rattle.spf_ast.specs.Syntax.{Function, Program}
+use Rattle.spf_ast.specs.Size.{by_slots, function_measure, block_measure, counted_before, function_slots}
 
--- the number of a function's slots; of one that isn't there, none
-abbrev pub slots_of : Option Function → ℕ
-slots_of None = 0
-slots_of (Some f) = length f.slots
+-- the slots of each function with those of its deepest chain of calls, where the functions before a place may be called
+abbrev pub slots_before : List Function → ℕ → ℕ → ℕ
+slots_before functions place = counted_before functions (λ slots f. length f.slots + function_measure (by_slots slots) f) place
 
--- the slots that the deepest call of the functions before a place may need, where each calls only those before it
-abbrev pub room_before : List Function → ℕ → ℕ
-room_before functions zero = 0
-room_before functions (suc place) = slots_of (slice_get functions place) + room_before functions place
+-- the slots that the deepest chain of calls from `main` has
+abbrev pub call_room : Program → ℕ
+call_room p = block_measure (by_slots (function_slots p)) p.main
 
--- the size of a program's frame: the slots of `main`, once more as many for a copy of them, and the room for calls
+-- the size of a program's frame: the slots of `main`, once more as many for a copy of them, and those of the deepest chain of calls
 abbrev pub frame_size : Program → ℕ
-frame_size p = length p.slots + length p.slots + room_before p.functions (length p.functions)
+frame_size p = length p.slots + length p.slots + call_room p
 
 -- the slots of `main` in a frame
 abbrev pub main_slots : Program → List ℤ → List ℤ

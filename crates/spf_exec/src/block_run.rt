@@ -1,15 +1,17 @@
 // Runs of single blocks of a program's top constructs.
 
-ghost use Rattle.std.specs.Prelude.{◌≡◌, ◌≤◌, ◌<◌, ◌^◌, ◌+◌, ℤ, [], length, map, pos, slice_get, MatchOption, None, Some};
+ghost use Rattle.std.specs.Prelude.{◌≡◌, ◌≤◌, ◌<◌, ◌^◌, ◌+◌, ℤ, [], length, pos, MatchOption, None, Some};
 ghost use Rattle.spf_ast.specs.declared.syntax.Fold.{out-Fold};
 ghost use Rattle.spf_ast.specs.declared.syntax.Pair.{out-Pair};
-ghost use Rattle.spf_ast.specs.View.{expression, statement as statement_of, block as block_of, fold_head, pair_head, predictor, function as function_of, program as seen_program};
-ghost use Rattle.spf_ast.specs.Construct.{construct_of, constructs_in, part_means, guess_means, fold as fold_construct, pair as pair_construct};
+ghost use Rattle.spf_ast.specs.View.{expression, statement as statement_of, block as block_of, fold_head, pair_head, predictor, program as seen_program};
+ghost use Rattle.spf_ast.specs.Syntax.{Fold as fold_form, Pair as pair_form};
+ghost use Rattle.spf_ast.specs.Construct.{construct_of, part_means, guess_means, fold as fold_construct, pair as pair_construct};
 ghost use Rattle.spf_ast.specs.declared.syntax.Part.TheVariants.{Predictor};
 ghost use Rattle.spf_ast.specs.Program.{cell_count_of, environment_of};
-ghost use Rattle.spf_exec.specs.Frame.{room_before, frame_size, main_slots};
-ghost use Rattle.spf_exec.specs.Performs.{Performs, AreWithin, block_value, environment, state};
-ghost use Rattle.spf_exec.specs.BlockRuns.{IsLayoutOf, IsSilentPart, IsGuess, PerformsOver, StoresNothing, top_construct, run_asks, stop_result};
+ghost use Rattle.spf_ast.specs.Size.{expression_measure, predictor_measure, statement_measure, block_measure};
+ghost use Rattle.spf_exec.specs.Frame.{frame_size, main_slots};
+ghost use Rattle.spf_exec.specs.Performs.{Performs, AreWithin, block_value, call_slots, environment, state};
+ghost use Rattle.spf_exec.specs.BlockRuns.{IsLayoutOf, construct_measure, IsSilentPart, IsGuess, PerformsOver, StoresNothing, top_construct, run_asks, stop_result};
 
 use crate::context::Context;
 use crate::entry;
@@ -18,7 +20,7 @@ use crate::layout::Layout;
 use crate::memory::{Halt, Memory};
 use crate::primitives::write_slot;
 use crate::quiet::{Quiet, ReadOnly};
-use spf_ast::construct::is_construct;
+use spf_ast::construct::find_construct;
 use spf_ast::outcome::Trap;
 use spf_ast::syntax::{Expr, Fold, Pair, Part, Predict, Program, Stmt, StmtKind};
 
@@ -56,7 +58,8 @@ fn perform_value<M: Memory>(
 ) -> Result<i64, Halt>
     requires within { AreWithin context.now.extents.now (M.cell_count memory.old) }
     requires short { length context.now.input.now < 2 ^ 63 }
-    requires room { room_before (map function_of context.now.functions.now) below ≤ length scratch.old }
+    requires room { block_measure (call_slots context.now below) (block_of statements.now) ≤ length scratch.old }
+    requires answer_room { expression_measure (call_slots context.now below) (expression answer.now) ≤ length scratch.old }
     ensures performs { Performs M.leads M.stop M.may_lack_memory
         (block_value (environment context.now below) (block_of statements.now) line (expression answer.now)
         (state slots.old (M.output memory.old)))
@@ -78,7 +81,7 @@ fn perform_guess<M: Memory>(
 ) -> Result<i64, Halt>
     requires within { AreWithin context.now.extents.now (M.cell_count memory.old) }
     requires short { length context.now.input.now < 2 ^ 63 }
-    requires room { room_before (map function_of context.now.functions.now) below ≤ length scratch.old }
+    requires room { predictor_measure (call_slots context.now below) (predictor predict.now) ≤ length scratch.old }
     ensures performs { Performs M.leads M.stop M.may_lack_memory
         (guess_means (environment context.now below) line (predictor predict.now)
         (state slots.now (M.output memory.old)))
@@ -105,7 +108,9 @@ fn perform_fold<M: Memory>(
 ) -> Result<i64, Halt>
     requires within { AreWithin context.now.extents.now (M.cell_count memory.old) }
     requires short { length context.now.input.now < 2 ^ 63 }
-    requires room { room_before (map function_of context.now.functions.now) below ≤ length scratch.old }
+    requires room { statement_measure (call_slots context.now below)
+        (fold_form (fold_head fold.now) (block_of (out-Fold fold.now).body.items))
+        ≤ length scratch.old }
     ensures performs { Performs M.leads M.stop M.may_lack_memory
         (part_means (environment context.now below)
         (fold_construct line (fold_head fold.now) (block_of (out-Fold fold.now).body.items))
@@ -152,7 +157,11 @@ fn perform_pair<M: Memory>(
 ) -> Result<i64, Halt>
     requires within { AreWithin context.now.extents.now (M.cell_count memory.old) }
     requires short { length context.now.input.now < 2 ^ 63 }
-    requires room { room_before (map function_of context.now.functions.now) below ≤ length scratch.old }
+    requires room { statement_measure (call_slots context.now below)
+        (pair_form (pair_head pair.now)
+        (block_of (out-Pair pair.now).producer.items)
+        (block_of (out-Pair pair.now).consumer.items))
+        ≤ length scratch.old }
     ensures performs { Performs M.leads M.stop M.may_lack_memory
         (part_means (environment context.now below)
         (pair_construct line (pair_head pair.now)
@@ -185,24 +194,6 @@ fn perform_pair<M: Memory>(
     }
 }
 
-/// The statement that is the top construct of this number.
-fn find_construct<'a>(main: &'a [Stmt], number: u32) -> Option<&'a Stmt>
-    ensures { MatchOption result
-        (slice_get (constructs_in (block_of main.now)) number ≡ None)
-        (λ s. slice_get (constructs_in (block_of main.now)) number ≡ construct_of s.now.line (statement_of s.now.kind)) }
-{
-    let mut left = number;
-    for statement in main {
-        if is_construct(&statement.kind) {
-            if left == 0 {
-                return Some(statement);
-            }
-            left -= 1;
-        }
-    }
-    None
-}
-
 /// Performs a part of a top construct, given the statement that the construct is.
 fn perform_part<M: Memory>(
     context: &Context,
@@ -215,7 +206,8 @@ fn perform_part<M: Memory>(
 ) -> Result<i64, Halt>
     requires within { AreWithin context.now.extents.now (M.cell_count memory.old) }
     requires short { length context.now.input.now < 2 ^ 63 }
-    requires room { room_before (map function_of context.now.functions.now) below ≤ length scratch.old }
+    requires room { MatchOption (construct_of statement.now.line (statement_of statement.now.kind)) (Unit {0})
+        (λ construct. construct_measure (call_slots context.now below) construct ≤ length scratch.old) }
     ensures performs { MatchOption (construct_of statement.now.line (statement_of statement.now.kind)) (Unit {0})
         (λ construct. Performs M.leads M.stop M.may_lack_memory
         (part_means (environment context.now below) construct block.part block.number block.value

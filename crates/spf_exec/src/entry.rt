@@ -1,10 +1,10 @@
 // Where a performance begins: its halt is handed back in its result.
 
-ghost use Rattle.std.specs.Prelude.{◌≡◌, ◌<◌, ◌≤◌, ◌^◌, length, map};
-ghost use Rattle.spf_ast.specs.View.{expression, block as block_of, function as function_of};
+ghost use Rattle.std.specs.Prelude.{◌≡◌, ◌<◌, ◌≤◌, ◌^◌, length};
+ghost use Rattle.spf_ast.specs.View.{expression, block as block_of};
 ghost use Rattle.spf_ast.specs.Meaning.{expression_means, block_means};
-ghost use Rattle.spf_exec.specs.Frame.{room_before};
-ghost use Rattle.spf_exec.specs.Performs.{Performs, AreWithin, environment, state};
+ghost use Rattle.spf_ast.specs.Size.{expression_measure, block_measure};
+ghost use Rattle.spf_exec.specs.Performs.{Performs, AreWithin, call_slots, environment, state};
 
 use crate::context::Context;
 use crate::memory::{Halt, Halted, Memory};
@@ -23,7 +23,7 @@ pub(crate) fn eval<M: Memory>(
 ) -> Result<i64, Halt>
     requires within { AreWithin context.now.extents.now (M.cell_count memory.old) }
     requires short { length context.now.input.now < 2 ^ 63 }
-    requires room { room_before (map function_of context.now.functions.now) below ≤ length scratch.old }
+    requires room { expression_measure (call_slots context.now below) (expression expr.now) ≤ length scratch.old }
     ensures performs { Performs M.leads M.stop M.may_lack_memory
         (expression_means (environment context.now below) line (expression expr.now)
         (state slots.now (M.output memory.old)))
@@ -50,7 +50,7 @@ pub(crate) fn exec_block<M: Memory>(
 ) -> Result<(), Halt>
     requires within { AreWithin context.now.extents.now (M.cell_count memory.old) }
     requires short { length context.now.input.now < 2 ^ 63 }
-    requires room { room_before (map function_of context.now.functions.now) below ≤ length scratch.old }
+    requires room { block_measure (call_slots context.now below) (block_of statements.now) ≤ length scratch.old }
     ensures performs { Performs M.leads M.stop M.may_lack_memory
         (block_means (environment context.now below) (block_of statements.now)
         (state slots.old (M.output memory.old)))

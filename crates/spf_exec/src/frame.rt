@@ -1,11 +1,13 @@
 // The slots of a program's `main`, with room for calls.
 
-ghost use Rattle.std.specs.Prelude.{◌≡◌, ◌+◌, ℤ, List, length, map, pos, replicate, slice_set, IfOk, IfSome};
-ghost use Rattle.spf_ast.specs.View.{function as function_of, program as seen_program};
-ghost use Rattle.spf_exec.specs.Frame.{room_before, frame_size};
+ghost use Rattle.std.specs.Prelude.{◌≡◌, ◌+◌, ℤ, List, pos, replicate, slice_set, IfOk};
+ghost use Rattle.spf_ast.specs.View.{program as seen_program};
+ghost use Rattle.spf_exec.specs.Frame.{call_room, frame_size};
 
 use crate::primitives::write_slot;
-use spf_ast::syntax::{Function, Program};
+use spf_ast::syntax::Program;
+use spf_size::functions::sizes;
+use spf_size::measure::block;
 use std::alloc::{AllocError, Global};
 use std::marker::Model;
 
@@ -21,16 +23,20 @@ impl Model for Frame {
     ghost view = { λ f. f.slots.items };
 }
 
-/// The number of slots that `own` slots and the deepest call may need together, where it is one.
-pub(crate) fn size_with_calls(own: usize, functions: &[Function]) -> Option<usize>
-    ensures { IfSome result
-        (λ size. size ≡ own + room_before (map function_of functions.now) (length functions.now)) }
+/// The number of slots that `own` slots and the deepest chain of calls from `main` have together, where it fits.
+pub(crate) fn size_with_calls(
+    alloc: Global,
+    own: usize,
+    program: &Program,
+) -> Result<usize, AllocError>
+    ensures { IfOk result (λ size. size ≡ own + call_room (seen_program program.now)) }
 {
-    let mut size = own;
-    for function in functions {
-        size = size.checked_add(function.slots.len())?;
+    let sizes = sizes(alloc, &program.functions)?;
+    let calls = block(&sizes, &program.main).slots;
+    if calls == u64::MAX {
+        return Err(AllocError);
     }
-    Some(size)
+    own.checked_add(calls as usize).ok_or(AllocError)
 }
 
 impl Frame {
@@ -43,12 +49,8 @@ impl Frame {
         ensures zeros { IfOk result (λ f. f ≡ replicate (frame_size (seen_program program.now)) (pos 0)) }
     {
         let own = program.slots.len();
-        let size = own
-            .checked_add(own)
-            .and_then(|both| size_with_calls(both, &program.functions));
-        let Some(size) = size else {
-            return Err(AllocError);
-        };
+        let both = own.checked_add(own).ok_or(AllocError)?;
+        let size = size_with_calls(alloc, both, program)?;
         Ok(Frame {
             slots: vec![in alloc; 0i64; size]?,
         })

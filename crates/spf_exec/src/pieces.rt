@@ -1,21 +1,23 @@
 // Plain runs in pieces: `main` is run from one top construct to the next, and each construct is settled by who runs it.
 
-ghost use Rattle.std.specs.Prelude.{◌≡◌, ◌+◌, ◌-◌, ◌<◌, ◌≤◌, ◌^◌, ◌+ℤ◌, ◌≤ℤ◌, ℤ, ℕ, List, [], length, map, pos, replicate, drop, take, None, Some, IfOk, IfErr, IsErrAnd, MatchOption};
+ghost use Rattle.std.specs.Prelude.{◌≡◌, ◌+◌, ◌-◌, ◌<◌, ◌≤◌, ◌^◌, ◌+ℤ◌, ◌≤ℤ◌, ℤ, ℕ, List, [], length, pos, replicate, drop, take, None, Some, IfOk, IfErr, IsErrAnd, MatchOption};
 ghost use Rattle.spf_ast.specs.declared.syntax.Fold.{out-Fold};
 ghost use Rattle.std.specs.Borrow.{Lends, Array, sem, i64 as word};
 ghost use Rattle.spf_exec.specs.contracts.pieces.Run.{the_row};
-ghost use Rattle.spf_ast.specs.View.{block as block_of, statement as statement_of, fold_head, function as function_of, program as seen_program};
+ghost use Rattle.spf_ast.specs.View.{block as block_of, statement as statement_of, fold_head, program as seen_program};
 ghost use Rattle.spf_ast.specs.Meaning.{block_means, max_blocks};
+ghost use Rattle.spf_ast.specs.Syntax.{Fold as fold_form};
 ghost use Rattle.spf_ast.specs.Construct.{constructs_in, construct_of, header_means, fold as fold_construct};
 ghost use Rattle.spf_ast.specs.Plain.{plain_memory};
 ghost use Rattle.spf_ast.specs.Pieces.{rest_from, before_construct, from_construct, construct_first, carried_of, statement_count};
 ghost use Rattle.spf_ast.specs.Program.{cell_count_of, max_cells, environment_of, zeros_of};
 ghost use Rattle.spf_ast.specs.Silence.{FunctionsAreSilent};
 ghost use Rattle.spf_exec.specs.declared.layout.RunError.TheVariants.{OutOfMemory};
-ghost use Rattle.spf_exec.specs.Frame.{room_before, frame_size, main_slots};
+ghost use Rattle.spf_ast.specs.Size.{by_slots, statement_measure, block_measure, function_slots};
+ghost use Rattle.spf_exec.specs.Frame.{frame_size, main_slots};
 ghost use Rattle.spf_exec.specs.RunErrors.{IsTooMany};
 ghost use Rattle.spf_exec.specs.BlockRuns.{IsLayoutOf};
-ghost use Rattle.spf_exec.specs.Performs.{Performs, AreWithin, IsDecided, environment, state};
+ghost use Rattle.spf_exec.specs.Performs.{Performs, AreWithin, IsDecided, call_slots, environment, state};
 ghost use Rattle.spf_exec.specs.PlainMemory.{IsPlainOutcome};
 ghost use Rattle.spf_exec.specs.Pieces.{Stand, IsRunOf, IsPauseAt, refilled, HasBegun, Advanced, IsHeaderAnswer, header_result, stand, HeaderDone, IsSettled, ahead, moment_of};
 
@@ -29,7 +31,7 @@ use crate::plain::Plain;
 use crate::plain_run::run_main;
 use crate::primitives::{are_too_many, block_count};
 use crate::quiet::Quiet;
-use spf_ast::construct::is_construct;
+use spf_ast::construct::{count_constructs, is_construct};
 use spf_ast::outcome::{Trap, TrapKind};
 use spf_ast::syntax::{Fold, Program, Stmt, StmtKind};
 use std::alloc::{AllocError, Global};
@@ -96,20 +98,6 @@ fn plain_front(statements: &[Stmt]) -> usize
     count
 }
 
-/// How many top constructs stand among these statements.
-fn construct_count(statements: &[Stmt]) -> u32
-    requires { length (constructs_in (block_of statements.now)) < 2 ^ 32 }
-    ensures { result ≡ length (constructs_in (block_of statements.now)) }
-{
-    let mut count = 0;
-    for statement in statements {
-        if is_construct(&statement.kind) {
-            count += 1;
-        }
-    }
-    count
-}
-
 /// Performs some of the statements of `main`.
 fn perform_between(
     program: &Program,
@@ -156,7 +144,9 @@ fn perform_header<M: Memory>(
 ) -> Result<Header, Halt>
     requires within { AreWithin context.now.extents.now (M.cell_count memory.old) }
     requires short { length context.now.input.now < 2 ^ 63 }
-    requires room { room_before (map function_of context.now.functions.now) below ≤ length scratch.old }
+    requires room { statement_measure (call_slots context.now below)
+        (fold_form (fold_head fold.now) (block_of (out-Fold fold.now).body.items))
+        ≤ length scratch.old }
     ensures performs { Performs M.leads M.stop M.may_lack_memory
         (header_means (environment context.now below)
         (fold_construct line (fold_head fold.now) (block_of (out-Fold fold.now).body.items))
@@ -196,6 +186,8 @@ fn header_quietly(
     requires cells { length quiet.old.memory.now.cells.items ≡ cell_count_of (seen_program program.now) (length input.now) }
     requires short { length input.now < 2 ^ 63 }
     requires program_frame { length frame.old ≡ frame_size (seen_program program.now) }
+    requires room { statement_measure (by_slots (function_slots (seen_program program.now))) (fold_form (fold_head fold.now) (block_of (out-Fold fold.now).body.items))
+        ≤ block_measure (by_slots (function_slots (seen_program program.now))) (seen_program program.now).main }
     requires silent { FunctionsAreSilent (seen_program program.now).functions }
     ensures outcome { IsPlainOutcome (header_result result)
         (header_means (environment_of (seen_program program.now) input.now)
@@ -243,7 +235,7 @@ fn pause_at(main: &[Stmt], place: usize) -> Pause
     if place == main.len() {
         Pause::Finished
     } else {
-        Pause::AtConstruct(construct_count(&main[..place]))
+        Pause::AtConstruct(count_constructs(&main[..place]))
     }
 }
 
@@ -291,6 +283,8 @@ fn fold_header(
     requires cells { length memory.old.cells.items ≡ cell_count_of (seen_program program.now) (length input.now) }
     requires short { length input.now < 2 ^ 63 }
     requires program_frame { length frame.old ≡ frame_size (seen_program program.now) }
+    requires room { statement_measure (by_slots (function_slots (seen_program program.now))) (fold_form (fold_head fold.now) (block_of (out-Fold fold.now).body.items))
+        ≤ block_measure (by_slots (function_slots (seen_program program.now))) (seen_program program.now).main }
     requires silent { FunctionsAreSilent (seen_program program.now).functions }
     ensures answer { IsHeaderAnswer (header_means (environment_of (seen_program program.now) input.now)
         (fold_construct line (fold_head fold.now) (block_of (out-Fold fold.now).body.items))
@@ -330,6 +324,8 @@ fn header_of(
     requires cells { length memory.old.cells.items ≡ cell_count_of (seen_program program.now) (length input.now) }
     requires short { length input.now < 2 ^ 63 }
     requires program_frame { length frame.old ≡ frame_size (seen_program program.now) }
+    requires room { statement_measure (by_slots (function_slots (seen_program program.now))) (statement_of statement.now.kind)
+        ≤ block_measure (by_slots (function_slots (seen_program program.now))) (seen_program program.now).main }
     requires silent { FunctionsAreSilent (seen_program program.now).functions }
     ensures header { (place : ℕ) → MatchOption (construct_of statement.now.line (statement_of statement.now.kind)) (Unit {0})
         (λ construct. HeaderDone (seen_program program.now) input.now (Some construct)

@@ -1,12 +1,12 @@
 // Whole programs on a memory of their own.
 
-ghost use Rattle.std.specs.Prelude.{◌≡◌, ◌<◌, ◌≤◌, ◌^◌, length, map, IfOk, IfErr, IsErrAnd};
-ghost use Rattle.spf_ast.specs.View.{block as block_of, function as function_of, program as seen_program};
+ghost use Rattle.std.specs.Prelude.{◌≡◌, ◌<◌, ◌≤◌, ◌^◌, length, IfOk, IfErr, IsErrAnd};
+ghost use Rattle.spf_ast.specs.View.{block as block_of, program as seen_program};
 ghost use Rattle.spf_ast.specs.Meaning.{block_means};
 ghost use Rattle.spf_ast.specs.Program.{cell_count_of, max_cells, outcome, seen_outcome};
 ghost use Rattle.spf_exec.specs.declared.layout.RunError.TheVariants.{OutOfMemory};
-ghost use Rattle.spf_exec.specs.Frame.{room_before};
-ghost use Rattle.spf_exec.specs.Performs.{AreWithin, environment, state};
+ghost use Rattle.spf_ast.specs.Size.{block_measure};
+ghost use Rattle.spf_exec.specs.Performs.{AreWithin, call_slots, environment, state};
 ghost use Rattle.spf_exec.specs.PlainMemory.{IsPlainOutcome};
 ghost use Rattle.spf_exec.specs.RunErrors.{IsTooMany};
 
@@ -31,7 +31,7 @@ pub(crate) fn run_main(
 ) -> Result<(), Halt>
     requires within { AreWithin context.now.extents.now (length memory.old.cells.items) }
     requires short { length context.now.input.now < 2 ^ 63 }
-    requires room { room_before (map function_of context.now.functions.now) (length context.now.functions.now)
+    requires room { block_measure (call_slots context.now (length context.now.functions.now)) (block_of main.now)
         ≤ length scratch.old }
     ensures outcome { IsPlainOutcome result
         (block_means (environment context.now (length context.now.functions.now))
@@ -66,9 +66,7 @@ pub fn run_plain(alloc: Global, program: &Program, input: &[u8]) -> Result<Outco
 {
     let layout = layout(alloc, program, input.len() as u64)?;
     let own = program.slots.len();
-    let Some(size) = size_with_calls(own, &program.functions) else {
-        return Err(RunError::OutOfMemory);
-    };
+    let size = size_with_calls(alloc, own, program)?;
     let mut frame = vec![in alloc; 0i64; size]?;
     let cells = vec![in alloc; 0i64; layout.cells as usize]?;
     let mut memory = Plain {

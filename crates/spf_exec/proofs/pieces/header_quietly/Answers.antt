@@ -1,8 +1,9 @@
-use Rattle.std.proofs.Common.{◌≡◌, rules, length, take, sym, ap, ◌∙◌}
+use Rattle.std.proofs.Common.{◌≡◌, rules, length, take, sym, ap, ◌∙◌, arith}
 use Rattle.std.proofs.Math.ListN.{length-map}
 use Rattle.std.specs.Prelude.{map}
 use Rattle.spf_ast.specs.declared.syntax.Fold.{out-Fold}
 use Rattle.spf_ast.specs.View.{array, block, fold_head, function, name, program}
+use Rattle.spf_ast.specs.Syntax.{Fold}
 use Rattle.spf_ast.specs.Construct.{fold, header_means}
 use Rattle.spf_ast.specs.Program.{environment_of, extents_of}
 use Rattle.spf_ast.proofs.Leaving.{calls-leave, header-leaves}
@@ -13,6 +14,7 @@ use Rattle.spf_exec.specs.Pieces.{header_result}
 use Rattle.spf_exec.specs.QuietMemory.{full_output}
 use Rattle.spf_exec.proofs.Cells.{layout_within}
 use Rattle.spf_exec.proofs.BlockRuns.{same_environment, header_along, quiet_outcome, plain_cells, header_decided}
+use Rattle.spf_exec.proofs.Rooms.{statement_room}
 use Rattle.spf_exec.proofs.pieces.header_quietly.Goals as goal
 
 pub perform_header-requires-clause-within : goal.perform_header-requires-clause-within
@@ -57,3 +59,14 @@ returns-clause-memory c =
     (header-leaves (environment_of p c.args.input.now) (calls-leave c.args.input.now (extents_of p (length c.args.input.now)) p.functions c.requires.silent (length p.functions)) construct)
     (main_slots p c.args.frame.now) full_output.bytes c.args.quiet.now.memory.now.output.items (main_slots p c.args.frame.now) _ _ (header_result c.perform_header.result)
     (header_along construct _ _ full_output.bytes same held c.perform_header.ensures.performs))
+
+pub perform_header-requires-clause-room : goal.perform_header-requires-clause-room
+perform_header-requires-clause-room c =
+    let p = program c.args.program.now in
+    let fs = ap (map function) c.deref.ensures.value in
+    let count : c.len-2.result ≡ length c.args.program.now.functions.items = search rules in
+    let n = count ∙ sym (length-map c.args.program.now.functions.items function) in
+    let slots : c.len.result ≡ length c.args.program.now.slots.items = search rules in
+    let own : c.len.result ≡ length p.slots = slots ∙ sym (length-map c.args.program.now.slots.items name) in
+    let whole = ap length (c.deref_mut.ensures.value ∙ c.frame.view_is) in
+    statement_room p _ _ (Fold (fold_head c.args.fold.now) (block (out-Fold c.args.fold.now).body.items)) _ fs n (omega (arith, own, whole, c.requires.room, c.requires.program_frame, c.split_at_mut-slots.ensures.back_len))

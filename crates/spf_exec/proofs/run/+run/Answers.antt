@@ -3,16 +3,17 @@ use Rattle.std.proofs.lemmas.Result.{err_from_is_err_and}
 use Rattle.std.proofs.lemmas.Int.{to_z-of_z, to_z_pos, ints}
 use Rattle.std.specs.Prelude.{map, ◌<ℤ◌, ◌≤ℤ◌}
 use Rattle.std.specs.Int.{int_gap}
-use Rattle.spf_ast.specs.View.{function, block, expression}
+use Rattle.spf_ast.specs.View.{function, block, statement, condition, expression, arguments}
+use Rattle.spf_ast.specs.Size.{expression_measure, arguments_measure, condition_measure, statement_measure, block_measure}
+use Rattle.spf_ast.proofs.Views.{expression-call, statement-if, statement-for, statement-while, statement-fold, statement-pair}
 use Rattle.spf_ast.specs.declared.syntax.Fold.{out-Fold}
 use Rattle.spf_ast.specs.declared.syntax.Pair.{out-Pair}
 use Rattle.spf_ast.specs.Interaction.{◌>>◌, ◌>>=◌, Meaning}
 use Rattle.spf_ast.specs.Meaning.{while_turns, for_turns, fold_blocks, sets, function_means, own_slots}
 use Rattle.spf_exec.proofs.Forms.{expr_means, cond_means, stmts_mean, expr_weight, exprs_weight, cond_weight, kind_weight, stmts_weight, fold_weight, pair_weight}
 use Rattle.spf_exec.proofs.Weight.{weight_before, weight_of}
-use Rattle.spf_exec.specs.Frame.{slots_of}
-use Rattle.spf_exec.proofs.Forms.{expr_means-call, call_means-is, slot_count, kind_means-if, kind_means-for, kind_means-while, kind_means-fold, kind_means-pair, expr_weight-call, kind_weight-if, kind_weight-for, kind_weight-while, kind_weight-fold, kind_weight-pair, weight_at}
-use Rattle.spf_exec.specs.Performs.{block_value, environment, state, at_line}
+use Rattle.spf_exec.proofs.Forms.{expr_means-call, call_means-is, slot_count, kind_means-if, kind_means-for, kind_means-while, kind_means-fold, kind_means-pair, expr_weight-call, kind_weight-if, kind_weight-for, kind_weight-while, kind_weight-fold, kind_weight-pair, weight_at, fold_room, pair_room, room_at}
+use Rattle.spf_exec.specs.Performs.{block_value, call_slots, environment, state, at_line}
 use Rattle.spf_exec.proofs.Steps.{at_once, checked_is, traps_now, load_now, store_now, then_value, then_halt, exit_left, along, in_own, steps}
 use Rattle.spf_exec.proofs.Turns.{no_statements, next_statement, still, next_fits, to_z_fits, for_turn, while_is, while_last, while_turn, after_sets, block_turn, int_gap_none}
 use Rattle.spf_exec.proofs.Calls.{call_of, room_of, depth_at, own_is, filled, filled_one, filled_two, none_left, one_left, two_left, first_left, rest_is}
@@ -26,9 +27,9 @@ pub call-pass-requires : goal.call-pass-requires
 call-pass-requires g t c =
     let p = c.in-Some.ensures {u = tt} in
     let m : t ≡ weight_before (map function c.args.context.now.functions.now) c.args.below + 2 * exprs_weight c.args.arguments.now + 1 = sym c.decreases in
-    let r = room_of (map function c.args.context.now.functions.now) c.args.function c.args.below p.1 in
+    let r = room_of (map function c.args.context.now.functions.now) c.args.function c.args.below (function c.in-Some.callee.now) p.1 p.2 in
     let k : weight_before (map function c.args.context.now.functions.now) c.args.below + 2 * exprs_weight c.args.arguments.now < t = omega (arith, m) in
-    λ κs h. (k, (h, (c.requires.within, (c.requires.short, (c.requires.room, omega (arith, r, ap slots_of p.2, p.3, c.requires.room))))))
+    λ κs h. (k, (h, (c.requires.within, (c.requires.short, (omega (arith, c.requires.room), omega (arith, r, p.3, c.requires.room))))))
 
 pub call-returns-in_err-pass-clause-performs : goal.call-returns-in_err-pass-clause-performs
 call-returns-in_err-pass-clause-performs g t c =
@@ -38,20 +39,20 @@ call-returns-in_err-pass-clause-performs g t c =
 pub call-split_at_mut-own-requires : goal.call-split_at_mut-own-requires
 call-split_at_mut-own-requires g t c =
     let p = c.in-Some.ensures {u = tt} in
-    let r = room_of (map function c.args.context.now.functions.now) c.args.function c.args.below p.1 in
+    let r = room_of (map function c.args.context.now.functions.now) c.args.function c.args.below (function c.in-Some.callee.now) p.1 p.2 in
     let count = slot_count c.in-Some.callee.now c.len.result (search rules) in
-    omega (arith, r, ap slots_of p.2, count, c.requires.room)
+    omega (arith, r, count, c.requires.room)
 
 pub call-exec_block-requires : goal.call-exec_block-requires
 call-exec_block-requires g t c =
     let p = c.in-Some.ensures {u = tt} in
     let m : t ≡ weight_before (map function c.args.context.now.functions.now) c.args.below + 2 * exprs_weight c.args.arguments.now + 1 = sym c.decreases in
-    let r = room_of (map function c.args.context.now.functions.now) c.args.function c.args.below p.1 in
+    let r = room_of (map function c.args.context.now.functions.now) c.args.function c.args.below (function c.in-Some.callee.now) p.1 p.2 in
     let count = slot_count c.in-Some.callee.now c.len.result (search rules) in
     let q = depth_at (map function c.args.context.now.functions.now) c.args.function c.args.below p.1 in
     let d = ap stmts_weight c.deref.ensures.value in
     let k : weight_before (map function c.args.context.now.functions.now) c.args.function + 2 * stmts_weight c.deref.result.now < t = omega (arith, m, q, ap weight_of p.2, d) in
-    λ κs h. (k, (h, (rw c.in_ok-pass.ensures.cells c.requires.within, (c.requires.short, omega (arith, r, ap slots_of p.2, count, c.requires.room, c.split_at_mut-own.ensures.back_len)))))
+    λ κs h. (k, (h, (rw c.in_ok-pass.ensures.cells c.requires.within, (c.requires.short, omega (arith, r, count, c.requires.room, c.split_at_mut-own.ensures.back_len, ap (λ ss. block_measure (call_slots c.args.context.now c.args.function) (block ss)) c.deref.ensures.value)))))
 
 pub call-returns-in_err-exec_block-clause-performs : goal.call-returns-in_err-exec_block-clause-performs
 call-returns-in_err-exec_block-clause-performs g t c =
@@ -69,11 +70,11 @@ pub call-eval_value-requires : goal.call-eval_value-requires
 call-eval_value-requires g t c =
     let p = c.in-Some.ensures {u = tt} in
     let m : t ≡ weight_before (map function c.args.context.now.functions.now) c.args.below + 2 * exprs_weight c.args.arguments.now + 1 = sym c.decreases in
-    let r = room_of (map function c.args.context.now.functions.now) c.args.function c.args.below p.1 in
+    let r = room_of (map function c.args.context.now.functions.now) c.args.function c.args.below (function c.in-Some.callee.now) p.1 p.2 in
     let count = slot_count c.in-Some.callee.now c.len.result (search rules) in
     let q = depth_at (map function c.args.context.now.functions.now) c.args.function c.args.below p.1 in
     let k : weight_before (map function c.args.context.now.functions.now) c.args.function + 2 * expr_weight c.in-Some.callee.now.answer + 1 < t = omega (arith, m, q, ap weight_of p.2) in
-    λ κs h. (k, (h, (rw (c.in_ok-exec_block.ensures.cells, c.in_ok-pass.ensures.cells) c.requires.within, (c.requires.short, omega (arith, r, ap slots_of p.2, count, c.requires.room, c.split_at_mut-own.ensures.back_len)))))
+    λ κs h. (k, (h, (rw (c.in_ok-exec_block.ensures.cells, c.in_ok-pass.ensures.cells) c.requires.within, (c.requires.short, omega (arith, r, count, c.requires.room, c.split_at_mut-own.ensures.back_len)))))
 
 pub call-returns-clause-performs : goal.call-returns-clause-performs
 call-returns-clause-performs g t c =
@@ -121,7 +122,9 @@ compute-call-requires g t c =
     let e = ap expr_weight c.in-Call.is ∙ expr_weight-call c.in-Call.function c.in-Call.arguments in
     let d = ap exprs_weight c.deref-in-Call.ensures.value in
     let k : weight_before (map function c.args.context.now.functions.now) c.args.below + 2 * exprs_weight c.deref-in-Call.result.now + 1 < t = omega (arith, m, e, d) in
-    λ κs h. (k, (h, (c.requires.within, (c.requires.short, c.requires.room))))
+    let room = ap (expression_measure (call_slots c.args.context.now c.args.below)) (ap expression c.in-Call.is ∙ expression-call c.in-Call.function c.in-Call.arguments) in
+    let given = ap (λ es. arguments_measure (call_slots c.args.context.now c.args.below) (arguments es)) c.deref-in-Call.ensures.value in
+    λ κs h. (k, (h, (c.requires.within, (c.requires.short, omega (arith, c.requires.room, room, given)))))
 
 pub compute-returns-in-Number-clause-performs : goal.compute-returns-in-Number-clause-performs
 compute-returns-in-Number-clause-performs g t c =
@@ -241,7 +244,9 @@ eval_value-call-requires g t c =
     let e = ap expr_weight c.in-Call.is ∙ expr_weight-call c.in-Call.function c.in-Call.arguments in
     let d = ap exprs_weight c.deref-in-Call.ensures.value in
     let k : weight_before (map function c.args.context.now.functions.now) c.args.below + 2 * exprs_weight c.deref-in-Call.result.now + 1 < t = omega (arith, m, e, d) in
-    λ κs h. (k, (h, (c.requires.within, (c.requires.short, c.requires.room))))
+    let room = ap (expression_measure (call_slots c.args.context.now c.args.below)) (ap expression c.in-Call.is ∙ expression-call c.in-Call.function c.in-Call.arguments) in
+    let given = ap (λ es. arguments_measure (call_slots c.args.context.now c.args.below) (arguments es)) c.deref-in-Call.ensures.value in
+    λ κs h. (k, (h, (c.requires.within, (c.requires.short, omega (arith, c.requires.room, room, given)))))
 
 pub eval_value-returns-in-Call-clause-performs : goal.eval_value-returns-in-Call-clause-performs
 eval_value-returns-in-Call-clause-performs g t c =
@@ -321,7 +326,9 @@ exec-exec_block-requires g t c =
     let e = ap kind_weight c.in-If.is ∙ kind_weight-if c.in-If.cond c.in-If.first c.in-If.second in
     let d = ap stmts_weight c.deref.ensures.value in
     let k : weight_before (map function c.args.context.now.functions.now) c.args.below + 2 * stmts_weight c.deref.result.now < t = omega (arith, m, e, d) in
-    λ κs h. (k, (h, (rw c.test.ensures.cells c.requires.within, (c.requires.short, omega (arith, c.requires.room)))))
+    let room = ap (statement_measure (call_slots c.args.context.now c.args.below)) (ap statement c.in-If.is ∙ statement-if c.in-If.cond c.in-If.first c.in-If.second) in
+    let part = ap (λ ss. block_measure (call_slots c.args.context.now c.args.below) (block ss)) c.deref.ensures.value in
+    λ κs h. (k, (h, (rw c.test.ensures.cells c.requires.within, (c.requires.short, omega (arith, c.requires.room, room, part)))))
 
 pub exec-exec_block-requires-else-is_empty : goal.exec-exec_block-requires-else-is_empty
 exec-exec_block-requires-else-is_empty g t c =
@@ -329,7 +336,9 @@ exec-exec_block-requires-else-is_empty g t c =
     let e = ap kind_weight c.in-If.is ∙ kind_weight-if c.in-If.cond c.in-If.first c.in-If.second in
     let d = ap stmts_weight c.deref-else-is_empty.ensures.value in
     let k : weight_before (map function c.args.context.now.functions.now) c.args.below + 2 * stmts_weight c.deref-else-is_empty.result.now < t = omega (arith, m, e, d) in
-    λ κs h. (k, (h, (rw c.test.ensures.cells c.requires.within, (c.requires.short, omega (arith, c.requires.room)))))
+    let room = ap (statement_measure (call_slots c.args.context.now c.args.below)) (ap statement c.in-If.is ∙ statement-if c.in-If.cond c.in-If.first c.in-If.second) in
+    let part = ap (λ ss. block_measure (call_slots c.args.context.now c.args.below) (block ss)) c.deref-else-is_empty.ensures.value in
+    λ κs h. (k, (h, (rw c.test.ensures.cells c.requires.within, (c.requires.short, omega (arith, c.requires.room, room, part)))))
 
 pub exec-returns-in_err-low-in-For-clause-performs : goal.exec-returns-in_err-low-in-For-clause-performs
 exec-returns-in_err-low-in-For-clause-performs g t c =
@@ -349,7 +358,9 @@ exec-exec_for-requires g t c =
     let e = ap kind_weight c.in-For.is ∙ kind_weight-for c.in-For.slot c.in-For.low c.in-For.high c.in-For.body in
     let d = ap stmts_weight c.deref-in-For.ensures.value in
     let k : weight_before (map function c.args.context.now.functions.now) c.args.below + 2 * stmts_weight c.deref-in-For.result.now + 1 < t = omega (arith, m, e, d) in
-    λ κs h. (k, (h, (rw (c.in_ok-high-in-For.ensures.cells, c.in_ok-low-in-For.ensures.cells) c.requires.within, (c.requires.short, omega (arith, c.requires.room)))))
+    let room = ap (statement_measure (call_slots c.args.context.now c.args.below)) (ap statement c.in-For.is ∙ statement-for c.in-For.slot c.in-For.low c.in-For.high c.in-For.body) in
+    let part = ap (λ ss. block_measure (call_slots c.args.context.now c.args.below) (block ss)) c.deref-in-For.ensures.value in
+    λ κs h. (k, (h, (rw (c.in_ok-high-in-For.ensures.cells, c.in_ok-low-in-For.ensures.cells) c.requires.within, (c.requires.short, omega (arith, c.requires.room, room, part)))))
 
 pub exec-exec_while-requires : goal.exec-exec_while-requires
 exec-exec_while-requires g t c =
@@ -357,7 +368,9 @@ exec-exec_while-requires g t c =
     let e = ap kind_weight c.in-While.is ∙ kind_weight-while c.in-While.cond c.in-While.most c.in-While.body in
     let d = ap stmts_weight c.deref-in-While.ensures.value in
     let k : weight_before (map function c.args.context.now.functions.now) c.args.below + 2 * (cond_weight c.in-While.cond + stmts_weight c.deref-in-While.result.now) + 2 < t = omega (arith, m, e, d) in
-    λ κs h. (k, (h, (c.requires.within, (c.requires.short, omega (arith, c.requires.room)))))
+    let room = ap (statement_measure (call_slots c.args.context.now c.args.below)) (ap statement c.in-While.is ∙ statement-while c.in-While.cond c.in-While.most c.in-While.body) in
+    let part = ap (λ ss. block_measure (call_slots c.args.context.now c.args.below) (block ss)) c.deref-in-While.ensures.value in
+    λ κs h. (k, (h, (c.requires.within, (c.requires.short, (omega (arith, c.requires.room, room), omega (arith, c.requires.room, room, part))))))
 
 pub exec-returns-in_err-call-in-Call-clause-performs : goal.exec-returns-in_err-call-in-Call-clause-performs
 exec-returns-in_err-call-in-Call-clause-performs g t c =
@@ -445,7 +458,8 @@ exec_block-exec-requires g t c =
     let m : t ≡ weight_before (map function c.args.context.now.functions.now) c.args.below + 2 * stmts_weight c.args.statements.now = sym c.decreases in
     let w = weight_at c.args.statements.now c.loop-statement.statement-index c.statement-item.result c.loop-statement-test.true c.statement-item.is in
     let k : weight_before (map function c.args.context.now.functions.now) c.args.below + 2 * kind_weight c.statement-item.result.kind + 1 < t = omega (arith, m, w) in
-    λ κs h. (k, (h, (rw c.loop-statement.invariant.cells c.requires.within, (c.requires.short, omega (arith, c.requires.room)))))
+    let part = room_at (call_slots c.args.context.now c.args.below) refl c.args.statements.now c.loop-statement.statement-index c.statement-item.result c.loop-statement-test.true c.statement-item.is in
+    λ κs h. (k, (h, (rw c.loop-statement.invariant.cells c.requires.within, (c.requires.short, omega (arith, c.requires.room, part)))))
 
 pub exec_block-returns-in_err-exec-clause-performs : goal.exec_block-returns-in_err-exec-clause-performs
 exec_block-returns-in_err-exec-clause-performs g t c =
@@ -562,7 +576,8 @@ exec_fold-exec_blocks-requires g t c =
     let m : t ≡ weight_before (map function c.args.context.now.functions.now) c.args.below + 2 * fold_weight c.args.fold.now = sym c.decreases in
     let d = ap stmts_weight c.deref.ensures.value in
     let k : weight_before (map function c.args.context.now.functions.now) c.args.below + 2 * (stmts_weight c.deref.result.now + expr_weight (out-Fold c.args.fold.now).next) + 2 < t = omega (arith, m, d) in
-    λ κs h. (k, (h, (rw (c.in_ok-high.ensures.cells, c.in_ok-low.ensures.cells, c.in_ok-start.ensures.cells) c.requires.within, (c.requires.short, omega (arith, c.requires.room)))))
+    let part = ap (λ ss. block_measure (call_slots c.args.context.now c.args.below) (block ss)) c.deref.ensures.value in
+    λ κs h. (k, (h, (rw (c.in_ok-high.ensures.cells, c.in_ok-low.ensures.cells, c.in_ok-start.ensures.cells) c.requires.within, (c.requires.short, (omega (arith, c.requires.room), omega (arith, c.requires.room, part))))))
 
 pub exec_fold-returns-in_err-last-clause-performs : goal.exec_fold-returns-in_err-last-clause-performs
 exec_fold-returns-in_err-last-clause-performs g t c =
@@ -818,7 +833,8 @@ exec_pair-exec_block-requires g t c =
     let m : t ≡ weight_before (map function c.args.context.now.functions.now) c.args.below + 2 * pair_weight c.args.pair.now = sym c.decreases in
     let d = ap stmts_weight c.deref.ensures.value in
     let k : weight_before (map function c.args.context.now.functions.now) c.args.below + 2 * stmts_weight c.deref.result.now < t = omega (arith, m, d) in
-    λ κs h. (k, (h, (c.requires.within, (c.requires.short, omega (arith, c.requires.room)))))
+    let part = ap (λ ss. block_measure (call_slots c.args.context.now c.args.below) (block ss)) c.deref.ensures.value in
+    λ κs h. (k, (h, (c.requires.within, (c.requires.short, omega (arith, c.requires.room, part)))))
 
 pub exec_pair-eval-requires : goal.exec_pair-eval-requires
 exec_pair-eval-requires g t c =
@@ -831,7 +847,8 @@ exec_pair-exec_block-requires-2 g t c =
     let m : t ≡ weight_before (map function c.args.context.now.functions.now) c.args.below + 2 * pair_weight c.args.pair.now = sym c.decreases in
     let d = ap stmts_weight c.deref-2.ensures.value in
     let k : weight_before (map function c.args.context.now.functions.now) c.args.below + 2 * stmts_weight c.deref-2.result.now < t = omega (arith, m, d) in
-    λ κs h. (k, (h, (rw (c.in_ok-value.ensures.cells, c.in_ok-exec_block.ensures.cells) c.requires.within, (c.requires.short, omega (arith, c.requires.room)))))
+    let part = ap (λ ss. block_measure (call_slots c.args.context.now c.args.below) (block ss)) c.deref-2.ensures.value in
+    λ κs h. (k, (h, (rw (c.in_ok-value.ensures.cells, c.in_ok-exec_block.ensures.cells) c.requires.within, (c.requires.short, omega (arith, c.requires.room, part)))))
 
 pub exec_pair-returns-in_err-exec_block-clause-performs : goal.exec_pair-returns-in_err-exec_block-clause-performs
 exec_pair-returns-in_err-exec_block-clause-performs g t c =
@@ -853,7 +870,9 @@ exec-exec_fold-requires g t c =
     let e = ap kind_weight c.in-Fold.is ∙ kind_weight-fold c.in-Fold.fold in
     let d = ap fold_weight c.deref-in-Fold.ensures in
     let k : weight_before (map function c.args.context.now.functions.now) c.args.below + 2 * fold_weight c.deref-in-Fold.result.now < t = omega (arith, m, e, d) in
-    λ κs h. (k, (h, (c.requires.within, (c.requires.short, omega (arith, c.requires.room)))))
+    let room = ap (statement_measure (call_slots c.args.context.now c.args.below)) (ap statement c.in-Fold.is ∙ statement-fold c.in-Fold.fold) in
+    let part = ap (fold_room (call_slots c.args.context.now c.args.below)) c.deref-in-Fold.ensures in
+    λ κs h. (k, (h, (c.requires.within, (c.requires.short, omega (arith, c.requires.room, room, part)))))
 
 pub exec-exec_pair-requires : goal.exec-exec_pair-requires
 exec-exec_pair-requires g t c =
@@ -861,4 +880,55 @@ exec-exec_pair-requires g t c =
     let e = ap kind_weight c.in-Pair.is ∙ kind_weight-pair c.in-Pair.pair in
     let d = ap pair_weight c.deref-in-Pair.ensures in
     let k : weight_before (map function c.args.context.now.functions.now) c.args.below + 2 * pair_weight c.deref-in-Pair.result.now < t = omega (arith, m, e, d) in
-    λ κs h. (k, (h, (c.requires.within, (c.requires.short, omega (arith, c.requires.room)))))
+    let room = ap (statement_measure (call_slots c.args.context.now c.args.below)) (ap statement c.in-Pair.is ∙ statement-pair c.in-Pair.pair) in
+    let part = ap (pair_room (call_slots c.args.context.now c.args.below)) c.deref-in-Pair.ensures in
+    λ κs h. (k, (h, (c.requires.within, (c.requires.short, omega (arith, c.requires.room, room, part)))))
+
+pub compute-eval_operand-requires-in-Binary : goal.compute-eval_operand-requires-in-Binary
+compute-eval_operand-requires-in-Binary g t c =
+    let m : t ≡ weight_before (map function c.args.context.now.functions.now) c.args.below + 2 * expr_weight c.args.expr.now = sym c.decreases in
+    let e = ap expr_weight c.in-Binary.is in
+    let d = ap expr_weight c.deref-in-Binary-2.ensures in
+    let k : weight_before (map function c.args.context.now.functions.now) c.args.below + 2 * expr_weight c.deref-in-Binary-2.result.now + 1 < t = omega (arith, m, e, d) in
+    let room = ap (λ x. expression_measure (call_slots c.args.context.now c.args.below) (expression x)) c.in-Binary.is in
+    let part = ap (λ x. expression_measure (call_slots c.args.context.now c.args.below) (expression x)) c.deref-in-Binary-2.ensures in
+    λ κs h. (k, (h, (rw c.in_ok-x-in-Binary.ensures.cells c.requires.within, (c.requires.short, omega (arith, c.requires.room, room, part)))))
+
+pub eval_value-eval_operand-requires-in-Binary : goal.eval_value-eval_operand-requires-in-Binary
+eval_value-eval_operand-requires-in-Binary g t c =
+    let m : t ≡ weight_before (map function c.args.context.now.functions.now) c.args.below + 2 * expr_weight c.args.expr.now + 1 = sym c.decreases in
+    let e = ap expr_weight c.in-Binary.is in
+    let d = ap expr_weight c.deref-in-Binary.ensures in
+    let k : weight_before (map function c.args.context.now.functions.now) c.args.below + 2 * expr_weight c.deref-in-Binary.result.now + 1 < t = omega (arith, m, e, d) in
+    let room = ap (λ x. expression_measure (call_slots c.args.context.now c.args.below) (expression x)) c.in-Binary.is in
+    let part = ap (λ x. expression_measure (call_slots c.args.context.now c.args.below) (expression x)) c.deref-in-Binary.ensures in
+    λ κs h. (k, (h, (rw c.in_ok-a-in-Binary.ensures.cells c.requires.within, (c.requires.short, omega (arith, c.requires.room, room, part)))))
+
+pub decide-eval-requires-in-Compare : goal.decide-eval-requires-in-Compare
+decide-eval-requires-in-Compare g t c =
+    let m : t ≡ weight_before (map function c.args.context.now.functions.now) c.args.below + 2 * cond_weight c.args.cond.now = sym c.decreases in
+    let e = ap cond_weight c.in-Compare.is in
+    let d = ap expr_weight c.deref-in-Compare.ensures in
+    let k : weight_before (map function c.args.context.now.functions.now) c.args.below + 2 * expr_weight c.deref-in-Compare.result.now + 1 < t = omega (arith, m, e, d) in
+    let room = ap (λ x. condition_measure (call_slots c.args.context.now c.args.below) (condition x)) c.in-Compare.is in
+    let part = ap (λ x. expression_measure (call_slots c.args.context.now c.args.below) (expression x)) c.deref-in-Compare.ensures in
+    λ κs h. (k, (h, (rw c.in_ok-x-in-Compare.ensures.cells c.requires.within, (c.requires.short, omega (arith, c.requires.room, room, part)))))
+
+pub test-eval_operand-requires-in-Compare : goal.test-eval_operand-requires-in-Compare
+test-eval_operand-requires-in-Compare g t c =
+    let m : t ≡ weight_before (map function c.args.context.now.functions.now) c.args.below + 2 * cond_weight c.args.cond.now + 1 = sym c.decreases in
+    let e = ap cond_weight c.in-Compare.is in
+    let d = ap expr_weight c.deref-in-Compare.ensures in
+    let k : weight_before (map function c.args.context.now.functions.now) c.args.below + 2 * expr_weight c.deref-in-Compare.result.now + 1 < t = omega (arith, m, e, d) in
+    let room = ap (λ x. condition_measure (call_slots c.args.context.now c.args.below) (condition x)) c.in-Compare.is in
+    let part = ap (λ x. expression_measure (call_slots c.args.context.now c.args.below) (expression x)) c.deref-in-Compare.ensures in
+    λ κs h. (k, (h, (rw c.in_ok-x-in-Compare.ensures.cells c.requires.within, (c.requires.short, omega (arith, c.requires.room, room, part)))))
+
+pub pass-eval-requires-in-len2-2 : goal.pass-eval-requires-in-len2-2
+pass-eval-requires-in-len2-2 g t c =
+    let xs = two_left c.args.arguments.now c.first-item.result c.second-item.result (omega (arith, c.in-len2.len_at_least)) (omega (arith, c.in-len2.len_below)) c.first-item.is c.second-item.is in
+    let m : t ≡ weight_before (map function c.args.context.now.functions.now) c.args.below + 2 * exprs_weight c.args.arguments.now = sym c.decreases in
+    let e = ap exprs_weight xs in
+    let k : weight_before (map function c.args.context.now.functions.now) c.args.below + 2 * expr_weight c.second-item.result + 1 < t = omega (arith, m, e) in
+    let room = ap (λ es. arguments_measure (call_slots c.args.context.now c.args.below) (arguments es)) xs in
+    λ κs h. (k, (h, (rw c.in_ok-x-in-len2.ensures.cells c.requires.within, (c.requires.short, omega (arith, c.requires.room, room)))))
