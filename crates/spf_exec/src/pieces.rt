@@ -13,8 +13,8 @@ ghost use Rattle.spf_ast.specs.Pieces.{rest_from, before_construct, from_constru
 ghost use Rattle.spf_ast.specs.Program.{cell_count_of, max_cells, environment_of, zeros_of};
 ghost use Rattle.spf_ast.specs.Silence.{FunctionsAreSilent};
 ghost use Rattle.spf_exec.specs.declared.layout.RunError.TheVariants.{OutOfMemory};
-ghost use Rattle.spf_ast.specs.Size.{by_slots, statement_measure, block_measure, function_slots};
-ghost use Rattle.spf_exec.specs.Frame.{frame_size, main_slots};
+ghost use Rattle.spf_ast.specs.Size.{by_slots, statement_measure, function_slots};
+ghost use Rattle.spf_exec.specs.Frame.{call_room, frame_size, main_slots};
 ghost use Rattle.spf_exec.specs.RunErrors.{IsTooMany};
 ghost use Rattle.spf_exec.specs.BlockRuns.{IsLayoutOf};
 ghost use Rattle.spf_exec.specs.Performs.{Performs, AreWithin, IsDecided, call_slots, environment, state};
@@ -186,8 +186,9 @@ fn header_quietly(
     requires cells { length quiet.old.memory.now.cells.items ≡ cell_count_of (seen_program program.now) (length input.now) }
     requires short { length input.now < 2 ^ 63 }
     requires program_frame { length frame.old ≡ frame_size (seen_program program.now) }
-    requires room { statement_measure (by_slots (function_slots (seen_program program.now))) (fold_form (fold_head fold.now) (block_of (out-Fold fold.now).body.items))
-        ≤ block_measure (by_slots (function_slots (seen_program program.now))) (seen_program program.now).main }
+    requires room { statement_measure (by_slots (function_slots (seen_program program.now)))
+        (fold_form (fold_head fold.now) (block_of (out-Fold fold.now).body.items))
+        ≤ call_room (seen_program program.now) }
     requires silent { FunctionsAreSilent (seen_program program.now).functions }
     ensures outcome { IsPlainOutcome (header_result result)
         (header_means (environment_of (seen_program program.now) input.now)
@@ -283,8 +284,9 @@ fn fold_header(
     requires cells { length memory.old.cells.items ≡ cell_count_of (seen_program program.now) (length input.now) }
     requires short { length input.now < 2 ^ 63 }
     requires program_frame { length frame.old ≡ frame_size (seen_program program.now) }
-    requires room { statement_measure (by_slots (function_slots (seen_program program.now))) (fold_form (fold_head fold.now) (block_of (out-Fold fold.now).body.items))
-        ≤ block_measure (by_slots (function_slots (seen_program program.now))) (seen_program program.now).main }
+    requires room { statement_measure (by_slots (function_slots (seen_program program.now)))
+        (fold_form (fold_head fold.now) (block_of (out-Fold fold.now).body.items))
+        ≤ call_room (seen_program program.now) }
     requires silent { FunctionsAreSilent (seen_program program.now).functions }
     ensures answer { IsHeaderAnswer (header_means (environment_of (seen_program program.now) input.now)
         (fold_construct line (fold_head fold.now) (block_of (out-Fold fold.now).body.items))
@@ -324,8 +326,9 @@ fn header_of(
     requires cells { length memory.old.cells.items ≡ cell_count_of (seen_program program.now) (length input.now) }
     requires short { length input.now < 2 ^ 63 }
     requires program_frame { length frame.old ≡ frame_size (seen_program program.now) }
-    requires room { statement_measure (by_slots (function_slots (seen_program program.now))) (statement_of statement.now.kind)
-        ≤ block_measure (by_slots (function_slots (seen_program program.now))) (seen_program program.now).main }
+    requires room { statement_measure (by_slots (function_slots (seen_program program.now)))
+        (statement_of statement.now.kind)
+        ≤ call_room (seen_program program.now) }
     requires silent { FunctionsAreSilent (seen_program program.now).functions }
     ensures header { (place : ℕ) → MatchOption (construct_of statement.now.line (statement_of statement.now.kind)) (Unit {0})
         (λ construct. HeaderDone (seen_program program.now) input.now (Some construct)
