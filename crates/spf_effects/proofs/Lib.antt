@@ -1,0 +1,5 @@
+pub mod Grown
+pub mod Walks
+pub mod Then
+pub mod Between
+pub mod Either

@@ -1,0 +1,5 @@
+use Rattle.spf_effects.proofs.Either.{extends_either}
+use Rattle.spf_effects.proofs.laws.choice.Goals as goal
+
+pub returns : goal.returns
+returns c = extends_either

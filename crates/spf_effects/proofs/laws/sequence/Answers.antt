@@ -1,0 +1,5 @@
+use Rattle.spf_effects.proofs.Then.{extends_then}
+use Rattle.spf_effects.proofs.laws.sequence.Goals as goal
+
+pub returns : goal.returns
+returns c = extends_then

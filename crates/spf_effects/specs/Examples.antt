@@ -1,0 +1,55 @@
+-- Worked examples, of one array and with no functions.
+use Rattle.std.specs.Prelude.{◌∷◌, [], pos}
+use Rattle.spf_ast.specs.declared.syntax.Op.TheVariants.{Add, Mul, And}
+use Rattle.spf_ast.specs.declared.syntax.Part.TheVariants.{Body}
+use Rattle.spf_ast.specs.Syntax.{Expression, Number, Local, Binary, Fill, Store, For, Fold, Block, end, on_line, FoldHead, By, Program}
+use Rattle.spf_ast.specs.Construct.{fold}
+use Rattle.spf_effects.specs.Parts.{PartEffects, part_effects}
+
+-- a fold over blocks 0 to 2 with the carried slot 0 and the block number in slot 1
+abbrev pub head : Expression → FoldHead
+head next = record {
+  carried = 0;
+  start = Number (pos 0);
+  block = 1;
+  low = Number (pos 0);
+  high = Number (pos 3);
+  predict = By (Number (pos 1));
+  next = next;
+  next_line = 1;
+}
+
+abbrev pub program_of : Expression → Block → Program
+program_of next body = record {
+  arrays = record { name = []; factor = pos 0; offset = pos 6; line = 1 } ∷ [];
+  functions = [];
+  slots = [] ∷ [] ∷ [] ∷ [];
+  main = on_line 1 (Fold (head next) body) end;
+}
+
+-- the effects of the body of such a fold
+abbrev pub body_effects : Expression → Block → PartEffects
+body_effects next body = part_effects (program_of next body) (fold 1 (head next) body) Body
+
+-- 2 * k
+abbrev pub first : Expression
+first = Binary Mul (Number (pos 2)) (Local 1)
+
+-- fill out[2 * k..2 * k + 2] = 0; out[2 * k + (s & 1)] = 7; next s + 1;
+abbrev pub filled_block : PartEffects
+filled_block =
+    body_effects (Binary Add (Local 0) (Number (pos 1)))
+    (on_line 1 (Fill 0 first (Binary Add first (Number (pos 2))) (Number (pos 0)))
+    (on_line 1 (Store 0 (Binary Add first (Binary And (Local 0) (Number (pos 1)))) (Number (pos 7))) end))
+
+-- for i in 0..s { out[k] = 1; } next 1;
+abbrev pub short_loop : PartEffects
+short_loop =
+    body_effects (Number (pos 1))
+    (on_line 1 (For 2 (Number (pos 0)) (Local 0) (on_line 1 (Store 0 (Local 1) (Number (pos 1))) end)) end)
+
+-- for i in 2 * k..2 * k + 2 { out[i] = s; } next s;
+abbrev pub swept_block : PartEffects
+swept_block =
+    body_effects (Local 0)
+    (on_line 1 (For 2 first (Binary Add first (Number (pos 2))) (on_line 1 (Store 0 (Local 2) (Local 0)) end)) end)

@@ -1,0 +1,23 @@
+-- How lists of ranges grow by what is found in a form.
+use Rattle.std.specs.Prelude.{◌≡◌, List}
+use Rattle.spf_region.specs.declared.range.Range.{Range}
+use Rattle.spf_region.specs.Ranges.{offsets_of, wholes_of, in_either, whole_in_either}
+use Rattle.spf_effects.specs.Found.{Finds}
+
+-- the new list has what the old one had, and these ranges
+pub record Joins (ranges old new : List Range) : Type 0 where
+  pub offsets : offsets_of new ≡ in_either (offsets_of ranges) (offsets_of old)
+  pub wholes : wholes_of new ≡ whole_in_either (wholes_of ranges) (wholes_of old)
+
+-- three lists: what was read uncovered, what may be written and what is surely written
+pub record Lists : Type 0 where
+  pub uncovered : List Range
+  pub may : List Range
+  pub written : List Range
+
+-- the lists have what they had, and what is found in a form behind it
+pub record Extends (finds : Finds) (old new : Lists) : Type 0 where
+  pub uncovered : Joins (finds (offsets_of old.written)).uncovered old.uncovered new.uncovered
+  pub may : Joins (finds (offsets_of old.written)).may old.may new.may
+  pub written : offsets_of new.written ≡ (finds (offsets_of old.written)).written
+  pub wholes : wholes_of new.written ≡ wholes_of old.written

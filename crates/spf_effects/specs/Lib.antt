@@ -1,0 +1,6 @@
+pub mod Found
+pub mod Slots
+pub mod Forms
+pub mod Parts
+pub mod Examples
+pub mod Extends

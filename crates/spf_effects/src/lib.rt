@@ -1,0 +1,7 @@
+//! What the parts of top constructs read and write, as far as their text shows.
+#![tactic(auto)]
+
+mod bounds;
+mod findings;
+pub mod laws;
+mod slots;
