@@ -3,3 +3,4 @@ pub mod Walks
 pub mod Then
 pub mod Between
 pub mod Either
+pub mod SlotSets

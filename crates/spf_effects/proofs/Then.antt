@@ -7,11 +7,11 @@ use Rattle.spf_region.specs.Ranges.{offsets_of, wholes_of, has_offset, is_whole}
 use Rattle.spf_effects.specs.Extends.{Joins, Lists, Extends}
 use Rattle.spf_effects.specs.Found.{Finds, finds_nothing, ◌then◌, perhaps}
 
-or_assoc : (x y z : Bool) → (x || (y || z)) ≡ ((x || y) || z)
+pub or_assoc : (x y z : Bool) → (x || (y || z)) ≡ ((x || y) || z)
 or_assoc true y z = refl
 or_assoc false y z = refl
 
-or_moves : (x y z : Bool) → (y || (x || z)) ≡ ((x || y) || z)
+pub or_moves : (x y z : Bool) → (y || (x || z)) ≡ ((x || y) || z)
 or_moves true true z = refl
 or_moves true false z = refl
 or_moves false y z = refl

@@ -18,7 +18,7 @@ use Rattle.spf_ast.proofs.Views.{statement-if, statement-for, statement-while, s
 use Rattle.spf_effects.specs.Slots.{emits, statement_emits}
 
 -- what is left of a list at an item
-item_at : {A : Type 0} (xs : List A) (i : ℕ) (x : A) → i < length xs → x ≡ get_or xs i x → drop i xs ≡ x ∷ drop (i + 1) xs
+pub item_at : {A : Type 0} (xs : List A) (i : ℕ) (x : A) → i < length xs → x ≡ get_or xs i x → drop i xs ≡ x ∷ drop (i + 1) xs
 item_at xs i x h e =
     drop-cons xs i x h ∙ ap (λ z. z ∷ drop (suc i) xs) (sym e) ∙ ap (λ n. x ∷ drop n xs) (let n : suc i ≡ i + 1 = omega arith in n)
 

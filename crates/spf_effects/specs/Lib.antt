@@ -4,3 +4,4 @@ pub mod Forms
 pub mod Parts
 pub mod Examples
 pub mod Extends
+pub mod SlotSets

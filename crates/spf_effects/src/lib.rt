@@ -4,4 +4,5 @@
 mod bounds;
 mod findings;
 pub mod laws;
+mod slot_sets;
 mod slots;
