@@ -4,3 +4,5 @@ pub mod Then
 pub mod Between
 pub mod Either
 pub mod SlotSets
+pub mod Weight
+pub mod Calls

@@ -1,7 +1,7 @@
 -- How lists of ranges grow by what is found in a form.
 use Rattle.std.specs.Prelude.{◌≡◌, List}
 use Rattle.spf_region.specs.declared.range.Range.{Range}
-use Rattle.spf_region.specs.Ranges.{offsets_of, wholes_of, in_either, whole_in_either}
+use Rattle.spf_region.specs.Ranges.{offsets_of, wholes_of, in_either, whole_in_either, in_both, whole_in_both}
 use Rattle.spf_effects.specs.Found.{Finds}
 
 -- the new list has what the old one had, and these ranges
@@ -21,3 +21,10 @@ pub record Extends (finds : Finds) (old new : Lists) : Type 0 where
   pub may : Joins (finds (offsets_of old.written)).may old.may new.may
   pub written : offsets_of new.written ≡ (finds (offsets_of old.written)).written
   pub wholes : wholes_of new.written ≡ wholes_of old.written
+
+-- of what is surely written, what another list has too is left
+pub record KeepsCommon (other : List Range) (old new : Lists) : Type 0 where
+  pub uncovered : new.uncovered ≡ old.uncovered
+  pub may : new.may ≡ old.may
+  pub offsets : offsets_of new.written ≡ in_both (offsets_of other) (offsets_of old.written)
+  pub wholes : wholes_of new.written ≡ whole_in_both (wholes_of other) (wholes_of old.written)

@@ -5,3 +5,4 @@ pub mod Parts
 pub mod Examples
 pub mod Extends
 pub mod SlotSets
+pub mod Settings

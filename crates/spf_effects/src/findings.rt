@@ -2,7 +2,7 @@
 ghost use Rattle.std.specs.Prelude.{◌≡◌, [], OnOk, IfOk, Some, None, if◌then◌else◌, ◌&&◌, ◌-ℤ◌, pos, int_lt};
 ghost use Rattle.std.specs.Ordering.{int_eq};
 ghost use Rattle.spf_region.specs.Ranges.{offsets_of, wholes_of};
-ghost use Rattle.spf_effects.specs.Extends.{Extends, Lists};
+ghost use Rattle.spf_effects.specs.Extends.{Extends, Lists, KeepsCommon};
 ghost use Rattle.spf_effects.specs.Found.{reads_element, may_write_whole, writes_element, may_write_between, surely_writes_between, writes_range, ◌then◌};
 
 use spf_region::bound::Bound;
@@ -73,6 +73,35 @@ impl Findings {
             may: RangeList::new(alloc),
             written: RangeList::new(alloc),
         }
+    }
+
+    /// A list of what is surely written so far.
+    pub(crate) fn surely_written(&self, alloc: Global) -> Result<RangeList, AllocError>
+        ensures offsets { IfOk result (λ copy. offsets_of copy ≡ offsets_of self.now.written) }
+        ensures wholes { IfOk result (λ copy. wholes_of copy ≡ wholes_of self.now.written) }
+    {
+        copied(alloc, &self.written)
+    }
+
+    /// Takes this list for what is surely written, and gives the one that was.
+    pub(crate) fn exchange_written(&mut self, written: RangeList) -> RangeList
+        ensures lists { self.new ≡ record { uncovered = self.old.uncovered; may = self.old.may; written = written } }
+        ensures written { result ≡ self.old.written }
+    {
+        std::mem::replace(&mut self.written, written)
+    }
+
+    /// Keeps of what is surely written only what the other list has too.
+    pub(crate) fn keep_common(
+        &mut self,
+        alloc: Global,
+        other: &RangeList,
+    ) -> Result<(), AllocError>
+        ensures { OnOk result (KeepsCommon other.now self.old self.new) }
+    {
+        let common = other.meet(alloc, &self.written)?;
+        self.written = common;
+        Ok(())
     }
 
     /// An element is read whose index has this bound.

@@ -2,6 +2,7 @@
 #![tactic(auto)]
 
 mod bounds;
+mod context;
 mod findings;
 pub mod laws;
 mod slot_sets;

@@ -35,10 +35,10 @@ impl SlotSet {
     }
 
     /// Whether a slot is in the set.
-    pub(crate) fn contains(&self, slot: u32) -> bool
+    pub(crate) fn contains(&self, slot: usize) -> bool
         ensures { result ≡ has_slot self.now slot }
     {
-        self.flags.get(slot as usize).copied().unwrap_or(false)
+        self.flags.get(slot).copied().unwrap_or(false)
     }
 
     /// Puts a slot into the set.
