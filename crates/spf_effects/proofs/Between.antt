@@ -10,11 +10,11 @@ use Rattle.spf_effects.specs.Found.{may_write_between, surely_writes_between, wr
 use Rattle.spf_region.specs.declared.bound.Bound.TheVariants.{Known}
 use Rattle.spf_effects.proofs.Grown.{one_more, nothing_more}
 
-none_there : (b : Bool) (x : ℤ) → (if b then Some x else None) ≡ None → b ≡ false
+pub none_there : (b : Bool) (x : ℤ) → (if b then Some x else None) ≡ None → b ≡ false
 none_there true x e = cc
 none_there false x e = refl
 
-some_there : (b : Bool) (x y : ℤ) → (if b then Some x else None) ≡ Some y → (b ≡ true) × (x ≡ y)
+pub some_there : (b : Bool) (x y : ℤ) → (if b then Some x else None) ≡ Some y → (b ≡ true) × (x ≡ y)
 some_there true x y e = (refl, cc)
 some_there false x y e = cc
 

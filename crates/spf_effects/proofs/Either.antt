@@ -7,7 +7,7 @@ use Rattle.spf_effects.specs.Extends.{Lists, Extends}
 use Rattle.spf_effects.specs.Found.{Finds, either}
 use Rattle.spf_effects.proofs.Then.{joins_then}
 
-or_none : (x : Bool) → (x || false) ≡ x
+pub or_none : (x : Bool) → (x || false) ≡ x
 or_none true = refl
 or_none false = refl
 

@@ -6,3 +6,8 @@ pub mod Either
 pub mod SlotSets
 pub mod Weight
 pub mod Calls
+pub mod Forms
+pub mod Leads
+pub mod Sweeping
+pub mod Results
+pub mod Walked

@@ -18,8 +18,10 @@ use Rattle.spf_ast.specs.Syntax as syntax
 use Rattle.spf_ast.specs.View.{statement, block, expression, condition, fold_head, pair_head}
 use Rattle.spf_ast.proofs.Views.{statement-if, statement-for, statement-while, statement-fold, statement-pair}
 use Rattle.spf_effects.specs.Slots.{assigns, statement_assigns, declares, statement_declares}
-use Rattle.spf_effects.specs.SlotSets.{SlotSets, has_slot, with_slot, with_statement, with_block}
+use Rattle.spf_effects.specs.declared.slot_sets.Slots as code
+use Rattle.spf_effects.specs.SlotSets.{SlotSets, sets_of, has_slot, no_slot, with_slot, with_statement, with_block}
 use Rattle.spf_effects.proofs.Then.{or_moves}
+use Rattle.spf_effects.proofs.Either.{or_none}
 use Rattle.spf_effects.proofs.Walks.{item_at}
 
 none_more : (n x : ℕ) → get_or (replicate n false) x false ≡ false
@@ -53,11 +55,6 @@ flag_at flags place x h = at_test (x == place) refl
 -- a flag that is set
 pub flagged : (old flags : List Bool) (place : ℕ) → has_slot flags ≡ has_slot old → place < length flags → has_slot (set flags place true) ≡ with_slot place (has_slot old)
 flagged old flags place e h = (λ i x. flag_at flags place x h i) ∙ ap (with_slot place) e
-
--- what holds where something was done, and what follows from it
-pub on_ok : {E : Type 0} (result : Result (Unit {0}) E) {P Q : Type 0} → OnOk result P → (P → Q) → OnOk result Q
-on_ok (Ok u) p f = f p
-on_ok (Err e) p f = tt
 
 same_slot : (x y : ℕ) → (x == y) ≡ (y == x)
 same_slot x y = grind (arith, nat_tests)
@@ -138,3 +135,11 @@ with_next xs i x now new whole h is e k =
 
 pub with_none : (xs : List Stmt) (i : ℕ) (now whole : SlotSets) → length xs ≤ i → with_block (block (drop i xs)) now ≡ whole → now ≡ whole
 with_none xs i now whole h k = sym (ap (λ l. with_block (block l) now) (drop_all i xs h)) ∙ k
+
+-- the assigned slots of a block
+pub assigned_in : (tables : code.Slots) (b : Block) → sets_of tables ≡ with_block b (record { assigned = no_slot; declared = no_slot }) → has_slot tables.assigned ≡ (λ slot. assigns (λ other. other == slot) b)
+assigned_in tables b e = ap (λ (s : SlotSets). s.assigned) e ∙ (λ i slot. or_none (assigns (λ other. other == slot) b) i)
+
+-- the declared slots of a block
+pub declared_in : (tables : code.Slots) (b : Block) → sets_of tables ≡ with_block b (record { assigned = no_slot; declared = no_slot }) → has_slot tables.declared ≡ (λ slot. declares slot b)
+declared_in tables b e = ap (λ (s : SlotSets). s.declared) e ∙ (λ i slot. or_none (declares slot b) i)

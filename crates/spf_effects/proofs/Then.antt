@@ -1,5 +1,5 @@
 -- Forms one after another.
-use Rattle.std.proofs.Common.{◌≡◌, ℕ, Bool, true, false, List, [], ◌∷◌, ◌++◌, ℤ, refl, sym, ap, ◌∙◌}
+use Rattle.std.proofs.Common.{◌≡◌, ℕ, Bool, true, false, List, [], ◌∷◌, ◌++◌, ℤ, append_assoc, subst, refl, sym, ap, ◌∙◌}
 use Rattle.std.specs.Prelude.{Result, Ok, Err, OnOk, ◌||◌}
 use Rattle.std.specs.List.{list_any}
 use Rattle.spf_region.specs.declared.range.Range.{Range}
@@ -66,3 +66,17 @@ extends_then_on (Err e) f g old mid new h k = tt
 -- a form that may be left out, after which what is surely written is put back
 pub extends_perhaps : (f : Finds) (old new : Lists) → Extends f old new → Extends (perhaps f) old (record { uncovered = new.uncovered; may = new.may; written = old.written })
 extends_perhaps f old new h = record { uncovered = h.uncovered; may = h.may; written = refl; wholes = refl }
+
+-- two forms and a third, grouped to the right
+pub extends_regrouped : (f g h : Finds) (old mid new : Lists) → Extends (f then g) old mid → Extends h mid new → Extends (f then (g then h)) old new
+extends_regrouped f g h old mid new a b =
+    let both = extends_then (f then g) h old mid new a b in
+    let w = offsets_of old.written in
+    let after_f = (f w).written in
+    let after_g = (g after_f).written in
+    record {
+      uncovered = subst (λ l. Joins l old.uncovered new.uncovered) (append_assoc (f w).uncovered (g after_f).uncovered (h after_g).uncovered) both.uncovered;
+      may = subst (λ l. Joins l old.may new.may) (append_assoc (f w).may (g after_f).may (h after_g).may) both.may;
+      written = both.written;
+      wholes = both.wholes;
+    }

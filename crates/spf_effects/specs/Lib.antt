@@ -6,3 +6,4 @@ pub mod Examples
 pub mod Extends
 pub mod SlotSets
 pub mod Settings
+pub mod Sweeping

@@ -1,8 +1,9 @@
 // What an analysis has found so far.
-ghost use Rattle.std.specs.Prelude.{◌≡◌, [], OnOk, IfOk, Some, None, if◌then◌else◌, ◌&&◌, ◌-ℤ◌, pos, int_lt};
+ghost use Rattle.std.specs.Prelude.{◌≡◌, ℕ, false, [], OnOk, IfOk, Some, None, if◌then◌else◌, ◌&&◌, ◌-ℤ◌, pos, int_lt};
 ghost use Rattle.std.specs.Ordering.{int_eq};
-ghost use Rattle.spf_region.specs.Ranges.{offsets_of, wholes_of};
+ghost use Rattle.spf_region.specs.Ranges.{offsets_of, wholes_of, joined, is_whole};
 ghost use Rattle.spf_effects.specs.Extends.{Extends, Lists, KeepsCommon};
+ghost use Rattle.spf_effects.specs.Sweeping.{IsSwept};
 ghost use Rattle.spf_effects.specs.Found.{reads_element, may_write_whole, writes_element, may_write_between, surely_writes_between, writes_range, ◌then◌};
 
 use spf_region::bound::Bound;
@@ -35,7 +36,7 @@ fn last_between(first: i64, end: i64) -> Option<i64>
 }
 
 /// The last offset of a range, where each end is one offset and the range isn't empty.
-fn last_of_one(low: i64, high: i64, end_low: i64, end_high: i64) -> Option<i64>
+pub(crate) fn last_of_one(low: i64, high: i64, end_low: i64, end_high: i64) -> Option<i64>
     ensures { result ≡ (if int_eq low high && (int_eq end_low end_high && int_lt low end_low) then Some (end_low -ℤ pos 1) else None) }
 {
     if low != high {
@@ -73,6 +74,14 @@ impl Findings {
             may: RangeList::new(alloc),
             written: RangeList::new(alloc),
         }
+    }
+
+    /// A range is surely written, too.
+    pub(crate) fn surely_write(&mut self, alloc: Global, range: Range) -> Result<(), AllocError>
+        requires affine { (array : ℕ) → is_whole range array ≡ false }
+        ensures { OnOk result (IsSwept (joined range) self.old self.new) }
+    {
+        self.written.add(alloc, range)
     }
 
     /// A list of what is surely written so far.

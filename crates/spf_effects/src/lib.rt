@@ -7,3 +7,5 @@ mod findings;
 pub mod laws;
 mod slot_sets;
 mod slots;
+mod sweeps;
+mod walk;

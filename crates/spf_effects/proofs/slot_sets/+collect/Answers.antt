@@ -3,7 +3,8 @@ use Rattle.spf_ast.specs.View.{block, fold_head, pair_head}
 use Rattle.spf_ast.specs.declared.syntax.Fold.{out-Fold}
 use Rattle.spf_ast.specs.declared.syntax.Pair.{out-Pair}
 use Rattle.spf_effects.specs.SlotSets.{has_slot, sets_of, with_slot, with_block}
-use Rattle.spf_effects.proofs.SlotSets.{on_ok, let_with, assign_with, if_with, for_with, while_with, fold_with, pair_with, fold_kind_with, pair_kind_with, with_next, with_none}
+use Rattle.spf_effects.proofs.Results.{on_ok}
+use Rattle.spf_effects.proofs.SlotSets.{let_with, assign_with, if_with, for_with, while_with, fold_with, pair_with, fold_kind_with, pair_kind_with, with_next, with_none}
 use Rattle.spf_effects.proofs.slot_sets.+collect.Goals as goal
 
 pub collect-loop-statement-preserved : goal.collect-loop-statement-preserved

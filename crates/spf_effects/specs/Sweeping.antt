@@ -1,0 +1,42 @@
+-- Sweeps in the code: what is surely written grows, and all else stays.
+use Rattle.std.specs.Prelude.{◌≡◌, ℕ, if◌then◌else◌, ◌==◌, List, [], ◌∷◌, Option, Some, None, ℤ, pos, neg_ℤ}
+use Rattle.spf_region.specs.Ranges.{Offsets, offsets_of, wholes_of}
+use Rattle.spf_ast.specs.declared.syntax.Op.{Op}
+use Rattle.spf_ast.specs.declared.syntax.Op.TheVariants.{Add, Sub}
+use Rattle.spf_ast.specs.Syntax.{Expression, Number, Local, Statement, end, on_line}
+use Rattle.spf_effects.specs.Extends.{Lists}
+use Rattle.spf_effects.specs.Forms.{sweeps}
+use Rattle.spf_effects.specs.Found.{Sweep}
+
+-- what is surely written has grown so; the other lists are as they were
+pub record IsSwept (more : Offsets → Offsets) (old new : Lists) : Type 0 where
+  pub uncovered : new.uncovered ≡ old.uncovered
+  pub may : new.may ≡ old.may
+  pub offsets : offsets_of new.written ≡ more (offsets_of old.written)
+  pub wholes : wholes_of new.written ≡ wholes_of old.written
+
+-- the slot that an expression is
+abbrev pub slot_of : Expression → Option ℕ
+slot_of (Local slot) = Some slot
+slot_of _ = None
+
+-- the number that an expression is
+abbrev pub number_of : Expression → Option ℤ
+number_of (Number n) = Some n
+number_of _ = None
+
+-- how far x + n or x - n is from x
+abbrev pub signed : Op → ℤ → Option ℤ
+signed Add n = Some n
+signed Sub n = Some (neg_ℤ n)
+signed _ n = None
+
+-- how far the sum or difference of a slot and a number is from a loop's name
+abbrev pub moved : ℕ → Op → Option ℕ → Option ℤ → Option ℤ
+moved name op (Some slot) (Some n) = if slot == name then signed op n else None
+moved name op (Some slot) None = None
+moved name op None n = None
+
+-- the sweeps of one statement
+abbrev pub sweeps_of : ℕ → Statement → List Sweep
+sweeps_of name s = sweeps name (on_line 0 s end)
