@@ -11,3 +11,4 @@ pub mod Leads
 pub mod Sweeping
 pub mod Results
 pub mod Walked
+pub mod Assigns

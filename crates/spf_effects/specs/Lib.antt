@@ -7,3 +7,5 @@ pub mod Extends
 pub mod SlotSets
 pub mod Settings
 pub mod Sweeping
+pub mod Effects
+pub mod Gathered

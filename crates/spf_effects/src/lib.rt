@@ -3,6 +3,7 @@
 
 mod bounds;
 mod context;
+pub mod effects;
 mod findings;
 pub mod laws;
 mod slot_sets;
