@@ -12,3 +12,4 @@ pub mod Sweeping
 pub mod Results
 pub mod Walked
 pub mod Assigns
+pub mod Gathering

@@ -1,6 +1,7 @@
 //! What the parts of top constructs read and write, as far as their text shows.
 #![tactic(auto)]
 
+pub mod analysis;
 mod bounds;
 mod context;
 pub mod effects;

@@ -1,0 +1,181 @@
+//! The analysis of parts of top constructs.
+ghost use Rattle.std.specs.Prelude.{◌≡◌, ℕ, IfOk, Some};
+ghost use Rattle.spf_ast.specs.declared.syntax.Fold.{out-Fold};
+ghost use Rattle.spf_ast.specs.declared.syntax.Pair.{out-Pair};
+ghost use Rattle.spf_ast.specs.Construct.{Construct, construct_of, fold as fold_construct, pair as pair_construct};
+ghost use Rattle.spf_ast.specs.Syntax.{end};
+ghost use Rattle.spf_ast.specs.View.{block as block_of, expression as expression_of, predictor as predictor_of, statement as statement_of, program as program_of, fold_head, pair_head};
+ghost use Rattle.spf_effects.specs.Effects.{AreEffects, AreEffectsOf, effects_of};
+ghost use Rattle.spf_effects.specs.Forms.{block_finds, block_then};
+ghost use Rattle.spf_effects.specs.Parts.{guess_finds, outside, part_effects};
+ghost use Rattle.spf_effects.specs.Settings.{setting};
+
+use crate::context::{Context, declare};
+use crate::effects::{Effects, gathered, no_effects};
+use crate::findings::Findings;
+use crate::slot_sets::slots_in;
+use crate::walk::{block, block_and, expression};
+use spf_ast::construct::find_construct;
+use spf_ast::syntax::{Expr, Fold, Pair, Part, Predict, Program, Stmt, StmtKind};
+use spf_region::bound::Bound;
+use std::alloc::{AllocError, Global};
+
+/// What is known of the number of a block.
+const BLOCK: Bound = Bound::Known {
+    factor: 1,
+    low: 0,
+    high: 0,
+};
+
+/// Examines a part of a top construct of a program, whose number among them is `construct`. A part
+/// that the construct doesn't have does nothing.
+///
+/// # Errors
+///
+/// `AllocError` where there is no memory for the lists.
+pub fn effects(
+    alloc: Global,
+    program: &Program,
+    construct: u32,
+    part: Part,
+) -> Result<Effects, AllocError>
+    ensures exact { IfOk result (AreEffectsOf (program_of program.now) construct part) }
+{
+    match find_construct(&program.main, construct) {
+        None => Ok(no_effects(alloc)),
+        Some(statement) => statement_effects(alloc, program, &statement.kind, part),
+    }
+}
+
+/// The effects of a part of the construct that a statement is.
+fn statement_effects(
+    alloc: Global,
+    program: &Program,
+    kind: &StmtKind,
+    part: Part,
+) -> Result<Effects, AllocError>
+    ensures { IfOk result (λ e. (line : ℕ) (c : Construct) → construct_of line (statement_of kind.now) ≡ Some c → AreEffects (part_effects (program_of program.now) c part) e) }
+{
+    match kind {
+        StmtKind::Fold(fold) => fold_effects(alloc, program, fold, part),
+        StmtKind::Pair(pair) => pair_effects(alloc, program, pair, part),
+        StmtKind::Let(_, _)
+        | StmtKind::Assign(_, _)
+        | StmtKind::Store(_, _, _)
+        | StmtKind::Fill(_, _, _, _)
+        | StmtKind::Emit(_)
+        | StmtKind::Fail(_)
+        | StmtKind::If(_, _, _)
+        | StmtKind::For(_, _, _, _)
+        | StmtKind::While(_, _, _)
+        | StmtKind::Call(_, _) => Ok(no_effects(alloc)),
+    }
+}
+
+/// The effects of a part of a fold. Its block number is known.
+fn fold_effects(
+    alloc: Global,
+    program: &Program,
+    fold: &Fold,
+    part: Part,
+) -> Result<Effects, AllocError>
+    ensures { IfOk result (λ e. (line : ℕ) → AreEffects (part_effects (program_of program.now) (fold_construct line (fold_head fold.now) (block_of (out-Fold fold.now).body.items)) part) e) }
+{
+    let slots = slots_in(alloc, &program.main)?;
+    let context = Context {
+        functions: &program.functions,
+        assigned: &slots.assigned,
+    };
+    let mut bounds = unknown_bounds(alloc, program)?;
+    declare(context.assigned, fold.block, BLOCK, &mut bounds);
+    let below = program.functions.len();
+    match part {
+        Part::Body => effects_and(alloc, &context, below, &bounds, &fold.body, &fold.next),
+        Part::Predictor => predictor_effects(alloc, &context, below, &bounds, &fold.predict),
+        Part::Producer | Part::Consumer => Ok(no_effects(alloc)),
+    }
+}
+
+/// The effects of a part of a pair.
+fn pair_effects(
+    alloc: Global,
+    program: &Program,
+    pair: &Pair,
+    part: Part,
+) -> Result<Effects, AllocError>
+    ensures { IfOk result (λ e. (line : ℕ) → AreEffects (part_effects (program_of program.now) (pair_construct line (pair_head pair.now) (block_of (out-Pair pair.now).producer.items) (block_of (out-Pair pair.now).consumer.items)) part) e) }
+{
+    let slots = slots_in(alloc, &program.main)?;
+    let context = Context {
+        functions: &program.functions,
+        assigned: &slots.assigned,
+    };
+    let bounds = unknown_bounds(alloc, program)?;
+    let below = program.functions.len();
+    match part {
+        Part::Producer => effects_and(alloc, &context, below, &bounds, &pair.producer, &pair.give),
+        Part::Consumer => block_effects(alloc, &context, below, &bounds, &pair.consumer),
+        Part::Predictor => predictor_effects(alloc, &context, below, &bounds, &pair.predict),
+        Part::Body => Ok(no_effects(alloc)),
+    }
+}
+
+/// Bounds for the slots of `main`, of which nothing is known.
+fn unknown_bounds(alloc: Global, program: &Program) -> Result<Vec<Bound>, AllocError>
+    ensures { IfOk result (λ v. v.items ≡ outside (program_of program.now)) }
+{
+    let mut bounds = Vec::new(alloc);
+    bounds.resize(program.slots.len(), Bound::Unknown)?;
+    Ok(bounds)
+}
+
+/// The effects of a block, and of an expression in which what the block declares is visible.
+fn effects_and(
+    alloc: Global,
+    context: &Context,
+    below: usize,
+    bounds: &[Bound],
+    statements: &[Stmt],
+    last: &Expr,
+) -> Result<Effects, AllocError>
+    ensures { IfOk result (AreEffects (effects_of (block_then (setting context.now below) bounds.now (block_of statements.now) (expression_of last.now)) (block_of statements.now))) }
+{
+    let mut found = Findings::new(alloc);
+    block_and(alloc, context, below, bounds, statements, last, &mut found)?;
+    gathered(alloc, found, statements)
+}
+
+/// The effects of a block.
+fn block_effects(
+    alloc: Global,
+    context: &Context,
+    below: usize,
+    bounds: &[Bound],
+    statements: &[Stmt],
+) -> Result<Effects, AllocError>
+    ensures { IfOk result (AreEffects (effects_of (block_finds (setting context.now below) bounds.now (block_of statements.now)) (block_of statements.now))) }
+{
+    let mut found = Findings::new(alloc);
+    block(alloc, context, below, bounds, statements, &mut found)?;
+    gathered(alloc, found, statements)
+}
+
+/// The effects of a predictor. One that is handed in does nothing here.
+fn predictor_effects(
+    alloc: Global,
+    context: &Context,
+    below: usize,
+    bounds: &[Bound],
+    predict: &Predict,
+) -> Result<Effects, AllocError>
+    ensures { IfOk result (AreEffects (effects_of (guess_finds (setting context.now below) bounds.now (predictor_of predict.now)) end)) }
+{
+    match predict {
+        Predict::Host(_) => Ok(no_effects(alloc)),
+        Predict::Expr(guess) => {
+            let mut found = Findings::new(alloc);
+            expression(alloc, context, below, bounds, guess, &mut found)?;
+            gathered(alloc, found, &[])
+        }
+    }
+}
