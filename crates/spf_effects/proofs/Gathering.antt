@@ -1,12 +1,23 @@
 -- Effects that are made of what was found in a part.
 use Rattle.std.proofs.Common.{◌≡◌, ℕ, Bool, false, List, [], length, replicate, refl, sym, ap, subst, ◌∙◌}
 use Rattle.std.proofs.Math.ListN.{length-map}
-use Rattle.std.specs.Prelude.{Result, Ok, Err, IfOk, map, not, ◌==◌}
+use Rattle.std.specs.Prelude.{Result, Ok, Err, IfOk, Some, map, not, ◌==◌}
 use Rattle.spf_region.specs.declared.range.Range.{Range}
 use Rattle.spf_region.specs.Ranges.{offsets_of, wholes_of}
 use Rattle.spf_ast.specs.declared.syntax.Program as code_program
+use Rattle.std.specs.declared.boxed.Box.{Box}
+use Rattle.std.specs.declared.alloc.Global.{Global}
+use Rattle.spf_ast.specs.declared.syntax.Function as code_function
+use Rattle.spf_ast.specs.declared.syntax.Fold.{out-Fold}
+use Rattle.spf_ast.specs.declared.syntax.Fold as code_fold
+use Rattle.spf_ast.specs.declared.syntax.Pair.{out-Pair}
+use Rattle.spf_ast.specs.declared.syntax.Pair as code_pair
+use Rattle.spf_ast.specs.declared.syntax.StmtKind.{StmtKind}
+use Rattle.spf_ast.specs.declared.syntax.StmtKind.TheVariants as s
+use Rattle.spf_ast.specs.Construct.{Construct, construct_of, fold, pair}
 use Rattle.spf_ast.specs.Syntax.{Block, end}
-use Rattle.spf_ast.specs.View.{program, function, name, block}
+use Rattle.spf_ast.specs.View.{program, function, statement, block, fold_head, pair_head}
+use Rattle.spf_ast.proofs.Views.{statement-fold, statement-pair}
 use Rattle.spf_effects.specs.declared.effects.Effects as code
 use Rattle.spf_effects.specs.declared.slot_sets.Slots as code_slots
 use Rattle.spf_effects.specs.Effects.{AreEffects, effects_of}
@@ -49,7 +60,19 @@ pub assigns_outer_is : (tables : code_slots.Slots) (b : Block) (result : Bool) �
 assigns_outer_is tables b result e h = h ∙ ap (λ (set : ℕ → Bool). assigns (λ slot. not (set slot)) b) (declared_in tables b e)
 
 -- where the forms of `main` stand
-pub main_setting_is : (p : code_program.Program) (tables : code_slots.Slots) (count : ℕ) → sets_of tables ≡ with_block (block p.main.items) (record { assigned = no_slot; declared = no_slot }) → count ≡ length p.functions.items → record { is_assigned = has_slot tables.assigned; call = call_before (map function p.functions.items) count } ≡ main_setting (program p)
-main_setting_is p tables count e n =
-    (λ i. record { is_assigned = assigned_in tables (block p.main.items) e i; call = call_before (map function p.functions.items) count })
+pub main_setting_is : (p : code_program.Program) (tables : code_slots.Slots) (functions : List code_function.Function) (count : ℕ) → sets_of tables ≡ with_block (block p.main.items) (record { assigned = no_slot; declared = no_slot }) → functions ≡ p.functions.items → count ≡ length p.functions.items → record { is_assigned = has_slot tables.assigned; call = call_before (map function functions) count } ≡ main_setting (program p)
+main_setting_is p tables functions count e f n =
+    (λ i. record { is_assigned = assigned_in tables (block p.main.items) e i; call = call_before (map function (f i)) count })
     ∙ ap (λ m. record { is_assigned = λ slot. assigns (λ other. other == slot) (block p.main.items); call = call_before (map function p.functions.items) m }) (n ∙ sym (length-map p.functions.items function))
+
+some_is : {A : Type 0} (x y : A) → Some x ≡ Some y → x ≡ y
+some_is x y e = cc
+
+-- the construct that a statement is
+pub fold_of : (kind : StmtKind) (held : Box code_fold.Fold Global) (line : ℕ) (c : Construct) → kind ≡ s.Fold held → construct_of line (statement kind) ≡ Some c → fold line (fold_head held.value) (block (out-Fold held.value).body.items) ≡ c
+fold_of kind held line c is e =
+    some_is _ _ (sym (ap (construct_of line) (ap statement is ∙ statement-fold held)) ∙ e)
+
+pub pair_of : (kind : StmtKind) (held : Box code_pair.Pair Global) (line : ℕ) (c : Construct) → kind ≡ s.Pair held → construct_of line (statement kind) ≡ Some c → pair line (pair_head held.value) (block (out-Pair held.value).producer.items) (block (out-Pair held.value).consumer.items) ≡ c
+pair_of kind held line c is e =
+    some_is _ _ (sym (ap (construct_of line) (ap statement is ∙ statement-pair held)) ∙ e)
