@@ -1,0 +1,15 @@
+pub mod Ways
+pub mod Meeting
+pub mod Meets
+pub mod Products
+pub mod Within
+pub mod Expressions
+pub mod Slots
+pub mod Stores
+pub mod Turns
+pub mod Sweeps
+pub mod Loops
+pub mod Statements
+pub mod Functions
+pub mod Parts
+pub mod Law
