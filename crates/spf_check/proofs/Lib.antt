@@ -1,0 +1,5 @@
+pub mod Lists
+pub mod Breaking
+pub mod Lowest
+pub mod Few
+pub mod Examining

@@ -1,0 +1,5 @@
+pub mod Breaches
+pub mod Accepting
+pub mod Parts
+pub mod Verdicts
+pub mod Checking

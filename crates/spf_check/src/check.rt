@@ -1,0 +1,150 @@
+//! Checks programs by the rules.
+ghost use Rattle.std.specs.Prelude.{◌≡◌, ◌<◌, Some, length, slice_get, option_map, IfOk, MatchOption};
+ghost use Rattle.spf_ast.specs.Lawful.{IsLawful};
+ghost use Rattle.spf_ast.specs.View.{program as seen_program, statement as statement_of};
+ghost use Rattle.spf_ast.specs.Construct.{Construct, construct_of, constructs_in, fold, pair};
+ghost use Rattle.spf_check.specs.Parts.{AreEffectsOf};
+ghost use Rattle.spf_check.specs.Verdicts.{IsExamined, IsVerdict};
+ghost use Rattle.spf_check.specs.Checking.{IsChecked};
+
+use crate::checked::{Checked, Writes};
+use crate::construct::ConstructEffects;
+use crate::rule::{CheckError, Refusal};
+use spf_ast::construct::{find_construct, top_constructs};
+use spf_ast::syntax::{Part, Program, Stmt, StmtKind};
+use spf_effects::analysis::effects;
+use spf_effects::effects::Effects;
+use spf_region::list::RangeList;
+use std::alloc::{AllocError, Global};
+
+/// What is said of one construct.
+#[derive(Drop)]
+pub(crate) enum Examined {
+    Accepted(Writes),
+    Refused(Refusal),
+}
+
+/// What is said of a whole program.
+#[derive(Drop)]
+pub(crate) enum Verdict {
+    Accepted(Vec<Writes>),
+    Refused(Refusal),
+}
+
+/// The effects of all parts of a fold, given its number.
+fn fold_effects(alloc: Global, program: &Program, number: u32) -> Result<ConstructEffects, AllocError>
+    ensures { (line : _) (head : _) (body : _) → slice_get (constructs_in (seen_program program.now).main) number ≡ Some (fold line head body)
+        → IfOk result (AreEffectsOf (seen_program program.now) (fold line head body)) }
+{
+    Ok(ConstructEffects {
+        guessed: effects(alloc, program, number, Part::Body)?,
+        predictor: effects(alloc, program, number, Part::Predictor)?,
+        producer: None,
+    })
+}
+
+/// The effects of all parts of a pair, given its number.
+fn pair_effects(alloc: Global, program: &Program, number: u32) -> Result<ConstructEffects, AllocError>
+    ensures { (line : _) (head : _) (producer : _) (consumer : _) → slice_get (constructs_in (seen_program program.now).main) number ≡ Some (pair line head producer consumer)
+        → IfOk result (AreEffectsOf (seen_program program.now) (pair line head producer consumer)) }
+{
+    Ok(ConstructEffects {
+        guessed: effects(alloc, program, number, Part::Consumer)?,
+        predictor: effects(alloc, program, number, Part::Predictor)?,
+        producer: Some(effects(alloc, program, number, Part::Producer)?),
+    })
+}
+
+/// The effects of all parts of a construct, given its number and its statement.
+pub(crate) fn effects_of(
+    alloc: Global,
+    program: &Program,
+    number: u32,
+    statement: &Stmt,
+) -> Result<ConstructEffects, AllocError>
+    ensures { MatchOption (construct_of statement.now.line (statement_of statement.now.kind)) (Unit {0})
+        (λ c. slice_get (constructs_in (seen_program program.now).main) number ≡ Some c
+        → IfOk result (AreEffectsOf (seen_program program.now) c)) }
+{
+    match &statement.kind {
+        StmtKind::Fold(_) => fold_effects(alloc, program, number),
+        StmtKind::Pair(_) => pair_effects(alloc, program, number),
+        _ => Err(AllocError),
+    }
+}
+
+/// What a producer may write, where there is one.
+fn written_by(producer: Option<Effects>) -> Option<RangeList>
+    ensures { result ≡ option_map (λ e. e.may) producer }
+{
+    match producer {
+        Some(producer) => Some(producer.may),
+        None => None,
+    }
+}
+
+/// What the block parts of a construct may write.
+fn writes_of(found: ConstructEffects) -> Writes
+    ensures guessed { result.guessed ≡ found.guessed.may }
+    ensures producer { result.producer ≡ option_map (λ e. e.may) found.producer }
+{
+    let guessed = found.guessed;
+    let producer = written_by(found.producer);
+    Writes {
+        guessed: guessed.may,
+        producer,
+    }
+}
+
+/// Examines one construct.
+fn examine_construct(alloc: Global, program: &Program, number: u32) -> Result<Examined, AllocError>
+    requires { number < length (constructs_in (seen_program program.now).main) }
+    ensures { (c : Construct) → slice_get (constructs_in (seen_program program.now).main) number ≡ Some c
+        → IfOk result (IsExamined (seen_program program.now) c) }
+{
+    let Some(statement) = find_construct(&program.main, number) else {
+        unreachable!();
+    };
+    let found = effects_of(alloc, program, number, statement)?;
+    match found.lowest_broken() {
+        Some((rule, range)) => Ok(Examined::Refused(Refusal {
+            rule,
+            line: statement.line,
+            range,
+        })),
+        None => Ok(Examined::Accepted(writes_of(found))),
+    }
+}
+
+/// Examines the top constructs of a program, in their order, up to the first that breaks a rule.
+fn examine(alloc: Global, program: &Program) -> Result<Verdict, AllocError>
+    requires { IsLawful (seen_program program.now) }
+    ensures { IfOk result (IsVerdict (seen_program program.now)) }
+{
+    let mut writes = Vec::new(alloc);
+    for number in 0..top_constructs(program) {
+        match examine_construct(alloc, program, number)? {
+            Examined::Accepted(kept) => writes.push(kept)?,
+            Examined::Refused(refusal) => return Ok(Verdict::Refused(refusal)),
+        }
+    }
+    Ok(Verdict::Accepted(writes))
+}
+
+/// Checks a lawful program by the seven rules: it is accepted exactly where each of its top constructs keeps them all.
+///
+/// # Errors
+///
+/// `Refused` exactly where a top construct breaks a rule, with the first refusal: that of the first such construct in the order
+/// of the text, by the lowest rule that it breaks, with the construct's line and the first range that breaks the rule. `OutOfMemory`
+/// where there was no memory for the analysis. Both hand the program back.
+pub fn check(alloc: Global, program: Program) -> Result<Checked, CheckError>
+    requires lawful { IsLawful (seen_program program) }
+    ensures { IsChecked program result }
+{
+    match examine(alloc, &program) {
+        Ok(Verdict::Accepted(writes)) => Ok(Checked { program, writes }),
+        Ok(Verdict::Refused(refusal)) => Err(CheckError::Refused { program, refusal }),
+        Err(AllocError) => Err(CheckError::OutOfMemory { program }),
+    }
+}

@@ -1,0 +1,51 @@
+//! Programs that the rules accept.
+ghost use Rattle.std.specs.Prelude.{◌≡◌};
+ghost use Rattle.spf_ast.specs.View.{program as seen_program};
+
+use spf_ast::syntax::Program;
+use spf_region::list::RangeList;
+use std::marker::Model;
+
+/// What a construct may write, by its block parts.
+#[derive(Drop)]
+pub(crate) struct Writes {
+    /// What the part that runs from a guess may write: of a fold the body, of a pair the consumer.
+    pub(crate) guessed: RangeList,
+    /// What a pair's producer may write; a fold has none.
+    pub(crate) producer: Option<RangeList>,
+}
+
+/// A lawful program that is accepted: each of its top constructs keeps the rules.
+///
+/// Contracts see of it the program.
+#[derive(Drop)]
+pub struct Checked {
+    pub(crate) program: Program,
+    pub(crate) writes: Vec<Writes>,
+}
+
+impl Model for Checked {
+    ghost use Rattle.spf_ast.specs.declared.syntax.Program.{Program};
+    ghost use Rattle.spf_ast.specs.View.{program as seen_program};
+    ghost use Rattle.spf_check.specs.Verdicts.{IsKept};
+
+    ghost use Rattle.spf_ast.specs.contracts.syntax.Program as row;
+    ghost use Rattle.std.specs.Coded.{codes};
+
+    ghost coded = { Prim.hlevel (codes, row.the_row.coded) };
+
+    ghost Value = { Program };
+
+    ghost view = { λ c. c.program };
+
+    ghost invariant = { λ c. IsKept (seen_program c.program) c.writes.items };
+}
+
+impl Checked {
+    /// The program.
+    pub fn program(&self) -> &Program
+        ensures { result.now ≡ self.now }
+    {
+        &self.program
+    }
+}

@@ -1,0 +1,8 @@
+//! The seven rules, by which a program is accepted or refused.
+#![tactic(auto)]
+
+mod breach;
+pub mod check;
+pub mod checked;
+mod construct;
+pub mod rule;

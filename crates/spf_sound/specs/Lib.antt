@@ -1,0 +1,4 @@
+pub mod Performances
+pub mod Rules
+pub mod Freedom
+pub mod Overwriting
