@@ -90,7 +90,7 @@ first-refused p number rule line range h kept this =
     let said = this k.0 k.1 in
     record { number = number; construct = k.0; stands = k.1; line_is = said.1; lowest = said.0; before = λ other earlier l is. kept other earlier l is }
 
-keeps-rule : (p : Program) (k : Construct) (rule : Rule) → KeepsTheRules p k → Keeps p k rule
+pub keeps-rule : (p : Program) (k : Construct) (rule : Rule) → KeepsTheRules p k → Keeps p k rule
 keeps-rule p k OuterAssign h = h.assigns_no_outer
 keeps-rule p k EmitInside h = h.emits_nothing
 keeps-rule p k PredictorWrites h = h.predictor_writes_nothing

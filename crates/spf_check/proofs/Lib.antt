@@ -3,3 +3,4 @@ pub mod Breaking
 pub mod Lowest
 pub mod Few
 pub mod Examining
+pub mod Unique

@@ -35,13 +35,16 @@ rule-is PredictorReads = refl
 rule-is ReadBeforeWrite = refl
 rule-is NotOverwritten = refl
 
+pub rule-by-number : (rule other : Rule) → rule_number rule ≡ rule_number other → rule ≡ other
+rule-by-number rule other e = sym (rule-is rule) ∙ ap rule_of e ∙ rule-is other
+
 -- the rules below a number are kept
 abbrev KeptBelow : Program → Construct → ℕ → Type 0
 KeptBelow p k n = (other : Rule) → rule_number other < n → Keeps p k other
 
 kept-next : (p : Program) (k : Construct) (rule : Rule) → KeptBelow p k (rule_number rule) → Keeps p k rule → KeptBelow p k (suc (rule_number rule))
 kept-next p k rule below kept other h =
-    cases (last-or-before (rule_number other) (rule_number rule) h) (λ e. subst (Keeps p k) (sym (rule-is rule) ∙ ap rule_of (sym e) ∙ rule-is other) kept) (below other)
+    cases (last-or-before (rule_number other) (rule_number rule) h) (λ e. subst (Keeps p k) (rule-by-number rule other (sym e)) kept) (below other)
   where
     last-or-before : (x n : ℕ) → x < suc n → (x ≡ n) ⊎ (x < n)
     last-or-before x n h = grind (arith, h)

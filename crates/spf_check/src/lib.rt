@@ -5,4 +5,5 @@ mod breach;
 pub mod check;
 pub mod checked;
 mod construct;
+pub mod laws;
 pub mod rule;
