@@ -160,7 +160,7 @@ written-of p k c a n are e = cases (or-cases (has_array c.guessed.may a) _ e) on
     one : has_array c.guessed.may a ≡ true → IsWritten p k a
     one t = record { part = guessed_part k; is_block_part = guessed-block k; entry = is-array _ c.guessed.may a (normal-may c.guessed _ are.guessed n.may) t }
 
-    other : (k : Construct) (o : Option Effects) → MatchOption o (Unit {0}) (λ e. IsNormal e.may × IsNormal e.uncovered) → IsProducerOf p k o → of_producer o (λ e. has_array e.may a) ≡ true → IsWritten p k a
+    other : (k : Construct) (o : Option Effects) → MatchOption o (Unit {0}) (λ e. IsNormal e.may × IsNormal e.uncovered × IsNormal e.must) → IsProducerOf p k o → of_producer o (λ e. has_array e.may a) ≡ true → IsWritten p k a
     other k None m is t = cc
     other (fold line head body) (Some f) m is t = absurd is
     other (pair line head producer consumer) (Some f) m is t =
@@ -172,11 +172,11 @@ is-written p k c a n are w = go k w.part w.is_block_part w.entry are.guessed are
     one : (list : List Range) → IsNormalFormOf list c.guessed.may → HasArray list a → is_written c a ≡ true
     one list m h = or-left _ _ (array-is list c.guessed.may a m h)
 
-    two : (k : Construct) (o : Option Effects) → MatchOption o (Unit {0}) (λ e. IsNormal e.may × IsNormal e.uncovered) → (h : Effects → Type 0) → MatchOption o ⊥ h → ((e : Effects) → h e → IsNormal e.may → has_array e.may a ≡ true) → of_producer o (λ e. has_array e.may a) ≡ true
+    two : (k : Construct) (o : Option Effects) → MatchOption o (Unit {0}) (λ e. IsNormal e.may × IsNormal e.uncovered × IsNormal e.must) → (h : Effects → Type 0) → MatchOption o ⊥ h → ((e : Effects) → h e → IsNormal e.may → has_array e.may a ≡ true) → of_producer o (λ e. has_array e.may a) ≡ true
     two k None m h is f = absurd is
     two k (Some e) m h is f = f e is m.0
 
-    of-pair : (line : ℕ) (head : _) (producer consumer : _) (o : Option Effects) → MatchOption o (Unit {0}) (λ e. IsNormal e.may × IsNormal e.uncovered) → IsProducerOf p (pair line head producer consumer) o → HasArray (may_write p (pair line head producer consumer) Producer) a → of_producer o (λ e. has_array e.may a) ≡ true
+    of-pair : (line : ℕ) (head : _) (producer consumer : _) (o : Option Effects) → MatchOption o (Unit {0}) (λ e. IsNormal e.may × IsNormal e.uncovered × IsNormal e.must) → IsProducerOf p (pair line head producer consumer) o → HasArray (may_write p (pair line head producer consumer) Producer) a → of_producer o (λ e. has_array e.may a) ≡ true
     of-pair line head producer consumer None m is h = absurd is
     of-pair line head producer consumer (Some e) m is h = array-is _ e.may a (normal-may e _ is m.0) h
 
@@ -322,7 +322,7 @@ meeting-said p line head producer consumer xs ys zs m n o = said-range p k Overl
 overlap-said : (p : Program) (k : Construct) (c : ConstructEffects) → AreNormal c → AreEffectsOf p k c → Said p k Overlap (by_range (first_overlap c))
 overlap-said p k c n are = go k c.producer n.producer are.guessed are.producer
   where
-    go : (k : Construct) (o : Option Effects) → MatchOption o (Unit {0}) (λ e. IsNormal e.may × IsNormal e.uncovered) → AreEffects (part_effects p k (guessed_part k)) c.guessed → IsProducerOf p k o → Said p k Overlap (by_range (overlap c.guessed.may o))
+    go : (k : Construct) (o : Option Effects) → MatchOption o (Unit {0}) (λ e. IsNormal e.may × IsNormal e.uncovered × IsNormal e.must) → AreEffects (part_effects p k (guessed_part k)) c.guessed → IsProducerOf p k o → Said p k Overlap (by_range (overlap c.guessed.may o))
     go (fold line head body) None m g is = unseparated-said p line head body c.guessed.may (normal-may c.guessed _ g n.may)
     go (fold line head body) (Some e) m g is = absurd is
     go (pair line head producer consumer) None m g is = absurd is

@@ -4,3 +4,4 @@ pub mod Lowest
 pub mod Few
 pub mod Examining
 pub mod Unique
+pub mod Explained

@@ -25,8 +25,10 @@ pub record AreEffectsOf (p : Program) (construct : Construct) (c : ConstructEffe
 
 -- all its lists are in normal form
 pub record AreNormal (c : ConstructEffects) : Type 0 where
-  pub may : IsNormal c.guessed.may
   pub bare : IsNormal c.guessed.uncovered
-  pub guess_may : IsNormal c.predictor.may
+  pub may : IsNormal c.guessed.may
+  pub must : IsNormal c.guessed.must
   pub guess_bare : IsNormal c.predictor.uncovered
-  pub producer : MatchOption c.producer (Unit {0}) (λ e. IsNormal e.may × IsNormal e.uncovered)
+  pub guess_may : IsNormal c.predictor.may
+  pub guess_must : IsNormal c.predictor.must
+  pub producer : MatchOption c.producer (Unit {0}) (λ e. IsNormal e.may × IsNormal e.uncovered × IsNormal e.must)

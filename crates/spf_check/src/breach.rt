@@ -1,7 +1,7 @@
 //! Whether the effects of a construct break a rule, and by which range.
 ghost use Rattle.std.specs.Prelude.{◌≡◌, ◌||◌, not, find, slice_get, option_map, None, Some, if◌then◌else◌, option_to_list};
 ghost use Rattle.std.specs.List.{list_any};
-ghost use Rattle.spf_region.specs.Ranges.{offsets_of, covers, disjoint, array_of, first_unseparated};
+ghost use Rattle.spf_region.specs.Ranges.{offsets_of, covers, disjoint, array_of, first_unseparated, IsNormal};
 ghost use Rattle.std.specs.Prelude.{MatchOption};
 ghost use Rattle.spf_ast.specs.Syntax.{Program as plain_program};
 ghost use Rattle.spf_ast.specs.Construct.{Construct};
@@ -165,18 +165,26 @@ impl ConstructEffects {
     }
 
     /// All lists are in normal form, as lists of ranges are.
-    fn are_normal(&self)
+    pub(crate) fn are_normal(&self)
         ensures { AreNormal self.now }
     {
-        self.guessed.may.ranges();
-        self.guessed.uncovered.ranges();
-        self.predictor.may.ranges();
-        self.predictor.uncovered.ranges();
+        are_normal(&self.guessed);
+        are_normal(&self.predictor);
         if let Some(producer) = &self.producer {
-            producer.may.ranges();
-            producer.uncovered.ranges();
+            are_normal(producer);
         }
     }
+}
+
+/// The lists of a part are in normal form.
+fn are_normal(found: &Effects)
+    ensures uncovered { IsNormal found.now.uncovered }
+    ensures may { IsNormal found.now.may }
+    ensures must { IsNormal found.now.must }
+{
+    found.uncovered.ranges();
+    found.may.ranges();
+    found.must.ranges();
 }
 
 /// The first range that a consumer may write and its producer reads or may write.

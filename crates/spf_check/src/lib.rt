@@ -5,5 +5,7 @@ mod breach;
 pub mod check;
 pub mod checked;
 mod construct;
+pub mod explain;
 pub mod laws;
 pub mod rule;
+pub mod text;
