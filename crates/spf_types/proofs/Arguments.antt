@@ -1,5 +1,5 @@
 -- Arguments one after another.
-use Rattle.std.proofs.Common.{◌≡◌, ℕ, ◌+◌, ◌<◌, ◌≤◌, suc, List, [], ◌∷◌, ◌++◌, length, get_or, drop, map, refl, sym, ap, ◌∙◌, arith}
+use Rattle.std.proofs.Common.{◌≡◌, ℕ, ◌+◌, ◌<◌, ◌≤◌, List, [], ◌∷◌, ◌++◌, length, get_or, drop, map, refl, sym, ap, ◌∙◌, arith}
 use Rattle.std.proofs.lemmas.List.{map-append, drop_all}
 use Rattle.spf_ast.specs.declared.syntax.Expr.{Expr}
 use Rattle.std.specs.declared.vec.Vec.{Vec}

@@ -1,5 +1,5 @@
 -- Where limits are passed, and that they are kept elsewhere.
-use Rattle.std.proofs.Common.{◌≡◌, ℕ, ◌+◌, ◌-◌, ◌^◌, ◌<◌, ◌≤◌, zero, suc, Bool, true, false, not, ◌&&◌, nat_lt, Some, None, List, [], ◌∷◌, ◌++◌, length, get_or, drop, map, inl, inr, refl, sym, ap, ◌∙◌, subst, arith, length-append}
+use Rattle.std.proofs.Common.{◌≡◌, ℕ, ◌+◌, ◌-◌, ◌^◌, ◌<◌, ◌≤◌, zero, suc, Bool, true, false, not, ◌&&◌, nat_lt, Some, None, List, [], ◌∷◌, ◌++◌, length, get_or, drop, map, inl, inr, refl, sym, ap, ◌∙◌, subst, arith}
 use Rattle.std.specs.Prelude.{slice_get, nat_le}
 use Rattle.std.specs.Option.{option_map}
 use Rattle.std.proofs.lemmas.Bool.{cases_order}
@@ -9,7 +9,7 @@ use Rattle.std.proofs.lemmas.Option.{slice_get-map}
 use Rattle.spf_ast.specs.declared.syntax.Array as code_array
 use Rattle.spf_ast.specs.declared.syntax.Function as code_function
 use Rattle.spf_ast.specs.Syntax.{Array, Function, Program}
-use Rattle.spf_ast.specs.View.{array, function, name}
+use Rattle.spf_ast.specs.View.{array, function}
 use Rattle.spf_ast.specs.Size.{by_size, by_depth, by_slots, block_measure, function_measure, counted_before, function_sizes, function_depths, function_slots, IsWithinLimits}
 use Rattle.spf_size.specs.declared.size.Size.{Size}
 use Rattle.spf_types.specs.declared.fault.TypeFault.TheVariants.{TooLarge}
