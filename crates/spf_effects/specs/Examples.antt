@@ -1,8 +1,9 @@
--- Worked examples, of one array and with no functions.
+-- Worked examples, of one array.
 use Rattle.std.specs.Prelude.{◌∷◌, [], pos}
 use Rattle.spf_ast.specs.declared.syntax.Op.TheVariants.{Add, Mul, And}
 use Rattle.spf_ast.specs.declared.syntax.Part.TheVariants.{Body}
-use Rattle.spf_ast.specs.Syntax.{Expression, Number, Local, Binary, Fill, Store, For, Fold, Block, end, on_line, FoldHead, By, Program}
+use Rattle.spf_ast.specs.declared.syntax.Test.TheVariants.{Eq}
+use Rattle.spf_ast.specs.Syntax.{Expression, Number, Local, Load, Call, Binary, argument, no_more, Compare, Fill, Store, If, For, Fold, Block, end, on_line, FoldHead, By, Function, Program}
 use Rattle.spf_ast.specs.Construct.{fold}
 use Rattle.spf_effects.specs.Parts.{PartEffects, part_effects}
 
@@ -53,3 +54,33 @@ abbrev pub swept_block : PartEffects
 swept_block =
     body_effects (Local 0)
     (on_line 1 (For 2 first (Binary Add first (Number (pos 2))) (on_line 1 (Store 0 (Local 2) (Local 0)) end)) end)
+
+-- fn put(p) { out[p] = 1; return p + 1; }
+abbrev pub put : Function
+put = record {
+  name = [];
+  params = 1;
+  slots = [] ∷ [];
+  body = on_line 1 (Store 0 (Local 0) (Number (pos 1))) end;
+  answer = Binary Add (Local 0) (Number (pos 1));
+  answer_line = 1;
+  line = 1;
+}
+
+-- out[put(2 * k)] = 5;
+abbrev pub store_behind_call : Block
+store_behind_call = on_line 1 (Store 0 (Call 0 (argument first no_more)) (Number (pos 5))) end
+
+-- such a body in a program with that function
+abbrev pub called_write : PartEffects
+called_write =
+    part_effects (record (program_of (Number (pos 1)) store_behind_call) { functions = put ∷ [] })
+    (fold 1 (head (Number (pos 1))) store_behind_call) Body
+
+-- if s == 0 { out[k] = 1; } else { out[k + 1] = out[k]; } next 1;
+abbrev pub branches : PartEffects
+branches =
+    body_effects (Number (pos 1))
+    (on_line 1 (If (Compare Eq (Local 0) (Number (pos 0)))
+    (on_line 1 (Store 0 (Local 1) (Number (pos 1))) end)
+    (on_line 1 (Store 0 (Binary Add (Local 1) (Number (pos 1))) (Load 0 (Local 1))) end)) end)

@@ -25,10 +25,7 @@ pub(crate) struct Context<'a> {
 pub(crate) fn bound_of(bounds: &[Bound], slot: u32) -> Bound
     ensures { result ≡ slice_index_or bounds.now slot Unknown }
 {
-    bounds
-        .get(slot as usize)
-        .copied()
-        .unwrap_or(Bound::Unknown)
+    bounds.get(slot as usize).copied().unwrap_or(Bound::Unknown)
 }
 
 /// Makes the bound of a declared slot known, unless an assignment sets the slot somewhere.

@@ -101,11 +101,7 @@ impl Findings {
     }
 
     /// Keeps of what is surely written only what the other list has too.
-    pub(crate) fn keep_common(
-        &mut self,
-        alloc: Global,
-        other: &RangeList,
-    ) -> Result<(), AllocError>
+    pub(crate) fn keep_common(&mut self, alloc: Global, other: &RangeList) -> Result<(), AllocError>
         ensures { OnOk result (KeepsCommon other.now self.old self.new) }
     {
         let common = other.meet(alloc, &self.written)?;

@@ -5,7 +5,7 @@ ghost use Rattle.spf_region.specs.declared.range.Range.TheVariants.{Affine};
 ghost use Rattle.spf_region.specs.Ranges.{joined, offsets_of, wholes_of, in_both, whole_in_both};
 ghost use Rattle.spf_effects.specs.Extends.{Extends, Lists};
 ghost use Rattle.spf_effects.specs.Found.{nowhere, Finds, ◌then◌, either};
-ghost use Rattle.spf_effects.specs.Examples.{filled_block, short_loop, swept_block};
+ghost use Rattle.spf_effects.specs.Examples.{filled_block, short_loop, swept_block, called_write, branches};
 
 /// A body that fills its two elements and then stores into one of them covers what it may write.
 pub fn fill_covers()
@@ -25,6 +25,20 @@ pub fn loop_writes_nothing_surely()
 pub fn sweep_writes_surely()
     ensures may { swept_block.may ≡ Affine 0 (pos 2) (pos 0) (pos 1) ∷ [] }
     ensures must { swept_block.must ≡ joined (Affine 0 (pos 2) (pos 0) (pos 1)) nowhere }
+{}
+
+/// A call is entered: what the function writes at its argument counts, and then the store at its answer.
+pub fn call_is_entered()
+    ensures may { called_write.may ≡ Affine 0 (pos 2) (pos 0) (pos 0) ∷ Affine 0 (pos 2) (pos 1) (pos 1) ∷ [] }
+    ensures uncovered { called_write.uncovered ≡ [] }
+    ensures must { called_write.must ≡ joined (Affine 0 (pos 2) (pos 1) (pos 1)) (joined (Affine 0 (pos 2) (pos 0) (pos 0)) nowhere) }
+{}
+
+/// Of two branches both writes may be made, and a read in the second isn't covered by a write in the first.
+pub fn branches_stand_apart()
+    ensures may { branches.may ≡ Affine 0 (pos 1) (pos 0) (pos 0) ∷ Affine 0 (pos 1) (pos 1) (pos 1) ∷ [] }
+    ensures uncovered { branches.uncovered ≡ Affine 0 (pos 1) (pos 0) (pos 0) ∷ [] }
+    ensures must { branches.must ≡ in_both (joined (Affine 0 (pos 1) (pos 0) (pos 0)) nowhere) (joined (Affine 0 (pos 1) (pos 1) (pos 1)) nowhere) }
 {}
 
 /// Lists that grow by one form and then by another grow by both in order.

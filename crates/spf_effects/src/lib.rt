@@ -10,4 +10,6 @@ pub mod laws;
 mod slot_sets;
 mod slots;
 mod sweeps;
+#[cfg(test)]
+mod tests;
 mod walk;

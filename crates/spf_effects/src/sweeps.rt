@@ -28,7 +28,11 @@ fn small_sum(n: i64, distance: i128) -> Option<i64>
     ensures { result ≡ (if is_small (n +ℤ distance) then Some (n +ℤ distance) else None) }
 {
     let sum = i128::from(n) + distance;
-    if is_small(sum) { Some(sum as i64) } else { None }
+    if is_small(sum) {
+        Some(sum as i64)
+    } else {
+        None
+    }
 }
 
 /// The slot that an expression is.
@@ -150,7 +154,10 @@ fn sweep_one(
     requires { unsigned_abs distance ≤ 2 ^ 63 }
     ensures { OnOk result (IsSwept (sweep_joined turns.factor turns.first turns.last (record { array = array; distance = distance })) found.old found.new) }
 {
-    match (small_sum(turns.first, distance), small_sum(turns.last, distance)) {
+    match (
+        small_sum(turns.first, distance),
+        small_sum(turns.last, distance),
+    ) {
         (Some(from), Some(to)) => {
             let range = Range::Affine {
                 array,

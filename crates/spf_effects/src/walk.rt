@@ -127,7 +127,15 @@ fn enter(
         functions,
         assigned: &slots.assigned,
     };
-    block_and(alloc, &context, place, &own, &function.body, &function.answer, found)
+    block_and(
+        alloc,
+        &context,
+        place,
+        &own,
+        &function.body,
+        &function.answer,
+        found,
+    )
 }
 
 /// Examines a condition.
@@ -339,7 +347,9 @@ fn inner_fold(
     expression(alloc, context, below, bounds, &fold.start, found)?;
     let low = expression(alloc, context, below, bounds, &fold.low, found)?;
     let high = expression(alloc, context, below, bounds, &fold.high, found)?;
-    fold_turns(alloc, context, below, bounds, fold.block, low, high, &fold.body, &fold.next, found)
+    fold_turns(
+        alloc, context, below, bounds, fold.block, low, high, &fold.body, &fold.next, found,
+    )
 }
 
 /// Examines the blocks of a fold as the turns of a `for` without sweeps.
@@ -381,7 +391,15 @@ fn inner_pair(
 ) -> Result<(), AllocError>
     ensures finds { OnOk result (Extends (statement_finds (setting context.now below) bounds.now (pair_form (pair_head pair.now) (block_of (out-Pair pair.now).producer.items) (block_of (out-Pair pair.now).consumer.items))) found.old found.new) }
 {
-    block_and(alloc, context, below, bounds, &pair.producer, &pair.give, found)?;
+    block_and(
+        alloc,
+        context,
+        below,
+        bounds,
+        &pair.producer,
+        &pair.give,
+        found,
+    )?;
     block(alloc, context, below, bounds, &pair.consumer, found)?;
     Ok(())
 }

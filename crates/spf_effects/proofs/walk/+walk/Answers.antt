@@ -119,7 +119,7 @@ condition-returns-in_ok-condition-in-Both-2 t c =
     let copy = c.in_ok-before-in-Both.ensures {u = tt} in
     let two = rw c.deref-in-Both-2.ensures at (c.in_ok-condition-in-Both-2.ensures {u = tt}).finds in
     let both = extends_then (condition_finds (setting c.args.context.now c.args.below) c.args.bounds.now (condition c.in-Both.first.value)) (perhaps (condition_finds (setting c.args.context.now c.args.below) c.args.bounds.now (condition c.in-Both.second.value))) c.args.found.now c.condition-in-Both.new.found c.exchange_written.new.self one
-        (left_out (condition_finds (setting c.args.context.now c.args.below) c.args.bounds.now (condition c.in-Both.second.value)) c.condition-in-Both.new.found c.condition-in-Both-2.new.found c.exchange_written.new.self c.in_ok-before-in-Both.before two copy.offsets copy.wholes c.exchange_written.ensures.lists) in
+    (left_out (condition_finds (setting c.args.context.now c.args.below) c.args.bounds.now (condition c.in-Both.second.value)) c.condition-in-Both.new.found c.condition-in-Both-2.new.found c.exchange_written.new.self c.in_ok-before-in-Both.before two copy.offsets copy.wholes c.exchange_written.ensures.lists) in
     record { finds = elim c.in-Both.is [ inl e ↦ rw e both | inr e ↦ rw e both ] }
 
 pub enter-returns-clause-bound : goal.enter-returns-clause-bound
@@ -219,7 +219,7 @@ while_turns-returns t c =
     let walked = c.in_ok-block.ensures {u = tt} in
     record {
       finds = extends_then (condition_finds (setting c.args.context.now c.args.below) c.args.bounds.now (condition c.args.cond.now)) (perhaps (block_finds (setting c.args.context.now c.args.below) c.args.bounds.now (block c.args.body.now))) c.args.found.now c.condition.new.found c.exchange_written.new.self tested.finds
-      (left_out (block_finds (setting c.args.context.now c.args.below) c.args.bounds.now (block c.args.body.now)) c.condition.new.found c.block.new.found c.exchange_written.new.self c.in_ok-before.before walked.finds copy.offsets copy.wholes c.exchange_written.ensures.lists);
+          (left_out (block_finds (setting c.args.context.now c.args.below) c.args.bounds.now (block c.args.body.now)) c.condition.new.found c.block.new.found c.exchange_written.new.self c.in_ok-before.before walked.finds copy.offsets copy.wholes c.exchange_written.ensures.lists);
     }
 
 pub inner_fold-returns : goal.inner_fold-returns
@@ -231,8 +231,8 @@ inner_fold-returns t c =
     let k = rw (c.deref.ensures.value, low.bound, high.bound) at c.fold_turns.ensures.finds in
     record {
       finds = then_on c.fold_turns.result (expression_finds (setting c.args.context.now c.args.below) c.args.bounds.now (expression (out-Fold c.args.fold.now).start)) ((expression_finds (setting c.args.context.now c.args.below) c.args.bounds.now (expression (out-Fold c.args.fold.now).low)) then (expression_finds (setting c.args.context.now c.args.below) c.args.bounds.now (expression (out-Fold c.args.fold.now).high)) then turns_of) c.args.found.now c.expression.new.found c.fold_turns.new.found start.finds
-      (then_on c.fold_turns.result (expression_finds (setting c.args.context.now c.args.below) c.args.bounds.now (expression (out-Fold c.args.fold.now).low)) ((expression_finds (setting c.args.context.now c.args.below) c.args.bounds.now (expression (out-Fold c.args.fold.now).high)) then turns_of) c.expression.new.found c.expression-2.new.found c.fold_turns.new.found low.finds
-      (then_on c.fold_turns.result (expression_finds (setting c.args.context.now c.args.below) c.args.bounds.now (expression (out-Fold c.args.fold.now).high)) turns_of c.expression-2.new.found c.expression-3.new.found c.fold_turns.new.found high.finds k));
+          (then_on c.fold_turns.result (expression_finds (setting c.args.context.now c.args.below) c.args.bounds.now (expression (out-Fold c.args.fold.now).low)) ((expression_finds (setting c.args.context.now c.args.below) c.args.bounds.now (expression (out-Fold c.args.fold.now).high)) then turns_of) c.expression.new.found c.expression-2.new.found c.fold_turns.new.found low.finds
+          (then_on c.fold_turns.result (expression_finds (setting c.args.context.now c.args.below) c.args.bounds.now (expression (out-Fold c.args.fold.now).high)) turns_of c.expression-2.new.found c.expression-3.new.found c.fold_turns.new.found high.finds k));
     }
 
 pub inner_pair-returns : goal.inner_pair-returns
