@@ -60,7 +60,7 @@ array-is list xs a n h = let r = array-there list xs a n h in any-of (λ s. arra
     same : (r : Range) → array_of r ≡ a → (array_of r == a) ≡ true
     same r e = grind (arith, e)
 
-is-array : (list xs : List Range) (a : ℕ) → IsNormalFormOf list xs → has_array xs a ≡ true → HasArray list a
+pub is-array : (list xs : List Range) (a : ℕ) → IsNormalFormOf list xs → has_array xs a ≡ true → HasArray list a
 is-array list xs a n h = go ((arrays-of xs a n.is_normal).0 h)
   where
     go : HasEntry (offsets_of xs) (wholes_of xs) a → HasArray list a

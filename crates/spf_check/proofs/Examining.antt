@@ -46,11 +46,11 @@ place-within [] n x e = cc
 place-within (y ∷ xs) zero x e = omega arith
 place-within (y ∷ xs) (suc n) x e = let h = place-within xs n x e in omega (arith, h)
 
-last-place : {A : Type 0} (xs : List A) (x : A) → slice_get (xs ++ x ∷ []) (length xs) ≡ Some x
+pub last-place : {A : Type 0} (xs : List A) (x : A) → slice_get (xs ++ x ∷ []) (length xs) ≡ Some x
 last-place [] x = refl
 last-place (y ∷ xs) x = last-place xs x
 
-front-place : {A : Type 0} (xs ys : List A) (n : ℕ) → n < length xs → slice_get (xs ++ ys) n ≡ slice_get xs n
+pub front-place : {A : Type 0} (xs ys : List A) (n : ℕ) → n < length xs → slice_get (xs ++ ys) n ≡ slice_get xs n
 front-place [] ys n h = absurd (omega (arith, h))
 front-place (x ∷ xs) ys zero h = refl
 front-place (x ∷ xs) ys (suc n) h = front-place xs ys n (omega (arith, h))

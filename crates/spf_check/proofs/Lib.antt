@@ -5,3 +5,5 @@ pub mod Few
 pub mod Examining
 pub mod Unique
 pub mod Explained
+pub mod Arrays
+pub mod Planning

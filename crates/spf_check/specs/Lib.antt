@@ -6,3 +6,5 @@ pub mod Checking
 pub mod Text
 pub mod Explaining
 pub mod Explained
+pub mod Plans
+pub mod Writing

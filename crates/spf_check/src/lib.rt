@@ -7,5 +7,6 @@ pub mod checked;
 mod construct;
 pub mod explain;
 pub mod laws;
+pub mod plan;
 pub mod rule;
 pub mod text;
