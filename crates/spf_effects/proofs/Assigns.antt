@@ -1,7 +1,6 @@
 -- Walks over the statements of a block that look for an assigned slot.
-use Rattle.std.proofs.Common.{◌≡◌, ℕ, suc, ◌+◌, ◌<◌, ◌≤◌, Bool, false, List, ◌∷◌, length, get_or, drop, sym, ap, ◌∙◌, arith}
+use Rattle.std.proofs.Common.{◌≡◌, ℕ, ◌+◌, ◌<◌, ◌≤◌, Bool, false, List, length, get_or, drop, sym, ap, ◌∙◌}
 use Rattle.std.proofs.lemmas.List.{drop_all}
-use Rattle.std.proofs.Math.Seq.{drop-cons}
 use Rattle.std.specs.Prelude.{◌||◌}
 use Rattle.spf_ast.specs.declared.syntax.Stmt.{Stmt}
 use Rattle.std.specs.declared.vec.Vec.{Vec}

@@ -1,5 +1,5 @@
 -- Effects that are made of what was found in a part.
-use Rattle.std.proofs.Common.{◌≡◌, ℕ, Bool, false, List, [], length, replicate, refl, sym, ap, subst, ◌∙◌}
+use Rattle.std.proofs.Common.{◌≡◌, ℕ, Bool, List, [], length, sym, ap, subst, ◌∙◌}
 use Rattle.std.proofs.Math.ListN.{length-map}
 use Rattle.std.specs.Prelude.{Result, Ok, Err, IfOk, Some, map, not, ◌==◌}
 use Rattle.spf_region.specs.declared.range.Range.{Range}
@@ -15,18 +15,17 @@ use Rattle.spf_ast.specs.declared.syntax.Pair as code_pair
 use Rattle.spf_ast.specs.declared.syntax.StmtKind.{StmtKind}
 use Rattle.spf_ast.specs.declared.syntax.StmtKind.TheVariants as s
 use Rattle.spf_ast.specs.Construct.{Construct, construct_of, fold, pair}
-use Rattle.spf_ast.specs.Syntax.{Block, end}
+use Rattle.spf_ast.specs.Syntax.{Block}
 use Rattle.spf_ast.specs.View.{program, function, statement, block, fold_head, pair_head}
 use Rattle.spf_ast.proofs.Views.{statement-fold, statement-pair}
 use Rattle.spf_effects.specs.declared.effects.Effects as code
 use Rattle.spf_effects.specs.declared.slot_sets.Slots as code_slots
 use Rattle.spf_effects.specs.Effects.{AreEffects, effects_of}
 use Rattle.spf_effects.specs.Extends.{Joins, Lists, Extends}
-use Rattle.spf_effects.specs.Forms.{Setting}
 use Rattle.spf_effects.specs.Found.{Finds, nowhere}
 use Rattle.spf_effects.specs.Gathered.{IsGathered}
 use Rattle.spf_effects.specs.Parts.{call_before, main_setting}
-use Rattle.spf_effects.specs.Slots.{assigns, assigns_outer, declares}
+use Rattle.spf_effects.specs.Slots.{assigns, assigns_outer}
 use Rattle.spf_effects.specs.SlotSets.{sets_of, has_slot, no_slot, with_block}
 use Rattle.spf_effects.proofs.Either.{or_none}
 use Rattle.spf_effects.proofs.SlotSets.{assigned_in, declared_in}

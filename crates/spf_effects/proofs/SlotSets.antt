@@ -1,5 +1,5 @@
 -- Sets of slots that are filled while a block is read.
-use Rattle.std.proofs.Common.{◌≡◌, ℕ, zero, suc, ◌+◌, ◌-◌, ◌<◌, ◌≤◌, Bool, true, false, List, [], ◌∷◌, ◌++◌, length, get_or, set, take, drop, replicate, refl, sym, ap, ◌∙◌, arith}
+use Rattle.std.proofs.Common.{◌≡◌, ℕ, zero, suc, ◌+◌, ◌<◌, ◌≤◌, Bool, true, false, List, [], ◌∷◌, ◌++◌, length, get_or, set, take, drop, replicate, refl, sym, ap, ◌∙◌, arith}
 use Rattle.std.proofs.lemmas.Bool.Decides.{Decides-eqb, nat_tests}
 use Rattle.std.proofs.lemmas.List.{take_all, drop_all, get_or-set_same, get_or-set_other}
 use Rattle.std.specs.Prelude.{Result, Ok, Err, OnOk, ◌||◌, ◌==◌, is_ok, if◌then◌else◌}
@@ -15,7 +15,7 @@ use Rattle.spf_ast.specs.declared.syntax.StmtKind.{StmtKind}
 use Rattle.spf_ast.specs.declared.syntax.StmtKind.TheVariants as s
 use Rattle.spf_ast.specs.Syntax.{Block, Condition, Expression, FoldHead, PairHead, If, For, While, end, on_line}
 use Rattle.spf_ast.specs.Syntax as syntax
-use Rattle.spf_ast.specs.View.{statement, block, expression, condition, fold_head, pair_head}
+use Rattle.spf_ast.specs.View.{statement, block, fold_head, pair_head}
 use Rattle.spf_ast.proofs.Views.{statement-if, statement-for, statement-while, statement-fold, statement-pair}
 use Rattle.spf_effects.specs.Slots.{assigns, statement_assigns, declares, statement_declares}
 use Rattle.spf_effects.specs.declared.slot_sets.Slots as code

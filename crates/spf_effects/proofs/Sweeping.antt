@@ -1,10 +1,9 @@
 -- Sweeps of the statements of a loop's body.
-use Rattle.std.proofs.Common.{◌≡◌, ℕ, suc, ◌+◌, ◌<◌, ◌≤◌, Bool, true, false, List, [], ◌∷◌, length, get_or, drop, refl, sym, ap, subst, ◌∙◌, arith, ℤ, pos}
+use Rattle.std.proofs.Common.{◌≡◌, ℕ, ◌+◌, ◌<◌, ◌≤◌, true, false, List, [], length, get_or, drop, refl, sym, ap, subst, ◌∙◌, ℤ, pos}
 use Rattle.std.proofs.lemmas.List.{drop_all}
-use Rattle.std.specs.Prelude.{Result, Ok, Err, OnOk, Some, None, Option, MatchOption, ◌||◌, if◌then◌else◌, ◌&&◌, ◌-ℤ◌, int_lt}
+use Rattle.std.specs.Prelude.{Result, Ok, Err, OnOk, Some, None, Option, ◌||◌, if◌then◌else◌, ◌&&◌, ◌-ℤ◌, int_lt}
 use Rattle.std.specs.Ordering.{int_eq}
-use Rattle.spf_region.specs.declared.bound.Bound.{Bound}
-use Rattle.spf_region.specs.declared.bound.Bound.TheVariants.{Known, Unknown}
+use Rattle.spf_region.specs.declared.bound.Bound.TheVariants.{Known}
 use Rattle.spf_region.specs.declared.range.Range.{Range}
 use Rattle.spf_region.specs.Ranges.{Offsets, offsets_of, wholes_of, joined, whole_joined, is_whole}
 use Rattle.std.specs.declared.boxed.Box.{Box}
@@ -15,11 +14,11 @@ use Rattle.spf_ast.specs.declared.syntax.StmtKind.TheVariants as s
 use Rattle.spf_ast.specs.declared.syntax.Fold as code_fold
 use Rattle.spf_ast.specs.declared.syntax.Pair as code_pair
 use Rattle.spf_ast.proofs.Views.{statement-fold, statement-pair}
-use Rattle.spf_ast.specs.Syntax.{Statement, Let, Assign, Store, Fill, Emit, Fail, If, For, While, Do, Fold, Pair, Block, end, on_line}
+use Rattle.spf_ast.specs.Syntax.{Statement, Let, Assign, Store, Fill, Emit, Fail, If, For, While, Do, Fold, Pair, Block, on_line}
 use Rattle.spf_ast.specs.View.{statement, block}
 use Rattle.spf_effects.specs.Extends.{Lists}
 use Rattle.spf_effects.specs.Forms.{sweeps, sweep, distance}
-use Rattle.spf_effects.specs.Found.{Sweep, sweeps_joined, sweep_joined, swept}
+use Rattle.spf_effects.specs.Found.{Sweep, sweeps_joined, swept}
 use Rattle.spf_effects.specs.Sweeping.{IsSwept, sweeps_of}
 use Rattle.spf_effects.proofs.Between.{none_there, some_there}
 use Rattle.spf_effects.proofs.Walks.{item_at}

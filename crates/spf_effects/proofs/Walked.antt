@@ -1,19 +1,19 @@
 -- Forms that were walked.
-use Rattle.std.proofs.Common.{◌≡◌, ℕ, ◌+◌, ◌*◌, ◌<◌, ◌≤◌, Bool, true, false, List, [], ◌∷◌, ◌++◌, length, take, drop, refl, sym, ap, subst, ◌∙◌, arith}
+use Rattle.std.proofs.Common.{◌≡◌, ℕ, ◌<◌, ◌≤◌, Bool, true, false, List, [], ◌++◌, length, take, drop, refl, sym, ap, subst, ◌∙◌, arith}
 use Rattle.std.proofs.lemmas.List.{take_all, drop_all}
 use Rattle.std.proofs.Math.ListN.{length-map}
 use Rattle.std.proofs.Common.{append-nil}
-use Rattle.std.specs.Prelude.{Result, Ok, Err, OnOk, Option, Some, slice_get, slice_set, map, if◌then◌else◌, ◌==◌}
+use Rattle.std.specs.Prelude.{Result, Ok, Err, OnOk, Some, slice_get, if◌then◌else◌}
 use Rattle.spf_region.specs.declared.bound.Bound.{Bound}
 use Rattle.spf_region.specs.declared.bound.Bound.TheVariants.{Known, Unknown}
 use Rattle.spf_region.specs.declared.range.Range.{Range}
 use Rattle.spf_region.specs.Ranges.{Offsets, offsets_of, wholes_of, in_both, whole_in_both}
 use Rattle.spf_ast.specs.declared.syntax.Function as code_function
-use Rattle.spf_ast.specs.Syntax.{Function, Block, Expression}
+use Rattle.spf_ast.specs.Syntax.{Function}
 use Rattle.spf_ast.specs.View.{function, name}
 use Rattle.spf_effects.specs.declared.slot_sets.Slots as code
 use Rattle.spf_effects.specs.Extends.{Joins, Lists, Extends, KeepsCommon}
-use Rattle.spf_effects.specs.Forms.{Entered, Setting, expression_bound, bounds_at_end, block_then, declared}
+use Rattle.spf_effects.specs.Forms.{Entered, expression_bound, bounds_at_end, block_then}
 use Rattle.spf_effects.specs.Found.{Finds, finds_nothing, ◌then◌, perhaps, either, Sweep, swept, has_no_turn, turns}
 use Rattle.spf_effects.specs.Parts.{call_before, entered, own_bounds, setting_in}
 use Rattle.spf_effects.specs.SlotSets.{sets_of, has_slot, no_slot, with_block}

@@ -1,5 +1,5 @@
 -- Sweeps in the code: what is surely written grows, and all else stays.
-use Rattle.std.specs.Prelude.{◌≡◌, ℕ, if◌then◌else◌, ◌==◌, List, [], ◌∷◌, Option, Some, None, ℤ, pos, neg_ℤ}
+use Rattle.std.specs.Prelude.{◌≡◌, ℕ, if◌then◌else◌, ◌==◌, List, Option, Some, None, ℤ, neg_ℤ}
 use Rattle.spf_region.specs.Ranges.{Offsets, offsets_of, wholes_of}
 use Rattle.spf_ast.specs.declared.syntax.Op.{Op}
 use Rattle.spf_ast.specs.declared.syntax.Op.TheVariants.{Add, Sub}

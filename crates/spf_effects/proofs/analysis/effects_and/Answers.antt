@@ -1,5 +1,5 @@
 use Rattle.spf_ast.specs.View.{block, expression}
-use Rattle.spf_effects.specs.Forms.{block_finds, block_then}
+use Rattle.spf_effects.specs.Forms.{block_then}
 use Rattle.spf_effects.specs.Settings.{setting}
 use Rattle.spf_effects.proofs.Gathering.{effects_are}
 use Rattle.spf_effects.proofs.analysis.effects_and.Goals as goal

@@ -1,11 +1,11 @@
-use Rattle.std.proofs.Common.{rules, ◌≡◌, length, sym, ap, subst, ◌∙◌}
+use Rattle.std.proofs.Common.{rules, ◌≡◌, length, subst, ◌∙◌}
 use Rattle.std.specs.Prelude.{IfOk}
 use Rattle.spf_ast.specs.declared.syntax.Pair.{out-Pair}
 use Rattle.spf_ast.specs.Syntax.{end}
 use Rattle.spf_ast.specs.View.{program, block, expression, predictor}
 use Rattle.spf_effects.specs.Effects.{AreEffects, effects_of}
-use Rattle.spf_effects.specs.Forms.{Setting, block_finds, block_then, declared}
-use Rattle.spf_effects.specs.Parts.{guess_finds, main_setting, outside, within_fold}
+use Rattle.spf_effects.specs.Forms.{Setting, block_finds, block_then}
+use Rattle.spf_effects.specs.Parts.{guess_finds, outside}
 use Rattle.spf_effects.proofs.Gathering.{main_setting_is}
 use Rattle.spf_effects.proofs.Results.{if_ok}
 use Rattle.spf_effects.proofs.analysis.pair_effects.Goals as goal

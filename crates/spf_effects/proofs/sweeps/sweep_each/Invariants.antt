@@ -1,5 +1,3 @@
-use Rattle.std.proofs.Common.{◌≡◌, drop}
-use Rattle.spf_ast.specs.View.{block}
 use Rattle.spf_effects.proofs.Sweeping.{SweepsLead}
 use Rattle.spf_effects.proofs.sweeps.sweep_each.Given as goal
 

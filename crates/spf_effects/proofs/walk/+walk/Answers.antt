@@ -1,4 +1,4 @@
-use Rattle.std.proofs.Common.{rules, arith, inl, inr, ◌≡◌, ◌+◌, ◌*◌, ◌<◌, List, [], length, sym, ap, subst, ◌∙◌}
+use Rattle.std.proofs.Common.{rules, arith, inl, inr, ◌≡◌, ◌+◌, ◌*◌, ◌<◌, [], length, sym, ap, subst, ◌∙◌}
 use Rattle.std.specs.Prelude.{map, OnOk}
 use Rattle.spf_ast.specs.declared.syntax.Fold.{out-Fold}
 use Rattle.spf_ast.specs.declared.syntax.Pair.{out-Pair}

@@ -1,5 +1,4 @@
-use Rattle.std.proofs.Common.{arith, ◌≤◌, length}
-use Rattle.spf_effects.specs.SlotSets.{has_slot}
+use Rattle.std.proofs.Common.{arith}
 use Rattle.spf_effects.proofs.SlotSets.{padded}
 use Rattle.spf_effects.proofs.slot_sets.SlotSet.reach.Goals as goal
 
