@@ -61,20 +61,6 @@ depth_at fs f (suc n) h =
 
 -- ---- bounds of parameters
 
-pub parameter_next : (is_assigned : ℕ → Bool) (given : List Bound) (i : ℕ) (b : Bound) (before now : List Bound) → i < length given → b ≡ get_or given i b → length before ≡ i → now ≡ before ++ (if is_assigned (length before) then Unknown else b) ∷ [] → (whole : List Bound) → before ++ parameter_bounds is_assigned i (drop i given) ≡ whole → now ++ parameter_bounds is_assigned (i + 1) (drop (i + 1) given) ≡ whole
-parameter_next is_assigned given i b before now h is l e whole k =
-    let up : i + 1 ≡ suc i = omega arith in
-    ap (λ z. z ++ parameter_bounds is_assigned (i + 1) (drop (i + 1) given)) e
-    ∙ append_assoc before ((if is_assigned (length before) then Unknown else b) ∷ []) (parameter_bounds is_assigned (i + 1) (drop (i + 1) given))
-    ∙ ap (λ n. before ++ (if is_assigned n then Unknown else b) ∷ parameter_bounds is_assigned (i + 1) (drop (i + 1) given)) l
-    ∙ ap (λ n. before ++ (if is_assigned i then Unknown else b) ∷ parameter_bounds is_assigned n (drop (i + 1) given)) up
-    ∙ ap (λ z. before ++ parameter_bounds is_assigned i z) (sym (item_at given i b h is))
-    ∙ k
-
-pub parameter_none : (is_assigned : ℕ → Bool) (given : List Bound) (i : ℕ) (before whole : List Bound) → length given ≤ i → before ++ parameter_bounds is_assigned i (drop i given) ≡ whole → before ≡ whole
-parameter_none is_assigned given i before whole h k =
-    sym (append-nil before) ∙ ap (λ z. before ++ parameter_bounds is_assigned i z) (sym (drop_all i given h)) ∙ k
-
 length_of : (is_assigned : ℕ → Bool) (slot : ℕ) (given : List Bound) → length (parameter_bounds is_assigned slot given) ≡ length given
 length_of is_assigned slot [] = refl
 length_of is_assigned slot (b ∷ given) = ap suc (length_of is_assigned (suc slot) given)

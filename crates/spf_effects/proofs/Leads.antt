@@ -15,9 +15,6 @@ pub record ArgumentsLead (g : Setting) (slots : List Bound) (all : List Expr) (o
   pub bounds : known ++ argument_bounds g slots (arguments (drop i all)) ≡ argument_bounds g slots (arguments all)
   pub finds : (new : Lists) → Extends (arguments_find g slots (arguments (drop i all))) now new → Extends (arguments_find g slots (arguments all)) old new
 
-pub arguments_start : (g : Setting) (slots : List Bound) (all : List Expr) (old : Lists) → ArgumentsLead g slots all old 0 [] old
-arguments_start g slots all old = record { bounds = refl; finds = λ new h. h }
-
 pub arguments_next : (g : Setting) (slots : List Bound) (all : List Expr) (old : Lists) (i : ℕ) (known : List Bound) (now new : Lists) (x : Expr) (b : Bound) (more : List Bound) → i < length all → x ≡ get_or all i x → b ≡ expression_bound g slots (expression x) → more ≡ known ++ b ∷ [] → Extends (expression_finds g slots (expression x)) now new → ArgumentsLead g slots all old i known now → ArgumentsLead g slots all old (i + 1) more new
 arguments_next g slots all old i known now new x b more h is e k f lead =
     let rest = item_at all i x h is in
@@ -43,10 +40,6 @@ arguments_end_finds g slots all old i known now h lead =
 pub record StatementsLead (g : Setting) (slots : List Bound) (all : List Stmt) (old : Lists) (i : ℕ) (known : List Bound) (now : Lists) : Type 0 where
   pub bounds : bounds_at_end g known (block (drop i all)) ≡ bounds_at_end g slots (block all)
   pub finds : (new : Lists) → Extends (block_finds g known (block (drop i all))) now new → Extends (block_finds g slots (block all)) old new
-
-pub statements_start : (g : Setting) (slots known : List Bound) (all : List Stmt) (old : Lists) → known ≡ slots → StatementsLead g slots all old 0 known old
-statements_start g slots known all old e =
-    subst (λ k. StatementsLead g slots all old 0 k old) (sym e) (record { bounds = refl; finds = λ new h. h })
 
 pub statements_next : (g : Setting) (slots : List Bound) (all : List Stmt) (old : Lists) (i : ℕ) (known : List Bound) (now new : Lists) (x : Stmt) (more : List Bound) → i < length all → x ≡ get_or all i x → more ≡ bounds_behind g known (statement x.kind) → Extends (statement_finds g known (statement x.kind)) now new → StatementsLead g slots all old i known now → StatementsLead g slots all old (i + 1) more new
 statements_next g slots all old i known now new x more h is e f lead =
