@@ -1,7 +1,17 @@
 -- The steps to the whole answer.
 use Rattle.std.proofs.Common.{◌≡◌, ◌⊎◌, ◌≤◌, ◌<◌, ℕ, Bool, true, false, List, length, refl, sym, ap, ◌∙◌, arith, inl, inr, nat_le, subst}
 use Rattle.std.specs.Prelude.{Option, Some, None, Result, Ok, Err}
+use Rattle.spf_ast.specs.declared.syntax.Program as code_program
+use Rattle.spf_ast.specs.View.{program}
 use Rattle.spf_ast.specs.Syntax.{Program}
+use Rattle.spf_region.specs.declared.range.Range.{Range}
+use Rattle.spf_check.specs.declared.rule.Rule.{Rule}
+use Rattle.spf_check.specs.declared.rule.CheckError.{CheckError}
+use Rattle.spf_check.specs.declared.rule.CheckError.TheVariants as check_error
+use Rattle.spf_check.specs.Accepting.{IsAccepted, IsFirstRefusal}
+use Rattle.spf_check.specs.Checking.{IsChecked}
+use Rattle.spf_check.proofs.Examining.{refused-not-accepted}
+use Rattle.spf_check.proofs.Unique.{one-first-refusal}
 use Rattle.spf_ast.specs.Program.{cell_count_of, max_cells, outcome, Outcome, Done, Stopped}
 use Rattle.spf_exec.specs.RunErrors.{counted}
 use Rattle.spf_edge.specs.Entries.{Entry, lookup, HasContent, IsMissing, IsLongerThan}
@@ -10,13 +20,13 @@ use Rattle.spf_edge.specs.declared.sink.PutError.{PutError}
 use Rattle.spf_edge.specs.declared.sink.PutError.TheVariants.{Failed}
 use Rattle.spf_edge.specs.declared.sink.PutError.TheVariants as put_error
 use Rattle.spf_edge.proofs.Taking.{adds_empty_prefix}
-use Rattle.spf_cli.specs.Answer.{Answer, not_built, text_refused, file_failed, file_too_long, too_many_cells, ran}
-use Rattle.spf_cli.specs.Answering.{seen_answer, FetchAnswer, IsFetchLeft, IsReadLeft, IsWholeUnless, IsCaused, AnswersWith, IsPutFault}
+use Rattle.spf_cli.specs.Answer.{Answer, not_built, text_refused, rule_refused, file_failed, file_too_long, too_many_cells, ran}
+use Rattle.spf_cli.specs.Answering.{seen_answer, FetchAnswer, IsFetchLeft, IsReadLeft, IsRuleLeft, IsNotAccepted, IsWholeUnless, IsCaused, AnswersWith, IsPutFault}
 use Rattle.spf_cli.specs.Command.{Command, Run, Options, Asks}
 use Rattle.spf_cli.specs.Reading.{Says, Refuses, IsVerdict, Refusal}
 use Rattle.spf_cli.specs.Status.{put_status}
 use Rattle.spf_guess.specs.declared.stats.Stats.{Stats}
-use Rattle.spf_cli.specs.Whole.{Wanted, Either, Fetched, Judged, Read, Runs, stats_of, is_built, WholeOf, Whole, IsOnly, IsFaultOf, IsFaultAnswer, IsGiven, IsGivenInPart, IsAnswered, IsAnsweredInPart, max_program, max_input}
+use Rattle.spf_cli.specs.Whole.{Wanted, Either, Fetched, Judged, Read, CheckedBy, Runs, RunsOn, MayRun, IsInputFault, stats_of, is_built, WholeOf, Whole, IsOnly, IsFaultOf, IsFaultAnswer, IsGiven, IsGivenInPart, IsAnswered, IsAnsweredInPart, max_program, max_input}
 use Rattle.spf_cli.specs.declared.answer.Answer as made
 use Rattle.spf_cli.specs.declared.answer.Left.{Left}
 use Rattle.spf_cli.specs.declared.answer.Left.TheVariants.{Answered, NoMemory}
@@ -92,53 +102,112 @@ read_left Faulty next told program text Fault (Answered a) t l h = λ files e.
     (at_same (IsOnly (Read text (next files))) (seen_answer a) (text_refused h.0) h.2 (read_refuses text h.0 (next files) h.1)))
 read_left Faulty next told program text Fault NoMemory t l h = tt
 
--- what a run goes on with, behind the test of its program
-abbrev pub behind_test : List ℕ → Options → List Entry → Program → Wanted
-behind_test input options files p =
-    Either (is_built options p) (Fetched input max_input (lookup files input) (λ content. Runs options p content)) (λ a. a ≡ not_built)
-
--- the program isn't one that can be run yet
-pub run_not_built : (told : Option (List Entry)) (program input text : List ℕ) (options : Options) (p : Program) (Fault : Type 0) (a : Answer) → HasContent told program text → length text ≤ max_program → IsOnly (IsVerdict text) (Says p) → is_built options p ≡ false → a ≡ not_built → IsWholeUnless (WholeOf (Run program input options)) (IsFaultOf (Run program input options)) told Fault a
-run_not_built told program input text options p Fault a t l v b e files is =
-    inl (with_text (λ fs x. Read x (behind_test input options fs)) told files program text a is t l
-    (read_says text p (behind_test input options files) a v
-    (at_same (IsOnly (behind_test input options files p)) a not_built e
-    (either_second _ _ (is_built options p) not_built b (only_this not_built)))))
-
--- the program can be run
-run_built : (told : Option (List Entry)) (files : List Entry) (program input text : List ℕ) (options : Options) (p : Program) (a : Answer) → told ≡ Some files → HasContent told program text → length text ≤ max_program → IsOnly (IsVerdict text) (Says p) → is_built options p ≡ true → IsOnly (Fetched input max_input (lookup files input) (λ content. Runs options p content)) a → IsOnly (WholeOf (Run program input options) files) a
-run_built told files program input text options p a is t l v b h =
-    with_text (λ fs x. Read x (behind_test input options fs)) told files program text a is t l
-    (read_says text p (behind_test input options files) a v (either_first _ _ (is_built options p) a b h))
-
--- both files and the program are there
-pub run_whole : (told : Option (List Entry)) (program input text content : List ℕ) (options : Options) (p : Program) (Fault : Type 0) (a : Answer) → HasContent told program text → length text ≤ max_program → IsOnly (IsVerdict text) (Says p) → is_built options p ≡ true → HasContent told input content → length content ≤ max_input → IsOnly (Runs options p content) a → IsWholeUnless (WholeOf (Run program input options)) (IsFaultOf (Run program input options)) told Fault a
-run_whole told program input text content options p Fault a t l v b i m r files is =
-    inl (run_built told files program input text options p a is t l v b
-    (fetched input max_input (lookup files input) content (λ c. Runs options p c) a (content_of told files input content is i) m r))
-
--- the input's file can't be had
-pub run_input_left : (told : Option (List Entry)) (program input text : List ℕ) (options : Options) (p : Program) (Fault Later : Type 0) (left : Left) → HasContent told program text → length text ≤ max_program → IsOnly (IsVerdict text) (Says p) → is_built options p ≡ true → (Fault → Later) → IsFetchLeft told input max_input Fault left → AnswersWith (IsWholeUnless (WholeOf (Run program input options)) (IsFaultOf (Run program input options)) told Later) (Err left)
-run_input_left told program input text options p Fault Later (Answered a) t l v b f h = λ files is.
-    elim h [
-      | inl x ↦ inr (f x.0, (input, inr (refl, (text, content_of told files program text is t, l, (p, v.is, b))), x.1))
-      | inr y ↦ elim y [
-        | inl m ↦ inl (run_built told files program input text options p (seen_answer a) is t l v b
-            (at_same (IsOnly (Fetched input max_input (lookup files input) (λ c. Runs options p c))) (seen_answer a) (file_failed input) m.1
-            (fetched_none input max_input (lookup files input) (λ c. Runs options p c) (subst (λ o. IsMissing o input) is m.0))))
-        | inr n ↦ inl (run_built told files program input text options p (seen_answer a) is t l v b
-            (at_same (IsOnly (Fetched input max_input (lookup files input) (λ c. Runs options p c))) (seen_answer a) (file_too_long input max_input) n.1
-            (let long = subst (λ o. IsLongerThan max_input o input) is n.0 in
-            fetched_long input max_input (lookup files input) long.0 (λ c. Runs options p c) long.1 long.2)))
-      ]
-    ]
-run_input_left told program input text options p Fault Later NoMemory t l v b f h = tt
-
 -- what is so of an answer that stands is so of what follows from it
 pub answers_with : (P Q : Answer → Type 0) (r : Result made.Answer Left) → AnswersWith Q r → ((a : Answer) → Q a → P a) → AnswersWith P r
 answers_with P Q (Ok a) h f = f (seen_answer a) h
 answers_with P Q (Err (Answered a)) h f = f (seen_answer a) h
 answers_with P Q (Err NoMemory) h f = tt
+
+-- ---- the rules
+
+-- a program that is accepted
+pub checked_accepted : (p : Program) (next : Wanted) (a : Answer) → IsAccepted p → IsOnly next a → IsOnly (CheckedBy p next) a
+checked_accepted p next a accepted h = record { is = inl (accepted, h.is); only = λ b x. other b x }
+  where
+    other : (b : Answer) → CheckedBy p next b → b ≡ a
+    other b x = elim x [
+      | inl y ↦ h.only b y.1
+      | inr z ↦ absurd (refused-not-accepted p z.0 z.1 z.2 z.3 accepted)
+    ]
+
+-- a program that is refused
+pub checked_refused : (p : Program) (next : Wanted) (rule : Rule) (line : ℕ) (range : Option Range) → IsFirstRefusal p rule line range → IsOnly (CheckedBy p next) (rule_refused p rule line range)
+checked_refused p next rule line range r = record { is = inr (rule, line, range, r, refl); only = λ b x. other b x }
+  where
+    other : (b : Answer) → CheckedBy p next b → b ≡ rule_refused p rule line range
+    other b x = elim x [
+      | inl y ↦ absurd (refused-not-accepted p rule line range r y.0)
+      | inr z ↦
+        let same = one-first-refusal p z.0 rule z.1 line z.2 range z.3 r in
+        z.4 ∙ (λ i. rule_refused p (same.0 i) (same.1 i) (same.2 i))
+    ]
+
+-- what is said of a program that isn't accepted is its first refusal
+pub refusal_left : (p : code_program.Program) (checked : Result code_program.Program CheckError) (error : CheckError) (left : Left) → checked ≡ Err error → IsChecked p checked → IsNotAccepted error left → IsRuleLeft (program p) left
+refusal_left p checked (check_error.Refused back refusal) (Answered a) e c n =
+    let said = subst (IsChecked p) e c in
+    (refusal.rule, refusal.line, refusal.range, said.2, n ∙ ap (λ q. rule_refused (program q) refusal.rule refusal.line refusal.range) said.0)
+refusal_left p checked (check_error.OutOfMemory back) (Answered a) e c n = absurd n
+refusal_left p checked error NoMemory e c n = tt
+
+-- the rules refuse the program
+pub rule_left : (Faulty : List Entry → Wanted) (next : List Entry → Program → Wanted) (tail : List Entry → Wanted) (told : Option (List Entry)) (program text : List ℕ) (p : Program) (Fault : Type 0) (left : Left) → HasContent told program text → length text ≤ max_program → IsOnly (IsVerdict text) (Says p) → ((files : List Entry) (a : Answer) → IsOnly (CheckedBy p (tail files)) a → IsOnly (next files p) a) → IsRuleLeft p left → AnswersWith (IsWholeUnless (λ files. Fetched program max_program (lookup files program) (λ t. Read t (next files))) Faulty told Fault) (Err left)
+rule_left Faulty next tail told program text p Fault (Answered a) t l v goes h = λ files is.
+    inl (with_text (λ fs x. Read x (next fs)) told files program text (seen_answer a) is t l
+    (read_says text p (next files) (seen_answer a) v
+    (goes files (seen_answer a)
+    (at_same (IsOnly (CheckedBy p (tail files))) (seen_answer a) (rule_refused p h.0 h.1 h.2) h.4 (checked_refused p (tail files) h.0 h.1 h.2 h.3)))))
+rule_left Faulty next tail told program text p Fault NoMemory t l v goes h = tt
+
+-- ---- runs
+
+-- what a run goes on with, behind the text of its program
+abbrev pub behind_text : List ℕ → Options → List Entry → Program → Wanted
+behind_text input options files p = Either options.plain (RunsOn options input p files) (CheckedBy p (RunsOn options input p files))
+
+-- a program that may be run is answered as its run is
+passed : (input : List ℕ) (options : Options) (files : List Entry) (p : Program) (a : Answer) → MayRun options p → IsOnly (RunsOn options input p files) a → IsOnly (behind_text input options files p) a
+passed input options files p a may h = by_plain options.plain may
+  where
+    by_plain : (plain : Bool) → (plain ≡ true) ⊎ IsAccepted p → IsOnly (Either plain (RunsOn options input p files) (CheckedBy p (RunsOn options input p files))) a
+    by_plain true m = h
+    by_plain false m = elim m [
+      | inl e ↦ absurd (cc)
+      | inr accepted ↦ checked_accepted p (RunsOn options input p files) a accepted h
+    ]
+
+pub run_passed : (told : Option (List Entry)) (program input text : List ℕ) (options : Options) (p : Program) (Fault Later : Type 0) (r : Result made.Answer Left) → HasContent told program text → length text ≤ max_program → IsOnly (IsVerdict text) (Says p) → MayRun options p → (Fault → Later) → AnswersWith (IsWholeUnless (RunsOn options input p) (IsInputFault options input p) told Fault) r → AnswersWith (IsWholeUnless (WholeOf (Run program input options)) (IsFaultOf (Run program input options)) told Later) r
+run_passed told program input text options p Fault Later r t l v may f h =
+    answers_with (IsWholeUnless (WholeOf (Run program input options)) (IsFaultOf (Run program input options)) told Later) (IsWholeUnless (RunsOn options input p) (IsInputFault options input p) told Fault) r h (λ a w files is.
+    elim (w files is) [
+      | inl o ↦ inl (with_text (λ fs x. Read x (behind_text input options fs)) told files program text a is t l
+          (read_says text p (behind_text input options files) a v (passed input options files p a may o)))
+      | inr x ↦ inr (f x.0, (input, inr (refl, (text, content_of told files program text is t, l, (p, v.is, may, x.1.0))), x.1.1))
+    ])
+
+-- the rules refuse the program of a run
+pub run_refused : (told : Option (List Entry)) (program input text : List ℕ) (options : Options) (p : Program) (Fault : Type 0) (left : Left) → HasContent told program text → length text ≤ max_program → IsOnly (IsVerdict text) (Says p) → options.plain ≡ false → IsRuleLeft p left → AnswersWith (IsWholeUnless (WholeOf (Run program input options)) (IsFaultOf (Run program input options)) told Fault) (Err left)
+run_refused told program input text options p Fault left t l v plain h =
+    rule_left (IsFaultOf (Run program input options)) (behind_text input options) (RunsOn options input p) told program text p Fault left t l v
+    (λ files a o. either_second (RunsOn options input p files) (CheckedBy p (RunsOn options input p files)) options.plain a plain o) h
+
+-- what runs the program so isn't built
+pub on_not_built : (told : Option (List Entry)) (input : List ℕ) (options : Options) (p : Program) (Fault : Type 0) (a : Answer) → is_built options p ≡ false → a ≡ not_built → IsWholeUnless (RunsOn options input p) (IsInputFault options input p) told Fault a
+on_not_built told input options p Fault a b e files is =
+    inl (at_same (IsOnly (RunsOn options input p files)) a not_built e (either_second _ _ (is_built options p) not_built b (only_this not_built)))
+
+-- the input is there
+pub on_whole : (told : Option (List Entry)) (input content : List ℕ) (options : Options) (p : Program) (Fault : Type 0) (a : Answer) → is_built options p ≡ true → HasContent told input content → length content ≤ max_input → IsOnly (Runs options p content) a → IsWholeUnless (RunsOn options input p) (IsInputFault options input p) told Fault a
+on_whole told input content options p Fault a b i m r files is =
+    inl (either_first _ _ (is_built options p) a b
+    (fetched input max_input (lookup files input) content (λ c. Runs options p c) a (content_of told files input content is i) m r))
+
+-- the input can't be had
+pub on_input_left : (told : Option (List Entry)) (input : List ℕ) (options : Options) (p : Program) (Fault : Type 0) (left : Left) → is_built options p ≡ true → IsFetchLeft told input max_input Fault left → AnswersWith (IsWholeUnless (RunsOn options input p) (IsInputFault options input p) told Fault) (Err left)
+on_input_left told input options p Fault (Answered a) b h = λ files is.
+    elim h [
+      | inl x ↦ inr (x.0, (b, x.1))
+      | inr y ↦ elim y [
+        | inl m ↦ inl (either_first _ _ (is_built options p) (seen_answer a) b
+            (at_same (IsOnly (Fetched input max_input (lookup files input) (λ c. Runs options p c))) (seen_answer a) (file_failed input) m.1
+            (fetched_none input max_input (lookup files input) (λ c. Runs options p c) (subst (λ o. IsMissing o input) is m.0))))
+        | inr n ↦ inl (either_first _ _ (is_built options p) (seen_answer a) b
+            (at_same (IsOnly (Fetched input max_input (lookup files input) (λ c. Runs options p c))) (seen_answer a) (file_too_long input max_input) n.1
+            (let long = subst (λ o. IsLongerThan max_input o input) is n.0 in
+            fetched_long input max_input (lookup files input) long.0 (λ c. Runs options p c) long.1 long.2)))
+      ]
+    ]
+on_input_left told input options p Fault NoMemory b h = tt
 
 -- ---- causes
 
@@ -187,6 +256,17 @@ cause_of told name limit Fault Later answer f h =
 pub fetch_cause : (told : Option (List Entry)) (name : List ℕ) (limit : ℕ) (Fault Later : Type 0) (left : Left) → (Fault → Later) → IsFetchLeft told name limit Fault left → AnswersWith (IsCaused told Later) (Err left)
 fetch_cause told name limit Fault Later (Answered a) f h = cause_of told name limit Fault Later (seen_answer a) f h
 fetch_cause told name limit Fault Later NoMemory f h = tt
+
+-- a cause in a fault is one in what follows from it
+pub cause_since : (told : Option (List Entry)) (Fault Later : Type 0) (answer : Answer) → (Fault → Later) → IsCaused told Fault answer → IsCaused told Later answer
+cause_since told Fault Later answer f h = record { file = λ s. elim (h.file s) [ | inl x ↦ inl (f x) | inr y ↦ inr y ]; put = h.put }
+
+-- a refusal by a rule has neither the status for a file nor that for a put
+pub rule_cause : (told : Option (List Entry)) (Fault : Type 0) (p : Program) (left : Left) → IsRuleLeft p left → AnswersWith (IsCaused told Fault) (Err left)
+rule_cause told Fault p (Answered a) h =
+    let same = rule_refused p h.0 h.1 h.2 in
+    caused_by_neither told Fault (seen_answer a) (other_status 5 (seen_answer a) same h.4 (λ z. omega (arith, z))) (other_status 6 (seen_answer a) same h.4 (λ z. omega (arith, z)))
+rule_cause told Fault p NoMemory h = tt
 
 -- a count that has risen since later has risen since before
 pub rose_since : (a b c : ℕ) → a ≤ b → Rose b c → Rose a c

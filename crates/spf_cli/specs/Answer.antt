@@ -1,11 +1,13 @@
 -- Answers of the program: a status, and what it writes.
-use Rattle.std.specs.Prelude.{ℕ, Bool, true, false, List, [], ◌++◌}
+use Rattle.std.specs.Prelude.{ℕ, Bool, true, false, List, [], ◌++◌, Option}
 use Rattle.spf_ast.specs.Syntax.{Program}
 use Rattle.spf_ast.specs.Program.{Outcome, Done, Stopped}
 use Rattle.spf_ast.specs.Spelling.{spelled}
 use Rattle.spf_ast.specs.Canonical.{canonical_text}
+use Rattle.spf_region.specs.declared.range.Range.{Range}
+use Rattle.spf_check.specs.declared.rule.Rule.{Rule}
 use Rattle.spf_guess.specs.declared.stats.Stats.{Stats}
-use Rattle.spf_cli.specs.Message.{trap_line, words_line, failed_line, long_line, too_many_line, not_built_line, stats_line, array_lines}
+use Rattle.spf_cli.specs.Message.{trap_line, words_line, failed_line, long_line, too_many_line, not_built_line, accepted_line, rule_line, stats_line, array_lines}
 use Rattle.spf_cli.specs.Command.{Options}
 use Rattle.spf_cli.specs.Reading.{Refusal, refusal_line}
 
@@ -26,6 +28,14 @@ not_understood = refused 2 words_line
 -- the text has no lawful program
 abbrev pub text_refused : Refusal → Answer
 text_refused refusal = refused 3 (refusal_line refusal)
+
+-- the program keeps the rules
+abbrev pub accepted : Answer
+accepted = record { status = 0; out = []; err = accepted_line }
+
+-- a top construct of the program breaks a rule
+abbrev pub rule_refused : Program → Rule → ℕ → Option Range → Answer
+rule_refused p rule at range = refused 4 (rule_line p.arrays rule at range)
 
 -- what runs such a program isn't built yet
 abbrev pub not_built : Answer

@@ -1,6 +1,13 @@
 -- What the steps to an answer leave.
 use Rattle.std.specs.Prelude.{◌≡◌, ◌⊎◌, ℕ, List, [], ◌∷◌, ◌++◌, Option, Some, Result, Ok, Err, Vec}
 use Rattle.std.specs.declared.alloc.Global.{Global}
+use Rattle.spf_ast.specs.Syntax.{Program}
+use Rattle.spf_ast.specs.View.{program}
+use Rattle.spf_region.specs.declared.range.Range.{Range}
+use Rattle.spf_check.specs.declared.rule.Rule.{Rule}
+use Rattle.spf_check.specs.declared.rule.CheckError.{CheckError}
+use Rattle.spf_check.specs.declared.rule.CheckError.TheVariants as not_accepted
+use Rattle.spf_check.specs.Accepting.{IsFirstRefusal}
 use Rattle.spf_edge.specs.Entries.{Entry, IsMissing, IsLongerThan}
 use Rattle.spf_edge.specs.declared.sink.PutError.{PutError}
 use Rattle.spf_edge.specs.declared.sink.PutError.TheVariants.{Failed, OutOfMemory}
@@ -8,7 +15,7 @@ use Rattle.spf_exec.specs.declared.layout.RunError.{RunError}
 use Rattle.spf_exec.specs.declared.layout.RunError.TheVariants.{TooManyCells}
 use Rattle.spf_exec.specs.declared.layout.RunError.TheVariants as run_error
 use Rattle.spf_cli.specs.Answer as said
-use Rattle.spf_cli.specs.Answer.{text_refused, file_failed, file_too_long, too_many_cells}
+use Rattle.spf_cli.specs.Answer.{text_refused, rule_refused, file_failed, file_too_long, too_many_cells}
 use Rattle.spf_cli.specs.Reading.{Refusal, Refuses, IsVerdict}
 use Rattle.spf_cli.specs.Status.{status_number}
 use Rattle.spf_cli.specs.Whole.{Wanted, IsOnly}
@@ -40,6 +47,18 @@ IsFetchLeft told name limit Fault NoMemory = Unit {0}
 abbrev pub IsReadLeft : List ℕ → Left → Type 0
 IsReadLeft text (Answered a) = (refusal : Refusal) × IsOnly (IsVerdict text) (Refuses refusal) × (seen_answer a ≡ text_refused refusal)
 IsReadLeft text NoMemory = Unit {0}
+
+-- the rules refuse the program so, or memory was short
+abbrev pub IsRuleLeft : Program → Left → Type 0
+IsRuleLeft p (Answered a) =
+    (rule : Rule) × (line : ℕ) × (range : Option Range) × IsFirstRefusal p rule line range × (seen_answer a ≡ rule_refused p rule line range)
+IsRuleLeft p NoMemory = Unit {0}
+
+-- a program isn't accepted: it is handed back with its refusal, or memory was short
+abbrev pub IsNotAccepted : CheckError → Left → Type 0
+IsNotAccepted (not_accepted.Refused p refusal) (Answered a) = seen_answer a ≡ rule_refused (program p) refusal.rule refusal.line refusal.range
+IsNotAccepted (not_accepted.OutOfMemory p) (Answered a) = ⊥
+IsNotAccepted error NoMemory = Unit {0}
 
 -- the arrays have too many cells, or memory was short
 abbrev pub IsNotRun : RunError → Left → Type 0

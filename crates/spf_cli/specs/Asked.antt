@@ -11,4 +11,5 @@ seen_options o = record { stats = o.stats; cells = o.cells; plain = o.plain }
 -- what contracts see of a command
 abbrev pub seen_command : Command → asked.Command
 seen_command (command.Run program input options) = asked.Run program.now input.now (seen_options options)
+seen_command (command.Check program) = asked.Check program.now
 seen_command (command.Print program) = asked.Print program.now

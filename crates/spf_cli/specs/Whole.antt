@@ -5,8 +5,11 @@ use Rattle.spf_ast.specs.Program.{outcome, cell_count_of, max_cells}
 use Rattle.spf_exec.specs.RunErrors.{counted}
 use Rattle.spf_edge.specs.Entries.{Entry, lookup}
 use Rattle.spf_edge.specs.Bytes.{Adds, AddsPrefix}
-use Rattle.spf_cli.specs.Answer.{Answer, not_understood, text_refused, not_built, file_failed, file_too_long, too_many_cells, printed, ran}
-use Rattle.spf_cli.specs.Command.{Command, Run, Print, Options, Asks}
+use Rattle.spf_cli.specs.Answer.{Answer, not_understood, text_refused, accepted, rule_refused, not_built, file_failed, file_too_long, too_many_cells, printed, ran}
+use Rattle.spf_cli.specs.Command.{Command, Run, Check, Print, Options, Asks}
+use Rattle.spf_region.specs.declared.range.Range.{Range}
+use Rattle.spf_check.specs.declared.rule.Rule.{Rule}
+use Rattle.spf_check.specs.Accepting.{IsAccepted, IsFirstRefusal}
 use Rattle.spf_guess.specs.declared.stats.Stats.{Stats}
 use Rattle.spf_guess.specs.Statistics.{none, statistics}
 use Rattle.spf_engine.specs.FirstForm.{is_first_form}
@@ -45,6 +48,12 @@ Judged (Refuses refusal) next = Is (text_refused refusal)
 abbrev pub Read : List ℕ → (Program → Wanted) → Wanted
 Read text next answer = (v : Verdict) × IsVerdict text v × Judged v next answer
 
+-- with a program that the rules accept, or by the first refusal of one that they don't
+abbrev pub CheckedBy : Program → Wanted → Wanted
+CheckedBy p next answer =
+    (IsAccepted p × next answer)
+    ⊎ ((rule : Rule) × (line : ℕ) × (range : Option Range) × IsFirstRefusal p rule line range × (answer ≡ rule_refused p rule line range))
+
 -- whether what runs this program so is built: all programs go by the plain meaning, those of the first form also by blocks
 abbrev pub is_built : Options → Program → Bool
 is_built options p = options.plain || is_first_form p
@@ -60,12 +69,23 @@ Runs options p input =
     (Is (ran options p (length input) (outcome p input) (stats_of options p input)))
     (Is (too_many_cells (counted (cell_count_of p (length input)))))
 
+-- a program is run on the file of an input, where what runs it so is built
+abbrev pub RunsOn : Options → List ℕ → Program → List Entry → Wanted
+RunsOn options input p files =
+    Either (is_built options p) (Fetched input max_input (lookup files input) (λ content. Runs options p content)) (Is not_built)
+
+-- a program may be run so: by the plain meaning each, else those that the rules accept
+abbrev pub MayRun : Options → Program → Type 0
+MayRun options p = (options.plain ≡ true) ⊎ IsAccepted p
+
 -- the answer to a command: its files in their order, each with its tests
 abbrev pub WholeOf : Command → List Entry → Wanted
 WholeOf (Run program input options) files =
     Fetched program max_program (lookup files program) (λ text.
     Read text (λ p.
-    Either (is_built options p) (Fetched input max_input (lookup files input) (λ content. Runs options p content)) (Is not_built)))
+    Either options.plain (RunsOn options input p files) (CheckedBy p (RunsOn options input p files))))
+WholeOf (Check program) files =
+    Fetched program max_program (lookup files program) (λ text. Read text (λ p. CheckedBy p (Is accepted)))
 WholeOf (Print program) files =
     Fetched program max_program (lookup files program) (λ text. Read text (λ p. Is (printed p)))
 
@@ -88,8 +108,13 @@ IsReached (Run program input options) files name =
     × ((text : List ℕ)
     × (lookup files program ≡ Some text)
     × (length text ≤ max_program)
-    × ((p : Program) × IsVerdict text (Says p) × (is_built options p ≡ true))))
+    × ((p : Program) × IsVerdict text (Says p) × MayRun options p × (is_built options p ≡ true))))
+IsReached (Check program) files name = name ≡ program
 IsReached (Print program) files name = name ≡ program
+
+-- the answer that the input of a program which is run can't be had
+abbrev pub IsInputFault : Options → List ℕ → Program → List Entry → Wanted
+IsInputFault options input p files answer = (is_built options p ≡ true) × (answer ≡ file_failed input)
 
 -- the answer that a file which a command reaches can't be had
 abbrev pub IsFaultOf : Command → List Entry → Answer → Type 0

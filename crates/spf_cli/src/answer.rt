@@ -8,21 +8,25 @@ ghost use Rattle.spf_exec.specs.declared.layout.RunError.TheVariants.{OutOfMemor
 ghost use Rattle.spf_edge.specs.Entries.{Entry, HasContent};
 ghost use Rattle.spf_edge.specs.Faults.{Rose};
 ghost use Rattle.spf_cli.specs.Message.{array_lines};
-ghost use Rattle.spf_cli.specs.Command.{Run as run_command, Print as print_command};
+ghost use Rattle.spf_cli.specs.Command.{Run as run_command, Check as check_command, Print as print_command};
 ghost use Rattle.spf_cli.specs.Reading.{IsVerdict, Says};
-ghost use Rattle.spf_cli.specs.Answer.{refused as refused_answer, file_failed, too_many_cells, printed, stats_text, ran as ran_answer};
+ghost use Rattle.spf_check.specs.Accepting.{IsAccepted};
+ghost use Rattle.spf_cli.specs.Answer.{refused as refused_answer, rule_refused as rule_refused_answer, file_failed, too_many_cells, printed, stats_text, ran as ran_answer};
 ghost use Rattle.spf_cli.specs.Asked.{seen_command, seen_options};
 ghost use Rattle.spf_cli.specs.Status.{status_number};
-ghost use Rattle.spf_cli.specs.Whole.{IsOnly, Runs, Whole, WholeOf, IsFaultOf, IsFaultAnswer, stats_of, is_built as is_built_program};
-ghost use Rattle.spf_cli.specs.Answering.{bytes_of, seen_answer, IsFetchLeft, IsReadLeft, IsNotRun, IsWholeUnless, IsCaused, AnswersWith};
+ghost use Rattle.spf_cli.specs.Whole.{IsOnly, Runs, RunsOn, IsInputFault, Whole, WholeOf, IsFaultOf, IsFaultAnswer, stats_of, is_built as is_built_program};
+ghost use Rattle.spf_cli.specs.Answering.{bytes_of, seen_answer, IsFetchLeft, IsReadLeft, IsRuleLeft, IsNotAccepted, IsNotRun, IsWholeUnless, IsCaused, AnswersWith};
 
 use crate::command::{Command, Options, read_words};
-use crate::message::{array_line, failed_line, long_line, stats_line, too_many_line, trap_line};
+use crate::message::{array_line, failed_line, long_line, rule_line, stats_line, too_many_line, trap_line};
 use crate::reading::{Unread, read_program, refusal_line};
 use crate::status::Status;
 use spf_ast::canonical::print;
 use spf_ast::outcome::Outcome;
 use spf_ast::syntax::{Array, Program};
+use spf_check::check::check;
+use spf_check::checked::Checked;
+use spf_check::rule::{CheckError, Refusal};
 use spf_edge::{FetchError, Files};
 use spf_engine::first_form::is_first_form;
 use spf_engine::run::{RunReport, run_by_blocks};
@@ -73,16 +77,23 @@ fn push_line(messages: &mut Vec<Vec<u8>>, line: String) -> Result<(), AllocError
 }
 
 /// An answer with one line, and nothing on the output.
-fn refused(alloc: Global, status: Status, line: String) -> Result<Answer, AllocError>
-    ensures { IfOk result (λ a. seen_answer a ≡ refused_answer (status_number status) (string_bytes line)) }
+fn said(alloc: Global, status: Status, line: Vec<u8>) -> Result<Answer, AllocError>
+    ensures { IfOk result (λ a. seen_answer a ≡ refused_answer (status_number status) line.items) }
 {
     let mut messages = Vec::new(alloc);
-    push_line(&mut messages, line)?;
+    messages.push(line)?;
     Ok(Answer {
         status,
         output: Vec::new(alloc),
         messages,
     })
+}
+
+/// The same, of a line as text.
+fn refused(alloc: Global, status: Status, line: String) -> Result<Answer, AllocError>
+    ensures { IfOk result (λ a. seen_answer a ≡ refused_answer (status_number status) (string_bytes line)) }
+{
+    said(alloc, status, line.into_bytes())
 }
 
 /// The answer where a file can't be had.
@@ -126,6 +137,43 @@ fn read(alloc: Global, text: &[u8]) -> Result<Program, Left>
             refusal_line(alloc, refusal)?,
         )?)),
         Err(Unread::NoMemory) => Err(Left::NoMemory),
+    }
+}
+
+/// The answer where a top construct of a program breaks a rule.
+fn rule_refused(alloc: Global, program: &Program, refusal: Refusal) -> Result<Answer, AllocError>
+    ensures { IfOk result (λ a. seen_answer a ≡ rule_refused_answer (program_of program.now) refusal.rule refusal.line refusal.range) }
+{
+    said(
+        alloc,
+        Status::NotBuilt,
+        rule_line(alloc, &program.arrays, refusal)?,
+    )
+}
+
+/// What is left where a program isn't accepted.
+fn not_accepted(alloc: Global, error: CheckError) -> Left
+    ensures { IsNotAccepted error result }
+{
+    match error {
+        CheckError::Refused { program, refusal } => match rule_refused(alloc, &program, refusal) {
+            Ok(given) => Left::Answered(given),
+            Err(_) => Left::NoMemory,
+        },
+        CheckError::OutOfMemory { .. } => Left::NoMemory,
+    }
+}
+
+/// Has the rules accept a program.
+fn accept(alloc: Global, program: Program) -> Result<Checked, Left>
+    requires lawful { IsLawful (program_of program) }
+    ensures same { IfOk result (λ checked. checked ≡ program) }
+    ensures accepted { IfOk result (λ _. IsAccepted (program_of program)) }
+    ensures left { IfErr result (IsRuleLeft (program_of program)) }
+{
+    match check(alloc, program) {
+        Ok(checked) => Ok(checked),
+        Err(error) => Err(not_accepted(alloc, error)),
     }
 }
 
@@ -282,6 +330,28 @@ fn run(alloc: Global, options: Options, program: &Program, input: &[u8]) -> Resu
     }
 }
 
+/// The answer of a run on the file of an input.
+fn run_on<F: Files>(
+    alloc: Global,
+    program: &Program,
+    input: &str,
+    options: Options,
+    files: &mut F,
+) -> Result<Answer, Left>
+    requires lawful { IsLawful (program_of program.now) }
+    ensures whole { let options = seen_options options in let p = program_of program.now in
+        AnswersWith (IsWholeUnless (RunsOn options input.now p) (IsInputFault options input.now p) (F.told files.old) (Rose (F.faults files.old) (F.faults files.new))) result }
+    ensures cause { AnswersWith (IsCaused (F.told files.old) (Rose (F.faults files.old) (F.faults files.new))) result }
+    ensures later { F.faults files.old ≤ F.faults files.new }
+{
+    if !is_built(options, program) {
+        let line = String::from_str(alloc, "refused not-built\n")?;
+        return Ok(refused(alloc, Status::NotBuilt, line)?);
+    }
+    let content = fetch(alloc, files, input, MAX_INPUT)?;
+    run(alloc, options, program, &content)
+}
+
 /// The answer of `run` over two files.
 fn run_files<F: Files>(
     alloc: Global,
@@ -297,12 +367,24 @@ fn run_files<F: Files>(
 {
     let text = fetch(alloc, files, program, MAX_PROGRAM)?;
     let parsed = read(alloc, &text)?;
-    if !is_built(options, &parsed) {
-        let line = String::from_str(alloc, "refused not-built\n")?;
-        return Ok(refused(alloc, Status::NotBuilt, line)?);
+    if options.plain {
+        return run_on(alloc, &parsed, input, options, files);
     }
-    let content = fetch(alloc, files, input, MAX_INPUT)?;
-    run(alloc, options, &parsed, &content)
+    let checked = accept(alloc, parsed)?;
+    run_on(alloc, checked.program(), input, options, files)
+}
+
+/// The answer of `check` over a file.
+fn check_file<F: Files>(alloc: Global, program: &str, files: &mut F) -> Result<Answer, Left>
+    ensures whole { let command = check_command program.now in
+        AnswersWith (IsWholeUnless (WholeOf command) (IsFaultOf command) (F.told files.old) (Rose (F.faults files.old) (F.faults files.new))) result }
+    ensures cause { AnswersWith (IsCaused (F.told files.old) (Rose (F.faults files.old) (F.faults files.new))) result }
+    ensures later { F.faults files.old ≤ F.faults files.new }
+{
+    let text = fetch(alloc, files, program, MAX_PROGRAM)?;
+    let parsed = read(alloc, &text)?;
+    accept(alloc, parsed)?;
+    Ok(said(alloc, Status::Done, b"accepted\n".to_vec(alloc)?)?)
 }
 
 /// The answer of `print` over a file.
@@ -333,6 +415,7 @@ fn answer_command<F: Files>(alloc: Global, command: Command, files: &mut F) -> R
             input,
             options,
         } => run_files(alloc, program, input, options, files),
+        Command::Check { program } => check_file(alloc, program, files),
         Command::Print { program } => print_file(alloc, program, files),
     }
 }

@@ -1,6 +1,6 @@
 // The words of the command line.
 
-ghost use Rattle.std.specs.Prelude.{◌≡◌, ◌∷◌, codes, Some, None, map, string_bytes, MatchOption, IsTrue, ◌↔◌};
+ghost use Rattle.std.specs.Prelude.{◌≡◌, ◌∷◌, ℕ, List, [], codes, Some, None, map, string_bytes, MatchOption, IsTrue, ◌↔◌};
 ghost use Rattle.spf_cli.specs.Whole.{IsOnly};
 ghost use Rattle.spf_cli.specs.Command.{IsFileName, Asks, Command as Wish};
 ghost use Rattle.spf_cli.specs.Asked.{seen_command, seen_options};
@@ -21,6 +21,9 @@ pub(crate) enum Command<'a> {
         program: &'a str,
         input: &'a str,
         options: Options,
+    },
+    Check {
+        program: &'a str,
     },
     Print {
         program: &'a str,
@@ -89,21 +92,37 @@ fn read_run(words: &[String]) -> Option<Command>
     }
 }
 
+/// The name that these words are, where they are the one name of a file.
+fn read_name(words: &[String]) -> Option<&str>
+    ensures { MatchOption result
+        ((name : List ℕ) → map string_bytes words.now ≡ name ∷ [] → IsFileName name → ⊥)
+        (λ name. (map string_bytes words.now ≡ name.now ∷ []) × IsFileName name.now) }
+{
+    let [name] = words else {
+        return None;
+    };
+    let name = name.as_str();
+    if is_file_name(name) { Some(name) } else { None }
+}
+
+/// The check that words behind `check` ask for.
+fn read_check(words: &[String]) -> Option<Command>
+    ensures { MatchOption result
+        ((command : Wish) → Asks (codes "check" ∷ map string_bytes words.now) command → ⊥)
+        (λ command. IsOnly (Asks (codes "check" ∷ map string_bytes words.now)) (seen_command command)) }
+{
+    let program = read_name(words)?;
+    Some(Command::Check { program })
+}
+
 /// The print that words behind `print` ask for.
 fn read_print(words: &[String]) -> Option<Command>
     ensures { MatchOption result
         ((command : Wish) → Asks (codes "print" ∷ map string_bytes words.now) command → ⊥)
         (λ command. IsOnly (Asks (codes "print" ∷ map string_bytes words.now)) (seen_command command)) }
 {
-    let [program] = words else {
-        return None;
-    };
-    let program = program.as_str();
-    if is_file_name(program) {
-        Some(Command::Print { program })
-    } else {
-        None
-    }
+    let program = read_name(words)?;
+    Some(Command::Print { program })
 }
 
 /// The command that the words ask for.
@@ -114,6 +133,7 @@ pub(crate) fn read_words(words: &[String]) -> Option<Command>
 {
     match words.split_first() {
         Some((first, others)) if first.as_str() == "run" => read_run(others),
+        Some((first, others)) if first.as_str() == "check" => read_check(others),
         Some((first, others)) if first.as_str() == "print" => read_print(others),
         _ => None,
     }

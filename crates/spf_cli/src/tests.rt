@@ -17,6 +17,16 @@ const DOUBLING: &str = "main { specfold s = 1 for k in 0..5 predict k { next s *
 const PAIRS: &str =
     "array out[6]; main { specfold s = 0 for k in 0..3 predict 1 { fill out[2*k..2*k + 2] = 0; out[2*k + (s & 1)] = 7; next s + 1; } for i in 0..6 { emit out[i]; } }";
 
+/// The same without the fill: a block writes one of its two cells.
+const UNFILLED_PAIRS: &str =
+    "array out[6]; main { specfold s = 0 for k in 0..3 predict 1 { out[2*k + (s & 1)] = 7; next s + 1; } }";
+
+/// Counts its blocks in a local of `main`.
+const OUTER_COUNT: &str = "main { let n = 0; specfold s = 0 for k in 0..2 predict 0 { n = n + 1; next s; } emit n; }";
+
+/// Puts out the number of each block.
+const EMITTING: &str = "main { specfold s = 0 for k in 0..3 predict 0 { emit k; next s; } }";
+
 /// Folds over one block more than a fold may have.
 const TOO_MANY_BLOCKS: &str =
     "main { specfold s = 0 for k in 0..4097 predict k { next s + 1; } emit s & 255; }";
@@ -135,6 +145,98 @@ fn programs_of_the_first_form_are_run_by_blocks(rt: HostRuntime) -> Result<(), F
 }
 
 #[test]
+fn programs_that_break_a_rule_are_refused(rt: HostRuntime) -> Result<(), Fail> {
+    let alloc = rt.alloc();
+    let rows: [(&str, &str); 11] = [
+        (
+            UNFILLED_PAIRS,
+            "refused not-overwritten line 1 out[2*k+0..2*k+2]\n",
+        ),
+        (
+            "array out[4]; main { specfold s = 0 for k in 0..4 predict 0 { let t = out[k]; out[k] = t + s; next t; } }",
+            "refused read-before-write line 1 out[1*k+0..1*k+1]\n",
+        ),
+        (
+            "array out[5]; main { specfold s = 0 for k in 0..4 predict 0 { out[k] = s; out[k + 1] = s; next s; } }",
+            "refused overlap line 1 out[1*k+0..1*k+2]\n",
+        ),
+        (
+            "array out[4]; main { specfold s = 0 for k in 0..4 predict out[k] { out[k] = s; next s + 1; } }",
+            "refused predictor-reads line 1 out[1*k+0..1*k+1]\n",
+        ),
+        (OUTER_COUNT, "refused outer-assign line 1\n"),
+        (EMITTING, "refused emit-inside line 1\n"),
+        (
+            "array a[1]; fn f(x) { a[0] = x; return x; } main { specfold s = 0 for k in 0..2 predict f(k) { next s; } }",
+            "refused predictor-writes line 1 a[0*k+0..0*k+1]\n",
+        ),
+        (
+            "array out[8]; main { specfold s = 0 for k in 0..4 predict 0 { for i in 0..s { out[k] = 1; } next 1; } }",
+            "refused not-overwritten line 1 out[1*k+0..1*k+1]\n",
+        ),
+        (
+            "array out[9]; main { specfold s = 0 for k in 0..2 predict 0 { out[1099511627777 * k] = 1; next 0; } }",
+            "refused overlap line 1 out[..]\n",
+        ),
+        (
+            "array o[2]; main { spec x = { let t = o[0]; give t; } predict 0 { o[0] = x; } }",
+            "refused overlap line 1 o[0*k+0..0*k+1]\n",
+        ),
+        (
+            "array a[2]; array out[9]; main {\n  specfold s = 0 for k in 0..2 predict 0 {\n    out[-k + 3] = 1;\n    next 0; } }",
+            "refused overlap line 2 out[-1*k+3..-1*k+4]\n",
+        ),
+    ];
+    for (program, message) in rows {
+        for words in [&RUN[..], &["check", "P"], &["run", "P", "J", "--stats"]] {
+            let given = answer(alloc, words, program)?;
+            assert_eq!(rt; given.status, 4, "of {program}");
+            assert_eq!(rt; given.out.bytes().len(), 0, "of {program}");
+            assert_eq!(rt; given.err.bytes(), message.as_bytes(), "of {program}");
+        }
+    }
+    Ok(())
+}
+
+#[test]
+fn the_check_of_a_program_is_told(rt: HostRuntime) -> Result<(), Fail> {
+    let alloc = rt.alloc();
+    let rows: [(&str, u8, &str); 8] = [
+        (PAIRS, 0, "accepted\n"),
+        (DOUBLING, 0, "accepted\n"),
+        ("main { }", 0, "accepted\n"),
+        (
+            "array o[4]; main { specfold s = 0 for k in 0..2 predict 0 { for i in 2*k..2*k + 2 { o[i] = s; } next s; } }",
+            0,
+            "accepted\n",
+        ),
+        (
+            "array o[4]; main { specfold s = 0 for k in 0..2 predict 0 { for i in 2*k..2*k + 2 { o[0 + i] = s; } next s; } }",
+            4,
+            "refused not-overwritten line 1 o[2*k+0..2*k+2]\n",
+        ),
+        (
+            "array o[5]; main { specfold s = 0 for k in 0..2 predict 0 { for i in 2*k..2*k + 2 { o[1 + i] = s; } next s; } }",
+            4,
+            "refused not-overwritten line 1 o[2*k+1..2*k+3]\n",
+        ),
+        (
+            "array o[4]; main { specfold s = 0 for k in 0..2 predict 0 { o[2*k - 3] = s; o[2*k - 3] = 0; if s == 1 { o[2*k - 2] = s; } next s; } }",
+            4,
+            "refused not-overwritten line 1 o[2*k+-3..2*k+-1]\n",
+        ),
+        ("main { emit @; }", 3, "text byte 12: bad byte\n"),
+    ];
+    for (program, status, message) in rows {
+        let given = answer(alloc, &["check", "P"], program)?;
+        assert_eq!(rt; given.status, status, "of {program}");
+        assert_eq!(rt; given.out.bytes().len(), 0, "of {program}");
+        assert_eq!(rt; given.err.bytes(), message.as_bytes(), "of {program}");
+    }
+    Ok(())
+}
+
+#[test]
 fn all_programs_are_run_plainly(rt: HostRuntime) -> Result<(), Fail> {
     let alloc = rt.alloc();
     let rows: [(&str, &[&str], u8, &[u8], &str); 9] = [
@@ -169,14 +271,14 @@ fn all_programs_are_run_plainly(rt: HostRuntime) -> Result<(), Fail> {
             "trap blocks line 1\nblocks 0 hits 0 misses 0 blind 0\n",
         ),
         (
-            "main { let n = 0; specfold s = 0 for k in 0..2 predict 0 { n = n + 1; next s; } emit n; }",
-            &["run", "P", "I", "--plain"],
+            OUTER_COUNT,
+            &["run", "P", "I", "--stats", "--plain"],
             0,
             &[2],
-            "",
+            "blocks 0 hits 0 misses 0 blind 0\n",
         ),
         (
-            "main { specfold s = 0 for k in 0..3 predict 0 { emit k; next s; } }",
+            EMITTING,
             &["run", "P", "I", "--plain"],
             0,
             &[0, 1, 2],
@@ -258,7 +360,7 @@ fn programs_are_printed(rt: HostRuntime) -> Result<(), Fail> {
 #[test]
 fn other_words_and_files_are_refused(rt: HostRuntime) -> Result<(), Fail> {
     let alloc = rt.alloc();
-    let rows: [(&[&str], u8, &str); 13] = [
+    let rows: [(&[&str], u8, &str); 16] = [
         (&["run", "P", "J"], 5, "file J failed\n"),
         (&["run", "Q", "I"], 5, "file Q failed\n"),
         (&["print", "Q"], 5, "file Q failed\n"),
@@ -269,6 +371,9 @@ fn other_words_and_files_are_refused(rt: HostRuntime) -> Result<(), Fail> {
         (&["run", "P", "-I"], 2, "words not understood\n"),
         (&["run", "", "I"], 2, "words not understood\n"),
         (&["print", "P", "I"], 2, "words not understood\n"),
+        (&["check", "Q"], 5, "file Q failed\n"),
+        (&["check", "P", "I"], 2, "words not understood\n"),
+        (&["check", "-P"], 2, "words not understood\n"),
         (
             &["run", "P", "I", "--plain", "--stats"],
             2,
