@@ -11,7 +11,9 @@ use Rattle.spf_check.specs.declared.rule.CheckError.TheVariants as check_error
 use Rattle.spf_check.specs.Accepting.{IsAccepted, IsFirstRefusal}
 use Rattle.spf_check.specs.Checking.{IsChecked}
 use Rattle.spf_check.proofs.Examining.{refused-not-accepted}
+use Rattle.spf_check.specs.Explaining.{Explains}
 use Rattle.spf_check.proofs.Unique.{one-first-refusal}
+use Rattle.spf_check.proofs.Explained.{one-explanation}
 use Rattle.spf_ast.specs.Program.{cell_count_of, max_cells, outcome, Outcome, Done, Stopped}
 use Rattle.spf_exec.specs.RunErrors.{counted}
 use Rattle.spf_edge.specs.Entries.{Entry, lookup, HasContent, IsMissing, IsLongerThan}
@@ -20,13 +22,13 @@ use Rattle.spf_edge.specs.declared.sink.PutError.{PutError}
 use Rattle.spf_edge.specs.declared.sink.PutError.TheVariants.{Failed}
 use Rattle.spf_edge.specs.declared.sink.PutError.TheVariants as put_error
 use Rattle.spf_edge.proofs.Taking.{adds_empty_prefix}
-use Rattle.spf_cli.specs.Answer.{Answer, not_built, text_refused, rule_refused, file_failed, file_too_long, too_many_cells, ran}
+use Rattle.spf_cli.specs.Answer.{Answer, not_built, text_refused, rule_refused, explained, file_failed, file_too_long, too_many_cells, ran}
 use Rattle.spf_cli.specs.Answering.{seen_answer, FetchAnswer, IsFetchLeft, IsReadLeft, IsRuleLeft, IsNotAccepted, IsWholeUnless, IsCaused, AnswersWith, IsPutFault}
 use Rattle.spf_cli.specs.Command.{Command, Run, Options, Asks}
 use Rattle.spf_cli.specs.Reading.{Says, Refuses, IsVerdict, Refusal}
 use Rattle.spf_cli.specs.Status.{put_status}
 use Rattle.spf_guess.specs.declared.stats.Stats.{Stats}
-use Rattle.spf_cli.specs.Whole.{Wanted, Either, Fetched, Judged, Read, CheckedBy, Runs, RunsOn, MayRun, IsInputFault, stats_of, is_built, WholeOf, Whole, IsOnly, IsFaultOf, IsFaultAnswer, IsGiven, IsGivenInPart, IsAnswered, IsAnsweredInPart, max_program, max_input}
+use Rattle.spf_cli.specs.Whole.{Wanted, Either, Fetched, Judged, Read, CheckedBy, Explained, Runs, RunsOn, MayRun, IsInputFault, stats_of, is_built, WholeOf, Whole, IsOnly, IsFaultOf, IsFaultAnswer, IsGiven, IsGivenInPart, IsAnswered, IsAnsweredInPart, max_program, max_input}
 use Rattle.spf_cli.specs.declared.answer.Answer as made
 use Rattle.spf_cli.specs.declared.answer.Left.{Left}
 use Rattle.spf_cli.specs.declared.answer.Left.TheVariants.{Answered, NoMemory}
@@ -148,6 +150,13 @@ rule_left Faulty next tail told program text p Fault (Answered a) t l v goes h =
     (goes files (seen_answer a)
     (at_same (IsOnly (CheckedBy p (tail files))) (seen_answer a) (rule_refused p h.0 h.1 h.2) h.4 (checked_refused p (tail files) h.0 h.1 h.2 h.3)))))
 rule_left Faulty next tail told program text p Fault NoMemory t l v goes h = tt
+
+-- a program that is explained
+pub explained_so : (p : Program) (text : List ℕ) (a : Answer) → Explains p text → a ≡ explained text → IsOnly (Explained p) a
+explained_so p text a x e = record {
+  is = (text, x, e);
+  only = λ b y. y.2 ∙ ap explained (one-explanation p y.0 text y.1 x) ∙ sym e;
+}
 
 -- ---- runs
 

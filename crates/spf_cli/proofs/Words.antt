@@ -3,7 +3,7 @@ use Rattle.std.proofs.lemmas.List.{append-nil}
 use Rattle.std.proofs.lemmas.Slice.Eq.{bytes_eq-Decides}
 use Rattle.std.specs.Prelude.{bytes_eq}
 use Rattle.std.proofs.Common.{◌≡◌, ℕ, Bool, true, false, List, [], ◌∷◌, ◌++◌, codes, Some, refl, sym, ap, ◌∙◌, if◌then◌else◌}
-use Rattle.spf_cli.specs.Command.{Options, option, option_words, words_of, Command, Run, Check, Print, IsFileName, Asks}
+use Rattle.spf_cli.specs.Command.{Options, option, option_words, words_of, Command, Run, Check, Explain, Print, IsFileName, Asks}
 use Rattle.spf_cli.specs.Whole.{IsOnly}
 use Rattle.spf_cli.specs.Options.{taken, whole_options, options_in}
 
@@ -65,4 +65,5 @@ run_asked program input words o e p i = record {
         let f : options ≡ o = cc in
         λ j. Run (sym first j) (sym second j) (f j)
     other (Check program') w = absurd (cc)
+    other (Explain program') w = absurd (cc)
     other (Print program') w = absurd (cc)

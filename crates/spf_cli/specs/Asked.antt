@@ -12,4 +12,5 @@ seen_options o = record { stats = o.stats; cells = o.cells; plain = o.plain }
 abbrev pub seen_command : Command → asked.Command
 seen_command (command.Run program input options) = asked.Run program.now input.now (seen_options options)
 seen_command (command.Check program) = asked.Check program.now
+seen_command (command.Explain program) = asked.Explain program.now
 seen_command (command.Print program) = asked.Print program.now

@@ -11,6 +11,7 @@ pub record Options : Type 0 where
 pub data Command : Type 0 where
   Run : List ℕ → List ℕ → Options → Command
   Check : List ℕ → Command
+  Explain : List ℕ → Command
   Print : List ℕ → Command
 
 -- a word that stands only where it is asked for
@@ -26,6 +27,7 @@ option_words o = option o.stats (codes "--stats") ++ (option o.cells (codes "--c
 abbrev pub words_of : Command → List (List ℕ)
 words_of (Run program input options) = codes "run" ∷ program ∷ input ∷ option_words options
 words_of (Check program) = codes "check" ∷ program ∷ []
+words_of (Explain program) = codes "explain" ∷ program ∷ []
 words_of (Print program) = codes "print" ∷ program ∷ []
 
 -- a file's name isn't empty and doesn't begin with `-`
@@ -37,6 +39,7 @@ IsFileName (b ∷ bytes) = b ≡ 45 → ⊥
 abbrev pub HasFileNames : Command → Type 0
 HasFileNames (Run program input options) = IsFileName program × IsFileName input
 HasFileNames (Check program) = IsFileName program
+HasFileNames (Explain program) = IsFileName program
 HasFileNames (Print program) = IsFileName program
 
 -- the words ask for this command

@@ -1,5 +1,5 @@
 -- The lines that the program writes on the error stream.
-use Rattle.std.specs.Prelude.{ℕ, List, [], ◌∷◌, ◌++◌, take, drop, codes, ℤ, pos, ◌+ℤ◌, Option, Some, None, slice_get}
+use Rattle.std.specs.Prelude.{ℕ, List, [], ◌∷◌, ◌++◌, take, drop, codes, ℤ, Option}
 use Rattle.std.specs.Fmt.{decimal, signed_decimal}
 use Rattle.spf_ast.specs.declared.outcome.Trap.{Trap}
 use Rattle.spf_ast.specs.declared.outcome.TrapKind.{TrapKind}
@@ -8,10 +8,8 @@ use Rattle.spf_types.specs.declared.fault.TypeFault.{TypeFault}
 use Rattle.spf_types.specs.declared.fault.TypeFault.TheVariants as fault
 use Rattle.spf_ast.specs.Syntax.{Array}
 use Rattle.spf_region.specs.declared.range.Range.{Range}
-use Rattle.spf_region.specs.declared.range.Range.TheVariants.{Whole, Affine}
-use Rattle.spf_region.specs.Ranges.{array_of}
 use Rattle.spf_check.specs.declared.rule.Rule.{Rule}
-use Rattle.spf_check.specs.declared.rule.Rule.TheVariants.{OuterAssign, EmitInside, PredictorWrites, Overlap, PredictorReads, ReadBeforeWrite, NotOverwritten}
+use Rattle.spf_check.specs.Text.{rule_name, perhaps_range}
 use Rattle.spf_ast.specs.Program.{size_of}
 
 -- a line of these pieces, with its end
@@ -59,40 +57,10 @@ not_built_line = line (codes "refused not-built" ∷ [])
 abbrev pub accepted_line : List ℕ
 accepted_line = line (codes "accepted" ∷ [])
 
--- how a rule is called
-abbrev pub rule_name : Rule → List ℕ
-rule_name OuterAssign = codes "outer-assign"
-rule_name EmitInside = codes "emit-inside"
-rule_name PredictorWrites = codes "predictor-writes"
-rule_name Overlap = codes "overlap"
-rule_name PredictorReads = codes "predictor-reads"
-rule_name ReadBeforeWrite = codes "read-before-write"
-rule_name NotOverwritten = codes "not-overwritten"
-
--- the name of an array, where there is one
-abbrev pub name_where : Option Array → List ℕ
-name_where None = []
-name_where (Some a) = a.name
-
--- `[..]` for a whole array, else `[F*k+A..F*k+Z]` with Z one past the last offset
-abbrev pub offsets_text : Range → List ℕ
-offsets_text (Whole array) = codes "[..]"
-offsets_text (Affine array factor from to) =
-    codes "[" ++ (signed_decimal factor ++ (codes "*k+" ++ (signed_decimal from ++ (codes ".." ++ (signed_decimal factor ++ (codes "*k+" ++ (signed_decimal (to +ℤ pos 1) ++ codes "]")))))))
-
--- the name of a range's array, and its offsets
-abbrev pub range_text : List Array → Range → List ℕ
-range_text arrays r = name_where (slice_get arrays (array_of r)) ++ offsets_text r
-
--- a range behind a space, where there is one
-abbrev pub range_behind : List Array → Option Range → List ℕ
-range_behind arrays None = []
-range_behind arrays (Some r) = codes " " ++ range_text arrays r
-
 -- `refused RULE line N RANGE`, or without a range `refused RULE line N`
 abbrev pub rule_line : List Array → Rule → ℕ → Option Range → List ℕ
 rule_line arrays rule at range =
-    line (codes "refused " ∷ rule_name rule ∷ codes " line " ∷ decimal at ∷ range_behind arrays range ∷ [])
+    line (codes "refused " ∷ rule_name rule ∷ codes " line " ∷ decimal at ∷ perhaps_range arrays range ∷ [])
 
 -- `text byte N: FAULT`
 abbrev pub byte_line : ℕ → List ℕ → List ℕ

@@ -3,7 +3,7 @@ use Rattle.std.specs.Prelude.{ℕ}
 use Rattle.spf_edge.specs.declared.sink.PutError.{PutError}
 use Rattle.spf_edge.specs.declared.sink.PutError.TheVariants.{Failed, OutOfMemory}
 use Rattle.spf_cli.specs.declared.status.Status.{Status}
-use Rattle.spf_cli.specs.declared.status.Status.TheVariants.{Done, Trapped, NotUnderstood, NoProgram, NotBuilt, FileFailed, PutFailed, OverLimit, NoMemory}
+use Rattle.spf_cli.specs.declared.status.Status.TheVariants.{Done, Trapped, NotUnderstood, NoProgram, Refused, FileFailed, PutFailed, OverLimit, NoMemory}
 
 -- the number of a status
 abbrev pub status_number : Status → ℕ
@@ -11,7 +11,7 @@ status_number Done = 0
 status_number Trapped = 1
 status_number NotUnderstood = 2
 status_number NoProgram = 3
-status_number NotBuilt = 4
+status_number Refused = 4
 status_number FileFailed = 5
 status_number PutFailed = 6
 status_number OverLimit = 7

@@ -5,11 +5,12 @@ use Rattle.spf_ast.specs.Program.{outcome, cell_count_of, max_cells}
 use Rattle.spf_exec.specs.RunErrors.{counted}
 use Rattle.spf_edge.specs.Entries.{Entry, lookup}
 use Rattle.spf_edge.specs.Bytes.{Adds, AddsPrefix}
-use Rattle.spf_cli.specs.Answer.{Answer, not_understood, text_refused, accepted, rule_refused, not_built, file_failed, file_too_long, too_many_cells, printed, ran}
-use Rattle.spf_cli.specs.Command.{Command, Run, Check, Print, Options, Asks}
+use Rattle.spf_cli.specs.Answer.{Answer, not_understood, text_refused, accepted, rule_refused, explained, not_built, file_failed, file_too_long, too_many_cells, printed, ran}
+use Rattle.spf_cli.specs.Command.{Command, Run, Check, Explain, Print, Options, Asks}
 use Rattle.spf_region.specs.declared.range.Range.{Range}
 use Rattle.spf_check.specs.declared.rule.Rule.{Rule}
 use Rattle.spf_check.specs.Accepting.{IsAccepted, IsFirstRefusal}
+use Rattle.spf_check.specs.Explaining.{Explains}
 use Rattle.spf_guess.specs.declared.stats.Stats.{Stats}
 use Rattle.spf_guess.specs.Statistics.{none, statistics}
 use Rattle.spf_engine.specs.FirstForm.{is_first_form}
@@ -54,6 +55,10 @@ CheckedBy p next answer =
     (IsAccepted p × next answer)
     ⊎ ((rule : Rule) × (line : ℕ) × (range : Option Range) × IsFirstRefusal p rule line range × (answer ≡ rule_refused p rule line range))
 
+-- the explanation of a program
+abbrev pub Explained : Program → Wanted
+Explained p answer = (text : List ℕ) × Explains p text × (answer ≡ explained text)
+
 -- whether what runs this program so is built: all programs go by the plain meaning, those of the first form also by blocks
 abbrev pub is_built : Options → Program → Bool
 is_built options p = options.plain || is_first_form p
@@ -86,6 +91,8 @@ WholeOf (Run program input options) files =
     Either options.plain (RunsOn options input p files) (CheckedBy p (RunsOn options input p files))))
 WholeOf (Check program) files =
     Fetched program max_program (lookup files program) (λ text. Read text (λ p. CheckedBy p (Is accepted)))
+WholeOf (Explain program) files =
+    Fetched program max_program (lookup files program) (λ text. Read text (λ p. Explained p))
 WholeOf (Print program) files =
     Fetched program max_program (lookup files program) (λ text. Read text (λ p. Is (printed p)))
 
@@ -110,6 +117,7 @@ IsReached (Run program input options) files name =
     × (length text ≤ max_program)
     × ((p : Program) × IsVerdict text (Says p) × MayRun options p × (is_built options p ≡ true))))
 IsReached (Check program) files name = name ≡ program
+IsReached (Explain program) files name = name ≡ program
 IsReached (Print program) files name = name ≡ program
 
 -- the answer that the input of a program which is run can't be had

@@ -8,10 +8,10 @@ ghost use Rattle.spf_exec.specs.declared.layout.RunError.TheVariants.{OutOfMemor
 ghost use Rattle.spf_edge.specs.Entries.{Entry, HasContent};
 ghost use Rattle.spf_edge.specs.Faults.{Rose};
 ghost use Rattle.spf_cli.specs.Message.{array_lines};
-ghost use Rattle.spf_cli.specs.Command.{Run as run_command, Check as check_command, Print as print_command};
+ghost use Rattle.spf_cli.specs.Command.{Run as run_command, Check as check_command, Explain as explain_command, Print as print_command};
 ghost use Rattle.spf_cli.specs.Reading.{IsVerdict, Says};
 ghost use Rattle.spf_check.specs.Accepting.{IsAccepted};
-ghost use Rattle.spf_cli.specs.Answer.{refused as refused_answer, rule_refused as rule_refused_answer, file_failed, too_many_cells, printed, stats_text, ran as ran_answer};
+ghost use Rattle.spf_cli.specs.Answer.{refused as refused_answer, accepted as accepted_answer, rule_refused as rule_refused_answer, file_failed, too_many_cells, printed, stats_text, ran as ran_answer};
 ghost use Rattle.spf_cli.specs.Asked.{seen_command, seen_options};
 ghost use Rattle.spf_cli.specs.Status.{status_number};
 ghost use Rattle.spf_cli.specs.Whole.{IsOnly, Runs, RunsOn, IsInputFault, Whole, WholeOf, IsFaultOf, IsFaultAnswer, stats_of, is_built as is_built_program};
@@ -26,6 +26,7 @@ use spf_ast::outcome::Outcome;
 use spf_ast::syntax::{Array, Program};
 use spf_check::check::check;
 use spf_check::checked::Checked;
+use spf_check::explain::explain;
 use spf_check::rule::{CheckError, Refusal};
 use spf_edge::{FetchError, Files};
 use spf_engine::first_form::is_first_form;
@@ -140,15 +141,19 @@ fn read(alloc: Global, text: &[u8]) -> Result<Program, Left>
     }
 }
 
+/// The answer where a program keeps the rules.
+fn accepted(alloc: Global) -> Result<Answer, AllocError>
+    ensures { IfOk result (λ a. seen_answer a ≡ accepted_answer) }
+{
+    said(alloc, Status::Done, b"accepted\n".to_vec(alloc)?)
+}
+
 /// The answer where a top construct of a program breaks a rule.
 fn rule_refused(alloc: Global, program: &Program, refusal: Refusal) -> Result<Answer, AllocError>
     ensures { IfOk result (λ a. seen_answer a ≡ rule_refused_answer (program_of program.now) refusal.rule refusal.line refusal.range) }
 {
-    said(
-        alloc,
-        Status::NotBuilt,
-        rule_line(alloc, &program.arrays, refusal)?,
-    )
+    let line = rule_line(alloc, &program.arrays, refusal)?;
+    said(alloc, Status::Refused, line)
 }
 
 /// What is left where a program isn't accepted.
@@ -346,7 +351,7 @@ fn run_on<F: Files>(
 {
     if !is_built(options, program) {
         let line = String::from_str(alloc, "refused not-built\n")?;
-        return Ok(refused(alloc, Status::NotBuilt, line)?);
+        return Ok(refused(alloc, Status::Refused, line)?);
     }
     let content = fetch(alloc, files, input, MAX_INPUT)?;
     run(alloc, options, program, &content)
@@ -384,7 +389,24 @@ fn check_file<F: Files>(alloc: Global, program: &str, files: &mut F) -> Result<A
     let text = fetch(alloc, files, program, MAX_PROGRAM)?;
     let parsed = read(alloc, &text)?;
     accept(alloc, parsed)?;
-    Ok(said(alloc, Status::Done, b"accepted\n".to_vec(alloc)?)?)
+    Ok(accepted(alloc)?)
+}
+
+/// The answer of `explain` over a file.
+fn explain_file<F: Files>(alloc: Global, program: &str, files: &mut F) -> Result<Answer, Left>
+    ensures whole { let command = explain_command program.now in
+        AnswersWith (IsWholeUnless (WholeOf command) (IsFaultOf command) (F.told files.old) (Rose (F.faults files.old) (F.faults files.new))) result }
+    ensures cause { AnswersWith (IsCaused (F.told files.old) (Rose (F.faults files.old) (F.faults files.new))) result }
+    ensures later { F.faults files.old ≤ F.faults files.new }
+{
+    let text = fetch(alloc, files, program, MAX_PROGRAM)?;
+    let parsed = read(alloc, &text)?;
+    let explanation = explain(alloc, &parsed)?;
+    Ok(Answer {
+        status: Status::Done,
+        output: explanation,
+        messages: Vec::new(alloc),
+    })
 }
 
 /// The answer of `print` over a file.
@@ -416,6 +438,7 @@ fn answer_command<F: Files>(alloc: Global, command: Command, files: &mut F) -> R
             options,
         } => run_files(alloc, program, input, options, files),
         Command::Check { program } => check_file(alloc, program, files),
+        Command::Explain { program } => explain_file(alloc, program, files),
         Command::Print { program } => print_file(alloc, program, files),
     }
 }

@@ -25,6 +25,9 @@ pub(crate) enum Command<'a> {
     Check {
         program: &'a str,
     },
+    Explain {
+        program: &'a str,
+    },
     Print {
         program: &'a str,
     },
@@ -115,6 +118,16 @@ fn read_check(words: &[String]) -> Option<Command>
     Some(Command::Check { program })
 }
 
+/// The explanation that words behind `explain` ask for.
+fn read_explain(words: &[String]) -> Option<Command>
+    ensures { MatchOption result
+        ((command : Wish) → Asks (codes "explain" ∷ map string_bytes words.now) command → ⊥)
+        (λ command. IsOnly (Asks (codes "explain" ∷ map string_bytes words.now)) (seen_command command)) }
+{
+    let program = read_name(words)?;
+    Some(Command::Explain { program })
+}
+
 /// The print that words behind `print` ask for.
 fn read_print(words: &[String]) -> Option<Command>
     ensures { MatchOption result
@@ -134,6 +147,7 @@ pub(crate) fn read_words(words: &[String]) -> Option<Command>
     match words.split_first() {
         Some((first, others)) if first.as_str() == "run" => read_run(others),
         Some((first, others)) if first.as_str() == "check" => read_check(others),
+        Some((first, others)) if first.as_str() == "explain" => read_explain(others),
         Some((first, others)) if first.as_str() == "print" => read_print(others),
         _ => None,
     }

@@ -1,13 +1,15 @@
 // The lines that the program writes on the error stream.
 
-ghost use Rattle.std.specs.Prelude.{◌≡◌, ◌++◌, codes, IfOk, map, string_bytes, slice_get};
+ghost use Rattle.std.specs.Prelude.{◌≡◌, ◌++◌, codes, IfOk, map, string_bytes};
 ghost use Rattle.std.specs.Fmt.{signed_decimal};
 ghost use Rattle.spf_ast.specs.View.{name as name_of, array as array_of};
-ghost use Rattle.spf_cli.specs.Message.{trap_line as trap_line_of, failed_line as failed_line_of, long_line as long_line_of, too_many_line as too_many_line_of, byte_line as byte_line_of, fault_line as fault_line_of, fault_name as fault_name_of, stats_line as stats_line_of, numbers, array_line as array_line_of, rule_name as rule_name_of, name_where, offsets_text, range_behind, rule_line as rule_line_of};
+ghost use Rattle.spf_check.specs.Text.{perhaps_range};
+ghost use Rattle.spf_cli.specs.Message.{trap_line as trap_line_of, failed_line as failed_line_of, long_line as long_line_of, too_many_line as too_many_line_of, byte_line as byte_line_of, fault_line as fault_line_of, fault_name as fault_name_of, stats_line as stats_line_of, numbers, array_line as array_line_of, rule_line as rule_line_of};
 
 use spf_ast::outcome::{Trap, TrapKind};
 use spf_ast::syntax::{Array, Name};
-use spf_check::rule::{Refusal, Rule};
+use spf_check::rule::Refusal;
+use spf_check::text::{push_range, rule_name};
 use spf_region::range::Range;
 use spf_types::TypeFault;
 use std::alloc::{AllocError, Global};
@@ -81,61 +83,20 @@ pub(crate) fn fault_line(alloc: Global, fault: TypeFault, line: u32) -> Result<S
     format!(in alloc; "line {line}: {name}\n")
 }
 
-/// How a rule is called.
-fn rule_name(rule: Rule) -> &'static str
-    ensures { result.now ≡ rule_name_of rule }
-{
-    match rule {
-        Rule::OuterAssign => "outer-assign",
-        Rule::EmitInside => "emit-inside",
-        Rule::PredictorWrites => "predictor-writes",
-        Rule::Overlap => "overlap",
-        Rule::PredictorReads => "predictor-reads",
-        Rule::ReadBeforeWrite => "read-before-write",
-        Rule::NotOverwritten => "not-overwritten",
-    }
-}
-
-/// `[..]` for a whole array, else `[F*k+A..F*k+Z]` with Z one past the last offset.
-fn offsets(alloc: Global, range: Range) -> Result<String, AllocError>
-    ensures { IfOk result (λ text. string_bytes text ≡ offsets_text range) }
-{
-    match range {
-        Range::Whole { .. } => String::from_str(alloc, "[..]"),
-        Range::Affine {
-            factor, from, to, ..
-        } => {
-            let end = i128::from(to) + 1;
-            format!(in alloc; "[{factor}*k+{from}..{factor}*k+{end}]")
-        }
-    }
-}
-
-/// Adds the name of an array, given its number, to a line.
-fn push_name(line: &mut Vec<u8>, arrays: &[Array], number: u32) -> Result<(), AllocError>
-    ensures { IfOk result (λ _. line.new.items ≡ line.old.items ++ name_where (slice_get (map array_of arrays.now) number)) }
-{
-    match arrays.get(number as usize) {
-        Some(array) => line.extend_from_slice(&array.name.bytes),
-        None => Ok(()),
-    }
-}
-
 /// Adds a range to a line, behind a space, where there is one.
-fn push_range(
+fn push_perhaps_range(
     alloc: Global,
     line: &mut Vec<u8>,
     arrays: &[Array],
     range: Option<Range>,
 ) -> Result<(), AllocError>
-    ensures { IfOk result (λ _. line.new.items ≡ line.old.items ++ range_behind (map array_of arrays.now) range) }
+    ensures { IfOk result (λ _. line.new.items ≡ line.old.items ++ perhaps_range (map array_of arrays.now) range) }
 {
     let Some(range) = range else {
         return Ok(());
     };
     line.push(b' ')?;
-    push_name(line, arrays, range.array())?;
-    line.extend_from_slice(offsets(alloc, range)?.as_bytes())
+    push_range(alloc, arrays, range, line)
 }
 
 /// `refused RULE line N RANGE`, or without a range `refused RULE line N`.
@@ -148,7 +109,7 @@ pub(crate) fn rule_line(
 {
     let (name, at) = (rule_name(refusal.rule), refusal.line);
     let mut line = format!(in alloc; "refused {name} line {at}")?.into_bytes();
-    push_range(alloc, &mut line, arrays, refusal.range)?;
+    push_perhaps_range(alloc, &mut line, arrays, refusal.range)?;
     line.push(b'\n')?;
     Ok(line)
 }

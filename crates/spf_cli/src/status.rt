@@ -10,7 +10,7 @@ pub(crate) enum Status {
     Trapped = 1,
     NotUnderstood = 2,
     NoProgram = 3,
-    NotBuilt = 4,
+    Refused = 4,
     FileFailed = 5,
     PutFailed = 6,
     OverLimit = 7,

@@ -334,12 +334,43 @@ fn refused_texts_have_their_places(rt: HostRuntime) -> Result<(), Fail> {
         ("main { fail 256; }", "line 1: wrong kind\n"),
     ];
     for (program, message) in rows {
-        for words in [&RUN[..], &["print", "P"]] {
+        for words in [&RUN[..], &["print", "P"], &["check", "P"], &["explain", "P"]] {
             let given = answer(alloc, words, program)?;
             assert_eq!(rt; given.status, 3, "of {program}");
             assert_eq!(rt; given.out.bytes().len(), 0, "of {program}");
             assert_eq!(rt; given.err.bytes(), message.as_bytes(), "of {program}");
         }
+    }
+    Ok(())
+}
+
+#[test]
+fn programs_are_explained(rt: HostRuntime) -> Result<(), Fail> {
+    let alloc = rt.alloc();
+    let rows: [(&str, &str); 5] = [
+        (
+            PAIRS,
+            "fold line 1\npredictor uncovered\npredictor may\npredictor must\nbody uncovered\nbody may out[2*k+0..2*k+2]\nbody must out[2*k+0..2*k+2]\nverdict accepted\n",
+        ),
+        (
+            UNFILLED_PAIRS,
+            "fold line 1\npredictor uncovered\npredictor may\npredictor must\nbody uncovered\nbody may out[2*k+0..2*k+2]\nbody must\nverdict not-overwritten out[2*k+0..2*k+2]\n",
+        ),
+        (
+            EMITTING,
+            "fold line 1\npredictor uncovered\npredictor may\npredictor must\nbody uncovered\nbody may\nbody must\nverdict emit-inside\n",
+        ),
+        (
+            "array o[2]; main {\n  spec x = { let t = o[0]; give t; } predict 0 { o[0] = x; } }",
+            "pair line 2\nproducer uncovered o[0*k+0..0*k+1]\nproducer may\nproducer must\npredictor uncovered\npredictor may\npredictor must\nconsumer uncovered\nconsumer may o[0*k+0..0*k+1]\nconsumer must o[0*k+0..0*k+1]\nverdict overlap o[0*k+0..0*k+1]\n",
+        ),
+        ("main { emit 1; }", ""),
+    ];
+    for (program, text) in rows {
+        let given = answer(alloc, &["explain", "P"], program)?;
+        assert_eq!(rt; given.status, 0, "of {program}");
+        assert_eq!(rt; given.out.bytes(), text.as_bytes(), "of {program}");
+        assert_eq!(rt; given.err.bytes().len(), 0, "of {program}");
     }
     Ok(())
 }
@@ -360,7 +391,7 @@ fn programs_are_printed(rt: HostRuntime) -> Result<(), Fail> {
 #[test]
 fn other_words_and_files_are_refused(rt: HostRuntime) -> Result<(), Fail> {
     let alloc = rt.alloc();
-    let rows: [(&[&str], u8, &str); 16] = [
+    let rows: [(&[&str], u8, &str); 18] = [
         (&["run", "P", "J"], 5, "file J failed\n"),
         (&["run", "Q", "I"], 5, "file Q failed\n"),
         (&["print", "Q"], 5, "file Q failed\n"),
@@ -374,6 +405,8 @@ fn other_words_and_files_are_refused(rt: HostRuntime) -> Result<(), Fail> {
         (&["check", "Q"], 5, "file Q failed\n"),
         (&["check", "P", "I"], 2, "words not understood\n"),
         (&["check", "-P"], 2, "words not understood\n"),
+        (&["explain", "Q"], 5, "file Q failed\n"),
+        (&["explain"], 2, "words not understood\n"),
         (
             &["run", "P", "I", "--plain", "--stats"],
             2,

@@ -70,8 +70,8 @@ fn put<S: Sink>(given: &Answer, out: &mut S, err: &mut S) -> Result<(), PutError
 ///
 /// `words` are the words behind the program's name. The status is 0 where the command is done, 1 where
 /// the program trapped, 2 where the words aren't understood, 3 where the text has no lawful program, 4
-/// where what runs the program isn't built yet, 5 where a file can't be had, 6 where a sink failed, 7
-/// where a limit was passed, and 8 where memory was short.
+/// where the checker refuses the program or what runs it isn't built yet, 5 where a file can't be had, 6
+/// where a sink failed, 7 where a limit was passed, and 8 where memory was short.
 pub fn spf_main<F: Files, S: Sink>(
     alloc: Global,
     words: &[String],

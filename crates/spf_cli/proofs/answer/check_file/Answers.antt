@@ -31,7 +31,7 @@ pub returns-clause-whole : goal.returns-clause-whole
 returns-clause-whole g c files is =
     let v = rw c.deref.ensures.value at c.in_ok-parsed.ensures.program in
     let p = program c.in_ok-parsed.parsed in
-    let made : seen_answer c.in_ok-said.field-0 ≡ accepted = search rules in
+    let made : seen_answer c.in_ok-accepted.field-0 ≡ accepted = c.in_ok-accepted.ensures {u = tt} in
     inl (with_text (λ fs t. Read t (λ p. CheckedBy p (Is accepted))) (g.F.Files.told c.args.files.now) files c.args.program.now c.in_ok-text.text.items _ is c.in_ok-text.ensures.content c.in_ok-text.ensures.within
     (read_says c.in_ok-text.text.items p (λ p. CheckedBy p (Is accepted)) _ v
     (checked_accepted p (Is accepted) _ c.in_ok-accept.ensures.accepted (at_same (IsOnly (Is accepted)) _ accepted made (only_this accepted)))))
