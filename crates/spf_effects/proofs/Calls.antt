@@ -1,14 +1,13 @@
 -- Calls of functions that stand before a place.
-use Rattle.std.proofs.Common.{◌≡◌, ℕ, zero, suc, ◌+◌, ◌-◌, ◌*◌, ◌<◌, ◌≤◌, Bool, true, false, List, [], ◌∷◌, ◌++◌, length, get_or, drop, take, replicate, max, append_assoc, append-nil, refl, sym, ap, ◌∙◌, arith}
+use Rattle.std.proofs.Common.{◌≡◌, ℕ, zero, suc, ◌+◌, ◌-◌, ◌*◌, ◌<◌, ◌≤◌, Bool, true, false, List, [], ◌∷◌, ◌++◌, length, get_or, take, replicate, max, refl, sym, ap, ◌∙◌, arith}
 use Rattle.std.proofs.lemmas.Bool.Decides.{Decides-eqb}
-use Rattle.std.proofs.lemmas.List.{take_all, drop_all}
+use Rattle.std.proofs.lemmas.List.{take_all}
 use Rattle.std.specs.Prelude.{◌==◌, slice_get, map, Some, None, if◌then◌else◌}
 use Rattle.spf_region.specs.declared.bound.Bound.{Bound}
 use Rattle.spf_region.specs.declared.bound.Bound.TheVariants.{Unknown}
 use Rattle.spf_ast.specs.Syntax.{Function}
 use Rattle.spf_effects.specs.Parts.{call_before, entered, parameter_bounds, own_bounds}
 use Rattle.spf_effects.specs.Settings.{never_entered}
-use Rattle.spf_effects.proofs.Walks.{item_at}
 use Rattle.spf_effects.proofs.Weight.{weight_before, weight_of}
 
 -- f stands last, or before

@@ -63,9 +63,6 @@ pub record SweepsLead (name : ℕ) (f a b : ℤ) (all : List Stmt) (old : Lists)
   pub offsets : sweeps_joined f a b (sweeps name (block (drop i all))) (offsets_of now.written) ≡ sweeps_joined f a b (sweeps name (block all)) (offsets_of old.written)
   pub wholes : wholes_of now.written ≡ wholes_of old.written
 
-pub sweeps_start : (name : ℕ) (f a b : ℤ) (all : List Stmt) (old : Lists) → SweepsLead name f a b all old 0 old
-sweeps_start name f a b all old = record { uncovered = refl; may = refl; offsets = refl; wholes = refl }
-
 pub sweeps_next : (name : ℕ) (f a b : ℤ) (all : List Stmt) (old : Lists) (i : ℕ) (now new : Lists) (x : Stmt) → i < length all → x ≡ get_or all i x → IsSwept (sweeps_joined f a b (sweeps_of name (statement x.kind))) now new → SweepsLead name f a b all old i now → SweepsLead name f a b all old (i + 1) new
 sweeps_next name f a b all old i now new x h is s lead = record {
   uncovered = s.uncovered ∙ lead.uncovered;
