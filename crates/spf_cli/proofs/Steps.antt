@@ -130,8 +130,8 @@ checked_refused p next rule line range r = record { is = inr (rule, line, range,
     other b x = elim x [
       | inl y ↦ absurd (refused-not-accepted p rule line range r y.0)
       | inr z ↦
-        let same = one-first-refusal p z.0 rule z.1 line z.2 range z.3 r in
-        z.4 ∙ (λ i. rule_refused p (same.0 i) (same.1 i) (same.2 i))
+          let same = one-first-refusal p z.0 rule z.1 line z.2 range z.3 r in
+          z.4 ∙ (λ i. rule_refused p (same.0 i) (same.1 i) (same.2 i))
     ]
 
 -- what is said of a program that isn't accepted is its first refusal
@@ -268,7 +268,7 @@ fetch_cause told name limit Fault Later NoMemory f h = tt
 
 -- a cause in a fault is one in what follows from it
 pub cause_since : (told : Option (List Entry)) (Fault Later : Type 0) (answer : Answer) → (Fault → Later) → IsCaused told Fault answer → IsCaused told Later answer
-cause_since told Fault Later answer f h = record { file = λ s. elim (h.file s) [ | inl x ↦ inl (f x) | inr y ↦ inr y ]; put = h.put }
+cause_since told Fault Later answer f h = record { file = λ s. elim (h.file s) [ inl x ↦ inl (f x) | inr y ↦ inr y ]; put = h.put }
 
 -- a refusal by a rule has neither the status for a file nor that for a put
 pub rule_cause : (told : Option (List Entry)) (Fault : Type 0) (p : Program) (left : Left) → IsRuleLeft p left → AnswersWith (IsCaused told Fault) (Err left)

@@ -18,7 +18,9 @@ ghost use Rattle.spf_cli.specs.Whole.{IsOnly, Runs, RunsOn, IsInputFault, Whole,
 ghost use Rattle.spf_cli.specs.Answering.{bytes_of, seen_answer, IsFetchLeft, IsReadLeft, IsRuleLeft, IsNotAccepted, IsNotRun, IsWholeUnless, IsCaused, AnswersWith};
 
 use crate::command::{Command, Options, read_words};
-use crate::message::{array_line, failed_line, long_line, rule_line, stats_line, too_many_line, trap_line};
+use crate::message::{
+    array_line, failed_line, long_line, rule_line, stats_line, too_many_line, trap_line,
+};
 use crate::reading::{Unread, read_program, refusal_line};
 use crate::status::Status;
 use spf_ast::canonical::print;

@@ -22,7 +22,8 @@ const UNFILLED_PAIRS: &str =
     "array out[6]; main { specfold s = 0 for k in 0..3 predict 1 { out[2*k + (s & 1)] = 7; next s + 1; } }";
 
 /// Counts its blocks in a local of `main`.
-const OUTER_COUNT: &str = "main { let n = 0; specfold s = 0 for k in 0..2 predict 0 { n = n + 1; next s; } emit n; }";
+const OUTER_COUNT: &str =
+    "main { let n = 0; specfold s = 0 for k in 0..2 predict 0 { n = n + 1; next s; } emit n; }";
 
 /// Puts out the number of each block.
 const EMITTING: &str = "main { specfold s = 0 for k in 0..3 predict 0 { emit k; next s; } }";
@@ -277,13 +278,7 @@ fn all_programs_are_run_plainly(rt: HostRuntime) -> Result<(), Fail> {
             &[2],
             "blocks 0 hits 0 misses 0 blind 0\n",
         ),
-        (
-            EMITTING,
-            &["run", "P", "I", "--plain"],
-            0,
-            &[0, 1, 2],
-            "",
-        ),
+        (EMITTING, &["run", "P", "I", "--plain"], 0, &[0, 1, 2], ""),
         (
             "array a[4194305]; main { }",
             &["run", "P", "I", "--plain"],
@@ -334,7 +329,12 @@ fn refused_texts_have_their_places(rt: HostRuntime) -> Result<(), Fail> {
         ("main { fail 256; }", "line 1: wrong kind\n"),
     ];
     for (program, message) in rows {
-        for words in [&RUN[..], &["print", "P"], &["check", "P"], &["explain", "P"]] {
+        for words in [
+            &RUN[..],
+            &["print", "P"],
+            &["check", "P"],
+            &["explain", "P"],
+        ] {
             let given = answer(alloc, words, program)?;
             assert_eq!(rt; given.status, 3, "of {program}");
             assert_eq!(rt; given.out.bytes().len(), 0, "of {program}");

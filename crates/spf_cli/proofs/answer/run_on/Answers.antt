@@ -1,7 +1,6 @@
-use Rattle.std.proofs.Common.{rules, subst, ◌≡◌, true, false}
+use Rattle.std.proofs.Common.{rules, ◌≡◌, true, false}
 use Rattle.std.proofs.lemmas.Result.{err_from_is_err_and}
 use Rattle.spf_ast.specs.View.{program}
-use Rattle.spf_edge.specs.Entries.{HasContent}
 use Rattle.spf_edge.specs.Faults.{Rose}
 use Rattle.spf_cli.specs.Asked.{seen_options}
 use Rattle.spf_cli.specs.Whole.{IsOnly, Runs, RunsOn, IsInputFault, is_built}
