@@ -3,6 +3,8 @@
 
 mod answer;
 mod command;
+#[cfg(test)]
+mod explain_tests;
 mod message;
 mod reading;
 mod status;

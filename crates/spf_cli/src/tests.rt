@@ -54,14 +54,14 @@ fn files(alloc: Global, program: &str) -> Result<MemFiles, AllocError> {
 
 /// What came of a call: its status, and what both sinks took.
 #[derive(Drop)]
-struct Given {
-    status: u8,
-    out: MemSink,
-    err: MemSink,
+pub(crate) struct Given {
+    pub(crate) status: u8,
+    pub(crate) out: MemSink,
+    pub(crate) err: MemSink,
 }
 
 /// The answer to these words, where the file of the program has this text.
-fn answer(alloc: Global, words: &[&str], program: &str) -> Result<Given, AllocError> {
+pub(crate) fn answer(alloc: Global, words: &[&str], program: &str) -> Result<Given, AllocError> {
     let words = texts(alloc, words)?;
     let mut files = files(alloc, program)?;
     let mut out = MemSink::make(Vec::new(alloc), 0);

@@ -1,0 +1,204 @@
+// What is explained of worked programs.
+use crate::tests::answer;
+use std::alloc::{AllocError, Global};
+use std::test::Fail;
+
+/// Decodes PackBits: counts in blocks how often each byte is written, and then writes it.
+const PACKBITS: &str = "array rep[1*len + 1024];
+main {
+  specfold s = 0 for k in 0..(len + 1023) / 1024 predict 0 {
+    fill rep[1024 * k..1024 * k + 1024] = 0;
+    let t = s;
+    for i in 1024 * k..1024 * k + 1024 {
+      if i < len {
+        let b = input[i];
+        if t == 0 {
+          if b < 128 {
+            t = b + 1;
+          }
+          if b > 128 {
+            t = b - 257;
+          }
+        } else {
+          if t > 0 {
+            rep[i] = 1;
+            t = t - 1;
+          } else {
+            rep[i] = 0 - t;
+            t = 0;
+          }
+        }
+      }
+    }
+    next t;
+  }
+  for i in 0..len {
+    for j in 0..rep[i] {
+      emit input[i];
+    }
+  }
+}
+";
+
+/// Decodes Huffman codes: each block begins from the bits that were read since the last whole code.
+const HUFFMAN: &str = "array code[65536];
+array sym[8*len + 8192];
+fn bite(g, byte) {
+  let h = g;
+  for j in 0..8 {
+    if h != 0 {
+      h = h * 2 + (byte >> 7 - j & 1);
+      if h > 65535 {
+        h = 0;
+      } else { if code[h] != 0 { h = 1; } }
+    }
+  }
+  return h;
+}
+fn look(p) {
+  let h = 1;
+  for i in p - 16..p {
+    if i >= 0 { h = bite(h, input[264 + i]); }
+  }
+  return h;
+}
+main {
+  let v = 0;
+  for n in 1..16 {
+    for y in 0..256 {
+      if input[4 + y] == n { code[(1 << n) + v] = y + 1; v = v + 1; }
+    }
+    v = v * 2;
+  }
+  specfold s = 1 for k in 0..(len - 264 + 1023) / 1024 predict look(1024 * k) {
+    fill sym[8192 * k..8192 * k + 8192] = 0;
+    let h = s;
+    for i in 0..1024 {
+      if 1024 * k + i < len - 264 {
+        let byte = input[264 + 1024 * k + i];
+        for j in 0..8 {
+          if h != 0 {
+            h = h * 2 + (byte >> 7 - j & 1);
+            if h > 65535 { h = 0; }
+            else { if code[h] != 0 { sym[8192 * k + 8 * i + j] = code[h]; h = 1; } }
+          }
+        }
+      }
+    }
+    next h;
+  }
+  let want = ((input[260] * 256 + input[261]) * 256 + input[262]) * 256 + input[263];
+  let got = 0;
+  for i in 0..8 * (len - 264) {
+    if sym[i] != 0 { if got < want { emit sym[i] - 1; got = got + 1; } }
+  }
+  if got < want {
+    fail 1;
+  }
+}
+";
+
+/// Runs a lexer's machine, which stands in front of the data: each block begins from a state.
+const LEXER: &str = "array mark[1*len + 1024];
+fn look(p) {
+  let q = 0;
+  for i in p - 32..p {
+    if i >= 0 { q = input[262 + 2 * (q * 6 + input[6 + input[334 + i]])]; }
+  }
+  return q;
+}
+main {
+  specfold s = 0 for k in 0..(len - 334 + 1023) / 1024 predict look(1024 * k) {
+    fill mark[1024 * k..1024 * k + 1024] = 0;
+    let q = s;
+    for i in 1024 * k..1024 * k + 1024 {
+      if i < len - 334 {
+        let e = 262 + 2 * (q * 6 + input[6 + input[334 + i]]);
+        mark[i] = input[e + 1];
+        q = input[e];
+      }
+    }
+    next q;
+  }
+  for i in 0..len - 334 {
+    if mark[i] != 0 {
+      emit mark[i];
+      emit i >> 24;
+      emit i >> 16 & 255;
+      emit i >> 8 & 255;
+      emit i & 255;
+    }
+  }
+}
+";
+
+/// The effects of a body that may write its own blocks of an array, and surely does.
+fn whole_blocks(
+    alloc: Global,
+    line: u32,
+    reads: &str,
+    range: &str,
+) -> Result<String, AllocError> {
+    format!(in alloc; "fold line {line}\npredictor uncovered{reads}\npredictor may\npredictor must\nbody uncovered{reads}\nbody may {range}\nbody must {range}\nverdict accepted\n")
+}
+
+#[test]
+fn decoders_are_accepted(rt: HostRuntime) -> Result<(), Fail> {
+    let alloc = rt.alloc();
+    let rows: [(&str, u32, &str, &str); 3] = [
+        (PACKBITS, 3, "", "rep[1024*k+0..1024*k+1024]"),
+        (HUFFMAN, 30, " code[..]", "sym[8192*k+0..8192*k+8192]"),
+        (LEXER, 10, "", "mark[1024*k+0..1024*k+1024]"),
+    ];
+    for (program, line, reads, range) in rows {
+        let given = answer(alloc, &["explain", "P"], program)?;
+        let wanted = whole_blocks(alloc, line, reads, range)?;
+        assert_eq!(rt; given.status, 0, "{range}");
+        assert_eq!(rt; given.out.bytes(), wanted.as_bytes(), "{range}");
+        let given = answer(alloc, &["check", "P"], program)?;
+        assert_eq!(rt; (given.status, given.err.bytes()), (0, b"accepted\n".as_slice()), "{range}");
+    }
+    Ok(())
+}
+
+#[test]
+fn effects_of_worked_bodies_are_told(rt: HostRuntime) -> Result<(), Fail> {
+    let alloc = rt.alloc();
+    let rows: [(&str, &str); 7] = [
+        (
+            "array out[4]; main { specfold s = 0 for k in 0..4 predict 0 { let t = out[k]; out[k] = t + s; next t; } }",
+            "body uncovered out[1*k+0..1*k+1]\nbody may out[1*k+0..1*k+1]\nbody must out[1*k+0..1*k+1]\nverdict read-before-write out[1*k+0..1*k+1]\n",
+        ),
+        (
+            "array out[5]; main { specfold s = 0 for k in 0..4 predict 0 { out[k] = s; out[k + 1] = s; next s; } }",
+            "body uncovered\nbody may out[1*k+0..1*k+2]\nbody must out[1*k+0..1*k+2]\nverdict overlap out[1*k+0..1*k+2]\n",
+        ),
+        (
+            "array a[1]; fn f(x) { a[0] = x; return x; } main { specfold s = 0 for k in 0..2 predict 0 { next f(k); } }",
+            "body uncovered\nbody may a[0*k+0..0*k+1]\nbody must a[0*k+0..0*k+1]\nverdict overlap a[0*k+0..0*k+1]\n",
+        ),
+        (
+            "array out[8]; main { specfold s = 0 for k in 0..4 predict 0 { for i in 0..s { out[k] = 1; } next 1; } }",
+            "body uncovered\nbody may out[1*k+0..1*k+1]\nbody must\nverdict not-overwritten out[1*k+0..1*k+1]\n",
+        ),
+        (
+            "array out[9]; main { specfold s = 0 for k in 0..2 predict 0 { out[1099511627777 * k] = 1; next 0; } }",
+            "body uncovered\nbody may out[..]\nbody must\nverdict overlap out[..]\n",
+        ),
+        (
+            "array out[9]; main { specfold s = 0 for k in 0..2 predict 0 { out[1099511627776 * k] = 1; next 0; } }",
+            "body uncovered\nbody may out[1099511627776*k+0..1099511627776*k+1]\nbody must out[1099511627776*k+0..1099511627776*k+1]\nverdict accepted\n",
+        ),
+        (
+            "array out[1]; main { specfold s = 0 for k in -1..1 predict 0 { out[k] = 1; next 0; } }",
+            "body uncovered\nbody may out[1*k+0..1*k+1]\nbody must out[1*k+0..1*k+1]\nverdict accepted\n",
+        ),
+    ];
+    for (program, body) in rows {
+        let given = answer(alloc, &["explain", "P"], program)?;
+        let wanted = format!(in alloc; "fold line 1\npredictor uncovered\npredictor may\npredictor must\n{body}")?;
+        assert_eq!(rt; given.status, 0, "{program}");
+        assert_eq!(rt; given.out.bytes(), wanted.as_bytes(), "{program}");
+    }
+    Ok(())
+}
