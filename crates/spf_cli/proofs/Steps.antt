@@ -266,17 +266,6 @@ pub fetch_cause : (told : Option (List Entry)) (name : List ℕ) (limit : ℕ) (
 fetch_cause told name limit Fault Later (Answered a) f h = cause_of told name limit Fault Later (seen_answer a) f h
 fetch_cause told name limit Fault Later NoMemory f h = tt
 
--- a cause in a fault is one in what follows from it
-pub cause_since : (told : Option (List Entry)) (Fault Later : Type 0) (answer : Answer) → (Fault → Later) → IsCaused told Fault answer → IsCaused told Later answer
-cause_since told Fault Later answer f h = record { file = λ s. elim (h.file s) [ inl x ↦ inl (f x) | inr y ↦ inr y ]; put = h.put }
-
--- a refusal by a rule has neither the status for a file nor that for a put
-pub rule_cause : (told : Option (List Entry)) (Fault : Type 0) (p : Program) (left : Left) → IsRuleLeft p left → AnswersWith (IsCaused told Fault) (Err left)
-rule_cause told Fault p (Answered a) h =
-    let same = rule_refused p h.0 h.1 h.2 in
-    caused_by_neither told Fault (seen_answer a) (other_status 5 (seen_answer a) same h.4 (λ z. omega (arith, z))) (other_status 6 (seen_answer a) same h.4 (λ z. omega (arith, z)))
-rule_cause told Fault p NoMemory h = tt
-
 -- a count that has risen since later has risen since before
 pub rose_since : (a b c : ℕ) → a ≤ b → Rose b c → Rose a c
 rose_since a b c l h = omega (arith, l, h)
