@@ -29,7 +29,8 @@ use Rattle.spf_laws.proofs.Chains.{is-statement, construct-is-blocks, header-tra
 use Rattle.spf_laws.proofs.Plainly.{Comes, answer-bind, answers-alike, comes-then, comes-trap}
 use Rattle.spf_guess.specs.declared.stats.Stats.{Stats}
 use Rattle.spf_guess.specs.Statistics.{guess_of, guess_at, none, plus, statistics_of, statistics_with}
-use Rattle.spf_engine.specs.Standing.{GoesOn, HasCome, CameOut, guesses_from, counts}
+use Rattle.spf_engine.specs.Standing.{IsAt, GoesOn, HasCome, CameOut, guesses_from, counts}
+use Rattle.spf_engine.proofs.Places.{goes-to}
 use Rattle.spf_engine.proofs.Fronts.{declared-after}
 use Rattle.spf_engine.proofs.Standing.{Follows, follows, follows-trap, traps-here, no-statistics, plus-none, plus-plus, outcome-of}
 
@@ -253,6 +254,9 @@ settles-so p input before after last counted c h e silent own v values out slots
     record {
       scope = scope_after e.goes.scope b.statement;
       moment = next;
+      there = subst (λ rest. IsAt p input rest next) (sym behind)
+          (goes-to p input (ahead p before) (on_line b.line b.statement end) b.rest m ended.state last.cells e.goes.there b.is
+          (comes-then {first = statement_means g b.line b.statement} (λ u. block_means g end) statement (record { answer = refl; memory = refl })));
       lawful = subst (IsLawfulBlock names true (scope_after e.goes.scope b.statement)) (sym behind) lawful.1;
       declared = declared-after names e.goes.scope b.statement lawful.0 e.goes.declared;
       alike = subst (λ visible. LookAlike visible ended.state (moment_of p last).state) (sym (shows-carried b.line b.statement c b.construct e.goes.scope))

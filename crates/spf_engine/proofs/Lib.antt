@@ -1,4 +1,5 @@
 pub mod Fronts
+pub mod Places
 pub mod Standing
 pub mod Constructs
 pub mod PlainBlocks

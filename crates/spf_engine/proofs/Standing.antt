@@ -17,7 +17,8 @@ use Rattle.spf_laws.proofs.Forms.{calls-see, block-sees}
 use Rattle.spf_laws.proofs.Plainly.{Comes, answers-alike, memories-alike}
 use Rattle.spf_guess.specs.declared.stats.Stats.{Stats}
 use Rattle.spf_guess.specs.Statistics.{none, plus, statistics, statistics_of}
-use Rattle.spf_engine.specs.Standing.{GoesOn, HasCome}
+use Rattle.spf_engine.specs.Standing.{IsAt, GoesOn, HasCome}
+use Rattle.spf_engine.proofs.Places.{goes-to, whole-again}
 use Rattle.spf_engine.proofs.Fronts.{front-goes, front-traps, front-constructs, split-lawfully, declared-at-end}
 
 -- ---- forms from two states
@@ -103,6 +104,7 @@ begins p input s l b =
     record {
       scope = nothing_declared;
       moment = m;
+      there = record { before = end; parts = all; state = refl; memory = refl };
       lawful = subst (IsLawfulBlock (names_at p (length p.functions) p.slots) true nothing_declared) (sym all) l.scoped.main;
       declared = λ slot c. absurd (nothing-visible slot c);
       alike = record { agree = record { slots = λ slot c. absurd (nothing-visible slot c); output = sym b.output }; slot_count = ap length (sym b.slots) };
@@ -160,6 +162,8 @@ advances p input before after counted h went at =
     record {
       scope = scope_at_end h.scope front;
       moment = m;
+      there = subst (λ rest. IsAt p input rest m) (sym at)
+          (goes-to p input (ahead p before) front (from_construct (ahead p before)) h.moment f.state (plain_memory (block_means g front (moment_of p before).state) before.cells) h.there (sym (whole-again (ahead p before))) f.comes);
       lawful = subst (IsLawfulBlock names true (scope_at_end h.scope front)) (sym at) parts.rest;
       declared = declared-at-end names h.scope front parts.front h.declared;
       alike = f.alike;

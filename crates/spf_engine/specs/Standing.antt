@@ -2,10 +2,11 @@
 use Rattle.std.specs.Prelude.{◌≡◌, ℕ, true, List, length, Result, ℤ, pos, ◌+ℤ◌}
 use Rattle.spf_ast.specs.declared.outcome.Trap.{Trap}
 use Rattle.spf_ast.specs.declared.syntax.Part.TheVariants.{Predictor}
-use Rattle.spf_ast.specs.Syntax.{Program}
+use Rattle.spf_ast.specs.Interaction.{Value}
+use Rattle.spf_ast.specs.Syntax.{Program, Block, end, on_line}
 use Rattle.spf_ast.specs.Meaning.{Environment, block_means}
 use Rattle.spf_ast.specs.Plain.{plain_answer, plain_memory}
-use Rattle.spf_ast.specs.Program.{environment_of, Outcome, outcome, outcome_from}
+use Rattle.spf_ast.specs.Program.{environment_of, start_of, zeros_of, Outcome, outcome, outcome_from}
 use Rattle.spf_ast.specs.Construct.{Moment, Construct, Header, constructs_in, block_asks, reached_from}
 use Rattle.spf_ast.specs.Lawful.{Scope, names_at, IsLawfulBlock}
 use Rattle.spf_exec.specs.Frame.{main_slots}
@@ -15,10 +16,23 @@ use Rattle.spf_laws.specs.Chained.{AreDeclared, chained}
 use Rattle.spf_guess.specs.declared.stats.Stats.{Stats}
 use Rattle.spf_guess.specs.Statistics.{Guess, guess_of, plus, statistics, statistics_of, statistics_with}
 
--- A run of a lawful program stands where its plain run comes too, at some moment: they agree on the slots that are visible there, on the output and on the memory. What the plain run does from this moment on gives the program's outcome, and, with what was counted so far, its statistics.
+-- a block, and then another
+abbrev pub followed_by : Block → Block → Block
+followed_by end more = more
+followed_by (on_line line first rest) more = on_line line first (followed_by rest more)
+
+-- the plain run of the program is at this moment when these statements of `main` are still to come: those before them came to it
+pub record IsAt (p : Program) (input : List ℕ) (rest : Block) (m : Moment) : Type 0 where
+  pub before : Block
+  pub parts : followed_by before rest ≡ p.main
+  pub state : plain_answer (block_means (environment_of p input) before (start_of p)) (zeros_of p (length input)) ≡ Value tt m.state
+  pub memory : plain_memory (block_means (environment_of p input) before (start_of p)) (zeros_of p (length input)) ≡ m.memory
+
+-- A run of a lawful program stands where its plain run does at the same place: they agree on the slots that are visible there, on the output and on the memory. What the plain run does from this moment on gives the program's outcome, and, with what was counted so far, its statistics.
 pub record GoesOn (p : Program) (input : List ℕ) (s : Stand) (counted : Stats) : Type 0 where
   pub scope : Scope
   pub moment : Moment
+  pub there : IsAt p input (ahead p s) moment
   pub lawful : IsLawfulBlock (names_at p (length p.functions) p.slots) true scope (ahead p s)
   pub declared : AreDeclared scope
   pub alike : LookAlike scope.visible moment.state (moment_of p s).state
