@@ -203,9 +203,9 @@ something-written : (p : Program) (k : Construct) (c : ConstructEffects) (list x
 something-written p k c list xs r n are m e = (
   λ kept. kept (array_of r) (there-array list xs r m (found-there _ xs r e)) (written-of p k c (array_of r) n are (find-some _ xs r e).passes),
   first-is list xs (λ s. is_written c (array_of s)) (λ s. IsWritten p k (array_of s)) r m
-  (λ s t. written-of p k c (array_of s) n are t)
-  (λ s t. not-written p k c (array_of s) n are t)
-  e,
+      (λ s t. written-of p k c (array_of s) n are t)
+      (λ s t. not-written p k c (array_of s) n are t)
+      e,
 )
 
 -- ---- what a predictor writes
@@ -379,9 +379,9 @@ covered-said p k xs must m sure = said-range p k NotOverwritten (find t xs) kept
     broken r e = (
       clash r (found-there t xs r e) (find-some t xs r e).passes,
       first-is list xs t (λ s. covers (part_effects p k (guessed_part k)).must s ≡ false) r m
-      (λ s q. sym (held s) ∙ not-true _ q)
-      (λ s q c. let n = not-false _ (held s ∙ c) in cc)
-      e,
+          (λ s q. sym (held s) ∙ not-true _ q)
+          (λ s q c. let n = not-false _ (held s ∙ c) in cc)
+          e,
     )
 
 -- ---- all rules

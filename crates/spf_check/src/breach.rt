@@ -58,7 +58,10 @@ fn by(range: Option<Range>) -> Option<Breach>
 fn meets(range: &Range, others: &RangeList) -> bool
     ensures { result ≡ meets range.now others.now }
 {
-    others.ranges().iter().any(|other| !range.is_disjoint(other))
+    others
+        .ranges()
+        .iter()
+        .any(|other| !range.is_disjoint(other))
 }
 
 impl ConstructEffects {
@@ -191,9 +194,6 @@ fn are_normal(found: &Effects)
 fn first_meeting(written: &RangeList, producer: &Effects) -> Option<Range>
     ensures { result ≡ find (λ r. meets r producer.now.uncovered || meets r producer.now.may) written.now }
 {
-    written
-        .ranges()
-        .iter()
-        .copied()
-        .find(|range| meets(range, &producer.uncovered) || meets(range, &producer.may))
+    written.ranges().iter().copied().find(|range| meets(range, &producer.uncovered)
+        || meets(range, &producer.may))
 }

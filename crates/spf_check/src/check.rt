@@ -32,7 +32,11 @@ pub(crate) enum Verdict {
 }
 
 /// The effects of all parts of a fold, given its number.
-fn fold_effects(alloc: Global, program: &Program, number: u32) -> Result<ConstructEffects, AllocError>
+fn fold_effects(
+    alloc: Global,
+    program: &Program,
+    number: u32,
+) -> Result<ConstructEffects, AllocError>
     ensures { (line : _) (head : _) (body : _) → slice_get (constructs_in (seen_program program.now).main) number ≡ Some (fold line head body)
         → IfOk result (AreEffectsOf (seen_program program.now) (fold line head body)) }
 {
@@ -44,7 +48,11 @@ fn fold_effects(alloc: Global, program: &Program, number: u32) -> Result<Constru
 }
 
 /// The effects of all parts of a pair, given its number.
-fn pair_effects(alloc: Global, program: &Program, number: u32) -> Result<ConstructEffects, AllocError>
+fn pair_effects(
+    alloc: Global,
+    program: &Program,
+    number: u32,
+) -> Result<ConstructEffects, AllocError>
     ensures { (line : _) (head : _) (producer : _) (consumer : _) → slice_get (constructs_in (seen_program program.now).main) number ≡ Some (pair line head producer consumer)
         → IfOk result (AreEffectsOf (seen_program program.now) (pair line head producer consumer)) }
 {

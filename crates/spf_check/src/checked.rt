@@ -28,7 +28,6 @@ impl Model for Checked {
     ghost use Rattle.spf_ast.specs.declared.syntax.Program.{Program};
     ghost use Rattle.spf_ast.specs.View.{program as seen_program};
     ghost use Rattle.spf_check.specs.Verdicts.{IsKept};
-
     ghost use Rattle.spf_ast.specs.contracts.syntax.Program as row;
     ghost use Rattle.std.specs.Coded.{codes};
 

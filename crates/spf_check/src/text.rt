@@ -40,7 +40,10 @@ fn offsets_text(alloc: Global, range: Range) -> Result<String, AllocError>
     match range {
         Range::Whole { .. } => String::from_str(alloc, "[..]"),
         Range::Affine {
-            factor, from, to, ..
+            factor,
+            from,
+            to,
+            ..
         } => {
             let end = i128::from(to) + 1;
             format!(in alloc; "[{factor}*k+{from}..{factor}*k+{end}]")

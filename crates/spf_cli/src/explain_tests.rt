@@ -133,13 +133,10 @@ main {
 ";
 
 /// The effects of a body that may write its own blocks of an array, and surely does.
-fn whole_blocks(
-    alloc: Global,
-    line: u32,
-    reads: &str,
-    range: &str,
-) -> Result<String, AllocError> {
-    format!(in alloc; "fold line {line}\npredictor uncovered{reads}\npredictor may\npredictor must\nbody uncovered{reads}\nbody may {range}\nbody must {range}\nverdict accepted\n")
+fn whole_blocks(alloc: Global, line: u32, reads: &str, range: &str) -> Result<String, AllocError> {
+    format!(in alloc;
+        "fold line {line}\npredictor uncovered{reads}\npredictor may\npredictor must\nbody uncovered{reads}\nbody may {range}\nbody must {range}\nverdict accepted\n"
+    )
 }
 
 #[test]
@@ -156,7 +153,11 @@ fn decoders_are_accepted(rt: HostRuntime) -> Result<(), Fail> {
         assert_eq!(rt; given.status, 0, "{range}");
         assert_eq!(rt; given.out.bytes(), wanted.as_bytes(), "{range}");
         let given = answer(alloc, &["check", "P"], program)?;
-        assert_eq!(rt; (given.status, given.err.bytes()), (0, b"accepted\n".as_slice()), "{range}");
+        assert_eq!(rt;
+            (given.status, given.err.bytes()),
+            (0, b"accepted\n".as_slice()),
+            "{range}"
+        );
     }
     Ok(())
 }
@@ -196,7 +197,9 @@ fn effects_of_worked_bodies_are_told(rt: HostRuntime) -> Result<(), Fail> {
     ];
     for (program, body) in rows {
         let given = answer(alloc, &["explain", "P"], program)?;
-        let wanted = format!(in alloc; "fold line 1\npredictor uncovered\npredictor may\npredictor must\n{body}")?;
+        let wanted = format!(in alloc;
+            "fold line 1\npredictor uncovered\npredictor may\npredictor must\n{body}"
+        )?;
         assert_eq!(rt; given.status, 0, "{program}");
         assert_eq!(rt; given.out.bytes(), wanted.as_bytes(), "{program}");
     }

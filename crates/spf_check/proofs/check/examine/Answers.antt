@@ -29,8 +29,7 @@ loop-number-preserved c =
 
 pub returns : goal.returns
 returns c =
-    let same : c.loop-number.number ≡ length (constructs_in (program c.args.program.now).main) = omega (arith, c.loop-number-test.false, c.top_constructs-number-end.ensures, c.loop-number.auto.number-end) in
-    (
+    let same : c.loop-number.number ≡ length (constructs_in (program c.args.program.now).main) = omega (arith, c.loop-number-test.false, c.top_constructs-number-end.ensures, c.loop-number.auto.number-end) in (
       all-kept (program c.args.program.now) (subst (KeptBefore (program c.args.program.now)) same c.loop-number.invariant.kept),
       subst (λ n. AreWritesBefore (program c.args.program.now) n c.loop-number.writes.items) same c.loop-number.invariant.written,
     )
