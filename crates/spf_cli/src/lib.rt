@@ -6,6 +6,8 @@ mod command;
 #[cfg(test)]
 mod explain_tests;
 mod message;
+#[cfg(test)]
+mod plan_tests;
 mod reading;
 mod status;
 #[cfg(test)]
