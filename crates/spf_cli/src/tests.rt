@@ -148,7 +148,7 @@ fn programs_of_the_first_form_are_run_by_blocks(rt: HostRuntime) -> Result<(), F
 #[test]
 fn programs_that_break_a_rule_are_refused(rt: HostRuntime) -> Result<(), Fail> {
     let alloc = rt.alloc();
-    let rows: [(&str, &str); 11] = [
+    let rows: [(&str, &str); 15] = [
         (
             UNFILLED_PAIRS,
             "refused not-overwritten line 1 out[2*k+0..2*k+2]\n",
@@ -187,6 +187,22 @@ fn programs_that_break_a_rule_are_refused(rt: HostRuntime) -> Result<(), Fail> {
             "array a[2]; array out[9]; main {\n  specfold s = 0 for k in 0..2 predict 0 {\n    out[-k + 3] = 1;\n    next 0; } }",
             "refused overlap line 2 out[-1*k+3..-1*k+4]\n",
         ),
+        (
+            "array out[9]; main { specfold s = 0 for k in 0..2 predict 0 { out[k] = 1; out[s] = 2; next 0; } }",
+            "refused overlap line 1 out[..]\n",
+        ),
+        (
+            "array out[2]; main { specfold s = 0 for k in 0..2 predict 0 { out[1] = s; next s; } }",
+            "refused overlap line 1 out[0*k+1..0*k+2]\n",
+        ),
+        (
+            "array a[2]; main { spec x = { a[0] = 5; give 5; } predict 0 { a[1] = a[0]; } }",
+            "refused read-before-write line 1 a[0*k+0..0*k+1]\n",
+        ),
+        (
+            "array a[2]; main { spec x = { give 5; } predict 0 { if x == 5 { a[1] = x; } } }",
+            "refused not-overwritten line 1 a[0*k+1..0*k+2]\n",
+        ),
     ];
     for (program, message) in rows {
         for words in [&RUN[..], &["check", "P"], &["run", "P", "J", "--stats"]] {
@@ -202,7 +218,7 @@ fn programs_that_break_a_rule_are_refused(rt: HostRuntime) -> Result<(), Fail> {
 #[test]
 fn the_check_of_a_program_is_told(rt: HostRuntime) -> Result<(), Fail> {
     let alloc = rt.alloc();
-    let rows: [(&str, u8, &str); 8] = [
+    let rows: [(&str, u8, &str); 10] = [
         (PAIRS, 0, "accepted\n"),
         (DOUBLING, 0, "accepted\n"),
         ("main { }", 0, "accepted\n"),
@@ -225,6 +241,16 @@ fn the_check_of_a_program_is_told(rt: HostRuntime) -> Result<(), Fail> {
             "array o[4]; main { specfold s = 0 for k in 0..2 predict 0 { o[2*k - 3] = s; o[2*k - 3] = 0; if s == 1 { o[2*k - 2] = s; } next s; } }",
             4,
             "refused not-overwritten line 1 o[2*k+-3..2*k+-1]\n",
+        ),
+        (
+            "array a[2]; main { spec x = { if len == 0 { a[1] = 1; } give 1; } predict 0 { a[0] = x; } }",
+            0,
+            "accepted\n",
+        ),
+        (
+            "array a[2]; array b[2]; main { spec x = { b[len] = 1; give 1; } predict 0 { a[0] = x; } }",
+            0,
+            "accepted\n",
         ),
         ("main { emit @; }", 3, "text byte 12: bad byte\n"),
     ];

@@ -2,7 +2,7 @@
 ghost use Rattle.std.specs.Prelude.{◌≡◌, ◌<◌, Some, map, IfOk, OnOk, slice_get, List, []};
 ghost use Rattle.spf_ast.specs.declared.syntax.Fold.{out-Fold};
 ghost use Rattle.spf_ast.specs.declared.syntax.Pair.{out-Pair};
-ghost use Rattle.spf_ast.specs.Syntax.{Call as call_form, If as if_form, While as while_form, Fold as fold_form, Pair as pair_form};
+ghost use Rattle.spf_ast.specs.Syntax.{Call as call_form, Fill as fill_form, If as if_form, While as while_form, Fold as fold_form, Pair as pair_form};
 ghost use Rattle.spf_ast.specs.View.{expression as expression_of, arguments as arguments_of, condition as condition_of, statement as statement_of, block as block_of, fold_head, pair_head, function as function_of};
 ghost use Rattle.spf_effects.specs.Extends.{Extends};
 ghost use Rattle.spf_effects.specs.Found.{◌then◌, either, perhaps, turns, turn_bound};
@@ -224,7 +224,7 @@ fn statement(
             declare(context.assigned, *slot, bound, bounds);
             Ok(())
         }
-        StmtKind::Assign(_, value) => {
+        StmtKind::Assign(_, value) | StmtKind::Emit(value) => {
             expression(alloc, context, below, bounds, value, found)?;
             Ok(())
         }
@@ -234,14 +234,9 @@ fn statement(
             found.write_element(alloc, *array, index)
         }
         StmtKind::Fill(array, low, high, value) => {
-            let low = expression(alloc, context, below, bounds, low, found)?;
-            let high = expression(alloc, context, below, bounds, high, found)?;
-            expression(alloc, context, below, bounds, value, found)?;
-            found.write_range(alloc, *array, low, high)
-        }
-        StmtKind::Emit(value) => {
-            expression(alloc, context, below, bounds, value, found)?;
-            Ok(())
+            fill(
+                alloc, context, below, bounds, *array, low, high, value, found,
+            )
         }
         StmtKind::Fail(_) => Ok(()),
         StmtKind::If(cond, first, second) => {
@@ -262,6 +257,27 @@ fn statement(
         StmtKind::Fold(fold) => inner_fold(alloc, context, below, bounds, fold, found),
         StmtKind::Pair(pair) => inner_pair(alloc, context, below, bounds, pair, found),
     }
+}
+
+/// Examines a `fill`.
+#[cycle(walk)]
+fn fill(
+    alloc: Global,
+    context: &Context,
+    below: usize,
+    bounds: &[Bound],
+    array: u32,
+    low: &Expr,
+    high: &Expr,
+    value: &Expr,
+    found: &mut Findings,
+) -> Result<(), AllocError>
+    ensures finds { OnOk result (Extends (statement_finds (setting context.now below) bounds.now (fill_form array (expression_of low.now) (expression_of high.now) (expression_of value.now))) found.old found.new) }
+{
+    let low = expression(alloc, context, below, bounds, low, found)?;
+    let high = expression(alloc, context, below, bounds, high, found)?;
+    expression(alloc, context, below, bounds, value, found)?;
+    found.write_range(alloc, array, low, high)
 }
 
 /// Examines a condition and the two blocks of an `if`. What both surely write is surely written.

@@ -290,7 +290,8 @@ statement-returns-in_ok-bound-in-Let-clause-finds t c =
 
 pub statement-returns-in_ok-expression-in-Assign-clause-finds : goal.statement-returns-in_ok-expression-in-Assign-clause-finds
 statement-returns-in_ok-expression-in-Assign-clause-finds t c =
-    rw c.in-Assign.is (c.in_ok-expression-in-Assign.ensures {u = tt}).finds
+    let value = (c.in_ok-expression-in-Assign.ensures {u = tt}).finds in
+    elim c.in-Assign.is [ inl e ↦ rw e.1 value | inr e ↦ rw e value ]
 
 pub statement-returns-in_ok-expression-in-Store-clause-finds : goal.statement-returns-in_ok-expression-in-Store-clause-finds
 statement-returns-in_ok-expression-in-Store-clause-finds t c =
@@ -300,15 +301,18 @@ statement-returns-in_ok-expression-in-Store-clause-finds t c =
     rw c.in-Store.is (then_on c.write_element.result (expression_finds (setting c.args.context.now c.args.below) c.args.bounds.now (expression c.in-Store.index)) ((expression_finds (setting c.args.context.now c.args.below) c.args.bounds.now (expression c.in-Store.value)) then write) c.args.found.now c.expression-in-Store.new.found c.write_element.new.self index.finds
     (then_on c.write_element.result (expression_finds (setting c.args.context.now c.args.below) c.args.bounds.now (expression c.in-Store.value)) write c.expression-in-Store.new.found c.expression-in-Store-2.new.found c.write_element.new.self value.finds (rw index.bound at c.write_element.ensures)))
 
-pub statement-returns-in_ok-expression-in-Fill-clause-finds : goal.statement-returns-in_ok-expression-in-Fill-clause-finds
-statement-returns-in_ok-expression-in-Fill-clause-finds t c =
-    let low = c.in_ok-low-in-Fill.ensures {u = tt} in
-    let high = c.in_ok-high-in-Fill.ensures {u = tt} in
-    let value = c.in_ok-expression-in-Fill.ensures {u = tt} in
-    let write = writes_range c.in-Fill.array (expression_bound (setting c.args.context.now c.args.below) c.args.bounds.now (expression c.in-Fill.low)) (expression_bound (setting c.args.context.now c.args.below) c.args.bounds.now (expression c.in-Fill.high)) in
-    rw c.in-Fill.is (then_on c.write_range.result (expression_finds (setting c.args.context.now c.args.below) c.args.bounds.now (expression c.in-Fill.low)) ((expression_finds (setting c.args.context.now c.args.below) c.args.bounds.now (expression c.in-Fill.high)) then (expression_finds (setting c.args.context.now c.args.below) c.args.bounds.now (expression c.in-Fill.value)) then write) c.args.found.now c.expression-in-Fill.new.found c.write_range.new.self low.finds
-    (then_on c.write_range.result (expression_finds (setting c.args.context.now c.args.below) c.args.bounds.now (expression c.in-Fill.high)) ((expression_finds (setting c.args.context.now c.args.below) c.args.bounds.now (expression c.in-Fill.value)) then write) c.expression-in-Fill.new.found c.expression-in-Fill-2.new.found c.write_range.new.self high.finds
-    (then_on c.write_range.result (expression_finds (setting c.args.context.now c.args.below) c.args.bounds.now (expression c.in-Fill.value)) write c.expression-in-Fill-2.new.found c.expression-in-Fill-3.new.found c.write_range.new.self value.finds (rw (low.bound, high.bound) at c.write_range.ensures))))
+pub fill-returns : goal.fill-returns
+fill-returns t c =
+    let low = c.in_ok-low.ensures {u = tt} in
+    let high = c.in_ok-high.ensures {u = tt} in
+    let value = c.in_ok-expression.ensures {u = tt} in
+    let write = writes_range c.args.array (expression_bound (setting c.args.context.now c.args.below) c.args.bounds.now (expression c.args.low.now)) (expression_bound (setting c.args.context.now c.args.below) c.args.bounds.now (expression c.args.high.now)) in
+    record { finds = then_on c.write_range.result (expression_finds (setting c.args.context.now c.args.below) c.args.bounds.now (expression c.args.low.now)) ((expression_finds (setting c.args.context.now c.args.below) c.args.bounds.now (expression c.args.high.now)) then (expression_finds (setting c.args.context.now c.args.below) c.args.bounds.now (expression c.args.value.now)) then write) c.args.found.now c.expression.new.found c.write_range.new.self low.finds
+    (then_on c.write_range.result (expression_finds (setting c.args.context.now c.args.below) c.args.bounds.now (expression c.args.high.now)) ((expression_finds (setting c.args.context.now c.args.below) c.args.bounds.now (expression c.args.value.now)) then write) c.expression.new.found c.expression-2.new.found c.write_range.new.self high.finds
+    (then_on c.write_range.result (expression_finds (setting c.args.context.now c.args.below) c.args.bounds.now (expression c.args.value.now)) write c.expression-2.new.found c.expression-3.new.found c.write_range.new.self value.finds (rw (low.bound, high.bound) at c.write_range.ensures))) }
+
+pub statement-returns-in-Fill-clause-finds : goal.statement-returns-in-Fill-clause-finds
+statement-returns-in-Fill-clause-finds t c = rw c.in-Fill.is c.fill.ensures.finds
 
 pub statement-returns-in-If-clause-finds : goal.statement-returns-in-If-clause-finds
 statement-returns-in-If-clause-finds t c =

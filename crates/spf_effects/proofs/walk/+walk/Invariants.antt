@@ -32,6 +32,9 @@ decreases-block_and l = weight_before (map function l.context.now.functions.now)
 abbrev pub decreases-statement : goal.decreases-statement
 decreases-statement l = weight_before (map function l.context.now.functions.now) l.below + 2 * kind_weight l.kind.now + 1
 
+abbrev pub decreases-fill : goal.decreases-fill
+decreases-fill l = weight_before (map function l.context.now.functions.now) l.below + 2 * (expr_weight l.low.now + expr_weight l.high.now + expr_weight l.value.now) + 1
+
 abbrev pub decreases-branches : goal.decreases-branches
 decreases-branches l = weight_before (map function l.context.now.functions.now) l.below + 2 * (cond_weight l.cond.now + stmts_weight l.first.now + stmts_weight l.second.now) + 1
 
