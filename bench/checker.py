@@ -28,8 +28,25 @@ def stores(count):
     return "".join(f"a[16000*k + {scattered(i)}] = 1;\n" for i in range(count))
 
 
-def sweeps():
-    return " ".join(f"a[i + {16000 * part}] = s;" for part in range(4))
+def branches(count):
+    return "".join(f"if s == {i} {{ a[16000*k + {2 * i}] = 1; }} else {{ a[16000*k + {2 * i}] = 2; }}\n" for i in range(count))
+
+
+def sweeps(count):
+    body = " ".join(f"a[i + {16000 * part}] = s;" for part in range(4))
+    return "".join(f"for i in 16000*k + {9 * i}..16000*k + {9 * i + 7} {{ {body} }}\n" for i in range(count))
+
+
+def nested_loops(depth, count):
+    return "".join(f"for i{j} in 0..2 {{ " for j in range(depth)) + "a[16000*k] = s; " * count + "} " * depth + "\n"
+
+
+def many_folds(count):
+    folds = ""
+    for i in range(count):
+        body = " ".join(f"a[900*k{i} + {j}] = 1;" for j in range(17))
+        folds += f"specfold s{i} = 0 for k{i} in 0..4 predict 0 {{ {body} next 0; }}\n"
+    return f"array a[70000];\nmain {{\n{folds}}}\n"
 
 
 def doubling_calls(depth):
@@ -41,11 +58,12 @@ def doubling_calls(depth):
 
 PROGRAMS = [
     ("8,000 stores in no order", fold(stores(8000))),
-    ("3,500 branches that store", fold("".join(f"if s == {i} {{ a[16000*k + {2 * i}] = 1; }} else {{ a[16000*k + {2 * i}] = 2; }}\n" for i in range(3500)))),
+    ("3,500 branches that store", fold(branches(3500))),
     ("4,000 stores, 3,000 branches", fold(stores(4000) + "if s == 1 { a[16000*k] = 1; }\n" * 3000)),
-    ("1,000 sweeps of 4 stores", fold("".join(f"for i in 16000*k + {9 * i}..16000*k + {9 * i + 7} {{ {sweeps()} }}\n" for i in range(1000)))),
-    ("loops within each other", fold(("".join(f"for i{j} in 0..2 {{ " for j in range(50)) + "a[16000*k] = s; " * 400 + "} " * 50 + "\n") * 15)),
+    ("1,000 sweeps of 4 stores", fold(sweeps(1000))),
+    ("loops within each other", fold(nested_loops(50, 400) * 15)),
     ("12 functions that call twice", doubling_calls(12)),
+    ("500 folds of 17 stores", many_folds(500)),
 ]
 
 
