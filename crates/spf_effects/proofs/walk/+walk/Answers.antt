@@ -307,9 +307,11 @@ fill-returns t c =
     let high = c.in_ok-high.ensures {u = tt} in
     let value = c.in_ok-expression.ensures {u = tt} in
     let write = writes_range c.args.array (expression_bound (setting c.args.context.now c.args.below) c.args.bounds.now (expression c.args.low.now)) (expression_bound (setting c.args.context.now c.args.below) c.args.bounds.now (expression c.args.high.now)) in
-    record { finds = then_on c.write_range.result (expression_finds (setting c.args.context.now c.args.below) c.args.bounds.now (expression c.args.low.now)) ((expression_finds (setting c.args.context.now c.args.below) c.args.bounds.now (expression c.args.high.now)) then (expression_finds (setting c.args.context.now c.args.below) c.args.bounds.now (expression c.args.value.now)) then write) c.args.found.now c.expression.new.found c.write_range.new.self low.finds
-    (then_on c.write_range.result (expression_finds (setting c.args.context.now c.args.below) c.args.bounds.now (expression c.args.high.now)) ((expression_finds (setting c.args.context.now c.args.below) c.args.bounds.now (expression c.args.value.now)) then write) c.expression.new.found c.expression-2.new.found c.write_range.new.self high.finds
-    (then_on c.write_range.result (expression_finds (setting c.args.context.now c.args.below) c.args.bounds.now (expression c.args.value.now)) write c.expression-2.new.found c.expression-3.new.found c.write_range.new.self value.finds (rw (low.bound, high.bound) at c.write_range.ensures))) }
+    record {
+      finds = then_on c.write_range.result (expression_finds (setting c.args.context.now c.args.below) c.args.bounds.now (expression c.args.low.now)) ((expression_finds (setting c.args.context.now c.args.below) c.args.bounds.now (expression c.args.high.now)) then (expression_finds (setting c.args.context.now c.args.below) c.args.bounds.now (expression c.args.value.now)) then write) c.args.found.now c.expression.new.found c.write_range.new.self low.finds
+          (then_on c.write_range.result (expression_finds (setting c.args.context.now c.args.below) c.args.bounds.now (expression c.args.high.now)) ((expression_finds (setting c.args.context.now c.args.below) c.args.bounds.now (expression c.args.value.now)) then write) c.expression.new.found c.expression-2.new.found c.write_range.new.self high.finds
+          (then_on c.write_range.result (expression_finds (setting c.args.context.now c.args.below) c.args.bounds.now (expression c.args.value.now)) write c.expression-2.new.found c.expression-3.new.found c.write_range.new.self value.finds (rw (low.bound, high.bound) at c.write_range.ensures)));
+    }
 
 pub statement-returns-in-Fill-clause-finds : goal.statement-returns-in-Fill-clause-finds
 statement-returns-in-Fill-clause-finds t c = rw c.in-Fill.is c.fill.ensures.finds
