@@ -8,6 +8,7 @@ pub mod Meaning
 pub mod Plain
 pub mod Program
 pub mod Construct
+pub mod ConstructView
 pub mod Silence
 pub mod Pieces
 pub mod Lawful

@@ -1,10 +1,27 @@
 // The top constructs of a program.
 
-ghost use Rattle.std.specs.Prelude.{◌≡◌, ◌^◌, ◌<◌, length, slice_get, MatchOption, None};
+ghost use Rattle.std.specs.Prelude.{◌≡◌, ◌^◌, ◌<◌, length, slice_get, MatchOption, Some, None};
 ghost use Rattle.spf_ast.specs.View.{block as block_of, statement as statement_of, program as program_of};
 ghost use Rattle.spf_ast.specs.Construct.{construct_of, constructs_in, is_construct as is_construct_form};
+ghost use Rattle.spf_ast.specs.ConstructView.{construct as construct_seen};
 
-use crate::syntax::{Program, Stmt, StmtKind};
+use crate::syntax::{Fold, Pair, Program, Stmt, StmtKind};
+
+/// A top construct: a fold or a pair that is a direct statement of `main`.
+#[derive(Clone, Copy)]
+pub struct TopConstruct<'a> {
+    /// The line that a trap of the statement itself would have.
+    pub line: u32,
+    /// What it is.
+    pub kind: ConstructKind<'a>,
+}
+
+/// What a top construct is.
+#[derive(Clone, Copy)]
+pub enum ConstructKind<'a> {
+    Fold(&'a Fold),
+    Pair(&'a Pair),
+}
 
 /// Whether a statement is a fold or a pair.
 pub fn is_construct(kind: &StmtKind) -> bool
@@ -14,6 +31,26 @@ pub fn is_construct(kind: &StmtKind) -> bool
         StmtKind::Fold(_) => true,
         StmtKind::Pair(_) => true,
         _ => false,
+    }
+}
+
+/// The construct that a statement is, where it is one.
+pub fn as_construct<'a>(statement: &'a Stmt) -> Option<TopConstruct<'a>>
+    ensures { MatchOption result
+        (construct_of statement.now.line (statement_of statement.now.kind) ≡ None)
+        (λ c. construct_of statement.now.line (statement_of statement.now.kind) ≡ Some (construct_seen c)) }
+{
+    let line = statement.line;
+    match &statement.kind {
+        StmtKind::Fold(fold) => Some(TopConstruct {
+            line,
+            kind: ConstructKind::Fold(fold),
+        }),
+        StmtKind::Pair(pair) => Some(TopConstruct {
+            line,
+            kind: ConstructKind::Pair(pair),
+        }),
+        _ => None,
     }
 }
 
@@ -31,17 +68,17 @@ pub fn count_constructs(main: &[Stmt]) -> u32
     count
 }
 
-/// The statement among these that is the construct of this number, where there are so many; they are numbered from 0.
-pub fn find_construct<'a>(main: &'a [Stmt], number: u32) -> Option<&'a Stmt>
+/// The construct of this number among these statements, where there are so many; they are numbered from 0.
+pub fn find_construct<'a>(main: &'a [Stmt], number: u32) -> Option<TopConstruct<'a>>
     ensures { MatchOption result
         (slice_get (constructs_in (block_of main.now)) number ≡ None)
-        (λ s. slice_get (constructs_in (block_of main.now)) number ≡ construct_of s.now.line (statement_of s.now.kind)) }
+        (λ c. slice_get (constructs_in (block_of main.now)) number ≡ Some (construct_seen c)) }
 {
     let mut left = number;
     for statement in main {
-        if is_construct(&statement.kind) {
+        if let Some(construct) = as_construct(statement) {
             if left == 0 {
-                return Some(statement);
+                return Some(construct);
             }
             left -= 1;
         }

@@ -1,6 +1,6 @@
 -- A lawful program's parts write only arrays that it has.
-use Rattle.std.proofs.Common.{◌≡◌, ◌⊎◌, inl, inr, ℕ, zero, suc, ◌<◌, Bool, true, false, List, [], ◌∷◌, ◌++◌, length, Option, Some, None, ℤ, pos, refl, sym, ap, ◌∙◌, subst, arith}
-use Rattle.std.specs.Prelude.{◌==◌, ◌&&◌, ◌||◌, ◌-ℤ◌, int_lt, int_le, if◌then◌else◌, IfSome, slice_get}
+use Rattle.std.proofs.Common.{◌≡◌, inl, inr, ℕ, zero, suc, ◌<◌, Bool, true, false, List, [], ◌∷◌, ◌++◌, length, Option, Some, None, ℤ, pos, refl, arith}
+use Rattle.std.specs.Prelude.{◌==◌, ◌-ℤ◌, int_lt, if◌then◌else◌, IfSome, slice_get}
 use Rattle.std.specs.Ordering.{int_eq}
 use Rattle.spf_ast.specs.declared.syntax.Part.{Part}
 use Rattle.spf_ast.specs.declared.syntax.Part.TheVariants.{Body, Producer, Consumer, Predictor}
@@ -14,12 +14,12 @@ use Rattle.spf_region.specs.declared.bound.Bound.{Bound}
 use Rattle.spf_region.specs.declared.bound.Bound.TheVariants.{Known, Unknown}
 use Rattle.spf_region.specs.declared.range.Range.{Range}
 use Rattle.spf_region.specs.declared.range.Range.TheVariants.{Whole, Affine}
-use Rattle.spf_region.specs.Ranges.{Offsets, array_of, has_offset, is_whole, offsets_of, wholes_of}
+use Rattle.spf_region.specs.Ranges.{Offsets, array_of, has_offset}
 use Rattle.spf_region.proofs.Bools.{or-cases}
 use Rattle.spf_region.proofs.Covers.{has-parts}
 use Rattle.spf_effects.specs.Found.{Finds, finds_nothing, ◌then◌, perhaps, either, reads_element, writes_element, may_write_whole, may_write_between, surely_writes_between, writes_range, has_no_turn, Sweep, turns, nowhere}
-use Rattle.spf_effects.specs.Forms.{Entered, Setting, expression_bound, argument_bounds, bounds_behind, bounds_at_end, bounds_in_turn, sweeps, expression_finds, arguments_find, condition_finds, statement_finds, block_finds, block_then}
-use Rattle.spf_effects.specs.Parts.{setting_in, own_bounds, entered, call_before, main_setting, outside, within_fold, guess_finds, part_finds, part_effects}
+use Rattle.spf_effects.specs.Forms.{Entered, Setting, expression_bound, argument_bounds, bounds_behind, bounds_at_end, bounds_in_turn, sweeps, expression_finds, arguments_find, condition_finds, statement_finds, block_finds}
+use Rattle.spf_effects.specs.Parts.{setting_in, own_bounds, entered, call_before, main_setting, outside, within_fold, guess_finds, part_finds}
 use Rattle.spf_sound.specs.Rules.{HasArray, may_write}
 use Rattle.spf_sound.proofs.Members.{cases}
 use Rattle.spf_ways.proofs.Parts.{Stands, main_names, stands}

@@ -1,6 +1,6 @@
 -- What it means for a construct that a rule is found broken, or isn't.
-use Rattle.std.proofs.Common.{◌≡◌, ◌≢◌, ◌⊎◌, inl, inr, ℕ, zero, suc, ◌<◌, ◌≤◌, Bool, true, false, not, List, [], ◌∷◌, ◌++◌, length, Option, Some, None, ℤ, pos, refl, sym, ap, ◌∙◌, subst, arith, Contains}
-use Rattle.std.specs.Prelude.{◌==◌, ◌||◌, ◌≤ℤ◌, ◌↔◌, find, slice_get, if◌then◌else◌, option_map, MatchOption}
+use Rattle.std.proofs.Common.{◌≡◌, inl, inr, ℕ, Bool, true, false, not, List, [], ◌∷◌, Option, Some, None, ℤ, refl, sym, ap, ◌∙◌, subst, arith, Contains}
+use Rattle.std.specs.Prelude.{◌==◌, ◌||◌, ◌≤ℤ◌, find, slice_get, MatchOption}
 use Rattle.std.specs.List.{list_any}
 use Rattle.spf_ast.specs.declared.syntax.Part.{Part}
 use Rattle.spf_ast.specs.declared.syntax.Part.TheVariants.{Body, Producer, Consumer, Predictor}
@@ -8,9 +8,9 @@ use Rattle.spf_ast.specs.Syntax.{Program}
 use Rattle.spf_ast.specs.Construct.{Construct, fold, pair}
 use Rattle.spf_region.specs.declared.range.Range.{Range}
 use Rattle.spf_region.specs.declared.range.Range.TheVariants.{Whole, Affine}
-use Rattle.spf_region.specs.Ranges.{Offsets, array_of, has_array, has_offset, is_whole, offsets_of, wholes_of, covers, separate, disjoint, first_unseparated, first_meeting, IsNormal}
-use Rattle.spf_region.specs.Laws.{HasEntry, AreSeparate, AreDisjoint}
-use Rattle.spf_region.proofs.Bools.{or-cases, or-left, or-right, and-left, and-right}
+use Rattle.spf_region.specs.Ranges.{array_of, has_array, has_offset, is_whole, offsets_of, wholes_of, covers, separate, disjoint, first_unseparated, first_meeting, IsNormal}
+use Rattle.spf_region.specs.Laws.{HasEntry, AreSeparate}
+use Rattle.spf_region.proofs.Bools.{or-cases, or-left, or-right}
 use Rattle.spf_region.proofs.Covers.{has-parts, has-of, covers-each, each-covers}
 use Rattle.spf_region.proofs.Entries.{arrays-of, separate-offsets, disjoint-offsets}
 use Rattle.spf_region.proofs.Canonical.{one-form}
@@ -18,16 +18,16 @@ use Rattle.spf_effects.specs.Found.{nowhere}
 use Rattle.spf_effects.specs.declared.effects.Effects.{Effects}
 use Rattle.spf_effects.specs.Parts.{PartEffects, part_effects}
 use Rattle.spf_effects.specs.Effects.{AreEffects}
-use Rattle.spf_sound.specs.Rules.{IsBlockPart, guessed_part, may_write, reads_bare, HasArray, IsWritten, ShareNothing, KeepsTheRules, AssignsNoOuter, EmitsNothing, PredictorWritesNothing, WritesApart, PredictorReadsUnwritten, ReadsAfterWriting, WritesAll}
-use Rattle.spf_sound.proofs.Members.{cases, first-in, later-in, first-or-later, none-in}
+use Rattle.spf_sound.specs.Rules.{IsBlockPart, guessed_part, may_write, reads_bare, HasArray, IsWritten, ShareNothing, WritesAll}
+use Rattle.spf_sound.proofs.Members.{cases, first-in, none-in}
 use Rattle.spf_check.specs.declared.breach.Breach.{Breach}
 use Rattle.spf_check.specs.declared.construct.ConstructEffects.{ConstructEffects}
 use Rattle.spf_check.specs.declared.rule.Rule.{Rule}
 use Rattle.spf_check.specs.declared.rule.Rule.TheVariants.{OuterAssign, EmitInside, PredictorWrites, Overlap, PredictorReads, ReadBeforeWrite, NotOverwritten}
-use Rattle.spf_check.specs.Accepting.{Keeps, Names, NamesFirst, IsFirst, IsNormalFormOf, IsRangeOf, Overlaps}
+use Rattle.spf_check.specs.Accepting.{Keeps, Names, IsFirst, IsNormalFormOf, Overlaps}
 use Rattle.spf_check.specs.Breaches.{breach, plain, by_range, is_written, of_producer, assigns_outer, emits_inside, meets, overlap, first_overlap}
 use Rattle.spf_check.specs.Parts.{AreEffectsOf, IsProducerOf, AreNormal}
-use Rattle.spf_check.proofs.Lists.{any-there, any-of, none-any, find-none, none-find, find-some, found-there, Found}
+use Rattle.spf_check.proofs.Lists.{any-there, any-of, none-any, find-none, none-find, find-some, found-there}
 
 -- ---- lists in normal form
 

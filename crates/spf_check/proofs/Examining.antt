@@ -1,38 +1,25 @@
 -- What is known of the constructs that have been examined.
-use Rattle.std.proofs.Common.{◌≡◌, ◌⊎◌, inl, inr, ℕ, zero, suc, ◌+◌, ◌<◌, ◌≤◌, List, [], ◌∷◌, ◌++◌, length, Option, Some, None, refl, sym, ap, ◌∙◌, subst, arith}
+use Rattle.std.proofs.Common.{◌≡◌, ◌⊎◌, ℕ, zero, suc, ◌+◌, ◌<◌, List, [], ◌∷◌, ◌++◌, length, Option, Some, refl, sym, ap, ◌∙◌, subst, arith}
 use Rattle.std.specs.Prelude.{slice_get}
-use Rattle.spf_ast.specs.Syntax.{Statement, Let, Assign, Store, Fill, Emit, Fail, If, For, While, Do, Fold, Pair, Program}
-use Rattle.spf_ast.specs.Construct.{Construct, construct_of, constructs_in}
+use Rattle.spf_ast.specs.Syntax.{Program}
+use Rattle.spf_ast.specs.declared.construct.ConstructKind.{ConstructKind}
+use Rattle.spf_ast.specs.declared.construct.ConstructKind.TheVariants as code
+use Rattle.spf_ast.specs.Construct.{Construct, constructs_in}
+use Rattle.spf_ast.specs.ConstructView.{construct_on}
 use Rattle.spf_region.specs.declared.range.Range.{Range}
 use Rattle.spf_sound.specs.Rules.{KeepsTheRules}
 use Rattle.spf_sound.proofs.Members.{cases}
 use Rattle.spf_check.specs.declared.checked.Writes.{Writes}
-use Rattle.spf_check.specs.declared.check.Examined.{Examined}
 use Rattle.spf_check.specs.declared.check.Examined.TheVariants as examined
 use Rattle.spf_check.specs.declared.rule.Rule.{Rule}
 use Rattle.spf_check.specs.declared.rule.Rule.TheVariants.{OuterAssign, EmitInside, PredictorWrites, Overlap, PredictorReads, ReadBeforeWrite, NotOverwritten}
 use Rattle.spf_check.specs.Accepting.{IsAccepted, IsLowestBroken, IsFirstRefusal, Keeps, line_of}
 use Rattle.spf_check.specs.Verdicts.{IsExamined, AreWritesOf, AreWritesBefore}
 
-pub construct-line : (line : ℕ) (s : Statement) (k : Construct) → construct_of line s ≡ Some k → line ≡ line_of k
-construct-line line (Let slot value) k e = cc
-construct-line line (Assign slot value) k e = cc
-construct-line line (Store array index value) k e = cc
-construct-line line (Fill array low high value) k e = cc
-construct-line line (Emit value) k e = cc
-construct-line line (Fail number) k e = cc
-construct-line line (If c first second) k e = cc
-construct-line line (For slot low high body) k e = cc
-construct-line line (While c most body) k e = cc
-construct-line line (Do f given) k e = cc
-construct-line line (Fold head body) k e = ap line_of (the-same _ k e)
-  where
-    the-same : (j k : Construct) → Some j ≡ Some k → j ≡ k
-    the-same j k e = cc
-construct-line line (Pair head producer consumer) k e = ap line_of (the-same _ k e)
-  where
-    the-same : (j k : Construct) → Some j ≡ Some k → j ≡ k
-    the-same j k e = cc
+-- the line of a construct to which the code refers
+pub construct-line : (line : ℕ) (kind : ConstructKind) → line ≡ line_of (construct_on line kind)
+construct-line line (code.Fold f) = refl
+construct-line line (code.Pair f) = refl
 
 -- ---- lists
 

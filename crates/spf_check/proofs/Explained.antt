@@ -1,5 +1,5 @@
 -- What the lines of a construct say, and that a program has one explanation.
-use Rattle.std.proofs.Common.{◌≡◌, ◌⊎◌, inl, inr, ℕ, zero, suc, ◌+◌, ◌<◌, ◌≤◌, false, List, [], ◌∷◌, ◌++◌, length, take, Option, Some, None, refl, sym, ap, ◌∙◌, subst, arith, append_assoc, add-one}
+use Rattle.std.proofs.Common.{◌≡◌, inl, inr, ℕ, zero, suc, ◌+◌, List, [], ◌∷◌, ◌++◌, take, Option, Some, None, refl, sym, ap, ◌∙◌, subst, append_assoc, add-one}
 use Rattle.std.specs.Prelude.{slice_get, MatchOption, Result, Ok, Err, IfOk}
 use Rattle.std.proofs.lemmas.List.{append-nil}
 use Rattle.spf_ast.specs.declared.syntax.Part.{Part}
@@ -12,13 +12,12 @@ use Rattle.spf_region.proofs.Canonical.{one-form}
 use Rattle.spf_effects.specs.declared.effects.Effects.{Effects}
 use Rattle.spf_effects.specs.Effects.{AreEffects}
 use Rattle.spf_effects.specs.Parts.{part_effects}
-use Rattle.spf_sound.specs.Rules.{guessed_part, KeepsTheRules}
+use Rattle.spf_sound.specs.Rules.{guessed_part}
 use Rattle.spf_check.specs.declared.construct.ConstructEffects.{ConstructEffects}
-use Rattle.spf_check.specs.declared.rule.Rule.{Rule}
-use Rattle.spf_check.specs.Accepting.{IsNormalFormOf, IsLowestBroken}
+use Rattle.spf_check.specs.Accepting.{IsNormalFormOf}
 use Rattle.spf_check.specs.Parts.{AreEffectsOf, IsProducerOf, AreNormal}
 use Rattle.spf_check.specs.Text.{joined, part_lines, parts_of, broken_line, construct_line, IsPartText, IsVerdictText, ArePartTexts, IsConstructText, AreConstructTexts}
-use Rattle.spf_check.specs.Explained.{effects_lines, fold_lines, pair_lines, lines_with, parts_lines}
+use Rattle.spf_check.specs.Explained.{effects_lines, lines_with, parts_lines}
 use Rattle.spf_check.specs.Explaining.{Explains}
 use Rattle.spf_check.proofs.Unique.{one-lowest}
 use Rattle.spf_check.proofs.Examining.{keeps-rule}

@@ -1,5 +1,5 @@
 -- How many top constructs a lawful program has, and what is known of those examined so far.
-use Rattle.std.proofs.Common.{◌≡◌, ℕ, ◌≤◌, length, arith}
+use Rattle.std.proofs.Common.{ℕ, ◌≤◌, length, arith}
 use Rattle.spf_ast.specs.Syntax.{Fold, Pair, Block, end, on_line, Program}
 use Rattle.spf_ast.specs.Construct.{constructs_in}
 use Rattle.spf_ast.specs.Size.{by_size, block_measure, function_sizes}

@@ -1,16 +1,9 @@
 -- The first of a list that passes a test, and the ranges of a list in normal form.
-use Rattle.std.proofs.Common.{◌≡◌, ◌⊎◌, inl, inr, ℕ, zero, suc, ◌<◌, Bool, true, false, not, List, [], ◌∷◌, ◌++◌, length, Some, None, ℤ, pos, refl, sym, ap, ◌∙◌, subst, arith, cond, Contains, All}
-use Rattle.std.specs.Prelude.{◌==◌, ◌||◌, find, slice_get}
+use Rattle.std.proofs.Common.{◌≡◌, Bool, true, false, List, [], ◌∷◌, ◌++◌, Some, None, refl, ap, ◌∙◌, subst, cond, Contains}
+use Rattle.std.specs.Prelude.{find}
 use Rattle.std.specs.List.{list_any}
-use Rattle.spf_region.specs.declared.range.Range.{Range}
-use Rattle.spf_region.specs.declared.range.Range.TheVariants.{Whole, Affine}
-use Rattle.spf_region.specs.Ranges.{array_of, has_array, has_offset, is_whole, offsets_of, wholes_of, IsNormal}
-use Rattle.spf_region.specs.Laws.{HasEntry}
 use Rattle.spf_region.proofs.Bools.{or-cases, or-left, or-right}
-use Rattle.spf_region.proofs.Entries as entries
 use Rattle.spf_sound.proofs.Members.{cases, first-in, later-in, first-or-later, none-in}
-use Rattle.spf_sound.specs.Rules.{HasArray}
-use Rattle.spf_check.specs.Accepting.{IsNormalFormOf, IsRangeOf, IsFirst, NamesFirst}
 
 -- some item passes the test
 pub any-there : {A : Type 0} (t : A → Bool) (xs : List A) → list_any t xs ≡ true → (x : A) × Contains xs x × (t x ≡ true)

@@ -1,12 +1,12 @@
 -- The spans of blocks, one block more, and that they make a plan.
 use Rattle.std.proofs.Common.{◌≡◌, ◌≢◌, ◌⊎◌, inl, inr, ℕ, zero, suc, ◌+◌, ◌^◌, ◌<◌, ◌≤◌, Bool, true, false, List, [], ◌∷◌, ◌++◌, length, map, Option, Some, None, ℤ, pos, ◌+ℤ◌, refl, sym, ap, ◌∙◌, subst, arith, All}
-use Rattle.std.specs.Prelude.{◌==◌, ◌&&◌, ◌||◌, ◌-ℤ◌, ◌*ℤ◌, ◌≤ℤ◌, nat_le, nat_lt, int_le, slice_get, slice_index_or, if◌then◌else◌}
+use Rattle.std.specs.Prelude.{◌==◌, ◌-ℤ◌, ◌≤ℤ◌, slice_get, slice_index_or, if◌then◌else◌}
 use Rattle.std.proofs.lemmas.Int.{ints}
 use Rattle.std.specs.declared.vec.Vec.{Vec}
 use Rattle.std.specs.declared.alloc.Global.{Global}
 use Rattle.spf_ast.specs.Syntax.{Array, Program}
 use Rattle.spf_ast.specs.Lawful.{IsLawful}
-use Rattle.spf_ast.specs.declared.syntax.Part.TheVariants.{Body, Producer, Consumer}
+use Rattle.spf_ast.specs.declared.syntax.Part.TheVariants.{Producer, Consumer}
 use Rattle.spf_ast.specs.Construct.{Construct, fold, pair, constructs_in, part_of}
 use Rattle.spf_ast.specs.Program.{size_of, sizes, extents_from, extents_of, cell_count_of, max_cells}
 use Rattle.spf_region.specs.declared.range.Range.{Range}
@@ -17,20 +17,20 @@ use Rattle.spf_region.specs.Cells.{Extent, AreAscending, at_block, in_extent, is
 use Rattle.spf_region.specs.Laws.{IsCellAt}
 use Rattle.spf_region.proofs.Bools.{or-cases, or-left, or-right, both-true, int-le-of, same-bool}
 use Rattle.spf_region.proofs.Covers.{has-parts}
-use Rattle.spf_sound.specs.Rules.{guessed_part, may_write, HasArray, KeepsTheRules}
+use Rattle.spf_sound.specs.Rules.{guessed_part, may_write, KeepsTheRules}
 use Rattle.spf_sound.proofs.Members.{cases}
 use Rattle.spf_sound.proofs.Cells.{extent, AtWhole, AtOffset, has-array-of, entry-of, offset-inside, offset-place}
-use Rattle.spf_sound.specs.Freedom.{HaveDisjointSpans, IsRollbackFree}
+use Rattle.spf_sound.specs.Freedom.{HaveDisjointSpans}
 use Rattle.spf_sound.proofs.Free.{rules-set-free}
 use Rattle.spf_sound.proofs.Extents.{within}
 use Rattle.spf_check.specs.declared.checked.Writes.{Writes}
 use Rattle.spf_check.specs.Accepting.{IsNormalFormOf}
 use Rattle.spf_check.specs.Verdicts.{AreWritesOf, IsProducerWrite, IsKept}
 use Rattle.spf_check.specs.Writing.{list_with, list_of, AreListed}
-use Rattle.spf_check.specs.Plans.{AreBlocksOf, AreSpansOf, IsPlanOf}
+use Rattle.spf_check.specs.Plans.{AreBlocksOf, IsPlanOf}
 use Rattle.spf_check.proofs.Arrays.{written-within}
 use Rattle.spf_check.proofs.Breaking.{is-array}
-use Rattle.spf_check.proofs.Examining.{at-place, place-within, last-place, front-place, one-longer}
+use Rattle.spf_check.proofs.Examining.{place-within, last-place, front-place, one-longer}
 
 -- no block
 pub none-listed : (w : Writes) (extents : List Extent) (low : ℤ) → AreListed w extents low 0 []

@@ -1,16 +1,14 @@
 -- A program has at most one first refusal.
-use Rattle.std.proofs.Common.{◌≡◌, ◌⊎◌, inl, inr, ℕ, zero, suc, ◌<◌, List, [], ◌∷◌, ◌++◌, Option, Some, None, refl, sym, ap, ◌∙◌, subst, arith, Contains}
+use Rattle.std.proofs.Common.{◌≡◌, ◌⊎◌, inl, inr, ℕ, ◌<◌, List, [], ◌∷◌, ◌++◌, Option, Some, None, sym, ap, ◌∙◌, subst, arith, Contains}
 use Rattle.std.specs.Prelude.{slice_get}
-use Rattle.spf_ast.specs.declared.syntax.Part.TheVariants.{Predictor}
 use Rattle.spf_ast.specs.Syntax.{Program}
 use Rattle.spf_ast.specs.Construct.{Construct, constructs_in}
 use Rattle.spf_region.specs.declared.range.Range.{Range}
 use Rattle.spf_region.proofs.Canonical.{one-form}
-use Rattle.spf_sound.specs.Rules.{KeepsTheRules}
-use Rattle.spf_sound.proofs.Members.{cases, first-in, later-in}
+use Rattle.spf_sound.proofs.Members.{first-in, later-in}
 use Rattle.spf_check.specs.declared.rule.Rule.{Rule}
 use Rattle.spf_check.specs.declared.rule.Rule.TheVariants.{OuterAssign, EmitInside, PredictorWrites, Overlap, PredictorReads, ReadBeforeWrite, NotOverwritten}
-use Rattle.spf_check.specs.Accepting.{Keeps, rule_number, IsNormalFormOf, IsFirst, NamesFirst, Names, IsLowestBroken, IsFirstRefusal, line_of}
+use Rattle.spf_check.specs.Accepting.{rule_number, IsFirst, NamesFirst, Names, IsLowestBroken, IsFirstRefusal, line_of}
 use Rattle.spf_check.proofs.Examining.{keeps-rule}
 use Rattle.spf_check.proofs.Lowest.{rule-by-number}
 

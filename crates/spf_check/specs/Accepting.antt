@@ -1,5 +1,5 @@
 -- Which programs are accepted, and what is said of those that aren't.
-use Rattle.std.specs.Prelude.{◌≡◌, ◌⊎◌, ℕ, ◌<◌, true, false, List, [], ◌∷◌, ◌++◌, Option, Some, None, slice_get}
+use Rattle.std.specs.Prelude.{◌≡◌, ◌⊎◌, ℕ, ◌<◌, false, List, ◌∷◌, ◌++◌, Option, Some, None, slice_get}
 use Rattle.std.specs.List.{Contains}
 use Rattle.spf_ast.specs.declared.syntax.Part.TheVariants.{Producer, Predictor}
 use Rattle.spf_ast.specs.Syntax.{Program}

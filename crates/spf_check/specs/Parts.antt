@@ -1,6 +1,6 @@
 -- That effects are those of a construct's parts.
-use Rattle.std.specs.Prelude.{◌≡◌, Option, Some, None, MatchOption}
-use Rattle.spf_ast.specs.declared.syntax.Part.TheVariants.{Body, Producer, Consumer, Predictor}
+use Rattle.std.specs.Prelude.{Option, Some, None, MatchOption}
+use Rattle.spf_ast.specs.declared.syntax.Part.TheVariants.{Producer, Predictor}
 use Rattle.spf_ast.specs.Syntax.{Program}
 use Rattle.spf_ast.specs.Construct.{Construct, fold, pair}
 use Rattle.spf_effects.specs.declared.effects.Effects.{Effects}

@@ -1,10 +1,10 @@
 -- How rules, ranges and explanations are written.
-use Rattle.std.specs.Prelude.{◌≡◌, ◌⊎◌, ℕ, false, List, [], ◌∷◌, ◌++◌, codes, slice_get, Option, Some, None, ℤ, pos, ◌+ℤ◌}
+use Rattle.std.specs.Prelude.{◌≡◌, ◌⊎◌, ℕ, false, List, [], ◌∷◌, ◌++◌, codes, slice_get, Option, Some, None, pos, ◌+ℤ◌}
 use Rattle.std.specs.Fmt.{decimal, signed_decimal}
 use Rattle.spf_ast.specs.declared.syntax.Part.{Part}
 use Rattle.spf_ast.specs.declared.syntax.Part.TheVariants.{Body, Producer, Consumer, Predictor}
 use Rattle.spf_ast.specs.Syntax.{Array, Program}
-use Rattle.spf_ast.specs.Construct.{Construct, fold, pair, constructs_in}
+use Rattle.spf_ast.specs.Construct.{Construct, fold, pair}
 use Rattle.spf_region.specs.declared.range.Range.{Range}
 use Rattle.spf_region.specs.declared.range.Range.TheVariants.{Whole, Affine}
 use Rattle.spf_region.specs.Ranges.{array_of, offsets_of, wholes_of, IsNormal}

@@ -1,8 +1,10 @@
 //! Checks programs by the rules.
-ghost use Rattle.std.specs.Prelude.{◌≡◌, ◌<◌, Some, length, slice_get, option_map, IfOk, MatchOption};
+ghost use Rattle.std.specs.Prelude.{◌≡◌, ◌<◌, Some, length, slice_get, option_map, IfOk};
 ghost use Rattle.spf_ast.specs.Lawful.{IsLawful};
-ghost use Rattle.spf_ast.specs.View.{program as seen_program, statement as statement_of};
-ghost use Rattle.spf_ast.specs.Construct.{Construct, construct_of, constructs_in, fold, pair};
+ghost use Rattle.spf_ast.specs.Syntax.{Program as plain_program};
+ghost use Rattle.spf_ast.specs.View.{program as seen_program};
+ghost use Rattle.spf_ast.specs.Construct.{Construct, constructs_in, fold, pair};
+ghost use Rattle.spf_ast.specs.ConstructView.{construct as construct_seen};
 ghost use Rattle.spf_check.specs.Parts.{AreEffectsOf};
 ghost use Rattle.spf_check.specs.Verdicts.{IsExamined, IsVerdict};
 ghost use Rattle.spf_check.specs.Checking.{IsChecked};
@@ -10,8 +12,8 @@ ghost use Rattle.spf_check.specs.Checking.{IsChecked};
 use crate::checked::{Checked, Writes};
 use crate::construct::ConstructEffects;
 use crate::rule::{CheckError, Refusal};
-use spf_ast::construct::{find_construct, top_constructs};
-use spf_ast::syntax::{Part, Program, Stmt, StmtKind};
+use spf_ast::construct::{ConstructKind, TopConstruct, find_construct, top_constructs};
+use spf_ast::syntax::{Part, Program};
 use spf_effects::analysis::effects;
 use spf_effects::effects::Effects;
 use spf_region::list::RangeList;
@@ -63,21 +65,19 @@ fn pair_effects(
     })
 }
 
-/// The effects of all parts of a construct, given its number and its statement.
+/// The effects of all parts of the construct with this number.
 pub(crate) fn effects_of(
     alloc: Global,
     program: &Program,
     number: u32,
-    statement: &Stmt,
+    construct: &TopConstruct,
 ) -> Result<ConstructEffects, AllocError>
-    ensures { MatchOption (construct_of statement.now.line (statement_of statement.now.kind)) (Unit {0})
-        (λ c. slice_get (constructs_in (seen_program program.now).main) number ≡ Some c
-        → IfOk result (AreEffectsOf (seen_program program.now) c)) }
+    ensures { slice_get (constructs_in (seen_program program.now).main) number ≡ Some (construct_seen construct.now)
+        → IfOk result (AreEffectsOf (seen_program program.now) (construct_seen construct.now)) }
 {
-    match &statement.kind {
-        StmtKind::Fold(_) => fold_effects(alloc, program, number),
-        StmtKind::Pair(_) => pair_effects(alloc, program, number),
-        _ => Err(AllocError),
+    match construct.kind {
+        ConstructKind::Fold(_) => fold_effects(alloc, program, number),
+        ConstructKind::Pair(_) => pair_effects(alloc, program, number),
     }
 }
 
@@ -104,24 +104,31 @@ fn writes_of(found: ConstructEffects) -> Writes
     }
 }
 
+/// What is said of a construct, given the effects of its parts.
+fn judge(construct: &TopConstruct, found: ConstructEffects) -> Examined
+    ensures { (p : plain_program) → AreEffectsOf p (construct_seen construct.now) found → IsExamined p (construct_seen construct.now) result }
+{
+    match found.lowest_broken() {
+        Some((rule, range)) => Examined::Refused(Refusal {
+            rule,
+            line: construct.line,
+            range,
+        }),
+        None => Examined::Accepted(writes_of(found)),
+    }
+}
+
 /// Examines one construct.
 fn examine_construct(alloc: Global, program: &Program, number: u32) -> Result<Examined, AllocError>
     requires { number < length (constructs_in (seen_program program.now).main) }
     ensures { (c : Construct) → slice_get (constructs_in (seen_program program.now).main) number ≡ Some c
         → IfOk result (IsExamined (seen_program program.now) c) }
 {
-    let Some(statement) = find_construct(&program.main, number) else {
+    let Some(construct) = find_construct(&program.main, number) else {
         unreachable!();
     };
-    let found = effects_of(alloc, program, number, statement)?;
-    match found.lowest_broken() {
-        Some((rule, range)) => Ok(Examined::Refused(Refusal {
-            rule,
-            line: statement.line,
-            range,
-        })),
-        None => Ok(Examined::Accepted(writes_of(found))),
-    }
+    let found = effects_of(alloc, program, number, &construct)?;
+    Ok(judge(&construct, found))
 }
 
 /// Examines the top constructs of a program, in their order, up to the first that breaks a rule.

@@ -1,8 +1,9 @@
 //! Explains what the rules find in a program.
-ghost use Rattle.std.specs.Prelude.{◌≡◌, ◌<◌, ◌++◌, map, string_bytes, Some, length, slice_get, IfOk, MatchOption};
+ghost use Rattle.std.specs.Prelude.{◌≡◌, ◌<◌, ◌++◌, map, string_bytes, Some, length, slice_get, IfOk};
 ghost use Rattle.spf_ast.specs.Lawful.{IsLawful};
-ghost use Rattle.spf_ast.specs.View.{array as array_of, program as seen_program, statement as statement_of};
-ghost use Rattle.spf_ast.specs.Construct.{Construct, construct_of, constructs_in};
+ghost use Rattle.spf_ast.specs.View.{array as array_of, program as seen_program};
+ghost use Rattle.spf_ast.specs.Construct.{Construct, constructs_in};
+ghost use Rattle.spf_ast.specs.ConstructView.{construct as construct_seen};
 ghost use Rattle.spf_effects.specs.Effects.{AreEffects};
 ghost use Rattle.spf_effects.specs.Parts.{part_effects};
 ghost use Rattle.spf_check.specs.Accepting.{IsLowestBroken};
@@ -17,8 +18,8 @@ use crate::check::effects_of;
 use crate::construct::ConstructEffects;
 use crate::rule::Rule;
 use crate::text::{push_range, push_ranges, rule_name};
-use spf_ast::construct::{find_construct, top_constructs};
-use spf_ast::syntax::{Array, Part, Program, Stmt, StmtKind};
+use spf_ast::construct::{ConstructKind, TopConstruct, find_construct, top_constructs};
+use spf_ast::syntax::{Array, Part, Program};
 use spf_effects::effects::Effects;
 use spf_region::list::RangeList;
 use spf_region::range::Range;
@@ -155,15 +156,13 @@ fn push_verdict(
 }
 
 /// The line that names a construct.
-fn construct_line(alloc: Global, statement: &Stmt) -> Result<String, AllocError>
-    ensures { MatchOption (construct_of statement.now.line (statement_of statement.now.kind)) (Unit {0})
-        (λ c. IfOk result (λ text. string_bytes text ≡ construct_line c)) }
+fn construct_line(alloc: Global, construct: &TopConstruct) -> Result<String, AllocError>
+    ensures { IfOk result (λ text. string_bytes text ≡ construct_line (construct_seen construct.now)) }
 {
-    let line = statement.line;
-    match &statement.kind {
-        StmtKind::Fold(_) => format!(in alloc; "fold line {line}\n"),
-        StmtKind::Pair(_) => format!(in alloc; "pair line {line}\n"),
-        _ => Ok(String::new(alloc)),
+    let line = construct.line;
+    match construct.kind {
+        ConstructKind::Fold(_) => format!(in alloc; "fold line {line}\n"),
+        ConstructKind::Pair(_) => format!(in alloc; "pair line {line}\n"),
     }
 }
 
@@ -171,16 +170,15 @@ fn construct_line(alloc: Global, statement: &Stmt) -> Result<String, AllocError>
 fn push_found(
     alloc: Global,
     arrays: &[Array],
-    statement: &Stmt,
+    construct: &TopConstruct,
     found: &ConstructEffects,
     text: &mut Vec<u8>,
 ) -> Result<(), AllocError>
-    ensures { (p : plain_program) (c : Construct) → p.arrays ≡ map array_of arrays.now
-        → construct_of statement.now.line (statement_of statement.now.kind) ≡ Some c → AreEffectsOf p c found.now
-        → IfOk result (λ _. (lines : List ℕ) × IsConstructText p c lines × (text.new.items ≡ text.old.items ++ lines)) }
+    ensures { (p : plain_program) → p.arrays ≡ map array_of arrays.now → AreEffectsOf p (construct_seen construct.now) found.now
+        → IfOk result (λ _. (lines : List ℕ) × IsConstructText p (construct_seen construct.now) lines × (text.new.items ≡ text.old.items ++ lines)) }
 {
     found.are_normal();
-    let line = construct_line(alloc, statement)?;
+    let line = construct_line(alloc, construct)?;
     text.extend_from_slice(line.as_bytes())?;
     push_parts(alloc, arrays, found, text)?;
     push_verdict(alloc, arrays, found, text)
@@ -197,11 +195,11 @@ fn push_construct(
     ensures { (c : Construct) → slice_get (constructs_in (seen_program program.now).main) number ≡ Some c
         → IfOk result (λ _. (lines : List ℕ) × IsConstructText (seen_program program.now) c lines × (text.new.items ≡ text.old.items ++ lines)) }
 {
-    let Some(statement) = find_construct(&program.main, number) else {
+    let Some(construct) = find_construct(&program.main, number) else {
         unreachable!();
     };
-    let found = effects_of(alloc, program, number, statement)?;
-    push_found(alloc, &program.arrays, statement, &found, text)
+    let found = effects_of(alloc, program, number, &construct)?;
+    push_found(alloc, &program.arrays, &construct, &found, text)
 }
 
 /// Explains a lawful program: for each top construct a line that names it, for each of its parts what it reads uncovered, may write

@@ -5,7 +5,6 @@ ghost use Rattle.spf_ast.specs.Lawful.{IsLawful};
 
 use crate::reading::read_program;
 use spf_ast::construct::find_construct;
-use spf_ast::syntax::StmtKind;
 use spf_check::check::check;
 use spf_check::checked::Checked;
 use spf_exec::arrays::layout;
@@ -23,12 +22,8 @@ fn checked(alloc: Global, text: &str) -> Option<Checked> {
 fn planned(alloc: Global, text: &str, low: i32) -> Option<Plan> {
     let checked = checked(alloc, text)?;
     let found = layout(alloc, checked.program(), 0).ok()?;
-    let first = find_construct(&checked.program().main, 0)?;
-    match &first.kind {
-        StmtKind::Fold(_) => checked.plan(alloc, 0, &found, low as i64, 2).ok(),
-        StmtKind::Pair(_) => checked.plan(alloc, 0, &found, low as i64, 2).ok(),
-        _ => None,
-    }
+    find_construct(&checked.program().main, 0)?;
+    checked.plan(alloc, 0, &found, low as i64, 2).ok()
 }
 
 fn span(from: u64, to: u64) -> Span {

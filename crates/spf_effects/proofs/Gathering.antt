@@ -5,19 +5,9 @@ use Rattle.std.specs.Prelude.{Result, Ok, Err, IfOk, Some, map, not, ◌==◌}
 use Rattle.spf_region.specs.declared.range.Range.{Range}
 use Rattle.spf_region.specs.Ranges.{offsets_of, wholes_of}
 use Rattle.spf_ast.specs.declared.syntax.Program as code_program
-use Rattle.std.specs.declared.boxed.Box.{Box}
-use Rattle.std.specs.declared.alloc.Global.{Global}
 use Rattle.spf_ast.specs.declared.syntax.Function as code_function
-use Rattle.spf_ast.specs.declared.syntax.Fold.{out-Fold}
-use Rattle.spf_ast.specs.declared.syntax.Fold as code_fold
-use Rattle.spf_ast.specs.declared.syntax.Pair.{out-Pair}
-use Rattle.spf_ast.specs.declared.syntax.Pair as code_pair
-use Rattle.spf_ast.specs.declared.syntax.StmtKind.{StmtKind}
-use Rattle.spf_ast.specs.declared.syntax.StmtKind.TheVariants as s
-use Rattle.spf_ast.specs.Construct.{Construct, construct_of, fold, pair}
 use Rattle.spf_ast.specs.Syntax.{Block}
-use Rattle.spf_ast.specs.View.{program, function, statement, block, fold_head, pair_head}
-use Rattle.spf_ast.proofs.Views.{statement-fold, statement-pair}
+use Rattle.spf_ast.specs.View.{program, function, block}
 use Rattle.spf_effects.specs.declared.effects.Effects as code
 use Rattle.spf_effects.specs.declared.slot_sets.Slots as code_slots
 use Rattle.spf_effects.specs.Effects.{AreEffects, effects_of}
@@ -64,14 +54,6 @@ main_setting_is p tables functions count e f n =
     (λ i. record { is_assigned = assigned_in tables (block p.main.items) e i; call = call_before (map function (f i)) count })
     ∙ ap (λ m. record { is_assigned = λ slot. assigns (λ other. other == slot) (block p.main.items); call = call_before (map function p.functions.items) m }) (n ∙ sym (length-map p.functions.items function))
 
-some_is : {A : Type 0} (x y : A) → Some x ≡ Some y → x ≡ y
+-- what is found is one thing
+pub some_is : {A : Type 0} (x y : A) → Some x ≡ Some y → x ≡ y
 some_is x y e = cc
-
--- the construct that a statement is
-pub fold_of : (kind : StmtKind) (held : Box code_fold.Fold Global) (line : ℕ) (c : Construct) → kind ≡ s.Fold held → construct_of line (statement kind) ≡ Some c → fold line (fold_head held.value) (block (out-Fold held.value).body.items) ≡ c
-fold_of kind held line c is e =
-    some_is _ _ (sym (ap (construct_of line) (ap statement is ∙ statement-fold held)) ∙ e)
-
-pub pair_of : (kind : StmtKind) (held : Box code_pair.Pair Global) (line : ℕ) (c : Construct) → kind ≡ s.Pair held → construct_of line (statement kind) ≡ Some c → pair line (pair_head held.value) (block (out-Pair held.value).producer.items) (block (out-Pair held.value).consumer.items) ≡ c
-pair_of kind held line c is e =
-    some_is _ _ (sym (ap (construct_of line) (ap statement is ∙ statement-pair held)) ∙ e)

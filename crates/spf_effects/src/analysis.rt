@@ -2,9 +2,9 @@
 ghost use Rattle.std.specs.Prelude.{◌≡◌, ℕ, IfOk, Some};
 ghost use Rattle.spf_ast.specs.declared.syntax.Fold.{out-Fold};
 ghost use Rattle.spf_ast.specs.declared.syntax.Pair.{out-Pair};
-ghost use Rattle.spf_ast.specs.Construct.{Construct, construct_of, fold as fold_construct, pair as pair_construct};
+ghost use Rattle.spf_ast.specs.Construct.{fold as fold_construct, pair as pair_construct};
 ghost use Rattle.spf_ast.specs.Syntax.{end};
-ghost use Rattle.spf_ast.specs.View.{block as block_of, expression as expression_of, predictor as predictor_of, statement as statement_of, program as program_of, fold_head, pair_head};
+ghost use Rattle.spf_ast.specs.View.{block as block_of, expression as expression_of, predictor as predictor_of, program as program_of, fold_head, pair_head};
 ghost use Rattle.spf_effects.specs.Effects.{AreEffects, AreEffectsOf, effects_of};
 ghost use Rattle.spf_effects.specs.Forms.{block_finds, block_then};
 ghost use Rattle.spf_effects.specs.Parts.{guess_finds, outside, part_effects};
@@ -15,8 +15,8 @@ use crate::effects::{Effects, gathered, no_effects};
 use crate::findings::Findings;
 use crate::slot_sets::slots_in;
 use crate::walk::{block, block_and, expression};
-use spf_ast::construct::find_construct;
-use spf_ast::syntax::{Expr, Fold, Pair, Part, Predict, Program, Stmt, StmtKind};
+use spf_ast::construct::{ConstructKind, find_construct};
+use spf_ast::syntax::{Expr, Fold, Pair, Part, Predict, Program, Stmt};
 use spf_region::bound::Bound;
 use std::alloc::{AllocError, Global};
 
@@ -41,34 +41,12 @@ pub fn effects(
 ) -> Result<Effects, AllocError>
     ensures exact { IfOk result (AreEffectsOf (program_of program.now) construct part) }
 {
-    match find_construct(&program.main, construct) {
-        None => Ok(no_effects(alloc)),
-        Some(statement) => statement_effects(alloc, program, &statement.kind, part),
-    }
-}
-
-/// The effects of a part of the construct that a statement is.
-fn statement_effects(
-    alloc: Global,
-    program: &Program,
-    kind: &StmtKind,
-    part: Part,
-) -> Result<Effects, AllocError>
-    ensures { IfOk result (λ e. (line : ℕ) (c : Construct) → construct_of line (statement_of kind.now) ≡ Some c → AreEffects (part_effects (program_of program.now) c part) e) }
-{
-    match kind {
-        StmtKind::Fold(fold) => fold_effects(alloc, program, fold, part),
-        StmtKind::Pair(pair) => pair_effects(alloc, program, pair, part),
-        StmtKind::Let(_, _)
-        | StmtKind::Assign(_, _)
-        | StmtKind::Store(_, _, _)
-        | StmtKind::Fill(_, _, _, _)
-        | StmtKind::Emit(_)
-        | StmtKind::Fail(_)
-        | StmtKind::If(_, _, _)
-        | StmtKind::For(_, _, _, _)
-        | StmtKind::While(_, _, _)
-        | StmtKind::Call(_, _) => Ok(no_effects(alloc)),
+    let Some(found) = find_construct(&program.main, construct) else {
+        return Ok(no_effects(alloc));
+    };
+    match found.kind {
+        ConstructKind::Fold(fold) => fold_effects(alloc, program, fold, part),
+        ConstructKind::Pair(pair) => pair_effects(alloc, program, pair, part),
     }
 }
 

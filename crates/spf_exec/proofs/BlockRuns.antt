@@ -144,11 +144,6 @@ read_run p input (Some c) part slots full n v s q =
 pub same_environment : (p : Program) (input : List ℕ) (fs : List Function) (n : ℕ) (es : List Extent) → fs ≡ p.functions → n ≡ length p.functions → es ≡ extents_of p (length input) → environment_before input es fs n ≡ environment_of p input
 same_environment p input fs n es e1 e2 e3 = λ i. environment_before input (e3 i) (e1 i) (e2 i)
 
--- a fact of a construct, where it is found
-pub over_option : (o d : Option Construct) (P Q : Construct → Type 0) → o ≡ d → ((c : Construct) → P c → Q c) → MatchOption d (Unit {0}) P → MatchOption o (Unit {0}) Q
-over_option None d P Q e f m = tt
-over_option (Some c) d P Q e f m = f c (subst (λ (x : Option Construct). MatchOption x (Unit {0}) P) (sym e) m)
-
 -- a part, performed in the environment of the program and from these slots
 pub part_along : {M : Type 0} {leads : List Event → M → M → Type 0} {stop : M → Option ℕ} {may_lack : Type 0} {g d : Environment} {a b : M} {r : Result ℤ Halt} {own : List ℤ} {out : List ℕ} (c : Construct) (part : Part) (n v : ℤ) (slots held : List ℤ) (full : List ℕ) → g ≡ d → slots ≡ held
     → Performs leads stop may_lack (part_means g c part n v (record { slots = slots; output = full })) a b r (record { slots = own; output = out })
@@ -245,3 +240,8 @@ guess_trap cells t a b trap s n p = record {
 pub guess_stop : {S : Type 0} (cells : S → List ℤ) (t : Interaction (Ending ℤ)) (a b : S) (seen : ℕ) (s : State)
     → Performs {A = ℤ} (λ es x y. LeadsUnstored es (cells x) (cells y)) (λ m. None) ⊥ t a b (Err (h.Cancelled seen)) s → ⊥
 guess_stop cells t a b seen s p = never_stops t (p.events ++ []) seen [] (p.performed tt [])
+
+-- where a part is silent its construct is there
+pub there : (p : Program) (o : Option Construct) (part : Part) → IsSilentPart p o part → o ≡ None → ⊥
+there p None part s e = s
+there p (Some c) part s e = cc

@@ -5,7 +5,7 @@ use Rattle.spf_ast.specs.Syntax.{Block, end, on_line}
 use Rattle.spf_ast.specs.View.{statement, block}
 use Rattle.spf_ast.specs.Construct.{Construct, header_means, constructs_in, construct_of, is_construct}
 use Rattle.spf_ast.specs.Pieces.{before_construct, from_construct, rest_from, statement_count}
-use Rattle.std.specs.Prelude.{Option, None, Some, Result, Ok, Err, MatchOption, slice_set, ℤ}
+use Rattle.std.specs.Prelude.{Option, None, Some, Result, Ok, Err, slice_set, ℤ}
 use Rattle.spf_ast.specs.Syntax.{Let, Assign, Store, Fill, Emit, Fail, If, For, While, Do, Fold, Pair, Program}
 use Rattle.spf_ast.specs.declared.outcome.Trap.{Trap}
 use Rattle.spf_ast.specs.Interaction.{Value, Trapped}
@@ -153,14 +153,9 @@ first_is [] n x h e = let no : ⊥ = omega arith in absurd no
 first_is (y ∷ ys) zero x h e = ap (λ (z : Stmt). construct_of z.line (statement z.kind)) (sym e)
 first_is (y ∷ ys) (suc n) x h e = first_is ys n x (omega arith) e
 
--- a fact of the construct that stands there
-pub at_first : (o d : Option Construct) (P : Construct → Type 0) → o ≡ d → MatchOption d (Unit {0}) P → MatchOption o (Unit {0}) P
-at_first o d P e m = subst (λ (x : Option Construct). MatchOption x (Unit {0}) P) (sym e) m
-
 -- the carried slot of the construct that stands there, set
-pub carried_is : (o : Option Construct) (slots : List ℤ) (slot : ℕ) (v : ℤ) → (o ≡ None → ⊥) → MatchOption o (Unit {0}) (λ c. slot ≡ carried_of c) → slice_set slots slot v ≡ carried_set o slots v
-carried_is None slots slot v h m = absurd (h refl)
-carried_is (Some c) slots slot v h m = ap (λ k. slice_set slots k v) m
+pub carried_is : (o : Option Construct) (k : Construct) (slots : List ℤ) (v : ℤ) → o ≡ Some k → slice_set slots (carried_of k) v ≡ carried_set o slots v
+carried_is o k slots v e = rw e refl
 
 -- a header that is done, from what is said of its parts
 pub header_done : (p : Program) (input : List ℕ) (c : Construct) (before after : Stand) (result : Result code_header.Header Trap)
@@ -173,7 +168,5 @@ header_done p input c before after (Ok header) answer memory kept output =
 header_done p input c before after (Err trap) answer memory kept output = answer ∙ ap (Trapped trap) (sym output)
 
 -- so it is of the construct that stands first
-pub header_first : (p : Program) (input : List ℕ) (o d : Option Construct) (before after : Stand) (result : Result code_header.Header Trap) → (o ≡ None → ⊥) → o ≡ d
-    → MatchOption d (Unit {0}) (λ c. HeaderDone p input (Some c) before after result) → HeaderDone p input o before after result
-header_first p input None d before after result h e m = h refl
-header_first p input (Some c) d before after result h e m = at_first (Some c) d (λ x. HeaderDone p input (Some x) before after result) e m
+pub header_first : (p : Program) (input : List ℕ) (o : Option Construct) (k : Construct) (before after : Stand) (result : Result code_header.Header Trap) → o ≡ Some k → HeaderDone p input (Some k) before after result → HeaderDone p input o before after result
+header_first p input o k before after result e done = subst (λ x. HeaderDone p input x before after result) (sym e) done

@@ -4,8 +4,8 @@ use Rattle.std.specs.Prelude.{slice_get, MatchOption}
 use Rattle.spf_ast.specs.declared.syntax.Stmt.{Stmt}
 use Rattle.spf_ast.specs.Syntax.{Program, Function, Block, Statement, end, on_line, Let, Assign, Store, Fill, Emit, Fail, If, For, While, Do, Fold, Pair}
 use Rattle.spf_ast.specs.View.{block}
-use Rattle.spf_ast.specs.Size.{by_slots, block_measure, statement_measure, function_slots}
-use Rattle.spf_ast.specs.Construct.{Construct, constructs_in}
+use Rattle.spf_ast.specs.Size.{Measure, by_slots, block_measure, statement_measure, function_slots}
+use Rattle.spf_ast.specs.Construct.{Construct, construct_of, constructs_in}
 use Rattle.spf_exec.specs.Frame.{slots_before, call_room}
 use Rattle.spf_exec.specs.BlockRuns.{construct_measure}
 
@@ -64,3 +64,24 @@ construct_room p fs n b number o size e f g found h =
     let main = ap (block_measure (by_slots (function_slots p))) g in
     let all = block_room p fs n b size e f (omega (arith, main, h)) in
     subst (λ x. Fits (slots_before fs n) x size) found (fits_more (slots_before fs n) (slice_get (constructs_in b) number) _ _ all (construct_fits (slots_before fs n) b number))
+
+-- a construct needs what the statement needs that it is
+the_same : (m : Measure) (j k : Construct) → Some j ≡ Some k → construct_measure m k ≡ construct_measure m j
+the_same m j k e = ap (construct_measure m) (same j k e)
+  where
+    same : (j k : Construct) → Some j ≡ Some k → k ≡ j
+    same j k e = cc
+
+pub construct_is : (m : Measure) (line : ℕ) (s : Statement) (k : Construct) → construct_of line s ≡ Some k → construct_measure m k ≡ statement_measure m s
+construct_is m line (Let slot value) k e = cc
+construct_is m line (Assign slot value) k e = cc
+construct_is m line (Store array index value) k e = cc
+construct_is m line (Fill array low high value) k e = cc
+construct_is m line (Emit value) k e = cc
+construct_is m line (Fail number) k e = cc
+construct_is m line (If test a b) k e = cc
+construct_is m line (For slot low high body) k e = cc
+construct_is m line (While test most body) k e = cc
+construct_is m line (Do g given) k e = cc
+construct_is m line (Fold head body) k e = the_same m _ k e
+construct_is m line (Pair head producer consumer) k e = the_same m _ k e

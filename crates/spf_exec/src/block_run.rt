@@ -3,9 +3,10 @@
 ghost use Rattle.std.specs.Prelude.{◌≡◌, ◌≤◌, ◌<◌, ◌^◌, ◌+◌, ℤ, [], length, pos, MatchOption, None, Some};
 ghost use Rattle.spf_ast.specs.declared.syntax.Fold.{out-Fold};
 ghost use Rattle.spf_ast.specs.declared.syntax.Pair.{out-Pair};
-ghost use Rattle.spf_ast.specs.View.{expression, statement as statement_of, block as block_of, fold_head, pair_head, predictor, program as seen_program};
+ghost use Rattle.spf_ast.specs.View.{expression, block as block_of, fold_head, pair_head, predictor, program as seen_program};
 ghost use Rattle.spf_ast.specs.Syntax.{Fold as fold_form, Pair as pair_form};
-ghost use Rattle.spf_ast.specs.Construct.{construct_of, part_means, guess_means, fold as fold_construct, pair as pair_construct};
+ghost use Rattle.spf_ast.specs.ConstructView.{construct as construct_seen};
+ghost use Rattle.spf_ast.specs.Construct.{part_means, guess_means, fold as fold_construct, pair as pair_construct};
 ghost use Rattle.spf_ast.specs.declared.syntax.Part.TheVariants.{Predictor};
 ghost use Rattle.spf_ast.specs.Program.{cell_count_of, environment_of};
 ghost use Rattle.spf_ast.specs.Size.{expression_measure, predictor_measure, statement_measure, block_measure};
@@ -20,9 +21,9 @@ use crate::layout::Layout;
 use crate::memory::{Halt, Memory};
 use crate::primitives::write_slot;
 use crate::quiet::{Quiet, ReadOnly};
-use spf_ast::construct::find_construct;
+use spf_ast::construct::{ConstructKind, TopConstruct, find_construct};
 use spf_ast::outcome::Trap;
-use spf_ast::syntax::{Expr, Fold, Pair, Part, Predict, Program, Stmt, StmtKind};
+use spf_ast::syntax::{Expr, Fold, Pair, Part, Predict, Program, Stmt};
 
 /// One block of a top construct: which part of the construct it runs, and with which block number and carried value.
 #[derive(Clone, Copy, PartialEq, Eq, Debug)]
@@ -194,11 +195,11 @@ fn perform_pair<M: Memory>(
     }
 }
 
-/// Performs a part of a top construct, given the statement that the construct is.
+/// Performs a part of a top construct.
 fn perform_part<M: Memory>(
     context: &Context,
     below: usize,
-    statement: &Stmt,
+    construct: &TopConstruct,
     block: Block,
     slots: &mut [i64],
     scratch: &mut [i64],
@@ -206,19 +207,17 @@ fn perform_part<M: Memory>(
 ) -> Result<i64, Halt>
     requires within { AreWithin context.now.extents.now (M.cell_count memory.old) }
     requires short { length context.now.input.now < 2 ^ 63 }
-    requires room { MatchOption (construct_of statement.now.line (statement_of statement.now.kind)) (Unit {0})
-        (λ construct. construct_measure (call_slots context.now below) construct ≤ length scratch.old) }
-    ensures performs { MatchOption (construct_of statement.now.line (statement_of statement.now.kind)) (Unit {0})
-        (λ construct. Performs M.leads M.stop M.may_lack_memory
-        (part_means (environment context.now below) construct block.part block.number block.value
+    requires room { construct_measure (call_slots context.now below) (construct_seen construct.now) ≤ length scratch.old }
+    ensures performs { Performs M.leads M.stop M.may_lack_memory
+        (part_means (environment context.now below) (construct_seen construct.now) block.part block.number block.value
         (state slots.old (M.output memory.old)))
-        memory.old memory.new result (state slots.new (M.output memory.new))) }
+        memory.old memory.new result (state slots.new (M.output memory.new)) }
 {
-    match &statement.kind {
-        StmtKind::Fold(fold) => perform_fold(
+    match construct.kind {
+        ConstructKind::Fold(fold) => perform_fold(
             context,
             below,
-            statement.line,
+            construct.line,
             fold,
             block.part,
             block.number,
@@ -227,10 +226,10 @@ fn perform_part<M: Memory>(
             scratch,
             memory,
         ),
-        StmtKind::Pair(pair) => perform_pair(
+        ConstructKind::Pair(pair) => perform_pair(
             context,
             below,
-            statement.line,
+            construct.line,
             pair,
             block.part,
             block.number,
@@ -239,7 +238,6 @@ fn perform_part<M: Memory>(
             scratch,
             memory,
         ),
-        _ => Ok(0),
     }
 }
 
@@ -256,6 +254,7 @@ fn run_part<M: Memory>(
     requires cells { M.cell_count memory.old ≡ cell_count_of (seen_program program.now) (length input.now) }
     requires short { length input.now < 2 ^ 63 }
     requires program_frame { length frame.old ≡ frame_size (seen_program program.now) }
+    requires there { top_construct (seen_program program.now) block.construct ≡ None → ⊥ }
     ensures performs { MatchOption (top_construct (seen_program program.now) block.construct) (Unit {0})
         (λ construct. PerformsOver M.leads M.stop M.may_lack_memory
         (part_means (environment_of (seen_program program.now) input.now) construct block.part block.number block.value
@@ -264,8 +263,8 @@ fn run_part<M: Memory>(
     ensures kept { main_slots (seen_program program.now) frame.new ≡ main_slots (seen_program program.now) frame.old }
     ensures size { length frame.new ≡ length frame.old }
 {
-    let Some(statement) = find_construct(&program.main, block.construct) else {
-        return Ok(0);
+    let Some(construct) = find_construct(&program.main, block.construct) else {
+        unreachable!();
     };
     let context = Context {
         functions: &program.functions,
@@ -279,7 +278,7 @@ fn run_part<M: Memory>(
     perform_part(
         &context,
         program.functions.len(),
-        statement,
+        &construct,
         block,
         slots,
         scratch,

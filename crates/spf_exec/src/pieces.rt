@@ -4,10 +4,11 @@ ghost use Rattle.std.specs.Prelude.{◌≡◌, ◌+◌, ◌-◌, ◌<◌, ◌≤
 ghost use Rattle.spf_ast.specs.declared.syntax.Fold.{out-Fold};
 ghost use Rattle.std.specs.Borrow.{Lends, Array, sem, i64 as word};
 ghost use Rattle.spf_exec.specs.contracts.pieces.Run.{the_row};
-ghost use Rattle.spf_ast.specs.View.{block as block_of, statement as statement_of, fold_head, program as seen_program};
+ghost use Rattle.spf_ast.specs.View.{block as block_of, fold_head, program as seen_program};
 ghost use Rattle.spf_ast.specs.Meaning.{block_means, max_blocks};
 ghost use Rattle.spf_ast.specs.Syntax.{Fold as fold_form};
-ghost use Rattle.spf_ast.specs.Construct.{constructs_in, construct_of, header_means, fold as fold_construct};
+ghost use Rattle.spf_ast.specs.Construct.{constructs_in, header_means, fold as fold_construct};
+ghost use Rattle.spf_ast.specs.ConstructView.{construct as construct_seen};
 ghost use Rattle.spf_ast.specs.Plain.{plain_memory};
 ghost use Rattle.spf_ast.specs.Pieces.{rest_from, before_construct, from_construct, construct_first, carried_of, statement_count};
 ghost use Rattle.spf_ast.specs.Program.{cell_count_of, max_cells, environment_of, zeros_of};
@@ -16,7 +17,7 @@ ghost use Rattle.spf_exec.specs.declared.layout.RunError.TheVariants.{OutOfMemor
 ghost use Rattle.spf_ast.specs.Size.{by_slots, statement_measure, function_slots};
 ghost use Rattle.spf_exec.specs.Frame.{call_room, frame_size, main_slots};
 ghost use Rattle.spf_exec.specs.RunErrors.{IsTooMany};
-ghost use Rattle.spf_exec.specs.BlockRuns.{IsLayoutOf};
+ghost use Rattle.spf_exec.specs.BlockRuns.{IsLayoutOf, construct_measure};
 ghost use Rattle.spf_exec.specs.Performs.{Performs, AreWithin, IsDecided, call_slots, environment, state};
 ghost use Rattle.spf_exec.specs.PlainMemory.{IsPlainOutcome};
 ghost use Rattle.spf_exec.specs.Pieces.{Stand, IsRunOf, IsPauseAt, refilled, HasBegun, Advanced, IsHeaderAnswer, header_result, stand, HeaderDone, IsSettled, ahead, moment_of};
@@ -31,9 +32,11 @@ use crate::plain::Plain;
 use crate::plain_run::run_main;
 use crate::primitives::{are_too_many, block_count};
 use crate::quiet::Quiet;
-use spf_ast::construct::{count_constructs, is_construct};
+use spf_ast::construct::{
+    ConstructKind, TopConstruct, as_construct, count_constructs, is_construct,
+};
 use spf_ast::outcome::{Trap, TrapKind};
-use spf_ast::syntax::{Fold, Program, Stmt, StmtKind};
+use spf_ast::syntax::{Fold, Program, Stmt};
 use std::alloc::{AllocError, Global};
 use std::marker::Model;
 
@@ -313,12 +316,12 @@ fn fold_header(
     }
 }
 
-/// Performs the header of a statement that is a construct.
+/// Performs the header of a top construct.
 fn header_of(
     program: &Program,
     layout: &Layout,
     input: &[u8],
-    statement: &Stmt,
+    construct: &TopConstruct,
     frame: &mut Frame,
     memory: &mut Plain,
 ) -> Result<Header, Trap>
@@ -326,13 +329,11 @@ fn header_of(
     requires cells { length memory.old.cells.items ≡ cell_count_of (seen_program program.now) (length input.now) }
     requires short { length input.now < 2 ^ 63 }
     requires program_frame { length frame.old ≡ frame_size (seen_program program.now) }
-    requires room { statement_measure (by_slots (function_slots (seen_program program.now)))
-        (statement_of statement.now.kind)
+    requires room { construct_measure (by_slots (function_slots (seen_program program.now))) (construct_seen construct.now)
         ≤ call_room (seen_program program.now) }
     requires silent { FunctionsAreSilent (seen_program program.now).functions }
-    ensures header { (place : ℕ) → MatchOption (construct_of statement.now.line (statement_of statement.now.kind)) (Unit {0})
-        (λ construct. HeaderDone (seen_program program.now) input.now (Some construct)
-        (stand layout.now frame.old memory.old place) (stand layout.now frame.new memory.new place) result) }
+    ensures header { (place : ℕ) → HeaderDone (seen_program program.now) input.now (Some (construct_seen construct.now))
+        (stand layout.now frame.old memory.old place) (stand layout.now frame.new memory.new place) result }
     ensures output { memory.new.output.items ≡ memory.old.output.items }
     ensures cells { length memory.new.cells.items ≡ length memory.old.cells.items }
     ensures kept { main_slots (seen_program program.now) frame.new ≡ main_slots (seen_program program.now) frame.old }
@@ -340,18 +341,13 @@ fn header_of(
     ensures few { IfOk result (λ h. h.blocks ≤ max_blocks) }
     ensures numbers { IfOk result (λ h. (h.low +ℤ pos h.blocks) ≤ℤ i64.MAX) }
 {
-    match &statement.kind {
-        StmtKind::Fold(fold) => {
-            fold_header(program, layout, input, statement.line, fold, frame, memory)
+    match construct.kind {
+        ConstructKind::Fold(fold) => {
+            fold_header(program, layout, input, construct.line, fold, frame, memory)
         }
-        StmtKind::Pair(_) => Ok(Header {
+        ConstructKind::Pair(_) => Ok(Header {
             low: 0,
             blocks: 2,
-            start: 0,
-        }),
-        _ => Ok(Header {
-            low: 0,
-            blocks: 0,
             start: 0,
         }),
     }
@@ -383,18 +379,19 @@ fn header_at(
     ensures few { IfOk result (λ h. h.blocks ≤ max_blocks) }
     ensures numbers { IfOk result (λ h. (h.low +ℤ pos h.blocks) ≤ℤ i64.MAX) }
 {
-    header_of(program, layout, input, &program.main[place], frame, memory)
+    let Some(construct) = as_construct(&program.main[place]) else {
+        unreachable!();
+    };
+    header_of(program, layout, input, &construct, frame, memory)
 }
 
-/// The slot of the carried value of a statement that is a construct.
-fn carried_slot(statement: &Stmt) -> u32
-    ensures { MatchOption (construct_of statement.now.line (statement_of statement.now.kind)) (Unit {0})
-        (λ construct. result ≡ carried_of construct) }
+/// The slot of the carried value of a top construct.
+fn carried_slot(construct: &TopConstruct) -> u32
+    ensures { result ≡ carried_of (construct_seen construct.now) }
 {
-    match &statement.kind {
-        StmtKind::Fold(fold) => fold.carried,
-        StmtKind::Pair(pair) => pair.carried,
-        _ => 0,
+    match construct.kind {
+        ConstructKind::Fold(fold) => fold.carried,
+        ConstructKind::Pair(pair) => pair.carried,
     }
 }
 
@@ -488,8 +485,10 @@ impl Run {
         ensures size { length self.new.frame ≡ length self.old.frame }
         ensures within { self.new.place ≤ statement_count (seen_program program.now).main }
     {
-        let main: &[Stmt] = &program.main;
-        let slot = carried_slot(&main[self.place]);
+        let Some(construct) = as_construct(&program.main[self.place]) else {
+            unreachable!();
+        };
+        let slot = carried_slot(&construct);
         self.frame.set(slot, value);
         self.place += 1;
     }

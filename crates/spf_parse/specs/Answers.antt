@@ -12,7 +12,7 @@ use Rattle.spf_ast.specs.View.{name as seen_name}
 use Rattle.spf_grammar.specs.Lexemes.{Lexeme}
 use Rattle.spf_grammar.specs.Parts.{Part, ◌>>=◌, ◌>>◌, token, opens, name, many, lined, expression, level, further, compared, operand, form, otherwise, guess, size, function, statement, Value, Rule, give}
 use Rattle.spf_grammar.specs.Rules.{all, rank_of, named}
-use Rattle.spf_grammar.specs.Derivations.{Says, Reading}
+use Rattle.spf_grammar.specs.Derivations.{Reading}
 use Rattle.spf_parse.specs.declared.statement.FoldHead.{FoldHead}
 use Rattle.spf_parse.specs.declared.fault.Fault.{Fault}
 use Rattle.spf_parse.specs.declared.fault.Fault.TheVariants as fault

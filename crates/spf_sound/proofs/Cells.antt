@@ -1,16 +1,15 @@
 -- The cells of ranges, single offset by single offset, and what follows from the rules for them.
-use Rattle.std.proofs.Common.{◌≡◌, ◌≢◌, ◌⊎◌, inl, inr, ℕ, ◌+◌, ◌<◌, ◌≤◌, Bool, true, false, not, List, [], ◌∷◌, ℤ, pos, refl, sym, ap, ◌∙◌, subst, arith}
-use Rattle.std.specs.Prelude.{◌+ℤ◌, ◌-ℤ◌, ◌*ℤ◌, ◌≤ℤ◌, ◌<ℤ◌, ◌==◌, ◌&&◌, ◌||◌, int_le, int_lt, slice_index_or}
-use Rattle.std.specs.List.{list_any}
+use Rattle.std.proofs.Common.{◌≡◌, ◌≢◌, ◌⊎◌, inl, inr, ℕ, Bool, true, false, not, List, [], ◌∷◌, ℤ, pos, subst, arith}
+use Rattle.std.specs.Prelude.{◌-ℤ◌, ◌*ℤ◌, ◌≤ℤ◌, ◌==◌, ◌&&◌, ◌||◌, int_le, int_lt, slice_index_or}
 use Rattle.std.specs.Ordering.{int_eq}
 use Rattle.std.specs.Int.{int_min, int_max}
 use Rattle.std.proofs.lemmas.Int.{ints, clamps}
 use Rattle.spf_region.specs.declared.range.Range.{Range}
 use Rattle.spf_region.specs.declared.range.Range.TheVariants.{Whole, Affine}
-use Rattle.spf_region.specs.Ranges.{Offsets, Arrays, array_of, has_offset, is_whole, offsets_of, wholes_of, separate, disjoint}
+use Rattle.spf_region.specs.Ranges.{array_of, has_offset, is_whole, offsets_of, wholes_of}
 use Rattle.spf_region.specs.Cells.{Extent, at_block, in_extent, is_cell, cells_at}
-use Rattle.spf_region.specs.Laws.{HasEntry, AreSeparate, LieApart, IsCellAt}
-use Rattle.spf_region.proofs.Bools.{and-left, and-right, both-true, or-cases, or-left, or-right, int-le-is, int-le-of, int-lt-is}
+use Rattle.spf_region.specs.Laws.{AreSeparate, LieApart, IsCellAt}
+use Rattle.spf_region.proofs.Bools.{and-left, and-right, both-true, or-cases, or-left, or-right, int-le-is, int-le-of}
 use Rattle.spf_region.proofs.Covers.{has-of}
 use Rattle.spf_region.proofs.Blocks.{separate-cells, disjoint-cells}
 use Rattle.spf_sound.specs.Rules.{ShareNothing, HasArray}

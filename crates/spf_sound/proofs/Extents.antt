@@ -1,6 +1,6 @@
 -- The arrays of a program lie apart.
 use Rattle.std.proofs.Common.{◌≡◌, ◌≢◌, ℕ, zero, suc, ◌+◌, ◌<◌, ◌≤◌, true, List, [], ◌∷◌, refl, arith}
-use Rattle.std.specs.Prelude.{◌&&◌, nat_le, nat_lt, slice_index_or}
+use Rattle.std.specs.Prelude.{nat_le, nat_lt}
 use Rattle.spf_ast.specs.Syntax.{Array, Program}
 use Rattle.spf_ast.specs.Program.{size_of, extents_from, extents_of}
 use Rattle.spf_region.specs.Cells.{Extent, in_extent}

@@ -1,33 +1,28 @@
 -- A top construct that keeps the rules is rollback free.
-use Rattle.std.proofs.Common.{◌≡◌, ◌≢◌, ◌⊎◌, inl, inr, ℕ, ◌+◌, ◌-◌, ◌<◌, ◌≤◌, Bool, true, false, List, [], ◌∷◌, ◌++◌, length, Option, Some, ℤ, pos, refl, sym, ap, ◌∙◌, subst, arith, Contains}
-use Rattle.std.specs.Prelude.{◌+ℤ◌, ◌-ℤ◌, ◌*ℤ◌, ◌≤ℤ◌, slice_get, slice_index_or}
+use Rattle.std.proofs.Common.{◌≡◌, ◌⊎◌, inl, inr, ℕ, ◌+◌, ◌-◌, ◌<◌, ◌≤◌, true, false, List, [], ◌∷◌, ◌++◌, length, ℤ, pos, refl, sym, subst, arith, Contains}
+use Rattle.std.specs.Prelude.{◌+ℤ◌, ◌-ℤ◌, ◌*ℤ◌, ◌≤ℤ◌, slice_index_or}
 use Rattle.std.proofs.lemmas.Int.{ints}
-use Rattle.spf_ast.specs.declared.outcome.Trap.{Trap}
 use Rattle.spf_ast.specs.declared.syntax.Part.{Part}
 use Rattle.spf_ast.specs.declared.syntax.Part.TheVariants.{Body, Producer, Consumer, Predictor}
 use Rattle.spf_ast.specs.Event.{Event, Load, Store}
 use Rattle.spf_ast.specs.Interaction.{State, Performed, Ended, Ending, Value, Trapped}
 use Rattle.spf_ast.specs.Syntax.{Program}
 use Rattle.spf_ast.specs.Lawful.{IsLawful}
-use Rattle.spf_ast.specs.Construct.{Construct, constructs_in, fold, pair}
+use Rattle.spf_ast.specs.Construct.{Construct, fold, pair}
 use Rattle.spf_ast.specs.Program.{extents_of, environment_of}
-use Rattle.spf_region.specs.declared.range.Range.{Range}
-use Rattle.spf_region.specs.declared.range.Range.TheVariants.{Whole, Affine}
 use Rattle.spf_region.specs.Ranges.{offsets_of, wholes_of}
-use Rattle.spf_region.specs.Cells.{Extent, at_block, in_extent, is_cell, cells_at}
-use Rattle.spf_region.specs.Laws.{IsCellAt}
+use Rattle.spf_region.specs.Cells.{Extent, at_block}
 use Rattle.spf_effects.specs.Slots.{emits, assigns_outer}
 use Rattle.spf_effects.specs.Parts.{part_effects, statements_of}
-use Rattle.spf_ways.specs.Ways.{Keeps}
 use Rattle.spf_ways.specs.Setups.{Setup, IsSetup, asks}
 use Rattle.spf_ways.proofs.Law.{keeps-to-its-effects}
 use Rattle.spf_ways.specs.Keeping.{KeepsToItsEffects, HasStored, AreStored, IsAmong}
 use Rattle.spf_sound.specs.Performances.{IsPerformance, HasReadAll, HasStore}
-use Rattle.spf_sound.specs.Rules.{IsBlockPart, guessed_part, may_write, reads_bare, HasArray, IsWritten, KeepsTheRules, WritesApart, WritesAll}
-use Rattle.spf_sound.specs.Freedom.{IsOwn, IsWrittenCell, HaveDisjointSpans, LeavesTheRest, IsRollbackFree, TheRulesSetFree, part_declares}
+use Rattle.spf_sound.specs.Rules.{IsBlockPart, guessed_part, may_write, reads_bare, HasArray, KeepsTheRules}
+use Rattle.spf_sound.specs.Freedom.{IsOwn, IsWrittenCell, HaveDisjointSpans, IsRollbackFree, TheRulesSetFree, part_declares}
 use Rattle.spf_sound.proofs.Members.{cases, none-in}
 use Rattle.spf_sound.proofs.Along.{Along, Comes, stored_by, along, stores-along, loads-along, load-after, stored-has}
-use Rattle.spf_sound.proofs.Cells.{AtWhole, AtOffset, entry-of, offset-inside, offset-place, has-array-of, has-this-array, separate-blocks, nothing-shared, extent}
+use Rattle.spf_sound.proofs.Cells.{AtWhole, AtOffset, entry-of, offset-inside, offset-place, has-array-of, has-this-array, separate-blocks, nothing-shared}
 use Rattle.spf_sound.proofs.Extents.{lie-apart, within}
 use Rattle.spf_sound.proofs.Slots.{Anything, HasWord, part-keeps, calls-keep}
 use Rattle.spf_sound.proofs.Quiet.{HasOutput, part-quiet}

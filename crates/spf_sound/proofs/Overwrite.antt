@@ -1,19 +1,18 @@
 -- Two memories that agree on what a list of events loads before it has stored it take the list alike.
-use Rattle.std.proofs.Common.{◌≡◌, ◌⊎◌, ◌≢◌, inl, inr, ℕ, ◌<◌, ◌≤◌, List, [], ◌∷◌, ◌++◌, length, None, ℤ, pos, refl, sym, ap, ◌∙◌, subst, arith, Contains}
-use Rattle.std.specs.Prelude.{slice_index_or, slice_set}
+use Rattle.std.proofs.Common.{◌≡◌, ◌⊎◌, ◌≢◌, inl, inr, ℕ, ◌<◌, ◌≤◌, List, [], ◌∷◌, ◌++◌, length, None, ℤ, pos, refl, sym, ap, ◌∙◌, arith, Contains}
+use Rattle.std.specs.Prelude.{slice_set}
 use Rattle.std.proofs.lemmas.List.{get_or-set_same, get_or-set_other, length-set, get_or_past}
 use Rattle.spf_ast.specs.Event.{Event, Load, Store, Turn, word_at, after, IsConsistent}
-use Rattle.spf_ast.specs.Interaction.{Interaction, State, Ended, Ending, Value}
+use Rattle.spf_ast.specs.Interaction.{Interaction, Ended, Ending}
 use Rattle.spf_ast.specs.Syntax.{Program}
 use Rattle.spf_ast.specs.Construct.{Construct}
-use Rattle.spf_ast.specs.Plain.{plain_events, plain_answer, plain_memory, IsPlainRun}
+use Rattle.spf_ast.specs.Plain.{plain_events, plain_answer, IsPlainRun}
 use Rattle.spf_ast.proofs.PlainRuns.{plain_run, one_plain_run}
 use Rattle.spf_ways.specs.Setups.{Setup, IsSetup, asks}
-use Rattle.spf_sound.specs.Performances.{IsPerformance, HasStore}
 use Rattle.spf_sound.specs.Rules.{guessed_part}
-use Rattle.spf_sound.specs.Freedom.{IsOwn, IsWrittenCell, IsRollbackFree}
+use Rattle.spf_sound.specs.Freedom.{IsWrittenCell, IsRollbackFree}
 use Rattle.spf_sound.specs.Overwriting.{AgreeOnUnwritten, IsTheSameOn}
-use Rattle.spf_sound.proofs.Members.{cases, in-or-not, first-in, first-or-later, none-in}
+use Rattle.spf_sound.proofs.Members.{cases, in-or-not, first-or-later, none-in}
 use Rattle.spf_sound.proofs.Along.{stored_by, store-stored}
 
 -- each load of one of these cells comes after a store to it

@@ -1,9 +1,9 @@
 -- What a lawful program's functions and a part that emits nothing do with the output.
-use Rattle.std.proofs.Common.{◌≡◌, ℕ, Bool, true, false, List, [], Option, Some, None, ℤ, refl, sym, ◌∙◌, subst}
-use Rattle.std.specs.Prelude.{◌||◌, IfSome, slice_get}
+use Rattle.std.proofs.Common.{◌≡◌, ℕ, false, List, [], Option, Some, None, ℤ, refl, sym, subst}
+use Rattle.std.specs.Prelude.{IfSome, slice_get}
 use Rattle.spf_ast.specs.declared.syntax.Part.{Part}
 use Rattle.spf_ast.specs.declared.syntax.Part.TheVariants.{Body, Producer, Consumer, Predictor}
-use Rattle.spf_ast.specs.Interaction.{Interaction, Answer, AskLoad, AskStore, AskTurn, bind, State, Ending, Value, Trapped, Meaning}
+use Rattle.spf_ast.specs.Interaction.{Answer, Ending, Value, Trapped, Meaning}
 use Rattle.spf_ast.specs.Syntax.{Statement, Let, Assign, Store, Fill, Emit, Fail, If, For, While, Do, Fold, Pair, Block, end, on_line, Function, Program}
 use Rattle.spf_ast.specs.Lawful.{Names, Scope, IsLawfulStatement, IsLawfulBlock, IsLawfulFunction, IsScoped}
 use Rattle.spf_ast.specs.Construct.{Construct, fold, pair, part_means}

@@ -14,7 +14,7 @@ use Rattle.spf_region.specs.Cells.{in_extent, cells_at}
 use Rattle.spf_effects.specs.Slots.{declares}
 use Rattle.spf_ways.specs.Setups.{Setup}
 use Rattle.spf_sound.specs.Performances.{IsPerformance, HasStore}
-use Rattle.spf_sound.specs.Rules.{IsBlockPart, guessed_part, may_write, IsWritten, KeepsTheRules}
+use Rattle.spf_sound.specs.Rules.{guessed_part, may_write, IsWritten, KeepsTheRules}
 
 -- the cells of a part's spans at a block, for an input of this length: those of all that the part may write there
 abbrev pub IsOwn : Program → Construct → Part → (len : ℕ) → (block : ℤ) → ℕ → Type 0

@@ -1,5 +1,5 @@
 -- Performances of the parts of top constructs, alone and whatever their loads answer.
-use Rattle.std.specs.Prelude.{◌≡◌, ℕ, List, [], ◌∷◌, Option, ℤ}
+use Rattle.std.specs.Prelude.{◌≡◌, ℕ, List, [], Option, ℤ}
 use Rattle.std.specs.List.{Contains}
 use Rattle.spf_ast.specs.declared.syntax.Part.{Part}
 use Rattle.spf_ast.specs.Event.{Event, Store}

@@ -1,9 +1,15 @@
-use Rattle.std.proofs.Common.{sym, ◌∙◌}
-use Rattle.spf_check.proofs.Examining.{construct-line}
+use Rattle.std.proofs.Common.{sym, ◌∙◌, ap, subst}
+use Rattle.std.specs.Prelude.{slice_get}
+use Rattle.spf_ast.specs.View.{block, program}
+use Rattle.spf_ast.specs.Construct.{constructs_in}
+use Rattle.spf_ast.specs.ConstructView.{construct}
+use Rattle.spf_effects.proofs.Gathering.{some_is}
+use Rattle.spf_check.specs.Verdicts.{IsExamined}
 use Rattle.spf_check.proofs.check.examine_construct.Goals as goal
 
-pub returns-in-Some-lowest_broken : goal.returns-in-Some-lowest_broken
-returns-in-Some-lowest_broken c = λ k is.
-    let at = sym (rw c.deref.ensures.value at c.in-Some.ensures) ∙ is in
-    let found = rw at at c.in_ok-found.ensures in
-    (c.in-Some-lowest_broken.ensures _ k (found is), construct-line _ _ k at)
+pub returns : goal.returns
+returns c = λ k is.
+    let p = program c.args.program.now in
+    let own = construct c.in-Some.construct in
+    let here = ap (λ b. slice_get (constructs_in (block b)) c.args.number) (sym c.deref.ensures.value) ∙ c.in-Some.ensures in
+    subst (λ x. IsExamined p x c.judge.result) (some_is own k (sym here ∙ is)) (c.judge.ensures p (c.in_ok-found.ensures here))

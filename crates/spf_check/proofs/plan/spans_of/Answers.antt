@@ -1,6 +1,5 @@
-use Rattle.std.proofs.Common.{arith, rules, ap, sym, subst, ◌∙◌, ◌+◌, map, w64, ◌≡◌, length}
+use Rattle.std.proofs.Common.{arith, w64, ◌≡◌}
 use Rattle.std.proofs.lemmas.Int.{to_z-of_z}
-use Rattle.spf_check.specs.Writing.{AreListed}
 use Rattle.spf_check.proofs.Planning.{pushed}
 use Rattle.spf_check.proofs.plan.spans_of.Goals as goal
 

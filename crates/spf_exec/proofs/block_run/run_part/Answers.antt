@@ -3,9 +3,10 @@ use Rattle.std.proofs.Math.ListN.{length-map}
 use Rattle.std.specs.Prelude.{map}
 use Rattle.spf_ast.specs.View.{array, block, function, name, program}
 use Rattle.spf_ast.specs.Construct.{constructs_in}
+use Rattle.spf_ast.specs.ConstructView.{construct}
 use Rattle.std.specs.Prelude.{slice_get}
 use Rattle.spf_exec.proofs.Cells.{layout_within}
-use Rattle.spf_exec.proofs.BlockRuns.{same_environment, over_option, part_along}
+use Rattle.spf_exec.proofs.BlockRuns.{same_environment, part_along}
 use Rattle.spf_exec.proofs.Rooms.{construct_room}
 use Rattle.spf_exec.proofs.block_run.run_part.Goals as goal
 
@@ -39,4 +40,7 @@ returns-clause-performs g c =
     let own : c.len-own.result ≡ length p.slots = slots ∙ sym (length-map c.args.program.now.slots.items name) in
     let copied : c.copy_from_slice.new.self ≡ take c.len-own.result c.args.frame.now = search rules in
     let held : c.copy_from_slice.new.self ≡ take (length p.slots) c.args.frame.now = copied ∙ ap (λ k. take k c.args.frame.now) own in
-    over_option _ _ _ _ found (λ construct performs. part_along construct c.args.block.part c.args.block.number c.args.block.value _ _ (g.M.Memory.output c.args.memory.now) same held performs) c.perform_part.ensures.performs
+    rw found (part_along (construct c.in-Some.construct) c.args.block.part c.args.block.number c.args.block.value _ _ (g.M.Memory.output c.args.memory.now) same held c.perform_part.ensures.performs)
+
+pub unreachable-requires : goal.unreachable-requires
+unreachable-requires g c = c.requires.there (ap (λ b. slice_get (constructs_in (block b)) c.args.block.construct) (sym c.deref.ensures.value) ∙ c.in_default.ensures)

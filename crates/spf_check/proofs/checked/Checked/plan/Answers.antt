@@ -1,9 +1,7 @@
-use Rattle.std.proofs.Common.{sym, ◌∙◌, ap, map, subst, refl, ◌≡◌, ◌<◌, ◌+◌, ◌^◌, ℕ, length, All, Some, w64}
+use Rattle.std.proofs.Common.{sym, ◌∙◌, ap, subst, w64}
 use Rattle.std.proofs.lemmas.Int.{to_z-of_z}
-use Rattle.std.specs.Prelude.{slice_get, slice_index_or}
+use Rattle.std.specs.Prelude.{slice_index_or}
 use Rattle.spf_ast.specs.View.{program}
-use Rattle.spf_ast.specs.Construct.{Construct, constructs_in}
-use Rattle.spf_region.specs.Cells.{Extent}
 use Rattle.spf_check.specs.Verdicts.{IsKept}
 use Rattle.spf_check.specs.Plans.{AreBlocksOf}
 use Rattle.spf_check.proofs.Planning.{plan-is, list-within, extents-fit, kept-writes, same-construct}
