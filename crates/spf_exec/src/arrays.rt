@@ -2,8 +2,9 @@
 
 ghost use Rattle.std.specs.Prelude.{◌≡◌, ◌<◌, ◌≤◌, length, map, IfOk, IfErr, IsErrAnd};
 ghost use Rattle.spf_ast.specs.View.{array as seen_array, program as seen_program};
-ghost use Rattle.spf_ast.specs.Program.{size_of, sizes, extents_from, extents_of, cell_count_of, max_cells};
+ghost use Rattle.spf_ast.specs.Program.{size_of, sizes, extents_from, cell_count_of, max_cells};
 ghost use Rattle.spf_exec.specs.declared.layout.RunError.TheVariants.{OutOfMemory};
+ghost use Rattle.spf_exec.specs.BlockRuns.{IsLayoutOf};
 ghost use Rattle.spf_exec.specs.RunErrors.{counted, IsTooMany};
 
 use crate::layout::{Layout, RunError};
@@ -53,9 +54,7 @@ fn extents(alloc: Global, arrays: &[Array], len: u64) -> Result<Vec<(u64, u64)>,
 ///
 /// `TooManyCells` where the arrays have more than 4,194,304 cells, and `OutOfMemory`.
 pub fn layout(alloc: Global, program: &Program, len: u64) -> Result<Layout, RunError>
-    ensures extents { IfOk result (λ l. l.extents.items ≡ extents_of (seen_program program.now) len) }
-    ensures cells { IfOk result (λ l. l.cells ≡ cell_count_of (seen_program program.now) len) }
-    ensures within { IfOk result (λ l. l.cells ≤ max_cells) }
+    ensures layout { IfOk result (IsLayoutOf (seen_program program.now) len) }
     ensures too_many { max_cells < cell_count_of (seen_program program.now) len
         → IsErrAnd result (IsTooMany (cell_count_of (seen_program program.now) len)) }
     ensures few { cell_count_of (seen_program program.now) len ≤ max_cells

@@ -1,19 +1,12 @@
-use Rattle.std.proofs.Common.{◌≡◌, ◌≤◌, Option, Some, None, Result, Ok, Err, arith, sym, ap, subst, ◌∙◌}
+use Rattle.std.proofs.Common.{◌≡◌, Some, None, Result, Ok, Err, arith, sym, ap, subst, ◌∙◌}
 use Rattle.std.specs.Prelude.{IfOk, slice_get}
 use Rattle.std.specs.Result.{result_ok}
-use Rattle.spf_ast.specs.Syntax.{Program}
-use Rattle.spf_ast.specs.Program.{cell_count_of, extents_of, max_cells}
 use Rattle.spf_ast.specs.Construct.{Construct, fold, pair, constructs_in}
 use Rattle.spf_ast.specs.ConstructView.{construct}
 use Rattle.spf_ast.specs.View.{block, program}
-use Rattle.spf_exec.specs.declared.layout.Layout.{Layout}
+use Rattle.spf_exec.specs.BlockRuns.{IsLayoutOf}
 use Rattle.spf_check.specs.Plans.{AreBlocksOf}
 use Rattle.spf_cli.proofs.plan_tests.planned.Goals as goal
-
--- the cells are not too many, where so many are laid out
-few : {E : Type 0} (r : Result Layout E) (p : Program) → IfOk r (λ l. l.cells ≡ cell_count_of p 0) → IfOk r (λ l. l.cells ≤ max_cells) → IfOk r (λ l. cell_count_of p 0 ≤ max_cells)
-few (Ok l) p e h = omega (arith, e, h)
-few (Err why) p e h = tt
 
 -- any construct has two blocks
 two-blocks : (k : Construct) → AreBlocksOf k 2
@@ -39,13 +32,4 @@ of-ok (Err why) x P e h = absurd (no x e)
 
 pub plan-requires-clause-layout : goal.plan-requires-clause-layout
 plan-requires-clause-layout c =
-    let found = c.in_ok-found.ensures.value in
-    let own = c.in_ok-found.found in
-    let p = program c.in_ok-checked.checked in (
-      0,
-      record {
-        extents = of-ok c.layout.result own (λ l. l.extents.items ≡ extents_of p 0) found (rw c.program.ensures at c.layout.ensures.extents);
-        cells = of-ok c.layout.result own (λ l. l.cells ≡ cell_count_of p 0) found (rw c.program.ensures at c.layout.ensures.cells);
-        few = of-ok c.layout.result own (λ l. cell_count_of p 0 ≤ max_cells) found (few c.layout.result p (rw c.program.ensures at c.layout.ensures.cells) c.layout.ensures.within);
-      },
-    )
+    (0, of-ok c.layout.result c.in_ok-found.found (IsLayoutOf (program c.in_ok-checked.checked) 0) c.in_ok-found.ensures.value (rw c.program.ensures at c.layout.ensures.layout))

@@ -12,8 +12,7 @@ use Rattle.spf_exec.proofs.plain_run.run_plain.Goals as goal
 pub run_main-requires-clause-within : goal.run_main-requires-clause-within
 run_main-requires-clause-within c =
     let zeros = c.in_ok-cells.ensures.items_if_clones_equal (λ y same. same) in
-    let few = rw c.in_ok-layout.ensures.cells at c.in_ok-layout.ensures.within in
-    layout_within (length c.args.input.now) (map array c.args.program.now.arrays.items) _ _ (c.deref-2.ensures.value ∙ c.in_ok-layout.ensures.extents) (ap length zeros ∙ length-replicate c.in_ok-layout.layout.cells (pos 0) ∙ c.in_ok-layout.ensures.cells) few
+    layout_within (length c.args.input.now) (map array c.args.program.now.arrays.items) _ _ (c.deref-2.ensures.value ∙ c.in_ok-layout.ensures.layout.extents) (ap length zeros ∙ length-replicate c.in_ok-layout.layout.cells (pos 0) ∙ c.in_ok-layout.ensures.layout.cells) c.in_ok-layout.ensures.layout.few
 
 pub run_main-requires-clause-room : goal.run_main-requires-clause-room
 run_main-requires-clause-room c =
@@ -30,12 +29,12 @@ returns-in-Ok-clause-outcome c =
     let p = program c.args.program.now in
     let fs = ap (map function) c.deref.ensures.value in
     let n = ap length c.deref.ensures.value ∙ sym (length-map c.args.program.now.functions.items function) in
-    let es = c.deref-2.ensures.value ∙ c.in_ok-layout.ensures.extents in
+    let es = c.deref-2.ensures.value ∙ c.in_ok-layout.ensures.layout.extents in
     let main = ap block c.deref-3.ensures.value in
     let front = zeros_front c.in_ok-size.size _ _ (sym c.split_at_mut-slots.ensures.value ∙ c.deref_mut.ensures.value ∙ c.in_ok-frame.ensures.items_if_clones_equal (λ y same. same)) in
     let own = c.split_at_mut-slots.ensures.front_len ∙ count ∙ sym (length-map c.args.program.now.slots.items name) in
     let slots = front ∙ ap (λ k. replicate k (pos 0)) own in
-    let cells = c.in_ok-cells.ensures.items_if_clones_equal (λ y same. same) ∙ ap (λ k. replicate k (pos 0)) c.in_ok-layout.ensures.cells in
+    let cells = c.in_ok-cells.ensures.items_if_clones_equal (λ y same. same) ∙ ap (λ k. replicate k (pos 0)) c.in_ok-layout.ensures.layout.cells in
     whole_outcome p c.args.input.now _ _ _ _ _ _ _ _ _ fs n es main slots c.new.ensures.items cells c.in-Ok.ensures.outcome.0 c.in-Ok.ensures.outcome.1
 
 pub returns-in-Err-Trapped-clause-outcome : goal.returns-in-Err-Trapped-clause-outcome
@@ -45,10 +44,10 @@ returns-in-Err-Trapped-clause-outcome c =
     let p = program c.args.program.now in
     let fs = ap (map function) c.deref.ensures.value in
     let n = ap length c.deref.ensures.value ∙ sym (length-map c.args.program.now.functions.items function) in
-    let es = c.deref-2.ensures.value ∙ c.in_ok-layout.ensures.extents in
+    let es = c.deref-2.ensures.value ∙ c.in_ok-layout.ensures.layout.extents in
     let main = ap block c.deref-3.ensures.value in
     let front = zeros_front c.in_ok-size.size _ _ (sym c.split_at_mut-slots.ensures.value ∙ c.deref_mut.ensures.value ∙ c.in_ok-frame.ensures.items_if_clones_equal (λ y same. same)) in
     let own = c.split_at_mut-slots.ensures.front_len ∙ count ∙ sym (length-map c.args.program.now.slots.items name) in
     let slots = front ∙ ap (λ k. replicate k (pos 0)) own in
-    let cells = c.in_ok-cells.ensures.items_if_clones_equal (λ y same. same) ∙ ap (λ k. replicate k (pos 0)) c.in_ok-layout.ensures.cells in
+    let cells = c.in_ok-cells.ensures.items_if_clones_equal (λ y same. same) ∙ ap (λ k. replicate k (pos 0)) c.in_ok-layout.ensures.layout.cells in
     whole_outcome p c.args.input.now _ _ _ _ _ _ _ _ _ fs n es main slots c.new.ensures.items cells stopped.0 stopped.1

@@ -10,7 +10,7 @@ returns-clause-begins c =
     let size : frame_size p ≡ length p.slots + (length p.slots + call_room p) = omega arith in
     record {
       slots = ap (take (length p.slots)) (c.in_ok-frame.ensures.zeros ∙ ap (λ k. replicate k (pos 0)) size) ∙ take_zeros (length p.slots) _ (pos 0);
-      cells = c.in_ok-cells.ensures.items_if_clones_equal (λ y same. same) ∙ ap (λ k. replicate k (pos 0)) c.in_ok-layout.ensures.cells;
+      cells = c.in_ok-cells.ensures.items_if_clones_equal (λ y same. same) ∙ ap (λ k. replicate k (pos 0)) c.in_ok-layout.ensures.layout.cells;
       output = c.new.ensures.items;
       place = refl;
     }
