@@ -19,7 +19,7 @@ WANT_OF_MEMORY = 8
 DOUBLING = "main { specfold s = 1 for k in 0..5 predict k { next s * 2; } emit s; }"
 DIVIDING = "main {\n  emit 65;\n  specfold s = 0 for k in 0..5 predict 0 {\n    next 10 / (3 - k); } }"
 COUNTING = "main { let n = 0; specfold s = 0 for k in 0..2 predict 0 { n = n + 1; next s; } emit n; }"
-PAIRS = """array out[6];
+FILLING = """array out[6];
 main {
   specfold s = 0 for k in 0..3 predict 1 {
     fill out[2*k..2*k + 2] = 0;
@@ -40,15 +40,15 @@ main {
 # the name of a run, the text of its program, and the words around the program's file
 RUNS = [
     ("a fold that traps", DIVIDING, ["run"], ["INPUT", "--stats", "--plain"]),
-    ("a fold over an array", PAIRS, ["run"], ["INPUT", "--stats", "--cells", "--plain"]),
+    ("a fold over an array", FILLING, ["run"], ["INPUT", "--stats", "--cells", "--plain"]),
     ("a fold that counts", COUNTING, ["run"], ["INPUT", "--stats", "--plain"]),
     ("calls and a pair", CALLING, ["run"], ["INPUT", "--cells", "--plain"]),
     ("a run by blocks", DOUBLING, ["run"], ["INPUT", "--stats"]),
-    ("a check that accepts", PAIRS, ["check"], []),
+    ("a check that accepts", FILLING, ["check"], []),
     ("a check that refuses", COUNTING, ["check"], []),
-    ("an explanation", PAIRS, ["explain"], []),
+    ("an explanation", FILLING, ["explain"], []),
     ("a printed program", CALLING, ["print"], []),
-    ("words that are no command", PAIRS, ["run"], []),
+    ("words that are no command", FILLING, ["run"], []),
     ("a text that is no program", "main { emit nope; }", ["check"], []),
 ]
 

@@ -22,6 +22,7 @@ fn checked(alloc: Global, text: &str) -> Option<Checked> {
 fn planned(alloc: Global, text: &str, low: i32) -> Option<Plan> {
     let checked = checked(alloc, text)?;
     let found = layout(alloc, checked.program(), 0).ok()?;
+    // A plan is asked for a construct that is there.
     find_construct(&checked.program().main, 0)?;
     checked.plan(alloc, 0, &found, low as i64, 2).ok()
 }

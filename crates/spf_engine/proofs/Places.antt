@@ -2,13 +2,13 @@
 use Rattle.std.proofs.Common.{◌≡◌, ℕ, Bool, true, false, List, length, ℤ, refl, sym, ap, ◌∙◌, subst}
 use Rattle.std.specs.Prelude.{if◌then◌else◌}
 use Rattle.spf_ast.specs.Interaction.{State, Ending, Value, Trapped}
-use Rattle.spf_ast.specs.Syntax.{Program, Block, end, on_line}
+use Rattle.spf_ast.specs.Syntax.{Program, Block, end, on_line, followed_by}
 use Rattle.spf_ast.specs.Meaning.{Environment, statement_means, block_means}
 use Rattle.spf_ast.specs.Program.{environment_of, start_of, zeros_of}
 use Rattle.spf_ast.specs.Construct.{Moment, is_construct}
 use Rattle.spf_ast.specs.Pieces.{before_construct, from_construct}
 use Rattle.spf_laws.proofs.Plainly.{Comes, Parted, gave, trapped, part, comes-then}
-use Rattle.spf_engine.specs.Standing.{followed_by, IsAt}
+use Rattle.spf_engine.specs.Standing.{IsAt}
 
 -- ---- blocks
 

@@ -3,7 +3,7 @@ use Rattle.std.specs.Prelude.{◌≡◌, ℕ, true, List, length, Result, ℤ, p
 use Rattle.spf_ast.specs.declared.outcome.Trap.{Trap}
 use Rattle.spf_ast.specs.declared.syntax.Part.TheVariants.{Predictor}
 use Rattle.spf_ast.specs.Interaction.{Value}
-use Rattle.spf_ast.specs.Syntax.{Program, Block, end, on_line}
+use Rattle.spf_ast.specs.Syntax.{Program, Block, followed_by}
 use Rattle.spf_ast.specs.Meaning.{Environment, block_means}
 use Rattle.spf_ast.specs.Plain.{plain_answer, plain_memory}
 use Rattle.spf_ast.specs.Program.{environment_of, start_of, zeros_of, Outcome, outcome, outcome_from}
@@ -15,11 +15,6 @@ use Rattle.spf_laws.specs.Agreement.{LookAlike}
 use Rattle.spf_laws.specs.Chained.{AreDeclared, chained}
 use Rattle.spf_guess.specs.declared.stats.Stats.{Stats}
 use Rattle.spf_guess.specs.Statistics.{Guess, guess_of, plus, statistics, statistics_of, statistics_with}
-
--- a block, and then another
-abbrev pub followed_by : Block → Block → Block
-followed_by end more = more
-followed_by (on_line line first rest) more = on_line line first (followed_by rest more)
 
 -- the plain run of the program is at this moment when these statements of `main` are still to come: those before them came to it
 pub record IsAt (p : Program) (input : List ℕ) (rest : Block) (m : Moment) : Type 0 where
