@@ -15,7 +15,9 @@ use Rattle.spf_ast.specs.Syntax.{Statement, Let, Assign, Store, Fill, Emit, Fail
 use Rattle.spf_ast.specs.Meaning.{Extent, gives, traps, checked, reads, sets, turns, loads, stores, stores_each, extent_in, cell_of, byte_of, cells_of, compares, for_turns, while_turns, fold_blocks, fold_range, max_blocks, Environment, count_of, with_slots, in_own_slots}
 use Rattle.spf_ast.specs.Meaning.{expression_means, arguments_mean, condition_means, statement_means, block_means, function_means, own_slots, callable_before, call_before, environment_before}
 use Rattle.spf_ast.specs.Construct.{Construct, fold, pair, part_means, guess_means, header_means}
-use Rattle.spf_ast.specs.Silence.{StatementIsSilent, BlockIsSilent, FunctionIsSilent, FunctionsAreSilent, PartIsSilent, with_output, LeavesOutput}
+use Rattle.spf_ast.specs.Silence.{BlockIsSilent, FunctionIsSilent, FunctionsAreSilent, PartIsSilent, with_output, LeavesOutput}
+use Rattle.spf_ast.specs.Slots.{statement_emits, emits}
+use Rattle.spf_ast.proofs.Bools.{neither}
 
 -- ---- trees, one after another
 
@@ -178,7 +180,7 @@ range-leaves line head start low high body s =
 -- ---- statements and blocks
 
 mutual
-  pub statement-leaves : (g : Environment) → CallsLeave g → (line : ℕ) (s : Statement) → StatementIsSilent s → LeavesOutput (statement_means g line s)
+  pub statement-leaves : (g : Environment) → CallsLeave g → (line : ℕ) (s : Statement) → statement_emits s ≡ false → LeavesOutput (statement_means g line s)
   statement-leaves g calls line (Let slot value) l = leaves-then (expression-leaves g calls line value) (λ word. sets-leaves slot word)
   statement-leaves g calls line (Assign slot value) l = leaves-then (expression-leaves g calls line value) (λ word. sets-leaves slot word)
   statement-leaves g calls line (Store array index value) l =
@@ -192,11 +194,11 @@ mutual
       (λ j. leaves-then (expression-leaves g calls line value)
       (λ word. leaves-then (checked-leaves line (cells_of (extent_in g.extents array) i j))
       (λ cells. stores_each-leaves cells.0 cells.1 word))))
-  statement-leaves g calls line (Emit value) l = absurd l
+  statement-leaves g calls line (Emit value) l = absurd (cc)
   statement-leaves g calls line (Fail number) l = traps-leaves (trap.Fail number) line
   statement-leaves g calls line (If test a b) l =
       leaves-then (condition-leaves g calls line test)
-      (λ holds. leaves-if holds (block-leaves g calls a l.0) (block-leaves g calls b l.1))
+      (λ holds. leaves-if holds (block-leaves g calls a (neither (emits a) (emits b) l).0) (block-leaves g calls b (neither (emits a) (emits b) l).1))
   statement-leaves g calls line (For slot low high body) l =
       leaves-then (expression-leaves g calls line low)
       (λ i. leaves-then (expression-leaves g calls line high)
@@ -213,14 +215,16 @@ mutual
       (leaves-then (block-leaves g calls body l) (λ u. expression-leaves g calls head.next_line head.next)))
       (λ last. sets-leaves head.carried last))))
   statement-leaves g calls line (Pair head producer consumer) l =
-      leaves-then (block-leaves g calls producer l.0)
+      leaves-then (block-leaves g calls producer (neither (emits producer) (emits consumer) l).0)
       (λ u. leaves-then (expression-leaves g calls head.give_line head.give)
       (λ given. leaves-then (sets-leaves head.carried given)
-      (λ v. block-leaves g calls consumer l.1)))
+      (λ v. block-leaves g calls consumer (neither (emits producer) (emits consumer) l).1)))
 
   pub block-leaves : (g : Environment) → CallsLeave g → (block : Block) → BlockIsSilent block → LeavesOutput (block_means g block)
   block-leaves g calls end l = gives-leaves tt
-  block-leaves g calls (on_line line first rest) l = leaves-then (statement-leaves g calls line first l.0) (λ u. block-leaves g calls rest l.1)
+  block-leaves g calls (on_line line first rest) l =
+      leaves-then (statement-leaves g calls line first (neither (statement_emits first) (emits rest) l).0)
+      (λ u. block-leaves g calls rest (neither (statement_emits first) (emits rest) l).1)
 
 -- ---- functions
 

@@ -1,15 +1,15 @@
 -- Top constructs: runs of single blocks, and the real values with which the blocks of a plain run begin.
-use Rattle.std.specs.Prelude.{ℕ, zero, suc, Bool, true, false, if◌then◌else◌, nat_lt, nat_eq, List, [], ◌∷◌, length, Option, Some, None, ℤ, pos, ◌+ℤ◌}
+use Rattle.std.specs.Prelude.{ℕ, zero, suc, Bool, true, false, if◌then◌else◌, nat_lt, List, [], ◌∷◌, length, Option, Some, None, ℤ, pos, ◌+ℤ◌}
 use Rattle.std.specs.Int.{int_gap}
 use Rattle.spf_ast.specs.declared.outcome.TrapKind.TheVariants as trap
 use Rattle.spf_ast.specs.declared.syntax.Part.{Part}
 use Rattle.spf_ast.specs.declared.syntax.Part.TheVariants.{Body, Producer, Consumer, Predictor}
-use Rattle.spf_ast.specs.Event.{Event}
-use Rattle.spf_ast.specs.Interaction.{Interaction, State, Ending, Value, Trapped, Meaning, ◌>>=◌, ◌>>◌}
+use Rattle.spf_ast.specs.Carried.{Carried, no_value}
+use Rattle.spf_ast.specs.Interaction.{State, Ending, Value, Trapped, Meaning, ◌>>=◌, ◌>>◌}
 use Rattle.spf_ast.specs.Syntax.{Program, Statement, Fold, Pair, Block, end, on_line, FoldHead, PairHead, By, Host}
 use Rattle.spf_ast.specs.Syntax as syntax
-use Rattle.spf_ast.specs.Meaning.{Environment, expression_means, statement_means, block_means, sets, gives, traps, max_blocks, in_own_slots}
-use Rattle.spf_ast.specs.Plain.{plain_answer, plain_memory, IsPlainRun}
+use Rattle.spf_ast.specs.Meaning.{Environment, expression_means, statement_means, block_means, sets, gives, traps, max_blocks}
+use Rattle.spf_ast.specs.Plain.{plain_answer, plain_memory}
 use Rattle.spf_ast.specs.Program.{environment_of, start_of, zeros_of}
 
 -- a construct with its line: a fold with its body, or a pair with its producer and its consumer
@@ -36,18 +36,34 @@ constructs_in (on_line line (Fold head body) rest) = fold line head body ∷ con
 constructs_in (on_line line (Pair head producer consumer) rest) = pair line head producer consumer ∷ constructs_in rest
 constructs_in (on_line line _ rest) = constructs_in rest
 
--- ---- blocks
+-- the slot of a construct's carried value
+abbrev pub carried_of : Construct → ℕ
+carried_of (fold line head body) = head.carried
+carried_of (pair line head producer consumer) = head.carried
+
+-- ---- parts
+
+-- the statements of a part; a predictor has none
+abbrev pub statements_of : Construct → Part → Block
+statements_of (fold line head body) Body = body
+statements_of (pair line head producer consumer) Producer = producer
+statements_of (pair line head producer consumer) Consumer = consumer
+statements_of _ _ = end
+
+-- puts a carried value into its slot
+abbrev pub sets_carried : ℕ → Carried → Meaning (Unit {0})
+sets_carried slot value = sets slot value
 
 -- a predictor's guess; one that is handed in gives none here
-abbrev pub guess_means : Environment → ℕ → syntax.Predictor → Meaning ℤ
+abbrev pub guess_means : Environment → ℕ → syntax.Predictor → Meaning Carried
 guess_means g line (By guess) = expression_means g line guess
-guess_means g line (Host number) = gives (pos 0)
+guess_means g line (Host number) = gives no_value
 
--- One performance of a part, given the block number and the carried value: a body gives its next value, a producer what it gives, a consumer its carried value, and a predictor its guess. A part that the construct doesn't have gives 0.
-abbrev pub part_means : Environment → Construct → Part → ℤ → ℤ → Meaning ℤ
+-- One performance of a part, given the block number and the carried value: a body gives its next value, a producer what it gives, a consumer its carried value, and a predictor its guess. A part that the construct doesn't have gives no value.
+abbrev pub part_means : Environment → Construct → Part → ℤ → Carried → Meaning Carried
 part_means g (fold line head body) Body number carried = do
   sets head.block number
-  sets head.carried carried
+  sets_carried head.carried carried
   block_means g body
   expression_means g head.next_line head.next
 part_means g (fold line head body) Predictor number carried = do
@@ -57,21 +73,11 @@ part_means g (pair line head producer consumer) Producer number carried = do
   block_means g producer
   expression_means g head.give_line head.give
 part_means g (pair line head producer consumer) Consumer number carried = do
-  sets head.carried carried
+  sets_carried head.carried carried
   block_means g consumer
   gives carried
 part_means g (pair line head producer consumer) Predictor number carried = guess_means g line head.predict
-part_means g _ _ number carried = gives (pos 0)
-
--- what a block run asks: a part, performed over a copy of the slots and with no output
-abbrev pub block_asks : Environment → Construct → Part → List ℤ → ℤ → ℤ → Interaction (Ending ℤ)
-block_asks g construct part slots number carried =
-    in_own_slots slots (part_means g construct part number carried) (record { slots = slots; output = [] })
-
--- the block run of a part from these slots and this memory: its one list of events, and its answer
-abbrev pub IsBlockRun : Environment → Construct → Part → List ℤ → ℤ → ℤ → List ℤ → List Event → Ending ℤ → Type 0
-IsBlockRun g construct part slots number carried memory events answer =
-    IsPlainRun (block_asks g construct part slots number carried) memory events answer
+part_means g _ _ number carried = gives no_value
 
 -- ---- real values
 
@@ -92,10 +98,10 @@ moment_after form m state = record { state = state; memory = plain_memory (form 
 pub record Header : Type 0 where
   pub low : ℤ
   pub blocks : ℕ
-  pub start : ℤ
+  pub start : Carried
 
 -- the header of a fold with this start and range, where it doesn't have too many blocks
-abbrev pub fold_header : ℕ → ℤ → ℤ → ℤ → Meaning Header
+abbrev pub fold_header : ℕ → Carried → ℤ → ℤ → Meaning Header
 fold_header line start low high =
     if nat_lt max_blocks (int_gap low high) then traps trap.Blocks line
     else gives (record { low = low; blocks = int_gap low high; start = start })
@@ -107,25 +113,26 @@ header_means g (fold line head body) = do
   low ← expression_means g line head.low
   high ← expression_means g line head.high
   fold_header line start low high
-header_means g (pair line head producer consumer) = gives (record { low = pos 0; blocks = 2; start = pos 0 })
+header_means g (pair line head producer consumer) = gives (record { low = pos 0; blocks = 2; start = no_value })
 
--- the part that a block runs, by its place
+-- the part that a block runs, by its index
 abbrev pub part_of : Construct → ℕ → Part
-part_of (fold line head body) place = Body
-part_of (pair line head producer consumer) place = if nat_eq place 0 then Producer else Consumer
+part_of (fold line head body) n = Body
+part_of (pair line head producer consumer) zero = Producer
+part_of (pair line head producer consumer) (suc n) = Consumer
 
 -- the real values at which performed blocks begin, and whether the last of them trapped
 pub record RealValues : Type 0 where
-  pub values : List ℤ
+  pub values : List Carried
   pub trapped : Bool
 
 -- a block that began at this value, and the blocks after it where it gave one
-abbrev pub begun_at : ℤ → Ending ℤ → (ℤ → State → RealValues) → RealValues
+abbrev pub begun_at : Carried → Ending Carried → (Carried → State → RealValues) → RealValues
 begun_at value (Value next state) others = record { values = value ∷ (others next state).values; trapped = (others next state).trapped }
 begun_at value (Trapped trap output) others = record { values = value ∷ []; trapped = true }
 
--- so many blocks from a place on, with block number b and at value v
-abbrev pub blocks_from : Environment → Construct → ℕ → ℕ → ℤ → ℤ → Moment → RealValues
+-- so many blocks from an index on, with block number b and at value v
+abbrev pub blocks_from : Environment → Construct → ℕ → ℕ → ℤ → Carried → Moment → RealValues
 blocks_from g construct place zero b v m = record { values = []; trapped = false }
 blocks_from g construct place (suc count) b v m =
     begun_at v (plainly (part_means g construct (part_of construct place) b v) m) (λ next state.

@@ -1,5 +1,5 @@
 -- What a form asks of a memory, as an interaction tree, and what it means to perform a list of events along it.
-use Rattle.std.specs.Prelude.{ℕ, Bool, true, false, if◌then◌else◌, ◌==◌, nat_le, ◌&&◌, List, [], ◌∷◌, Option, Some, None, ℤ}
+use Rattle.std.specs.Prelude.{◌≡◌, ℕ, Bool, true, false, if◌then◌else◌, ◌==◌, nat_le, ◌&&◌, List, [], ◌∷◌, Option, Some, None, Result, Ok, Err, ℤ}
 use Rattle.std.specs.Ordering.{int_eq}
 use Rattle.spf_ast.specs.declared.outcome.Trap.{Trap}
 use Rattle.spf_ast.specs.Event.{Event, Load, Store, Turn, word_at}
@@ -25,6 +25,12 @@ pub data Performed (A : Type 0) : Type 0 where
   Ended : A → List Event → Performed A
   Stopped : ℕ → List Event → Performed A
   Misfit : Performed A
+
+-- the list was read to its end
+abbrev pub HasReadAll : {A : Type 0} → Performed A → Type 0
+HasReadAll (Ended answer rest) = rest ≡ []
+HasReadAll (Stopped number rest) = rest ≡ []
+HasReadAll Misfit = ⊥
 
 -- the next event is a Load of this cell
 abbrev pub take_load : {A : Type 0} → ℕ → (ℤ → List Event → Performed A) → List Event → Performed A
@@ -67,6 +73,10 @@ perform shared memory stop (AskTurn then_) events =
 abbrev pub every_cell : ℕ → Bool
 every_cell cell = true
 
+-- no cell is shared
+abbrev pub no_cell : ℕ → Bool
+no_cell cell = false
+
 -- ---- forms with a state
 
 -- the words in the slots, and the bytes of the output so far
@@ -78,6 +88,11 @@ pub record State : Type 0 where
 pub data Ending (A : Type 0) : Type 0 where
   Value : A → State → Ending A
   Trapped : Trap → List ℕ → Ending A
+
+-- what an ending comes to, without its state: the value, or the trap
+abbrev pub result_of : {A : Type 0} → Ending A → Result A Trap
+result_of (Value a state) = Ok a
+result_of (Trapped trap output) = Err trap
 
 -- the meaning of a form that gives a value: what it asks, and how it ends, from each state
 abbrev pub Meaning : Type 0 → Type 0

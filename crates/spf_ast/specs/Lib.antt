@@ -4,11 +4,14 @@ pub mod Interaction
 pub mod Syntax
 pub mod View
 pub mod Size
+pub mod Carried
 pub mod Meaning
 pub mod Plain
 pub mod Program
 pub mod Construct
 pub mod ConstructView
+pub mod BlockRun
+pub mod Slots
 pub mod Silence
 pub mod Pieces
 pub mod Lawful

@@ -1,7 +1,7 @@
 -- `main` in pieces: the statements up to the next top construct, and the construct itself.
 use Rattle.std.specs.Prelude.{ℕ, zero, suc, if◌then◌else◌, Option, None}
 use Rattle.spf_ast.specs.Syntax.{Block, end, on_line}
-use Rattle.spf_ast.specs.Construct.{Construct, fold, pair, construct_of, is_construct}
+use Rattle.spf_ast.specs.Construct.{Construct, construct_of, is_construct}
 
 -- the statements from a place on
 abbrev pub rest_from : ℕ → Block → Block
@@ -28,8 +28,3 @@ from_construct (on_line line first rest) = if is_construct first then on_line li
 abbrev pub construct_first : Block → Option Construct
 construct_first end = None
 construct_first (on_line line first rest) = construct_of line first
-
--- the slot of a construct's carried value
-abbrev pub carried_of : Construct → ℕ
-carried_of (fold line head body) = head.carried
-carried_of (pair line head producer consumer) = head.carried

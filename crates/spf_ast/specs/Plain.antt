@@ -26,3 +26,12 @@ pub record IsPlainRun {A : Type 0} (tree : Interaction A) (memory : List ℤ) (e
   pub ends : perform every_cell [] None tree events ≡ Ended answer []
   pub consistent : IsConsistent events memory
   pub unpolled : IsUnpolled events
+
+-- ---- with no shared cell
+
+-- The answer of a tree with no shared cell: each load gives the memory's word, whatever was stored before, and no turn stops it.
+abbrev pub unshared_answer : {A : Type 0} → Interaction A → List ℤ → A
+unshared_answer (Answer a) memory = a
+unshared_answer (AskLoad cell given) memory = unshared_answer (given (word_at memory cell)) memory
+unshared_answer (AskStore cell word then_) memory = unshared_answer then_ memory
+unshared_answer (AskTurn then_) memory = unshared_answer then_ memory

@@ -1,30 +1,14 @@
 -- Forms that hold no `emit`, and what that means.
-use Rattle.std.specs.Prelude.{◌≡◌, ℕ, List, [], Option, Some, None, ℤ, slice_get}
+use Rattle.std.specs.Prelude.{◌≡◌, ℕ, false, List, [], Option, Some, None, ℤ, slice_get}
 use Rattle.spf_ast.specs.declared.syntax.Part.{Part}
-use Rattle.spf_ast.specs.declared.syntax.Part.TheVariants.{Body, Producer, Consumer}
 use Rattle.spf_ast.specs.Interaction.{Answer, bind, Ending, Value, Trapped, Meaning}
-use Rattle.spf_ast.specs.Syntax.{Statement, Let, Assign, Store, Fill, Emit, Fail, If, For, While, Do, Fold, Pair, Block, end, on_line, Function}
-use Rattle.spf_ast.specs.Construct.{Construct, fold, pair}
+use Rattle.spf_ast.specs.Syntax.{Block, Function}
+use Rattle.spf_ast.specs.Slots.{emits}
+use Rattle.spf_ast.specs.Construct.{Construct, statements_of}
 
--- statements that hold no `emit`
-abbrev mutual
-  pub StatementIsSilent : Statement → Type 0
-  StatementIsSilent (Let slot value) = Unit {0}
-  StatementIsSilent (Assign slot value) = Unit {0}
-  StatementIsSilent (Store array index value) = Unit {0}
-  StatementIsSilent (Fill array low high value) = Unit {0}
-  StatementIsSilent (Emit value) = ⊥
-  StatementIsSilent (Fail number) = Unit {0}
-  StatementIsSilent (If test a b) = BlockIsSilent a × BlockIsSilent b
-  StatementIsSilent (For slot low high body) = BlockIsSilent body
-  StatementIsSilent (While test most body) = BlockIsSilent body
-  StatementIsSilent (Do f given) = Unit {0}
-  StatementIsSilent (Fold head body) = BlockIsSilent body
-  StatementIsSilent (Pair head producer consumer) = BlockIsSilent producer × BlockIsSilent consumer
-
-  pub BlockIsSilent : Block → Type 0
-  BlockIsSilent end = Unit {0}
-  BlockIsSilent (on_line line first rest) = StatementIsSilent first × BlockIsSilent rest
+-- a block holds no `emit`
+abbrev pub BlockIsSilent : Block → Type 0
+BlockIsSilent block = emits block ≡ false
 
 -- a function holds none, where it is there
 abbrev pub FunctionIsSilent : Option Function → Type 0
@@ -37,10 +21,7 @@ FunctionsAreSilent functions = (place : ℕ) → FunctionIsSilent (slice_get fun
 
 -- a part of a construct holds none; its last expression and a guess hold none anyway
 abbrev pub PartIsSilent : Construct → Part → Type 0
-PartIsSilent (fold line head body) Body = BlockIsSilent body
-PartIsSilent (pair line head producer consumer) Producer = BlockIsSilent producer
-PartIsSilent (pair line head producer consumer) Consumer = BlockIsSilent consumer
-PartIsSilent _ _ = Unit {0}
+PartIsSilent construct part = BlockIsSilent (statements_of construct part)
 
 -- the same ending, with this output
 abbrev pub with_output : {A : Type 0} → List ℕ → Ending A → Ending A

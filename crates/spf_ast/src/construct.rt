@@ -2,10 +2,10 @@
 
 ghost use Rattle.std.specs.Prelude.{◌≡◌, ◌^◌, ◌<◌, length, slice_get, MatchOption, Some, None};
 ghost use Rattle.spf_ast.specs.View.{block as block_of, statement as statement_of, program as program_of};
-ghost use Rattle.spf_ast.specs.Construct.{construct_of, constructs_in, is_construct as is_construct_form};
+ghost use Rattle.spf_ast.specs.Construct.{construct_of, constructs_in, carried_of, part_of as part_run, is_construct as is_construct_form};
 ghost use Rattle.spf_ast.specs.ConstructView.{construct as construct_seen};
 
-use crate::syntax::{Fold, Pair, Program, Stmt, StmtKind};
+use crate::syntax::{Fold, Pair, Part, Program, Stmt, StmtKind};
 
 /// A top construct: a fold or a pair that is a direct statement of `main`.
 #[derive(Clone, Copy)]
@@ -21,6 +21,29 @@ pub struct TopConstruct<'a> {
 pub enum ConstructKind<'a> {
     Fold(&'a Fold),
     Pair(&'a Pair),
+}
+
+impl<'a> TopConstruct<'a> {
+    /// The slot of the carried value.
+    pub fn carried_slot(self) -> u32
+        ensures { result ≡ carried_of (construct_seen self.entry) }
+    {
+        match self.kind {
+            ConstructKind::Fold(fold) => fold.carried,
+            ConstructKind::Pair(pair) => pair.carried,
+        }
+    }
+
+    /// The part that the block of this index runs: of a fold the body; of a pair the producer first, and then the consumer.
+    pub fn part_of(self, block: u64) -> Part
+        ensures { result ≡ part_run (construct_seen self.entry) block }
+    {
+        match self.kind {
+            ConstructKind::Fold(_) => Part::Body,
+            ConstructKind::Pair(_) if block == 0 => Part::Producer,
+            ConstructKind::Pair(_) => Part::Consumer,
+        }
+    }
 }
 
 /// Whether a statement is a fold or a pair.

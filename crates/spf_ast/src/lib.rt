@@ -2,6 +2,7 @@
 #![tactic(auto)]
 
 pub mod canonical;
+pub mod carried;
 pub mod construct;
 pub mod laws;
 pub mod outcome;

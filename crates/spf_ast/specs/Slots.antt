@@ -1,6 +1,9 @@
--- Which slots a block declares and assigns, and whether it emits.
-use Rattle.std.specs.Prelude.{ℕ, Bool, true, false, not, ◌==◌, ◌||◌}
+-- Which slots blocks and parts declare and assign, and whether they emit.
+use Rattle.std.specs.Prelude.{◌≡◌, ℕ, Bool, true, false, not, ◌==◌, ◌||◌, List, ℤ, slice_get}
+use Rattle.spf_ast.specs.declared.syntax.Part.{Part}
+use Rattle.spf_ast.specs.declared.syntax.Part.TheVariants.{Body, Producer, Consumer, Predictor}
 use Rattle.spf_ast.specs.Syntax.{Statement, Let, Assign, Store, Fill, Emit, Fail, If, For, While, Do, Fold, Pair, Block, end, on_line}
+use Rattle.spf_ast.specs.Construct.{Construct, fold, pair, statements_of}
 
 -- a slot that passes the test is assigned
 abbrev mutual
@@ -65,3 +68,22 @@ abbrev mutual
   pub emits : Block → Bool
   emits end = false
   emits (on_line line first rest) = statement_emits first || emits rest
+
+-- ---- parts
+
+-- a part declares the slot: in its statements, or as its block name or its carried name
+abbrev pub part_declares : Construct → Part → ℕ → Bool
+part_declares (fold line head body) Body slot = (slot == head.carried) || ((slot == head.block) || declares slot body)
+part_declares (fold line head body) Predictor slot = slot == head.block
+part_declares (pair line head producer consumer) Producer slot = declares slot producer
+part_declares (pair line head producer consumer) Consumer slot = (slot == head.carried) || declares slot consumer
+part_declares _ _ slot = false
+
+-- a part assigns the slot
+abbrev pub part_assigns : Construct → Part → ℕ → Bool
+part_assigns construct part slot = assigns (λ other. other == slot) (statements_of construct part)
+
+-- a run of the part left each slot as it was that the part neither declares nor assigns
+abbrev pub LeavesOtherSlots : Construct → Part → List ℤ → List ℤ → Type 0
+LeavesOtherSlots construct part before after =
+    (slot : ℕ) → part_declares construct part slot ≡ false → part_assigns construct part slot ≡ false → slice_get after slot ≡ slice_get before slot

@@ -1,0 +1,37 @@
+-- Runs of single parts of top constructs, as each block of a construct is one.
+use Rattle.std.specs.Prelude.{◌≡◌, ◌<◌, ℕ, List, [], length, ℤ}
+use Rattle.std.specs.List.{All}
+use Rattle.spf_ast.specs.declared.syntax.Part.{Part}
+use Rattle.spf_ast.specs.Event.{Event}
+use Rattle.spf_ast.specs.Interaction.{Interaction, Ending}
+use Rattle.spf_ast.specs.Carried.{Carried}
+use Rattle.spf_ast.specs.Syntax.{Program}
+use Rattle.spf_ast.specs.Construct.{Construct, part_means}
+use Rattle.spf_ast.specs.Plain.{IsPlainRun}
+use Rattle.spf_ast.specs.Program.{environment_of}
+
+-- what a run of a part starts from: the input, the slots of `main`, the output so far, a block number and a carried value
+pub record Setup : Type 0 where
+  pub input : List ℕ
+  pub slots : List ℤ
+  pub output : List ℕ
+  pub number : ℤ
+  pub carried : Carried
+
+-- the input is bytes, and `main` has its slots
+pub record IsSetup (p : Program) (s : Setup) : Type 0 where
+  pub bytes : All (λ b. b < 256) s.input
+  pub slots : length s.slots ≡ length p.slots
+
+-- the setup of a block of a construct that was entered with these slots; a block run has an output of its own, which is empty at first
+abbrev pub block_setup : List ℕ → List ℤ → ℤ → Carried → Setup
+block_setup input slots number carried = record { input = input; slots = slots; output = []; number = number; carried = carried }
+
+-- What a run of a part asks of the memory, from a setup. This is the one tree of a part: the interpreter performs it, the rules are proved sound for it, and a block run is its plain run.
+abbrev pub part_asks : Program → Construct → Part → Setup → Interaction (Ending Carried)
+part_asks p construct part s =
+    part_means (environment_of p s.input) construct part s.number s.carried (record { slots = s.slots; output = s.output })
+
+-- the block run of a part from a setup, on a memory: its one list of events, and its answer
+abbrev pub IsBlockRun : Program → Construct → Part → Setup → List ℤ → List Event → Ending Carried → Type 0
+IsBlockRun p construct part s memory events answer = IsPlainRun (part_asks p construct part s) memory events answer
