@@ -3,7 +3,6 @@ pub mod PlainRuns
 pub mod Views
 pub mod RawViews
 pub mod Printing
-pub mod Bools
 pub mod Leaving
 pub mod LawfulPrograms
 pub mod Unshared

@@ -4,12 +4,12 @@ use Rattle.spf_ast.specs.declared.syntax.Part.{Part}
 use Rattle.spf_ast.specs.Event.{Event}
 use Rattle.spf_ast.specs.Interaction.{Interaction, State, Ending, Ended, perform, no_cell}
 use Rattle.spf_ast.specs.Carried.{Carried}
-use Rattle.spf_ast.specs.Construct.{Construct, constructs_in}
+use Rattle.spf_ast.specs.Construct.{Construct, constructs_in, part_means, header_means}
 use Rattle.spf_ast.specs.Lawful.{IsLawful}
-use Rattle.spf_ast.specs.Silence.{FunctionsAreSilent}
+use Rattle.spf_ast.specs.Silence.{FunctionsAreSilent, PartIsSilent, LeavesOutput}
 use Rattle.spf_ast.specs.BlockRun.{Setup, part_asks, IsBlockRun}
-use Rattle.spf_ast.specs.Syntax.{Expression, Condition, Block, Program}
-use Rattle.spf_ast.specs.Meaning.{Environment, expression_means, condition_means, block_means}
+use Rattle.spf_ast.specs.Syntax.{Expression, Condition, Block, Function, Program}
+use Rattle.spf_ast.specs.Meaning.{Extent, Environment, environment_before, expression_means, condition_means, block_means}
 use Rattle.spf_ast.specs.Plain.{plain_events, plain_answer, IsPlainRun, unshared_answer}
 
 -- a tree has exactly one plain run on a memory: its plain events, with its plain answer
@@ -61,3 +61,18 @@ LawfulFunctionsAreSilent = (p : Program) → IsLawful p → FunctionsAreSilent p
 -- a lawful program has so few top constructs that 32 bits hold their numbers
 abbrev pub LawfulProgramsHaveFewConstructs : Type 0
 LawfulProgramsHaveFewConstructs = (p : Program) → IsLawful p → length (constructs_in p.main) < 2 ^ 32
+
+-- ---- forms that hold no `emit`
+
+-- where no function holds an `emit`, each part that holds none leaves the output alone
+abbrev pub SilentPartsLeaveTheOutput : Type 0
+SilentPartsLeaveTheOutput =
+    (input : List ℕ) (extents : List Extent) (functions : List Function) (place : ℕ) → FunctionsAreSilent functions
+    → (construct : Construct) (part : Part) → PartIsSilent construct part → (number : ℤ) (carried : Carried)
+    → LeavesOutput (part_means (environment_before input extents functions place) construct part number carried)
+
+-- and so does each header
+abbrev pub HeadersLeaveTheOutput : Type 0
+HeadersLeaveTheOutput =
+    (input : List ℕ) (extents : List Extent) (functions : List Function) (place : ℕ) → FunctionsAreSilent functions
+    → (construct : Construct) → LeavesOutput (header_means (environment_before input extents functions place) construct)

@@ -18,8 +18,8 @@ use Rattle.spf_effects.specs.Found.{nowhere}
 use Rattle.spf_effects.specs.declared.effects.Effects.{Effects}
 use Rattle.spf_effects.specs.Parts.{PartEffects, part_effects}
 use Rattle.spf_effects.specs.Effects.{AreEffects}
-use Rattle.spf_sound.specs.Rules.{IsBlockPart, guessed_part, may_write, reads_bare, HasArray, IsWritten, ShareNothing, WritesAll}
-use Rattle.spf_sound.proofs.Members.{cases, first-in, none-in}
+use Rattle.spf_rollback.specs.Rules.{IsBlockPart, guessed_part, may_write, reads_bare, HasArray, IsWritten, ShareNothing, WritesAll}
+use Rattle.spf_lemmas.proofs.Members.{cases, first-in, none-in}
 use Rattle.spf_check.specs.declared.breach.Breach.{Breach}
 use Rattle.spf_check.specs.declared.construct.ConstructEffects.{ConstructEffects}
 use Rattle.spf_check.specs.declared.rule.Rule.{Rule}

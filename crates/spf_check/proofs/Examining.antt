@@ -7,8 +7,8 @@ use Rattle.spf_ast.specs.declared.construct.ConstructKind.TheVariants as code
 use Rattle.spf_ast.specs.Construct.{Construct, constructs_in}
 use Rattle.spf_ast.specs.ConstructView.{construct_on}
 use Rattle.spf_region.specs.declared.range.Range.{Range}
-use Rattle.spf_sound.specs.Rules.{KeepsTheRules}
-use Rattle.spf_sound.proofs.Members.{cases}
+use Rattle.spf_rollback.specs.Rules.{KeepsTheRules}
+use Rattle.spf_lemmas.proofs.Members.{cases}
 use Rattle.spf_check.specs.declared.checked.Writes.{Writes}
 use Rattle.spf_check.specs.declared.check.Examined.TheVariants as examined
 use Rattle.spf_check.specs.declared.rule.Rule.{Rule}

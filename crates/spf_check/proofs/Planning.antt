@@ -17,12 +17,12 @@ use Rattle.spf_region.specs.Cells.{Extent, AreAscending, at_block, in_extent, is
 use Rattle.spf_region.specs.Laws.{IsCellAt}
 use Rattle.spf_region.proofs.Bools.{or-cases, or-left, or-right, both-true, int-le-of, same-bool}
 use Rattle.spf_region.proofs.Covers.{has-parts}
-use Rattle.spf_sound.specs.Rules.{guessed_part, may_write, KeepsTheRules}
-use Rattle.spf_sound.proofs.Members.{cases}
-use Rattle.spf_sound.proofs.Cells.{extent, AtWhole, AtOffset, has-array-of, entry-of, offset-inside, offset-place}
-use Rattle.spf_sound.specs.Freedom.{HaveDisjointSpans}
-use Rattle.spf_sound.proofs.Free.{rules-set-free}
-use Rattle.spf_sound.proofs.Extents.{within}
+use Rattle.spf_rollback.specs.Rules.{guessed_part, may_write, KeepsTheRules}
+use Rattle.spf_lemmas.proofs.Members.{cases}
+use Rattle.spf_rollback.proofs.Cells.{extent, AtWhole, AtOffset, has-array-of, entry-of, offset-inside, offset-place}
+use Rattle.spf_rollback.specs.Freedom.{HaveDisjointSpans}
+use Rattle.spf_rollback.proofs.Free.{rules-set-free}
+use Rattle.spf_rollback.proofs.Extents.{within}
 use Rattle.spf_check.specs.declared.checked.Writes.{Writes}
 use Rattle.spf_check.specs.Accepting.{IsNormalFormOf}
 use Rattle.spf_check.specs.Verdicts.{AreWritesOf, IsProducerWrite, IsKept}

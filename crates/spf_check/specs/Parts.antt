@@ -8,7 +8,7 @@ use Rattle.spf_effects.specs.Parts.{part_effects}
 use Rattle.spf_region.specs.Ranges.{IsNormal}
 use Rattle.spf_effects.specs.Effects.{AreEffects}
 use Rattle.spf_check.specs.declared.construct.ConstructEffects.{ConstructEffects}
-use Rattle.spf_sound.specs.Rules.{guessed_part}
+use Rattle.spf_rollback.specs.Rules.{guessed_part}
 
 -- a fold has no producer; these are the effects of a pair's
 abbrev pub IsProducerOf : Program → Construct → Option Effects → Type 0

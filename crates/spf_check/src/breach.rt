@@ -5,7 +5,7 @@ ghost use Rattle.spf_region.specs.Ranges.{offsets_of, covers, disjoint, array_of
 ghost use Rattle.std.specs.Prelude.{MatchOption};
 ghost use Rattle.spf_ast.specs.Syntax.{Program as plain_program};
 ghost use Rattle.spf_ast.specs.Construct.{Construct};
-ghost use Rattle.spf_sound.specs.Rules.{KeepsTheRules};
+ghost use Rattle.spf_rollback.specs.Rules.{KeepsTheRules};
 ghost use Rattle.spf_check.specs.Accepting.{IsLowestBroken};
 ghost use Rattle.spf_check.specs.Breaches.{breach, is_written, meets, first_overlap, assigns_outer, emits_inside, all_rules, first_broken};
 ghost use Rattle.spf_check.specs.Parts.{AreEffectsOf, AreNormal};

@@ -14,7 +14,7 @@ use Rattle.spf_ast.specs.declared.syntax.StmtKind.{StmtKind}
 use Rattle.spf_ast.specs.declared.syntax.StmtKind.TheVariants as s
 use Rattle.spf_ast.specs.View.{statement, block}
 use Rattle.spf_ast.proofs.Views.{statement-if, statement-for, statement-while, statement-fold, statement-pair}
-use Rattle.spf_effects.specs.Slots.{assigns, statement_assigns}
+use Rattle.spf_ast.specs.Slots.{assigns, statement_assigns}
 use Rattle.spf_effects.proofs.Walks.{item_at}
 
 -- whether the statements from a place on assign a slot that passes

@@ -15,7 +15,7 @@ use Rattle.spf_effects.specs.Extends.{Joins, Lists, Extends}
 use Rattle.spf_effects.specs.Found.{Finds, nowhere}
 use Rattle.spf_effects.specs.Gathered.{IsGathered}
 use Rattle.spf_effects.specs.Parts.{call_before, main_setting}
-use Rattle.spf_effects.specs.Slots.{assigns, assigns_outer}
+use Rattle.spf_ast.specs.Slots.{assigns, assigns_outer}
 use Rattle.spf_effects.specs.SlotSets.{sets_of, has_slot, no_slot, with_block}
 use Rattle.spf_effects.proofs.Either.{or_none}
 use Rattle.spf_effects.proofs.SlotSets.{assigned_in, declared_in}

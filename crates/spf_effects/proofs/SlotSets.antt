@@ -17,7 +17,7 @@ use Rattle.spf_ast.specs.Syntax.{Block, Condition, Expression, FoldHead, PairHea
 use Rattle.spf_ast.specs.Syntax as syntax
 use Rattle.spf_ast.specs.View.{statement, block, fold_head, pair_head}
 use Rattle.spf_ast.proofs.Views.{statement-if, statement-for, statement-while, statement-fold, statement-pair}
-use Rattle.spf_effects.specs.Slots.{assigns, statement_assigns, declares, statement_declares}
+use Rattle.spf_ast.specs.Slots.{assigns, statement_assigns, declares, statement_declares}
 use Rattle.spf_effects.specs.declared.slot_sets.Slots as code
 use Rattle.spf_effects.specs.SlotSets.{SlotSets, sets_of, has_slot, no_slot, with_slot, with_statement, with_block}
 use Rattle.spf_effects.proofs.Then.{or_moves}

@@ -15,7 +15,7 @@ use Rattle.spf_ast.specs.declared.syntax.StmtKind.{StmtKind}
 use Rattle.spf_ast.specs.declared.syntax.StmtKind.TheVariants as s
 use Rattle.spf_ast.specs.View.{statement, block}
 use Rattle.spf_ast.proofs.Views.{statement-if, statement-for, statement-while, statement-fold, statement-pair}
-use Rattle.spf_effects.specs.Slots.{emits, statement_emits}
+use Rattle.spf_ast.specs.Slots.{emits, statement_emits}
 
 -- what is left of a list at an item
 pub item_at : {A : Type 0} (xs : List A) (i : ℕ) (x : A) → i < length xs → x ≡ get_or xs i x → drop i xs ≡ x ∷ drop (i + 1) xs

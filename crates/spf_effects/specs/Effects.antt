@@ -1,13 +1,11 @@
 -- Effects as the code gives them.
-use Rattle.std.specs.Prelude.{◌≡◌, ℕ, false, Some, slice_get}
+use Rattle.std.specs.Prelude.{◌≡◌, ℕ, false}
 use Rattle.spf_region.specs.Ranges.{offsets_of, wholes_of}
-use Rattle.spf_ast.specs.declared.syntax.Part.{Part}
-use Rattle.spf_ast.specs.Syntax.{Program, Block}
-use Rattle.spf_ast.specs.Construct.{Construct, constructs_in}
+use Rattle.spf_ast.specs.Syntax.{Block}
 use Rattle.spf_effects.specs.declared.effects.Effects as code
 use Rattle.spf_effects.specs.Found.{Finds, nowhere}
-use Rattle.spf_effects.specs.Parts.{PartEffects, part_effects}
-use Rattle.spf_effects.specs.Slots.{assigns_outer, emits}
+use Rattle.spf_effects.specs.Parts.{PartEffects}
+use Rattle.spf_ast.specs.Slots.{assigns_outer, emits}
 
 -- the effects of a form with these statements, examined with nothing written before
 abbrev pub effects_of : Finds → Block → PartEffects
@@ -31,8 +29,3 @@ pub record AreEffects (part : PartEffects) (e : code.Effects) : Type 0 where
   pub must_wholes : (array : ℕ) → wholes_of e.must array ≡ false
   pub assigns_outer : e.assigns_outer ≡ part.assigns_outer
   pub emits : e.emits ≡ part.emits
-
--- the effects of a part of the top construct of this number, where there is one; a part that it doesn't have does nothing
-abbrev pub AreEffectsOf : Program → ℕ → Part → code.Effects → Type 0
-AreEffectsOf p number part e =
-    (c : Construct) → slice_get (constructs_in p.main) number ≡ Some c → AreEffects (part_effects p c part) e

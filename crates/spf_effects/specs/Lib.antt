@@ -1,5 +1,4 @@
 pub mod Found
-pub mod Slots
 pub mod Forms
 pub mod Parts
 pub mod Examples

@@ -6,12 +6,12 @@ use Rattle.spf_region.specs.declared.range.Range.{Range}
 use Rattle.spf_region.specs.Ranges.{Offsets}
 use Rattle.spf_ast.specs.declared.syntax.Part.{Part}
 use Rattle.spf_ast.specs.declared.syntax.Part.TheVariants.{Body, Producer, Consumer, Predictor}
-use Rattle.spf_ast.specs.Syntax.{Program, Function, Block, end, By, Host, FoldHead, PairHead}
+use Rattle.spf_ast.specs.Syntax.{Program, Function, Block, By, Host, FoldHead, PairHead}
 use Rattle.spf_ast.specs.Syntax as syntax
-use Rattle.spf_ast.specs.Construct.{Construct, fold, pair}
+use Rattle.spf_ast.specs.Construct.{Construct, fold, pair, statements_of}
 use Rattle.spf_effects.specs.Found.{Finds, finds_nothing, ◌then◌, nowhere}
 use Rattle.spf_effects.specs.Forms.{Entered, Setting, expression_bound, expression_finds, bounds_at_end, block_finds, block_then, declared}
-use Rattle.spf_effects.specs.Slots.{assigns, assigns_outer, emits}
+use Rattle.spf_ast.specs.Slots.{assigns, assigns_outer, emits}
 
 -- ---- functions
 
@@ -69,13 +69,6 @@ part_finds p (pair line head producer consumer) Producer = block_then (main_sett
 part_finds p (pair line head producer consumer) Consumer = block_finds (main_setting p) (outside p) consumer
 part_finds p (pair line head producer consumer) Predictor = guess_finds (main_setting p) (outside p) head.predict
 part_finds p _ _ = finds_nothing
-
--- the statements of a part
-abbrev pub statements_of : Construct → Part → Block
-statements_of (fold line head body) Body = body
-statements_of (pair line head producer consumer) Producer = producer
-statements_of (pair line head producer consumer) Consumer = consumer
-statements_of _ _ = end
 
 -- the effects of a part
 pub record PartEffects : Type 0 where

@@ -2,7 +2,7 @@
 use Rattle.std.specs.Prelude.{ℕ, Bool, false, ◌==◌, ◌||◌, List, slice_index_or}
 use Rattle.spf_ast.specs.Syntax.{Statement, Block}
 use Rattle.spf_effects.specs.declared.slot_sets.Slots as code
-use Rattle.spf_effects.specs.Slots.{assigns, statement_assigns, declares, statement_declares}
+use Rattle.spf_ast.specs.Slots.{assigns, statement_assigns, declares, statement_declares}
 
 -- a slot is in the set of a table that has a flag for each slot
 abbrev pub has_slot : List Bool → ℕ → Bool

@@ -1,11 +1,12 @@
 //! The analysis of parts of top constructs.
-ghost use Rattle.std.specs.Prelude.{◌≡◌, ℕ, IfOk, Some};
+ghost use Rattle.std.specs.Prelude.{◌≡◌, ℕ, IfOk};
 ghost use Rattle.spf_ast.specs.declared.syntax.Fold.{out-Fold};
 ghost use Rattle.spf_ast.specs.declared.syntax.Pair.{out-Pair};
+ghost use Rattle.spf_ast.specs.ConstructView.{construct as construct_seen};
 ghost use Rattle.spf_ast.specs.Construct.{fold as fold_construct, pair as pair_construct};
 ghost use Rattle.spf_ast.specs.Syntax.{end};
 ghost use Rattle.spf_ast.specs.View.{block as block_of, expression as expression_of, predictor as predictor_of, program as program_of, fold_head, pair_head};
-ghost use Rattle.spf_effects.specs.Effects.{AreEffects, AreEffectsOf, effects_of};
+ghost use Rattle.spf_effects.specs.Effects.{AreEffects, effects_of};
 ghost use Rattle.spf_effects.specs.Forms.{block_finds, block_then};
 ghost use Rattle.spf_effects.specs.Parts.{guess_finds, outside, part_effects};
 ghost use Rattle.spf_effects.specs.Settings.{setting};
@@ -15,7 +16,7 @@ use crate::effects::{Effects, gathered, no_effects};
 use crate::findings::Findings;
 use crate::slot_sets::slots_in;
 use crate::walk::{block, block_and, expression};
-use spf_ast::construct::{ConstructKind, find_construct};
+use spf_ast::construct::{ConstructKind, TopConstruct};
 use spf_ast::syntax::{Expr, Fold, Pair, Part, Predict, Program, Stmt};
 use spf_region::bound::Bound;
 use std::alloc::{AllocError, Global};
@@ -27,8 +28,7 @@ const BLOCK: Bound = Bound::Known {
     high: 0,
 };
 
-/// Examines a part of a top construct of a program, whose number among them is `construct`. A part
-/// that the construct doesn't have does nothing.
+/// Examines a part of a top construct of a program. A part that the construct doesn't have does nothing.
 ///
 /// # Errors
 ///
@@ -36,15 +36,12 @@ const BLOCK: Bound = Bound::Known {
 pub fn effects(
     alloc: Global,
     program: &Program,
-    construct: u32,
+    construct: TopConstruct,
     part: Part,
 ) -> Result<Effects, AllocError>
-    ensures exact { IfOk result (AreEffectsOf (program_of program.now) construct part) }
+    ensures exact { IfOk result (AreEffects (part_effects (program_of program.now) (construct_seen construct.entry) part)) }
 {
-    let Some(found) = find_construct(&program.main, construct) else {
-        return Ok(no_effects(alloc));
-    };
-    match found.kind {
+    match construct.kind {
         ConstructKind::Fold(fold) => fold_effects(alloc, program, fold, part),
         ConstructKind::Pair(pair) => pair_effects(alloc, program, pair, part),
     }

@@ -3,7 +3,7 @@ ghost use Rattle.std.specs.Prelude.{◌≡◌, ◌||◌, not};
 ghost use Rattle.spf_ast.specs.declared.syntax.Fold.{out-Fold};
 ghost use Rattle.spf_ast.specs.declared.syntax.Pair.{out-Pair};
 ghost use Rattle.spf_ast.specs.View.{block as block_of, statement as statement_of};
-ghost use Rattle.spf_effects.specs.Slots.{emits, statement_emits, assigns, statement_assigns};
+ghost use Rattle.spf_ast.specs.Slots.{emits, statement_emits, assigns, statement_assigns};
 ghost use Rattle.spf_effects.specs.SlotSets.{has_slot};
 
 use crate::slot_sets::SlotSet;

@@ -5,23 +5,28 @@ use Rattle.std.specs.List.{Contains}
 use Rattle.std.specs.Int.{int_gap}
 use Rattle.spf_ast.specs.declared.outcome.Trap.{Trap}
 use Rattle.spf_ast.specs.declared.outcome.TrapKind.TheVariants as trap
+use Rattle.spf_ast.specs.declared.syntax.Part.{Part}
 use Rattle.spf_ast.specs.declared.syntax.Part.TheVariants.{Body, Producer, Consumer}
 use Rattle.spf_ast.specs.Interaction.{Answer, State, Ending, Value, Trapped, Meaning, after_ending, ◌>>=◌, ◌>>◌}
 use Rattle.spf_ast.specs.Plain.{plain_answer, plain_memory}
 use Rattle.spf_ast.specs.Syntax.{Statement, Fold, Pair, FoldHead, PairHead, Block}
-use Rattle.spf_ast.specs.Meaning.{Environment, gives, traps, sets, with_slots, in_own_slots, fold_blocks, fold_range, max_blocks, expression_means, block_means, statement_means}
+use Rattle.spf_ast.specs.Meaning.{Environment, gives, traps, sets, fold_blocks, fold_range, max_blocks, expression_means, block_means, statement_means}
 use Rattle.spf_ast.specs.Construct.{Construct, fold, pair, construct_of, part_means, Moment, plainly, Header, header_means, fold_header, RealValues, begun_at, blocks_from}
-use Rattle.spf_ast.specs.Silence.{with_output, LeavesOutput}
-use Rattle.spf_ast.proofs.Leaving.{CallsLeave, part-leaves}
+use Rattle.spf_ast.specs.Silence.{with_output, LeavesOutput, PartIsSilent}
 use Rattle.spf_ast.specs.Lawful.{Names, Scope, behind, showing_fixed, in_body, showing, IsLawfulStatement, declared_in, scope_at_end}
 use Rattle.spf_laws.specs.Agreement.{Relation, LookAlike, EndAlike}
 use Rattle.spf_laws.specs.Keeping.{IsSelfContained}
-use Rattle.spf_laws.specs.Chained.{Chained, chained_on, chained, is_trap, IsSettledAs, IsItsBlocks, AreDeclared}
+use Rattle.spf_laws.specs.Keeping.{AreDeclared}
+use Rattle.spf_laws.specs.Chained.{Chained, chained_on, chained, is_trap, IsSettledAs, IsItsBlocks}
 use Rattle.spf_laws.proofs.Slots.{cons_cases, cons_first, cons_rest, cons_swap, look_set}
 use Rattle.spf_laws.proofs.Primitives.{Sees, sees-then, sees-more, sees-fewer, sets-sees, gives-sees}
 use Rattle.spf_laws.proofs.Forms.{CallsSee, operand-sees, end-grows, block-sees}
 use Rattle.spf_laws.proofs.Keeping.{AreKept, EndLeaves, answer-leaves, Keeps, keeps-then, sets-keeps, gives-keeps, CallsKeep, expression-keeps, block-keeps, AreSpared, unseen, spared-behind, spared-showing, spared-fixed, spared-body}
 use Rattle.spf_laws.proofs.Plainly.{answer-bind, memory-bind, answers-alike, memories-alike, Comes, comes-then, comes-trap, Parted, gave, trapped, part}
+
+-- in this environment each part that holds no `emit` leaves the output alone
+abbrev pub PartsLeave : Environment → Type 0
+PartsLeave g = (c : Construct) (part : Part) → PartIsSilent c part → (b v : ℤ) → LeavesOutput (part_means g c part b v)
 
 -- ---- one block
 
@@ -31,8 +36,8 @@ EndsAs outer entry plain run = EndAlike (λ one other. LookAlike outer one entry
 
 -- a part that is performed plainly, and its block run from an entry that looks alike
 record Ran (outer : List ℕ) (form : Meaning ℤ) (s entry : State) (m : List ℤ) : Type 0 where
-  ends : EndsAs outer entry (plain_answer (form s) m) (plain_answer (in_own_slots entry.slots form (record { slots = entry.slots; output = [] })) m)
-  memory : plain_memory (form s) m ≡ plain_memory (in_own_slots entry.slots form (record { slots = entry.slots; output = [] })) m
+  ends : EndsAs outer entry (plain_answer (form s) m) (plain_answer (form (record { slots = entry.slots; output = [] })) m)
+  memory : plain_memory (form s) m ≡ plain_memory (form (record { slots = entry.slots; output = [] })) m
 
 -- an ending has this output
 abbrev HasOutput : List ℕ → Ending ℤ → Type 0
@@ -49,7 +54,7 @@ looks-kept outer s after entry k o h = record {
   slot_count = k.slot_count ∙ h.slot_count;
 }
 
-ends-as : (outer : List ℕ) (After : Relation) (s entry : State) → LookAlike outer s entry → (plain run : Ending ℤ) → EndAlike After plain (with_output entry.output run) → EndLeaves (AreKept outer s.slots) plain → HasOutput s.output plain → EndsAs outer entry plain (with_slots entry.slots run)
+ends-as : (outer : List ℕ) (After : Relation) (s entry : State) → LookAlike outer s entry → (plain run : Ending ℤ) → EndAlike After plain (with_output entry.output run) → EndLeaves (AreKept outer s.slots) plain → HasOutput s.output plain → EndsAs outer entry plain run
 ends-as outer After s entry h (Value a p) (Value b q) e k o = (e.0, looks-kept outer s p entry k o h)
 ends-as outer After s entry h (Value a p) (Trapped y q) e k o = elim e [ ]
 ends-as outer After s entry h (Trapped x p) (Value b q) e k o = elim e [ ]
@@ -58,10 +63,6 @@ ends-as outer After s entry h (Trapped x p) (Trapped y q) e k o = (e.0, o ∙ h.
 one-block : (outer : List ℕ) (After : Relation) (form : Meaning ℤ) → LeavesOutput form → Sees (LookAlike outer) After form → Keeps outer form → (s entry : State) → LookAlike outer s entry → (m : List ℤ) → Ran outer form s entry m
 one-block outer After form l sees keeps s entry h m =
     let inner = form (record { slots = entry.slots; output = [] }) in
-    let own : plain_answer (in_own_slots entry.slots form (record { slots = entry.slots; output = [] })) m ≡ with_slots entry.slots (plain_answer inner m)
-    = answer-bind inner (λ e. Answer (with_slots entry.slots e)) m in
-    let own_memory : plain_memory (in_own_slots entry.slots form (record { slots = entry.slots; output = [] })) m ≡ plain_memory inner m
-    = memory-bind inner (λ e. Answer (with_slots entry.slots e)) m in
     let at_entry : plain_answer (form entry) m ≡ with_output entry.output (plain_answer inner m)
     = ap (λ t. plain_answer t m) (l.same entry.slots entry.output) ∙ answer-bind inner (λ e. Answer (with_output entry.output e)) m in
     let at_memory : plain_memory (form entry) m ≡ plain_memory inner m
@@ -71,12 +72,11 @@ one-block outer After form l sees keeps s entry h m =
     (sym (ap (λ t. plain_answer t m) (l.same s.slots s.output) ∙ answer-bind (form (record { slots = s.slots; output = [] })) (λ e. Answer (with_output s.output e)) m))
     (put-has s.output (plain_answer (form (record { slots = s.slots; output = [] })) m)) in
     record {
-      ends = subst (EndsAs outer entry (plain_answer (form s) m)) (sym own)
-          (ends-as outer After s entry h (plain_answer (form s) m) (plain_answer inner m)
+      ends = ends-as outer After s entry h (plain_answer (form s) m) (plain_answer inner m)
           (subst (EndAlike After (plain_answer (form s) m)) at_entry (answers-alike After (form s) (form entry) (sees.alike s entry h) m))
           (answer-leaves (AreKept outer s.slots) (form s) m (keeps.leaves s))
-          same_output);
-      memory = memories-alike After (form s) (form entry) (sees.alike s entry h) m ∙ at_memory ∙ sym own_memory;
+          same_output;
+      memory = memories-alike After (form s) (form entry) (sees.alike s entry h) m ∙ at_memory;
     }
 
 -- ---- parts
@@ -86,7 +86,7 @@ spares-visible : (scope : Scope) → AreDeclared scope → AreSpared scope.visib
 spares-visible scope d = record { declared = d; fixed = λ slot c. inr c }
 
 -- a body
-body-sees : (g : Environment) → CallsSee g → (names : Names) (scope : Scope) (line : ℕ) (head : FoldHead) (body : Block) → IsLawfulStatement names true scope (Fold head body) → (b v : ℤ) → Sees (LookAlike scope.visible) (LookAlike scope.visible) (part_means g (fold line head body) Body b v)
+pub body-sees : (g : Environment) → CallsSee g → (names : Names) (scope : Scope) (line : ℕ) (head : FoldHead) (body : Block) → IsLawfulStatement names true scope (Fold head body) → (b v : ℤ) → Sees (LookAlike scope.visible) (LookAlike scope.visible) (part_means g (fold line head body) Body b v)
 body-sees g calls names scope line head body l b v =
     let inner = in_body scope head.carried head.block in
     sees-then (sets-sees head.block b)
@@ -106,7 +106,7 @@ body-keeps g calls names scope d line head body l own b v =
     (λ x. expression-keeps g calls head.next_line head.next)))
 
 -- a producer
-producer-sees : (g : Environment) → CallsSee g → (names : Names) (scope : Scope) (line : ℕ) (head : PairHead) (producer consumer : Block) → IsLawfulStatement names true scope (Pair head producer consumer) → (b v : ℤ) → Sees (LookAlike scope.visible) (LookAlike scope.visible) (part_means g (pair line head producer consumer) Producer b v)
+pub producer-sees : (g : Environment) → CallsSee g → (names : Names) (scope : Scope) (line : ℕ) (head : PairHead) (producer consumer : Block) → IsLawfulStatement names true scope (Pair head producer consumer) → (b v : ℤ) → Sees (LookAlike scope.visible) (LookAlike scope.visible) (part_means g (pair line head producer consumer) Producer b v)
 producer-sees g calls names scope line head producer consumer l b v =
     sees-then (block-sees g calls names true (behind 1 scope) producer l.1)
     (λ u. sees-fewer (end-grows (behind 1 scope) producer) (operand-sees g calls names (scope_at_end (behind 1 scope) producer) head.give_line head.give l.2))
@@ -117,7 +117,7 @@ producer-keeps g calls names scope d line head producer consumer l own b v =
     (λ u. expression-keeps g calls head.give_line head.give)
 
 -- a consumer, whose own block keeps its carried value too
-consumer-sees : (g : Environment) → CallsSee g → (names : Names) (scope : Scope) (line : ℕ) (head : PairHead) (producer consumer : Block) → IsLawfulStatement names true scope (Pair head producer consumer) → (b v : ℤ) → Sees (LookAlike scope.visible) (LookAlike scope.visible) (part_means g (pair line head producer consumer) Consumer b v)
+pub consumer-sees : (g : Environment) → CallsSee g → (names : Names) (scope : Scope) (line : ℕ) (head : PairHead) (producer consumer : Block) → IsLawfulStatement names true scope (Pair head producer consumer) → (b v : ℤ) → Sees (LookAlike scope.visible) (LookAlike scope.visible) (part_means g (pair line head producer consumer) Consumer b v)
 consumer-sees g calls names scope line head producer consumer l b v =
     let inner = behind (1 + declared_in producer) (showing_fixed head.carried scope) in
     sees-then (sets-sees head.carried v)
@@ -182,7 +182,7 @@ block-more outer entry v next others chain later (Trapped u p) (Value b q) x y e
 block-more outer entry v next others chain later (Trapped u p) (Trapped t q) x y e same =
     record { ends = (e.0, e.1); same_memory = same; values = refl; trapped = refl }
 
-fold-blocks : (g : Environment) → CallsSee g → CallsKeep g → CallsLeave g → (names : Names) (scope : Scope) → AreDeclared scope → (line : ℕ) (head : FoldHead) (body : Block) → IsLawfulStatement names true scope (Fold head body) → IsSelfContained scope.visible (fold line head body)
+fold-blocks : (g : Environment) → CallsSee g → CallsKeep g → PartsLeave g → (names : Names) (scope : Scope) → AreDeclared scope → (line : ℕ) (head : FoldHead) (body : Block) → IsLawfulStatement names true scope (Fold head body) → IsSelfContained scope.visible (fold line head body)
     → (entry : State) (place count : ℕ) (b v : ℤ) (s : State) → LookAlike scope.visible s entry → (m : List ℤ)
     → BlocksCame scope.visible entry
     (plain_answer (fold_blocks count b head.block head.carried v (block_means g body >> expression_means g head.next_line head.next) s) m)
@@ -195,7 +195,7 @@ fold-blocks g see keep leave names scope d line head body l own entry place (suc
     let value : Meaning ℤ = block_means g body >> expression_means g head.next_line head.next in
     let later : ℤ → Meaning ℤ = λ next. fold_blocks count (b +ℤ pos 1) head.block head.carried next value in
     let form : Meaning ℤ = part_means g (fold line head body) Body b v in
-    let ran = one-block scope.visible (LookAlike scope.visible) form (part-leaves g leave (fold line head body) Body own.1 b v) (body-sees g see names scope line head body l b v) (body-keeps g keep names scope d line head body l own b v) s entry h m in
+    let ran = one-block scope.visible (LookAlike scope.visible) form (leave (fold line head body) Body own.1 b v) (body-sees g see names scope line head body l b v) (body-keeps g keep names scope d line head body l own b v) s entry h m in
     let more = block-more scope.visible entry v later
     (λ w t x. blocks_from g (fold line head body) (suc place) count (b +ℤ pos 1) w (record { state = t; memory = x }))
     (λ w x. chained g (fold line head body) entry.slots (suc place) count (b +ℤ pos 1) w x)
@@ -340,7 +340,7 @@ settles-memory : (carried : ℕ) (plain : Ending ℤ) (m : List ℤ) → plain_m
 settles-memory carried (Value w s) m = refl
 settles-memory carried (Trapped u o) m = refl
 
-fold-is-blocks : (g : Environment) → CallsSee g → CallsKeep g → CallsLeave g → (names : Names) (scope : Scope) → AreDeclared scope → (line : ℕ) (head : FoldHead) (body : Block) → IsLawfulStatement names true scope (Fold head body) → IsSelfContained scope.visible (fold line head body)
+fold-is-blocks : (g : Environment) → CallsSee g → CallsKeep g → PartsLeave g → (names : Names) (scope : Scope) → AreDeclared scope → (line : ℕ) (head : FoldHead) (body : Block) → IsLawfulStatement names true scope (Fold head body) → IsSelfContained scope.visible (fold line head body)
     → (m : Moment) (h : Header) (after entry : State) → plainly (header_means g (fold line head body)) m ≡ Value h after → LookAlike scope.visible after entry
     → IsItsBlocks g scope.visible line (Fold head body) (fold line head body) m h after entry
 fold-is-blocks g see keep leave names scope d line head body l own m h after entry e alike =
@@ -413,7 +413,7 @@ block-last outer entry v plain run x y e same =
     block-more outer entry v gives (λ w s m. record { values = []; trapped = false }) (λ w m. record { values = []; result = Ok w; memory = m })
     (λ w s h m. record { ends = (refl, h); same_memory = refl; values = refl; trapped = refl }) plain run x y e same
 
-consumer-comes : (g : Environment) → CallsSee g → CallsKeep g → CallsLeave g → (names : Names) (scope : Scope) → AreDeclared scope → (line : ℕ) (head : PairHead) (producer consumer : Block) → IsLawfulStatement names true scope (Pair head producer consumer) → IsSelfContained scope.visible (pair line head producer consumer)
+consumer-comes : (g : Environment) → CallsSee g → CallsKeep g → PartsLeave g → (names : Names) (scope : Scope) → AreDeclared scope → (line : ℕ) (head : PairHead) (producer consumer : Block) → IsLawfulStatement names true scope (Pair head producer consumer) → IsSelfContained scope.visible (pair line head producer consumer)
     → (entry : State) (v : ℤ) (s : State) → LookAlike scope.visible s entry → (m : List ℤ)
     → PairCame scope.visible entry head.carried
     (plain_answer ((sets head.carried v >> block_means g consumer) s) m)
@@ -423,12 +423,12 @@ consumer-comes : (g : Environment) → CallsSee g → CallsKeep g → CallsLeave
 consumer-comes g see keep leave names scope d line head producer consumer l own entry v s h m =
     let form : Meaning ℤ = part_means g (pair line head producer consumer) Consumer (pos 1) v in
     let set : State = record s { slots = slice_set s.slots head.carried v } in
-    let ran = one-block scope.visible (LookAlike scope.visible) form (part-leaves g leave (pair line head producer consumer) Consumer own.1.1 (pos 1) v) (consumer-sees g see names scope line head producer consumer l (pos 1) v) (consumer-keeps g keep names scope d line head producer consumer l own (pos 1) v) s entry h m in
+    let ran = one-block scope.visible (LookAlike scope.visible) form (leave (pair line head producer consumer) Consumer own.1.1 (pos 1) v) (consumer-sees g see names scope line head producer consumer l (pos 1) v) (consumer-keeps g keep names scope d line head producer consumer l own (pos 1) v) s entry h m in
     let last = block-last scope.visible entry v (plain_answer (form s) m) _ (plain_memory (form s) m) _ ran.ends ran.memory in
     let kept = answer-leaves (AreKept (head.carried ∷ scope.visible) set.slots) (block_means g consumer set) m ((consumer-block-keeps g keep names scope d line head producer consumer l own).leaves set) in
     record {
       ends = consumer-settles scope.visible head.carried v s entry h (plain_answer (block_means g consumer set) m) _ (plain_memory (block_means g consumer set) m) _ kept
-          (subst (λ p. EndsAs scope.visible entry p (plain_answer (in_own_slots entry.slots form (record { slots = entry.slots; output = [] })) m)) (answer-bind (block_means g consumer set) (after_ending (λ u. gives v)) m) ran.ends);
+          (subst (λ p. EndsAs scope.visible entry p (plain_answer (form (record { slots = entry.slots; output = [] })) m)) (answer-bind (block_means g consumer set) (after_ending (λ u. gives v)) m) ran.ends);
       same_memory =
           sym (consumer-memory v (plain_answer (block_means g consumer set) m) (plain_memory (block_means g consumer set) m))
           ∙ sym (memory-bind (block_means g consumer set) (after_ending (λ u. gives v)) m)
@@ -456,7 +456,7 @@ pair-more outer entry carried next others chain later (Trapped u p) (Trapped t q
     record { ends = (e.0, e.1); same_memory = same; values = refl; trapped = refl }
 
 -- a pair at its entry
-pair-comes : (g : Environment) → CallsSee g → CallsKeep g → CallsLeave g → (names : Names) (scope : Scope) → AreDeclared scope → (line : ℕ) (head : PairHead) (producer consumer : Block) → IsLawfulStatement names true scope (Pair head producer consumer) → IsSelfContained scope.visible (pair line head producer consumer)
+pair-comes : (g : Environment) → CallsSee g → CallsKeep g → PartsLeave g → (names : Names) (scope : Scope) → AreDeclared scope → (line : ℕ) (head : PairHead) (producer consumer : Block) → IsLawfulStatement names true scope (Pair head producer consumer) → IsSelfContained scope.visible (pair line head producer consumer)
     → (entry s : State) → LookAlike scope.visible s entry → (m : List ℤ)
     → PairCame scope.visible entry head.carried
     (plain_answer (statement_means g line (Pair head producer consumer) s) m)
@@ -466,7 +466,7 @@ pair-comes : (g : Environment) → CallsSee g → CallsKeep g → CallsLeave g �
 pair-comes g see keep leave names scope d line head producer consumer l own entry s h m =
     let form : Meaning ℤ = part_means g (pair line head producer consumer) Producer (pos 0) (pos 0) in
     let next : ℤ → Meaning (Unit {0}) = λ given. sets head.carried given >> block_means g consumer in
-    let ran = one-block scope.visible (LookAlike scope.visible) form (part-leaves g leave (pair line head producer consumer) Producer own.0.1 (pos 0) (pos 0)) (producer-sees g see names scope line head producer consumer l (pos 0) (pos 0)) (producer-keeps g keep names scope d line head producer consumer l own (pos 0) (pos 0)) s entry h m in
+    let ran = one-block scope.visible (LookAlike scope.visible) form (leave (pair line head producer consumer) Producer own.0.1 (pos 0) (pos 0)) (producer-sees g see names scope line head producer consumer l (pos 0) (pos 0)) (producer-keeps g keep names scope d line head producer consumer l own (pos 0) (pos 0)) s entry h m in
     let more = pair-more scope.visible entry head.carried next
     (λ w t x. blocks_from g (pair line head producer consumer) 1 1 (pos 1) w (record { state = t; memory = x }))
     (λ w x. chained g (pair line head producer consumer) entry.slots 1 1 (pos 1) w x)
@@ -483,7 +483,7 @@ pair-comes g see keep leave names scope d line head producer consumer l own entr
     }
 
 -- the header of a pair is done at once
-pair-is-blocks : (g : Environment) → CallsSee g → CallsKeep g → CallsLeave g → (names : Names) (scope : Scope) → AreDeclared scope → (line : ℕ) (head : PairHead) (producer consumer : Block) → IsLawfulStatement names true scope (Pair head producer consumer) → IsSelfContained scope.visible (pair line head producer consumer)
+pair-is-blocks : (g : Environment) → CallsSee g → CallsKeep g → PartsLeave g → (names : Names) (scope : Scope) → AreDeclared scope → (line : ℕ) (head : PairHead) (producer consumer : Block) → IsLawfulStatement names true scope (Pair head producer consumer) → IsSelfContained scope.visible (pair line head producer consumer)
     → (m : Moment) (h : Header) (after entry : State) → plainly (header_means g (pair line head producer consumer)) m ≡ Value h after → LookAlike scope.visible after entry
     → IsItsBlocks g scope.visible line (Pair head producer consumer) (pair line head producer consumer) m h after entry
 pair-is-blocks g see keep leave names scope d line head producer consumer l own m h after entry e alike =
@@ -510,7 +510,7 @@ is-statement line (Fold head body) c P f p e = subst (there (P (Fold head body))
 is-statement line (Pair head producer consumer) c P f p e = subst (there (P (Pair head producer consumer))) e (p head producer consumer)
 is-statement line s c P f p e = cc
 
-pub construct-is-blocks : (g : Environment) → CallsSee g → CallsKeep g → CallsLeave g → (names : Names) (scope : Scope) → AreDeclared scope → (line : ℕ) (s : Statement) (c : Construct) → construct_of line s ≡ Some c → IsLawfulStatement names true scope s → IsSelfContained scope.visible c
+pub construct-is-blocks : (g : Environment) → CallsSee g → CallsKeep g → PartsLeave g → (names : Names) (scope : Scope) → AreDeclared scope → (line : ℕ) (s : Statement) (c : Construct) → construct_of line s ≡ Some c → IsLawfulStatement names true scope s → IsSelfContained scope.visible c
     → (m : Moment) (h : Header) (after entry : State) → plainly (header_means g c) m ≡ Value h after → LookAlike scope.visible after entry
     → IsItsBlocks g scope.visible line s c m h after entry
 construct-is-blocks g see keep leave names scope d line s c is =

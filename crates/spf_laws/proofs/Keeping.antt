@@ -1,5 +1,5 @@
 -- Forms that assign none of some slots leave them as they were.
-use Rattle.std.proofs.Common.{◌≡◌, ℕ, zero, suc, ◌⊎◌, inl, inr, Bool, true, false, List, [], ◌∷◌, length, ℤ, pos, negsuc, ◌+◌, ◌<◌, ◌+ℤ◌, refl, ap, ◌∙◌, arith}
+use Rattle.std.proofs.Common.{◌≡◌, ℕ, zero, suc, ◌⊎◌, inl, inr, Bool, true, false, List, [], ◌∷◌, length, ℤ, pos, negsuc, ◌+◌, ◌<◌, ◌+ℤ◌, refl, ap, ◌∙◌, arith, eq-eqb}
 use Rattle.std.specs.Prelude.{Result, Ok, Err, Option, Some, None, ◌==◌, if◌then◌else◌, not, nat_lt, slice_get, slice_set}
 use Rattle.std.specs.List.{Contains}
 use Rattle.std.specs.Int.{int_gap}
@@ -16,7 +16,9 @@ use Rattle.spf_ast.specs.Meaning.{expression_means, arguments_mean, condition_me
 use Rattle.spf_ast.specs.Plain.{plain_answer}
 use Rattle.spf_ast.specs.Event.{word_at}
 use Rattle.spf_ast.specs.Lawful.{Names, Scope, behind, showing_fixed, showing, in_body, Declares, IsLawfulStatement, IsLawfulBlock, declared_in, scope_after}
+use Rattle.spf_ast.specs.Slots.{assigns, statement_assigns}
 use Rattle.spf_laws.specs.Keeping.{StatementSpares, BlockSpares}
+use Rattle.spf_lemmas.proofs.Bools.{neither}
 use Rattle.spf_laws.proofs.Slots.{cons_rest}
 
 -- ---- states
@@ -264,13 +266,17 @@ spared-body scope carried block a =
 unassigned : {outer kept : List ℕ} (scope : Scope) (slot : ℕ) → AreSpared outer kept scope → (Contains scope.fixed slot → ⊥) → (Contains outer slot → ⊥) → Contains kept slot → ⊥
 unassigned scope slot a f o c = elim (a.fixed slot c) [ inl x ↦ f x | inr y ↦ o y ]
 
+-- a slot that is assigned isn't one of those that are spared
+spared-slot : (outer : List ℕ) (slot : ℕ) → ((k : ℕ) → Contains outer k → (slot == k) ≡ false) → Contains outer slot → ⊥
+spared-slot outer slot o c = let e = o slot c in let same = eq-eqb slot slot refl in cc
+
 -- a statement, and statements in order
 mutual
   pub statement-keeps : {outer kept : List ℕ} (g : Environment) → CallsKeep g → (names : Names) (in_main : Bool) (scope : Scope) (line : ℕ) (s : Statement) → IsLawfulStatement names in_main scope s → AreSpared outer kept scope → StatementSpares outer s → Keeps kept (statement_means g line s)
   statement-keeps g calls names in_main scope line (Let slot value) l a o =
       keeps-then (expression-keeps g calls line value) (λ word. sets-keeps slot word (unseen names scope slot a l.1))
-  statement-keeps g calls names in_main scope line (Assign slot value) l a o =
-      keeps-then (expression-keeps g calls line value) (λ word. sets-keeps slot word (unassigned scope slot a l.1 o))
+  statement-keeps {outer} g calls names in_main scope line (Assign slot value) l a o =
+      keeps-then (expression-keeps g calls line value) (λ word. sets-keeps slot word (unassigned scope slot a l.1 (spared-slot outer slot o)))
   statement-keeps g calls names in_main scope line (Store array index value) l a o =
       keeps-then (expression-keeps g calls line index)
       (λ i. keeps-then (expression-keeps g calls line value)
@@ -285,8 +291,8 @@ mutual
   statement-keeps g calls names in_main scope line (If test x y) l a o =
       keeps-then (condition-keeps g calls line test)
       (λ holds. keeps-if holds
-      (block-keeps g calls names in_main scope x l.1 a o.0)
-      (block-keeps g calls names in_main (behind (declared_in x) scope) y l.2 (spared-behind (declared_in x) scope a) o.1))
+      (block-keeps g calls names in_main scope x l.1 a (λ k i. (neither (assigns (λ other. other == k) x) _ (o k i)).0))
+      (block-keeps g calls names in_main (behind (declared_in x) scope) y l.2 (spared-behind (declared_in x) scope a) (λ k i. (neither (assigns (λ other. other == k) x) _ (o k i)).1)))
   statement-keeps g calls names in_main scope line (For slot low high body) l a o =
       keeps-then (expression-keeps g calls line low)
       (λ i. keeps-then (expression-keeps g calls line high)
@@ -308,14 +314,14 @@ mutual
       (λ u. expression-keeps g calls head.next_line head.next))))
       (λ last. sets-keeps head.carried last (unseen names scope head.carried a l.3)))))
   statement-keeps g calls names in_main scope line (Pair head producer consumer) l a o =
-      keeps-then (block-keeps g calls names in_main (behind 1 scope) producer l.1 (spared-behind 1 scope a) o.0)
+      keeps-then (block-keeps g calls names in_main (behind 1 scope) producer l.1 (spared-behind 1 scope a) (λ k i. (neither (assigns (λ other. other == k) producer) _ (o k i)).0))
       (λ u. keeps-then (expression-keeps g calls head.give_line head.give)
       (λ given. keeps-then (sets-keeps head.carried given (unseen names scope head.carried a l.0))
       (λ v. block-keeps g calls names in_main (behind (1 + declared_in producer) (showing_fixed head.carried scope)) consumer l.4
-      (spared-behind (1 + declared_in producer) (showing_fixed head.carried scope) (spared-fixed head.carried scope a)) o.1)))
+      (spared-behind (1 + declared_in producer) (showing_fixed head.carried scope) (spared-fixed head.carried scope a)) (λ k i. (neither (assigns (λ other. other == k) producer) _ (o k i)).1))))
 
   pub block-keeps : {outer kept : List ℕ} (g : Environment) → CallsKeep g → (names : Names) (in_main : Bool) (scope : Scope) (block : Block) → IsLawfulBlock names in_main scope block → AreSpared outer kept scope → BlockSpares outer block → Keeps kept (block_means g block)
   block-keeps g calls names in_main scope end l a o = gives-keeps tt
   block-keeps g calls names in_main scope (on_line line first rest) l a o =
-      keeps-then (statement-keeps g calls names in_main scope line first l.0 a o.0)
-      (λ u. block-keeps g calls names in_main (scope_after scope first) rest l.1 (spared-after scope first a) o.1)
+      keeps-then (statement-keeps g calls names in_main scope line first l.0 a (λ k i. (neither (statement_assigns (λ other. other == k) first) _ (o k i)).0))
+      (λ u. block-keeps g calls names in_main (scope_after scope first) rest l.1 (spared-after scope first a) (λ k i. (neither (statement_assigns (λ other. other == k) first) _ (o k i)).1))

@@ -5,3 +5,5 @@ pub mod Forms
 pub mod Plainly
 pub mod Keeping
 pub mod Chains
+pub mod SelfContained
+pub mod Parts

@@ -1,6 +1,9 @@
 -- What programs see of the slots: from states that agree on the visible ones every form goes on alike.
-use Rattle.std.specs.Prelude.{◌≡◌, ℕ, Bool, List, length, Option, ℤ}
+use Rattle.std.specs.Prelude.{◌≡◌, ℕ, Bool, true, List, length, Option, Some, ℤ}
+use Rattle.spf_ast.specs.declared.syntax.Part.{Part}
 use Rattle.spf_ast.specs.Event.{Event}
+use Rattle.spf_ast.specs.Carried.{Carried}
+use Rattle.spf_ast.specs.Construct.{Construct, construct_of, part_means, header_means}
 use Rattle.spf_ast.specs.Interaction.{Performed, Ended, Stopped, Misfit, perform, State, Ending, Value, Trapped, Meaning}
 use Rattle.spf_ast.specs.Syntax.{Expression, Condition, Statement, Block, Function}
 use Rattle.spf_ast.specs.Meaning.{Extent, environment_before, expression_means, condition_means, statement_means, block_means}
@@ -65,3 +68,19 @@ BlocksSeeVisibleSlots =
     (names : Names) (in_main : Bool) (scope : Scope) (block : Block) → IsLawfulBlock names in_main scope block
     → (input : List ℕ) (extents : List Extent) (functions : List Function) (place : ℕ)
     → Relates (LookAlike scope.visible) (LookAlike (scope_at_end scope block).visible) (block_means (environment_before input extents functions place) block)
+
+-- ---- constructs
+
+-- each part of a lawful construct of `main`, predictors too, with each block number and each carried value
+abbrev pub PartsSeeVisibleSlots : Type 0
+PartsSeeVisibleSlots =
+    (names : Names) (scope : Scope) (line : ℕ) (s : Statement) (construct : Construct) → construct_of line s ≡ Some construct → IsLawfulStatement names true scope s
+    → (input : List ℕ) (extents : List Extent) (functions : List Function) (place : ℕ) (part : Part) (number : ℤ) (carried : Carried)
+    → Relates (LookAlike scope.visible) (LookAlike scope.visible) (part_means (environment_before input extents functions place) construct part number carried)
+
+-- the header of each lawful construct of `main`
+abbrev pub HeadersSeeVisibleSlots : Type 0
+HeadersSeeVisibleSlots =
+    (names : Names) (scope : Scope) (line : ℕ) (s : Statement) (construct : Construct) → construct_of line s ≡ Some construct → IsLawfulStatement names true scope s
+    → (input : List ℕ) (extents : List Extent) (functions : List Function) (place : ℕ)
+    → Relates (LookAlike scope.visible) (LookAlike scope.visible) (header_means (environment_before input extents functions place) construct)

@@ -1,49 +1,49 @@
 -- A construct is its blocks: what it means is what its block runs come to, one after another.
-use Rattle.std.specs.Prelude.{◌≡◌, ℕ, zero, suc, Bool, true, false, List, [], ◌∷◌, slice_set, Some, Result, Ok, Err, ℤ, pos, ◌+ℤ◌, ◌<◌}
-use Rattle.std.specs.List.{Contains}
+use Rattle.std.specs.Prelude.{◌≡◌, ℕ, zero, suc, Bool, true, false, List, [], ◌∷◌, Some, Result, Ok, Err, ℤ, pos, ◌+ℤ◌}
 use Rattle.spf_ast.specs.declared.outcome.Trap.{Trap}
-use Rattle.spf_ast.specs.Interaction.{State, Ending, Value, Trapped}
+use Rattle.spf_ast.specs.Carried.{Carried, with_carried}
+use Rattle.spf_ast.specs.Interaction.{Interaction, State, Ending, Value, Trapped}
 use Rattle.spf_ast.specs.Syntax.{Statement, Function}
 use Rattle.spf_ast.specs.Meaning.{Environment, Extent, environment_before, statement_means}
 use Rattle.spf_ast.specs.Plain.{plain_answer, plain_memory}
-use Rattle.spf_ast.specs.Construct.{Construct, construct_of, part_of, block_asks, Moment, moment_after, plainly, Header, header_means, blocks_from}
-use Rattle.spf_ast.specs.Pieces.{carried_of}
+use Rattle.spf_ast.specs.Construct.{Construct, construct_of, part_of, part_means, carried_of, Moment, moment_after, plainly, Header, header_means, blocks_from}
 use Rattle.spf_ast.specs.Silence.{FunctionsAreSilent}
 use Rattle.spf_ast.specs.Lawful.{Names, Scope, IsLawfulStatement}
 use Rattle.spf_laws.specs.Agreement.{LookAlike}
-use Rattle.spf_laws.specs.Keeping.{IsSelfContained}
+use Rattle.spf_laws.specs.Keeping.{IsSelfContained, AreDeclared}
 
 -- what block runs came to: the value at which each began, the value after the last one or the trap that ended it, and the memory after them
 pub record Chained : Type 0 where
-  pub values : List ℤ
-  pub result : Result ℤ Trap
+  pub values : List Carried
+  pub result : Result Carried Trap
   pub memory : List ℤ
 
 -- a block that began at this value, and the blocks after it where it gave one
-abbrev pub chained_on : ℤ → Ending ℤ → List ℤ → (ℤ → Chained) → Chained
+abbrev pub chained_on : Carried → Ending Carried → List ℤ → (Carried → Chained) → Chained
 chained_on value (Value next state) after others =
     record { values = value ∷ (others next).values; result = (others next).result; memory = (others next).memory }
 chained_on value (Trapped trap output) after others = record { values = value ∷ []; result = Err trap; memory = after }
 
--- So many block runs of a construct from a place on, with block number b, at value v and on memory m. All of them have the slots of the construct's entry; each begins with the value that the one before it gave, on the memory that it left.
-abbrev pub chained : Environment → Construct → List ℤ → ℕ → ℕ → ℤ → ℤ → List ℤ → Chained
-chained g construct slots place zero b v m = record { values = []; result = Ok v; memory = m }
-chained g construct slots place (suc count) b v m =
-    chained_on v
-    (plain_answer (block_asks g construct (part_of construct place) slots b v) m)
-    (plain_memory (block_asks g construct (part_of construct place) slots b v) m)
-    (λ next. chained g construct slots (suc place) count (b +ℤ pos 1) next
-    (plain_memory (block_asks g construct (part_of construct place) slots b v) m))
+-- what a block run of a construct asks that was entered with these slots, by the block's index, its number and its carried value
+abbrev pub block_asks : Environment → Construct → List ℤ → ℕ → ℤ → Carried → Interaction (Ending Carried)
+block_asks g construct slots n b v = part_means g construct (part_of construct n) b v (record { slots = slots; output = [] })
+
+-- So many block runs of a construct from an index on, with block number b, at value v and on memory m. All of them start from the slots of the construct's entry; each begins with the value that the one before it gave, on the memory that it left.
+abbrev pub chained : Environment → Construct → List ℤ → ℕ → ℕ → ℤ → Carried → List ℤ → Chained
+chained g construct slots n zero b v m = record { values = []; result = Ok v; memory = m }
+chained g construct slots n (suc count) b v m =
+    chained_on v (plain_answer (block_asks g construct slots n b v) m) (plain_memory (block_asks g construct slots n b v) m)
+    (λ next. chained g construct slots (suc n) count (b +ℤ pos 1) next (plain_memory (block_asks g construct slots n b v) m))
 
 -- whether a result is a trap
-abbrev pub is_trap : Result ℤ Trap → Bool
+abbrev pub is_trap : Result Carried Trap → Bool
 is_trap (Ok value) = false
 is_trap (Err trap) = true
 
 -- a construct ends as its blocks did: its carried slot has their value, and the other visible slots are those of the entry; or it ends with their trap
-abbrev pub IsSettledAs : List ℕ → State → ℕ → Result ℤ Trap → Ending (Unit {0}) → Type 0
+abbrev pub IsSettledAs : List ℕ → State → ℕ → Result Carried Trap → Ending (Unit {0}) → Type 0
 IsSettledAs visible entry carried (Ok value) (Value done after) =
-    LookAlike (carried ∷ visible) after (record entry { slots = slice_set entry.slots carried value })
+    LookAlike (carried ∷ visible) after (record entry { slots = with_carried carried value entry.slots })
 IsSettledAs visible entry carried (Err trap) (Trapped other output) = (other ≡ trap) × (output ≡ entry.output)
 IsSettledAs visible entry carried _ _ = ⊥
 
@@ -58,10 +58,6 @@ pub record IsItsBlocks (g : Environment) (visible : List ℕ) (line : ℕ) (s : 
       ≡ (chained g construct entry.slots 0 header.blocks header.low header.start (plain_memory (header_means g construct m.state) m.memory)).values
   pub trapped : (blocks_from g construct 0 header.blocks header.low header.start (moment_after (header_means g construct) m after)).trapped
       ≡ is_trap (chained g construct entry.slots 0 header.blocks header.low header.start (plain_memory (header_means g construct m.state) m.memory)).result
-
--- the slots that may be used here were declared before
-abbrev pub AreDeclared : Scope → Type 0
-AreDeclared scope = (slot : ℕ) → Contains scope.visible slot → slot < scope.next
 
 -- Each lawful construct of `main` whose blocks can be run on their own: where its header is done, its blocks may be run from any slots that agree with those at the entry on the visible ones.
 abbrev pub ConstructsAreTheirBlocks : Type 0

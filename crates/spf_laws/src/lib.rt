@@ -2,7 +2,10 @@
 #![tactic(auto)]
 
 ghost use Rattle.spf_laws.specs.Chained.{ConstructsAreTheirBlocks, HeadersTrap};
-ghost use Rattle.spf_laws.specs.Agreement.{ExpressionsSeeVisibleSlots, ConditionsSeeVisibleSlots, StatementsSeeVisibleSlots, BlocksSeeVisibleSlots};
+ghost use Rattle.spf_laws.specs.Agreement.{ExpressionsSeeVisibleSlots, ConditionsSeeVisibleSlots, StatementsSeeVisibleSlots, BlocksSeeVisibleSlots, PartsSeeVisibleSlots, HeadersSeeVisibleSlots};
+ghost use Rattle.spf_laws.specs.Keeping.{ConstructsAreSelfContained};
+
+use spf_ast::laws::silent_forms_leave_the_output;
 
 /// From states that agree on the visible slots each lawful form goes on alike: with the same events, to the same value, trap, stop or misfit, and to states that agree on the slots that are visible then.
 pub fn each_form_sees_visible_slots_alone()
@@ -10,10 +13,19 @@ pub fn each_form_sees_visible_slots_alone()
     ensures conditions { ConditionsSeeVisibleSlots }
     ensures statements { StatementsSeeVisibleSlots }
     ensures blocks { BlocksSeeVisibleSlots }
+    ensures parts { PartsSeeVisibleSlots }
+    ensures headers { HeadersSeeVisibleSlots }
+{}
+
+/// A construct of `main` whose parts assign no slot from outside and emit nothing, as the rules demand, has blocks that can be run on their own.
+pub fn each_construct_is_self_contained()
+    ensures { ConstructsAreSelfContained }
 {}
 
 /// What a construct of `main` means is what its block runs come to, one after another, each at the value that the one before it gave: its value or its trap, the memory, and its real values. A construct whose header traps ends with that trap.
 pub fn each_construct_is_its_block_runs()
     ensures constructs { ConstructsAreTheirBlocks }
     ensures headers { HeadersTrap }
-{}
+{
+    silent_forms_leave_the_output();
+}

@@ -2,6 +2,7 @@ use Rattle.spf_ast.specs.Meaning.{environment_before}
 use Rattle.spf_ast.specs.Lawful.{Agree}
 use Rattle.spf_laws.proofs.Primitives.{performed, agreeing}
 use Rattle.spf_laws.proofs.Forms.{calls-see, expression-sees, condition-sees, statement-sees, block-sees}
+use Rattle.spf_laws.proofs.Parts.{part-sees, header-sees}
 use Rattle.spf_laws.proofs.each_form_sees_visible_slots_alone.Goals as goal
 
 pub returns-clause-expressions : goal.returns-clause-expressions
@@ -19,3 +20,11 @@ returns-clause-statements c names in_main scope s l input extents functions plac
 pub returns-clause-blocks : goal.returns-clause-blocks
 returns-clause-blocks c names in_main scope block l input extents functions place =
     performed (block-sees (environment_before input extents functions place) (calls-see input extents functions place) names in_main scope block l)
+
+pub returns-clause-parts : goal.returns-clause-parts
+returns-clause-parts c names scope line s construct is l input extents functions place part number carried =
+    performed (part-sees (environment_before input extents functions place) (calls-see input extents functions place) names scope line s construct is l part number carried)
+
+pub returns-clause-headers : goal.returns-clause-headers
+returns-clause-headers c names scope line s construct is l input extents functions place =
+    performed (header-sees (environment_before input extents functions place) (calls-see input extents functions place) names scope line s construct is l)

@@ -1,6 +1,6 @@
 use Rattle.std.proofs.Common.{refl, subst}
 use Rattle.spf_ast.specs.View.{program}
-use Rattle.spf_sound.proofs.Free.{rules-set-free}
+use Rattle.spf_rollback.proofs.Free.{rules-set-free}
 use Rattle.spf_check.specs.Verdicts.{IsVerdict}
 use Rattle.spf_check.proofs.Examining.{refused-not-accepted}
 use Rattle.spf_check.proofs.check.check.Goals as goal

@@ -3,7 +3,7 @@ use Rattle.std.specs.Prelude.{slice_get}
 use Rattle.spf_ast.specs.View.{block, program}
 use Rattle.spf_ast.specs.Construct.{constructs_in}
 use Rattle.spf_ast.specs.ConstructView.{construct}
-use Rattle.spf_effects.proofs.Gathering.{some_is}
+use Rattle.spf_lemmas.proofs.Members.{some_is}
 use Rattle.spf_check.specs.Verdicts.{IsExamined}
 use Rattle.spf_check.proofs.check.examine_construct.Goals as goal
 

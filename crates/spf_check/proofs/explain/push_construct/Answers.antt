@@ -3,7 +3,7 @@ use Rattle.std.specs.Prelude.{slice_get, IfOk}
 use Rattle.spf_ast.specs.View.{array, block, program}
 use Rattle.spf_ast.specs.Construct.{constructs_in}
 use Rattle.spf_ast.specs.ConstructView.{construct}
-use Rattle.spf_effects.proofs.Gathering.{some_is}
+use Rattle.spf_lemmas.proofs.Members.{some_is}
 use Rattle.spf_check.specs.Text.{IsConstructText}
 use Rattle.spf_check.proofs.explain.push_construct.Goals as goal
 

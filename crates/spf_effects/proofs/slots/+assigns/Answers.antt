@@ -1,7 +1,7 @@
 use Rattle.std.proofs.Common.{◌+◌, refl, sym, ap, ◌∙◌}
 use Rattle.std.specs.Prelude.{◌||◌, not}
 use Rattle.spf_ast.specs.View.{block}
-use Rattle.spf_effects.specs.Slots.{assigns}
+use Rattle.spf_ast.specs.Slots.{assigns}
 use Rattle.spf_effects.specs.SlotSets.{has_slot}
 use Rattle.spf_effects.proofs.Assigns.{assigns_from, assigns_at, assigns_none, if_assigns, for_assigns, while_assigns, fold_assigns, pair_assigns}
 use Rattle.spf_effects.proofs.slots.+assigns.Goals as goal

@@ -1,7 +1,7 @@
 use Rattle.std.proofs.Common.{◌+◌, refl, sym, ap, ◌∙◌}
 use Rattle.std.specs.Prelude.{◌||◌}
 use Rattle.spf_ast.specs.View.{block}
-use Rattle.spf_effects.specs.Slots.{emits}
+use Rattle.spf_ast.specs.Slots.{emits}
 use Rattle.spf_effects.proofs.Walks.{emits_from, emits_at, emits_none, if_emits, for_emits, while_emits, fold_emits, pair_emits}
 use Rattle.spf_effects.proofs.slots.+emits.Goals as goal
 

@@ -1,8 +1,0 @@
-pub mod Members
-pub mod Along
-pub mod Overwrite
-pub mod Cells
-pub mod Extents
-pub mod Slots
-pub mod Quiet
-pub mod Free
