@@ -1,17 +1,40 @@
 // Where the arrays of a program lie among the cells of a run, and why there can't be a run.
 
 ghost use Rattle.std.specs.Prelude.{◌≡◌};
-ghost use Rattle.spf_exec.specs.declared.layout.RunError.TheVariants.{OutOfMemory};
+ghost use Rattle.spf_layout.specs.declared.layout.RunError.TheVariants.{OutOfMemory};
 
 use std::alloc::AllocError;
+use std::marker::Model;
 
 /// Where the arrays of a program lie among the cells of a run.
 #[derive(Drop)]
 pub struct Layout {
+    pub(crate) extents: Vec<(u64, u64)>,
+    pub(crate) cells: u64,
+}
+
+impl Model for Layout {
+    ghost use Rattle.spf_layout.specs.Layout.{LayoutValue};
+
+    ghost Value = { LayoutValue };
+
+    ghost view = { λ l. record { extents = l.extents.items; cells = l.cells } };
+}
+
+impl Layout {
     /// The first cell and the number of elements of each array, in their order.
-    pub extents: Vec<(u64, u64)>,
+    pub fn extents(&self) -> &[(u64, u64)]
+        ensures { result.now ≡ self.now.extents }
+    {
+        &self.extents
+    }
+
     /// The number of cells of all arrays.
-    pub cells: u64,
+    pub fn cells(&self) -> u64
+        ensures { result ≡ self.now.cells }
+    {
+        self.cells
+    }
 }
 
 /// Why a run can't be made.

@@ -1,7 +1,7 @@
 -- Why a run can't be made.
 use Rattle.std.specs.Prelude.{◌≡◌, ℕ, ◌-◌, ◌^◌, min}
-use Rattle.spf_exec.specs.declared.layout.RunError.{RunError}
-use Rattle.spf_exec.specs.declared.layout.RunError.TheVariants.{TooManyCells, OutOfMemory}
+use Rattle.spf_layout.specs.declared.layout.RunError.{RunError}
+use Rattle.spf_layout.specs.declared.layout.RunError.TheVariants.{TooManyCells, OutOfMemory}
 
 -- a count as a number of 128 bits: the greatest one where the count is greater than that
 abbrev pub counted : ℕ → ℕ

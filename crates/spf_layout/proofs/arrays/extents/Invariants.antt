@@ -2,7 +2,7 @@ use Rattle.std.proofs.Common.{◌≡◌, ◌+◌, ◌++◌, drop}
 use Rattle.std.specs.Prelude.{map}
 use Rattle.spf_ast.specs.View.{array}
 use Rattle.spf_ast.specs.Program.{sizes, extents_from}
-use Rattle.spf_exec.proofs.arrays.extents.Given as goal
+use Rattle.spf_layout.proofs.arrays.extents.Given as goal
 
 -- the extents so far, and those that are left, are all
 abbrev pub invariant-loop-array : goal.invariant-loop-array

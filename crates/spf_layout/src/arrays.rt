@@ -3,9 +3,9 @@
 ghost use Rattle.std.specs.Prelude.{◌≡◌, ◌<◌, ◌≤◌, length, map, IfOk, IfErr, IsErrAnd};
 ghost use Rattle.spf_ast.specs.View.{array as seen_array, program as seen_program};
 ghost use Rattle.spf_ast.specs.Program.{size_of, sizes, extents_from, cell_count_of, max_cells};
-ghost use Rattle.spf_exec.specs.declared.layout.RunError.TheVariants.{OutOfMemory};
-ghost use Rattle.spf_exec.specs.BlockRuns.{IsLayoutOf};
-ghost use Rattle.spf_exec.specs.RunErrors.{counted, IsTooMany};
+ghost use Rattle.spf_layout.specs.declared.layout.RunError.TheVariants.{OutOfMemory};
+ghost use Rattle.spf_layout.specs.Layout.{IsLayoutOf};
+ghost use Rattle.spf_layout.specs.RunErrors.{counted, IsTooMany};
 
 use crate::layout::{Layout, RunError};
 use spf_ast::syntax::{Array, Program};

@@ -3,8 +3,8 @@ use Rattle.std.specs.Int.{w128}
 use Rattle.std.proofs.lemmas.Int.{to_z-of_z}
 use lib.Signed.{lt_z}
 use lib.IntN.{nat_abs}
-use Rattle.spf_exec.proofs.Cells.{size_fits, coded_size-is, size_below, size_above}
-use Rattle.spf_exec.proofs.arrays.size.Goals as goal
+use Rattle.spf_layout.proofs.Cells.{size_fits, coded_size-is, size_below, size_above}
+use Rattle.spf_layout.proofs.arrays.size.Goals as goal
 
 pub overflow_add-size : goal.overflow_add-size
 overflow_add-size c =

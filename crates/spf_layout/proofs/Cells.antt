@@ -1,5 +1,5 @@
 -- Where arrays lie.
-use Rattle.std.proofs.Common.{◌≡◌, ℕ, zero, suc, ◌+◌, ◌-◌, ◌^◌, ◌<◌, ◌≤◌, List, [], ◌∷◌, length, get_or, drop, drop-cons, add-one, refl, sym, ap, ◌∙◌, ℤ, pos, negsuc, ◌+ℤ◌, arith, w64, FitsSigned, to_z, of_z, true, false}
+use Rattle.std.proofs.Common.{◌≡◌, ℕ, suc, ◌+◌, ◌-◌, ◌^◌, ◌<◌, ◌≤◌, List, ◌∷◌, length, get_or, drop, drop-cons, add-one, refl, sym, ap, ◌∙◌, ℤ, pos, negsuc, ◌+ℤ◌, arith, w64, FitsSigned, to_z, of_z, true, false}
 use Rattle.std.specs.Int.{w128}
 use lib.Signed.{lt_z}
 use lib.IntN.{nat_abs}
@@ -8,12 +8,10 @@ use Rattle.std.proofs.lemmas.Int.{ints, unsigned_abs-mul, to_z-of_z, to_z_pos}
 use Rattle.std.proofs.lemmas.Nat.{mul-le}
 use Rattle.std.specs.Prelude.{map, ◌*ℤ◌, min}
 use Rattle.std.proofs.Math.Nat.{add_assoc}
-use Rattle.spf_exec.specs.RunErrors.{counted}
+use Rattle.spf_layout.specs.RunErrors.{counted}
 use Rattle.spf_ast.specs.declared.syntax.Array as code
 use Rattle.spf_ast.specs.View.{array}
-use Rattle.spf_ast.specs.Meaning.{Extent, extent_in}
-use Rattle.spf_ast.specs.Program.{size_or_none, size_of, sizes, extents_from, max_cells}
-use Rattle.spf_exec.specs.Performs.{AreWithin}
+use Rattle.spf_ast.specs.Program.{size_or_none, size_of, sizes, extents_from}
 
 -- the arrays from one place on
 pub next_array : (xs : List code.Array) (i : ℕ) (x : code.Array) → i < length xs → x ≡ get_or xs i x → drop i xs ≡ x ∷ drop (i + 1) xs
@@ -24,15 +22,6 @@ next_sizes len xs i x h e = ap (λ l. sizes len (map array l)) (next_array xs i 
 
 pub next_extents : (len base : ℕ) (xs : List code.Array) (i : ℕ) (x : code.Array) → i < length xs → x ≡ get_or xs i x → extents_from len base (map array (drop i xs)) ≡ (base, size_of len (array x)) ∷ extents_from len (base + size_of len (array x)) (map array (drop (i + 1) xs))
 next_extents len base xs i x h e = ap (λ l. extents_from len base (map array l)) (next_array xs i x h e)
-
--- each array lies within the cells of all
-each_within : (len base : ℕ) (arrays : List _) (i : ℕ) → (extent_in (extents_from len base arrays) i).0 + (extent_in (extents_from len base arrays) i).1 ≤ base + sizes len arrays
-each_within len base [] i = omega arith
-each_within len base (a ∷ rest) zero = omega arith
-each_within len base (a ∷ rest) (suc i) = let r = each_within len (base + size_of len a) rest i in omega (arith, r)
-
-pub are_within : (len : ℕ) (arrays : List _) → sizes len arrays ≤ max_cells → AreWithin (extents_from len 0 arrays) (sizes len arrays)
-are_within len arrays few = record { each = λ i. omega (arith, each_within len 0 arrays i); few = few }
 
 -- a sum may be counted at once, or one number after another
 counted_twice : (n rest : ℕ) → counted (n + rest) ≡ counted (min n (2 ^ 128 - 1) + rest)
@@ -90,7 +79,3 @@ size_below (negsuc n) e = refl
 pub size_above : (z : ℤ) → lt_z z (pos 0) ≡ false → nat_abs z ≡ size_or_none z
 size_above (pos n) e = refl
 size_above (negsuc n) e = grind (arith, ints)
-
--- the arrays of a layout lie within as many cells
-pub layout_within : (len : ℕ) (arrays : List _) (extents : List Extent) (cells : ℕ) → extents ≡ extents_from len 0 arrays → cells ≡ sizes len arrays → sizes len arrays ≤ max_cells → AreWithin extents cells
-layout_within len arrays extents cells e f few = rw (e, f) (are_within len arrays few)

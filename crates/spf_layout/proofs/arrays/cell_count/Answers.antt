@@ -3,8 +3,8 @@ use Rattle.std.proofs.Math.ListN.{drop_of_length-le}
 use Rattle.std.specs.Prelude.{map}
 use Rattle.spf_ast.specs.View.{array}
 use Rattle.spf_ast.specs.Program.{sizes}
-use Rattle.spf_exec.proofs.Cells.{next_sizes, counted_sum}
-use Rattle.spf_exec.proofs.arrays.cell_count.Goals as goal
+use Rattle.spf_layout.proofs.Cells.{next_sizes, counted_sum}
+use Rattle.spf_layout.proofs.arrays.cell_count.Goals as goal
 
 pub loop-array-preserved : goal.loop-array-preserved
 loop-array-preserved c =

@@ -2,8 +2,8 @@ use Rattle.std.proofs.Common.{◌≡◌, ◌+◌, ◌^◌, ◌<◌, drop}
 use Rattle.std.specs.Prelude.{map}
 use Rattle.spf_ast.specs.View.{array}
 use Rattle.spf_ast.specs.Program.{sizes}
-use Rattle.spf_exec.specs.RunErrors.{counted}
-use Rattle.spf_exec.proofs.arrays.cell_count.Given as goal
+use Rattle.spf_layout.specs.RunErrors.{counted}
+use Rattle.spf_layout.proofs.arrays.cell_count.Given as goal
 
 -- the count, and what is left, make the whole
 abbrev pub invariant-loop-array : goal.invariant-loop-array

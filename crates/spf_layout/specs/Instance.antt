@@ -1,0 +1,22 @@
+-- A program with an input that it runs on.
+use Rattle.std.specs.Prelude.{◌≡◌, ◌<◌, ◌^◌, ℕ, List, length}
+use Rattle.spf_ast.specs.declared.syntax.Program as code
+use Rattle.spf_ast.specs.Syntax.{Program}
+use Rattle.spf_ast.specs.View.{program}
+use Rattle.spf_layout.specs.Layout.{LayoutValue, IsLayoutOf}
+use Rattle.spf_layout.specs.Frame.{frame_size}
+
+-- the program and the input
+pub record InstanceValue : Type 0 where
+  pub code : code.Program
+  pub input : List ℕ
+
+-- the program as plain data
+abbrev pub program_of : InstanceValue → Program
+program_of i = program i.code
+
+-- the layout is that of the program for the input's length, so is the frame's size, and the input's length is a word
+pub record IsInstance (p : Program) (input : List ℕ) (l : LayoutValue) (slots : ℕ) : Type 0 where
+  pub layout : IsLayoutOf p (length input) l
+  pub size : slots ≡ frame_size p
+  pub short : length input < 2 ^ 63

@@ -1,0 +1,8 @@
+//! Programs with an input that they run on: where their arrays lie, and how large their frames are.
+#![tactic(auto)]
+
+pub mod arrays;
+mod frame_size;
+pub mod instance;
+pub mod layout;
+pub mod stop;
