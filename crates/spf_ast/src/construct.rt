@@ -1,11 +1,12 @@
 // The top constructs of a program.
 
-ghost use Rattle.std.specs.Prelude.{◌≡◌, ◌^◌, ◌<◌, length, slice_get, MatchOption, Some, None};
+ghost use Rattle.std.specs.Prelude.{◌≡◌, ◌^◌, ◌<◌, length, map, slice_get, MatchOption, IfOk, Some, None};
 ghost use Rattle.spf_ast.specs.View.{block as block_of, statement as statement_of, program as program_of};
 ghost use Rattle.spf_ast.specs.Construct.{construct_of, constructs_in, carried_of, part_of as part_run, is_construct as is_construct_form};
 ghost use Rattle.spf_ast.specs.ConstructView.{construct as construct_seen};
 
 use crate::syntax::{Fold, Pair, Part, Program, Stmt, StmtKind};
+use std::alloc::{AllocError, Global};
 
 /// A top construct: a fold or a pair that is a direct statement of `main`.
 #[derive(Clone, Copy)]
@@ -107,6 +108,23 @@ pub fn find_construct<'a>(main: &'a [Stmt], number: u32) -> Option<TopConstruct<
         }
     }
     None
+}
+
+/// All constructs among these statements, in their order.
+///
+/// # Errors
+///
+/// `AllocError` where there is no memory for the list.
+pub fn constructs<'a>(alloc: Global, main: &'a [Stmt]) -> Result<Vec<TopConstruct<'a>>, AllocError>
+    ensures { IfOk result (λ found. map construct_seen found.items ≡ constructs_in (block_of main.now)) }
+{
+    let mut found = Vec::new(alloc);
+    for statement in main {
+        if let Some(construct) = as_construct(statement) {
+            found.push(construct)?;
+        }
+    }
+    Ok(found)
 }
 
 /// How many top constructs a program has: folds and pairs that are direct statements of `main`.

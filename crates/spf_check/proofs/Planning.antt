@@ -2,11 +2,11 @@
 use Rattle.std.proofs.Common.{◌≡◌, ◌≢◌, ◌⊎◌, inl, inr, ℕ, zero, suc, ◌+◌, ◌^◌, ◌<◌, ◌≤◌, Bool, true, false, List, [], ◌∷◌, ◌++◌, length, map, Option, Some, None, ℤ, pos, ◌+ℤ◌, refl, sym, ap, ◌∙◌, subst, arith, All}
 use Rattle.std.specs.Prelude.{◌==◌, ◌-ℤ◌, ◌≤ℤ◌, slice_get, slice_index_or, if◌then◌else◌}
 use Rattle.std.proofs.lemmas.Int.{ints}
+use Rattle.std.proofs.lemmas.Bool.Decides.{nat_tests}
 use Rattle.std.specs.declared.vec.Vec.{Vec}
 use Rattle.std.specs.declared.alloc.Global.{Global}
 use Rattle.spf_ast.specs.Syntax.{Array, Program}
 use Rattle.spf_ast.specs.Lawful.{IsLawful}
-use Rattle.spf_ast.specs.declared.syntax.Part.TheVariants.{Producer, Consumer}
 use Rattle.spf_ast.specs.Construct.{Construct, fold, pair, constructs_in, part_of}
 use Rattle.spf_ast.specs.Program.{size_of, sizes, extents_from, extents_of, cell_count_of, max_cells}
 use Rattle.spf_region.specs.declared.range.Range.{Range}
@@ -20,8 +20,7 @@ use Rattle.spf_region.proofs.Covers.{has-parts}
 use Rattle.spf_rollback.specs.Rules.{guessed_part, may_write, KeepsTheRules}
 use Rattle.spf_lemmas.proofs.Members.{cases}
 use Rattle.spf_rollback.proofs.Cells.{extent, AtWhole, AtOffset, has-array-of, entry-of, offset-inside, offset-place}
-use Rattle.spf_rollback.specs.Freedom.{HaveDisjointSpans}
-use Rattle.spf_rollback.proofs.Free.{rules-set-free}
+use Rattle.spf_rollback.specs.Freedom.{HaveDisjointSpans, TheRulesSetFree}
 use Rattle.spf_rollback.proofs.Extents.{within}
 use Rattle.spf_check.specs.declared.checked.Writes.{Writes}
 use Rattle.spf_check.specs.Accepting.{IsNormalFormOf}
@@ -30,7 +29,7 @@ use Rattle.spf_check.specs.Writing.{list_with, list_of, AreListed}
 use Rattle.spf_check.specs.Plans.{AreBlocksOf, IsPlanOf}
 use Rattle.spf_check.proofs.Arrays.{written-within}
 use Rattle.spf_check.proofs.Breaking.{is-array}
-use Rattle.spf_check.proofs.Examining.{place-within, last-place, front-place, one-longer}
+use Rattle.spf_lemmas.proofs.Indices.{index-within, last-index, earlier-index, one-longer, last_or_before}
 
 -- no block
 pub none-listed : (w : Writes) (extents : List Extent) (low : ℤ) → AreListed w extents low 0 []
@@ -41,9 +40,6 @@ pub map-one : (plan : List (Vec Span Global)) (spans : Vec Span Global) → map 
 map-one [] spans = refl
 map-one (x ∷ plan) spans = ap (λ l. x.items ∷ l) (map-one plan spans)
 
-last-or-before : (x n : ℕ) → x < n + 1 → (x ≡ n) ⊎ (x < n)
-last-or-before x n h = grind (arith, h)
-
 the-same : (a b : List Span) → Some a ≡ Some b → a ≡ b
 the-same a b e = cc
 
@@ -52,15 +48,15 @@ pub one-more-listed : (w : Writes) (extents : List Extent) (low : ℤ) (n : ℕ)
 one-more-listed w extents low n plan spans h up cells = record { count = one-longer plan spans n h.count; spans = each }
   where
     each : (block : ℕ) (list : List Span) → slice_get (plan ++ spans ∷ []) block ≡ Some list → AreAscending list × ((cell : ℕ) → in_spans list cell ≡ cells_at extents (low +ℤ pos block) (list_of w block) cell)
-    each block list e = cases (last-or-before block n (let l = place-within (plan ++ spans ∷ []) block list e in omega (arith, l, one-longer plan spans n h.count))) here earlier
+    each block list e = cases (last_or_before block n (let l = index-within (plan ++ spans ∷ []) block list e in omega (arith, l, one-longer plan spans n h.count))) here earlier
       where
         here : block ≡ n → AreAscending list × ((cell : ℕ) → in_spans list cell ≡ cells_at extents (low +ℤ pos block) (list_of w block) cell)
         here same =
-            let is : spans ≡ list = the-same spans list (sym (ap (slice_get (plan ++ spans ∷ [])) (same ∙ sym h.count) ∙ last-place plan spans) ∙ e) in
+            let is : spans ≡ list = the-same spans list (sym (ap (slice_get (plan ++ spans ∷ [])) (same ∙ sym h.count) ∙ last-index plan spans) ∙ e) in
             (subst AreAscending is up, λ cell. sym (ap (λ l. in_spans l cell) is) ∙ cells cell ∙ ap (λ b. cells_at extents (low +ℤ pos b) (list_of w b) cell) (sym same))
 
         earlier : block < n → AreAscending list × ((cell : ℕ) → in_spans list cell ≡ cells_at extents (low +ℤ pos block) (list_of w block) cell)
-        earlier lt = h.spans block list (sym (front-place plan (spans ∷ []) block (omega (arith, lt, h.count))) ∙ e)
+        earlier lt = h.spans block list (sym (earlier-index plan (spans ∷ []) block (omega (arith, lt, h.count))) ∙ e)
 
 -- ---- a plan
 
@@ -72,11 +68,13 @@ list-is p k w block are = go k w.producer are.guessed are.producer
     go (fold line head body) None g is = g
     go (fold line head body) (Some list) g is = absurd is
     go (pair line head producer consumer) None g is = absurd is
-    go (pair line head producer consumer) (Some list) g is = by (block == 0) g is
+    go (pair line head producer consumer) (Some list) g is = by block (block == 0) refl
       where
-        by : (b : Bool) → IsNormalFormOf (may_write p (pair line head producer consumer) Consumer) w.guessed → IsNormalFormOf (may_write p (pair line head producer consumer) Producer) list → IsNormalFormOf (may_write p (pair line head producer consumer) (if b then Producer else Consumer)) (if b then list else w.guessed)
-        by true g is = is
-        by false g is = g
+        by : (n : ℕ) (b : Bool) → (n == 0) ≡ b → IsNormalFormOf (may_write p (pair line head producer consumer) (part_of (pair line head producer consumer) n)) (if b then list else w.guessed)
+        by zero true e = is
+        by zero false e = cc
+        by (suc n) true e = absurd (grind (arith, nat_tests, e))
+        by (suc n) false e = g
 
 -- one block more, as the code adds it
 pub pushed : (w : Writes) (extents : List Extent) (low number : ℤ) (n : ℕ) (old new : List (Vec Span Global)) (spans : Vec Span Global) (list : List Range) → AreListed w extents low n (map (λ (v : Vec Span Global). v.items) old) → new ≡ old ++ spans ∷ [] → number ≡ low +ℤ pos n → list ≡ list_of w n → AreAscending spans.items → ((cell : ℕ) → in_spans spans.items cell ≡ cells_at extents number list cell) → AreListed w extents low (n + 1) (map (λ (v : Vec Span Global). v.items) new)
@@ -177,17 +175,17 @@ apart-blocks p (pair line head producer consumer) len low count (suc zero) (suc 
 apart-blocks p (pair line head producer consumer) len low count (suc (suc n)) other cell apart few lt lt' ne x y = omega (arith, few, lt)
 apart-blocks p (pair line head producer consumer) len low count block (suc (suc n)) cell apart few lt lt' ne x y = omega (arith, few, lt')
 
-pub plan-is : (p : Program) (n : ℕ) (k : Construct) (w : Writes) (len : ℕ) (extents : List Extent) (cells : ℕ) (low : ℤ) (blocks : ℕ) (plan : List (List Span)) → IsLawful p → slice_get (constructs_in p.main) n ≡ Some k → KeepsTheRules p k → AreWritesOf p k w → extents ≡ extents_of p len → cells ≡ cell_count_of p len → AreBlocksOf k blocks → AreListed w extents low blocks plan → IsPlanOf p k extents cells low blocks plan
-plan-is p n k w len extents cells low blocks plan lawful is rules are e c few h = record {
+pub plan-is : TheRulesSetFree → (p : Program) (n : ℕ) (k : Construct) (w : Writes) (len : ℕ) (extents : List Extent) (cells : ℕ) (low : ℤ) (blocks : ℕ) (plan : List (List Span)) → IsLawful p → slice_get (constructs_in p.main) n ≡ Some k → KeepsTheRules p k → AreWritesOf p k w → extents ≡ extents_of p len → cells ≡ cell_count_of p len → AreBlocksOf k blocks → AreListed w extents low blocks plan → IsPlanOf p k extents cells low blocks plan
+plan-is set-free p n k w len extents cells low blocks plan lawful is rules are e c few h = record {
   count = h.count;
   spans = λ block list at. record { ascending = (h.spans block list at).0; cells = λ cell. (h.spans block list at).1 cell ∙ same-cells extents (low +ℤ pos block) _ (list_of w block) cell (list-is p k w block are) };
   disjoint = λ block other one two cell ne at at' x y.
-      apart-blocks p k len low blocks block other cell (rules-set-free p n k lawful is rules).spans_are_disjoint few (below block one at) (below other two at') ne (own block one at cell x) (own other two at' cell y);
+      apart-blocks p k len low blocks block other cell (set-free p n k lawful is rules).spans_are_disjoint few (below block one at) (below other two at') ne (own block one at cell x) (own other two at' cell y);
   within = λ block list cell at x. subst (λ m. cell < m) (sym c) (cell-within p len (low +ℤ pos block) (may_write p k (part_of k block)) cell (own block list at cell x));
 }
   where
     below : (block : ℕ) (list : List Span) → slice_get plan block ≡ Some list → block < blocks
-    below block list at = let l = place-within plan block list at in omega (arith, l, h.count)
+    below block list at = let l = index-within plan block list at in omega (arith, l, h.count)
 
     own : (block : ℕ) (list : List Span) → slice_get plan block ≡ Some list → (cell : ℕ) → in_spans list cell ≡ true → cells_at (extents_of p len) (low +ℤ pos block) (may_write p k (part_of k block)) cell ≡ true
     own block list at cell x =
@@ -202,7 +200,7 @@ got-is (x ∷ xs) (suc n) w v e f = got-is xs n w v e f
 
 pub kept-writes : (p : Program) (writes : List Writes) (n : ℕ) (k : Construct) (v : Writes) → IsKept p writes → slice_get (constructs_in p.main) n ≡ Some k → ((d : Writes) → v ≡ slice_index_or writes n d) → AreWritesOf p k v
 kept-writes p writes n k v kept is at =
-    let w = kept.writes_are n k (place-within (constructs_in p.main) n k is) is in
+    let w = kept.writes_are n k (index-within (constructs_in p.main) n k is) is in
     subst (AreWritesOf p k) (got-is writes n w.0 v w.1 at) w.2
 
 pub same-construct : (j k : Construct) → Some j ≡ Some k → j ≡ k

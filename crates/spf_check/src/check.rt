@@ -1,9 +1,9 @@
 //! Checks programs by the rules.
-ghost use Rattle.std.specs.Prelude.{◌≡◌, ◌<◌, Some, length, slice_get, option_map, IfOk};
+ghost use Rattle.std.specs.Prelude.{◌≡◌, option_map, IfOk};
 ghost use Rattle.spf_ast.specs.Lawful.{IsLawful};
 ghost use Rattle.spf_ast.specs.Syntax.{Program as plain_program};
 ghost use Rattle.spf_ast.specs.View.{program as seen_program};
-ghost use Rattle.spf_ast.specs.Construct.{Construct, constructs_in, fold, pair};
+ghost use Rattle.spf_ast.specs.Construct.{fold, pair};
 ghost use Rattle.spf_ast.specs.ConstructView.{construct as construct_seen};
 ghost use Rattle.spf_check.specs.Parts.{AreEffectsOf};
 ghost use Rattle.spf_check.specs.Verdicts.{IsExamined, IsVerdict};
@@ -12,11 +12,12 @@ ghost use Rattle.spf_check.specs.Checking.{IsChecked};
 use crate::checked::{Checked, Writes};
 use crate::construct::ConstructEffects;
 use crate::rule::{CheckError, Refusal};
-use spf_ast::construct::{ConstructKind, TopConstruct, find_construct, top_constructs};
+use spf_ast::construct::{ConstructKind, TopConstruct, constructs};
 use spf_ast::syntax::{Part, Program};
 use spf_effects::analysis::effects;
 use spf_effects::effects::Effects;
 use spf_region::list::RangeList;
+use spf_rollback::the_rules_set_free;
 use std::alloc::{AllocError, Global};
 
 /// What is said of one construct.
@@ -33,51 +34,49 @@ pub(crate) enum Verdict {
     Refused(Refusal),
 }
 
-/// The effects of all parts of a fold, given its number.
+/// The effects of all parts of a fold.
 fn fold_effects(
     alloc: Global,
     program: &Program,
-    number: u32,
+    construct: TopConstruct,
 ) -> Result<ConstructEffects, AllocError>
-    ensures { (line : _) (head : _) (body : _) → slice_get (constructs_in (seen_program program.now).main) number ≡ Some (fold line head body)
+    ensures { (line : _) (head : _) (body : _) → construct_seen construct.entry ≡ fold line head body
         → IfOk result (AreEffectsOf (seen_program program.now) (fold line head body)) }
 {
     Ok(ConstructEffects {
-        guessed: effects(alloc, program, number, Part::Body)?,
-        predictor: effects(alloc, program, number, Part::Predictor)?,
+        guessed: effects(alloc, program, construct, Part::Body)?,
+        predictor: effects(alloc, program, construct, Part::Predictor)?,
         producer: None,
     })
 }
 
-/// The effects of all parts of a pair, given its number.
+/// The effects of all parts of a pair.
 fn pair_effects(
     alloc: Global,
     program: &Program,
-    number: u32,
+    construct: TopConstruct,
 ) -> Result<ConstructEffects, AllocError>
-    ensures { (line : _) (head : _) (producer : _) (consumer : _) → slice_get (constructs_in (seen_program program.now).main) number ≡ Some (pair line head producer consumer)
+    ensures { (line : _) (head : _) (producer : _) (consumer : _) → construct_seen construct.entry ≡ pair line head producer consumer
         → IfOk result (AreEffectsOf (seen_program program.now) (pair line head producer consumer)) }
 {
     Ok(ConstructEffects {
-        guessed: effects(alloc, program, number, Part::Consumer)?,
-        predictor: effects(alloc, program, number, Part::Predictor)?,
-        producer: Some(effects(alloc, program, number, Part::Producer)?),
+        guessed: effects(alloc, program, construct, Part::Consumer)?,
+        predictor: effects(alloc, program, construct, Part::Predictor)?,
+        producer: Some(effects(alloc, program, construct, Part::Producer)?),
     })
 }
 
-/// The effects of all parts of the construct with this number.
+/// The effects of all parts of a construct.
 pub(crate) fn effects_of(
     alloc: Global,
     program: &Program,
-    number: u32,
-    construct: &TopConstruct,
+    construct: TopConstruct,
 ) -> Result<ConstructEffects, AllocError>
-    ensures { slice_get (constructs_in (seen_program program.now).main) number ≡ Some (construct_seen construct.now)
-        → IfOk result (AreEffectsOf (seen_program program.now) (construct_seen construct.now)) }
+    ensures { IfOk result (AreEffectsOf (seen_program program.now) (construct_seen construct.entry)) }
 {
     match construct.kind {
-        ConstructKind::Fold(_) => fold_effects(alloc, program, number),
-        ConstructKind::Pair(_) => pair_effects(alloc, program, number),
+        ConstructKind::Fold(_) => fold_effects(alloc, program, construct),
+        ConstructKind::Pair(_) => pair_effects(alloc, program, construct),
     }
 }
 
@@ -119,26 +118,25 @@ fn judge(construct: &TopConstruct, found: ConstructEffects) -> Examined
 }
 
 /// Examines one construct.
-fn examine_construct(alloc: Global, program: &Program, number: u32) -> Result<Examined, AllocError>
-    requires { number < length (constructs_in (seen_program program.now).main) }
-    ensures { (c : Construct) → slice_get (constructs_in (seen_program program.now).main) number ≡ Some c
-        → IfOk result (IsExamined (seen_program program.now) c) }
+fn examine_construct(
+    alloc: Global,
+    program: &Program,
+    construct: TopConstruct,
+) -> Result<Examined, AllocError>
+    ensures { IfOk result (IsExamined (seen_program program.now) (construct_seen construct.entry)) }
 {
-    let Some(construct) = find_construct(&program.main, number) else {
-        unreachable!();
-    };
-    let found = effects_of(alloc, program, number, &construct)?;
+    let found = effects_of(alloc, program, construct)?;
     Ok(judge(&construct, found))
 }
 
 /// Examines the top constructs of a program, in their order, up to the first that breaks a rule.
 fn examine(alloc: Global, program: &Program) -> Result<Verdict, AllocError>
-    requires { IsLawful (seen_program program.now) }
     ensures { IfOk result (IsVerdict (seen_program program.now)) }
 {
+    let found = constructs(alloc, &program.main)?;
     let mut writes = Vec::new(alloc);
-    for number in 0..top_constructs(program) {
-        match examine_construct(alloc, program, number)? {
+    for construct in &found {
+        match examine_construct(alloc, program, *construct)? {
             Examined::Accepted(kept) => writes.push(kept)?,
             Examined::Refused(refusal) => return Ok(Verdict::Refused(refusal)),
         }
@@ -157,6 +155,7 @@ pub fn check(alloc: Global, program: Program) -> Result<Checked, CheckError>
     requires lawful { IsLawful (seen_program program) }
     ensures { IsChecked program result }
 {
+    the_rules_set_free();
     match examine(alloc, &program) {
         Ok(Verdict::Accepted(writes)) => Ok(Checked { program, writes }),
         Ok(Verdict::Refused(refusal)) => Err(CheckError::Refused { program, refusal }),

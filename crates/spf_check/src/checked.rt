@@ -1,9 +1,13 @@
 //! Programs that the rules accept.
 ghost use Rattle.std.specs.Prelude.{◌≡◌};
 ghost use Rattle.spf_ast.specs.View.{program as seen_program};
+ghost use Rattle.spf_ast.specs.Lawful.{IsLawful};
+ghost use Rattle.spf_check.specs.Accepting.{IsAccepted};
+ghost use Rattle.spf_check.specs.Checking.{IsFree};
 
 use spf_ast::syntax::Program;
 use spf_region::list::RangeList;
+use spf_rollback::the_rules_set_free;
 use std::marker::Model;
 
 /// What a construct may write, by its block parts.
@@ -41,10 +45,14 @@ impl Model for Checked {
 }
 
 impl Checked {
-    /// The program.
+    /// The program. It is lawful and accepted, and each of its top constructs is rollback free.
     pub fn program(&self) -> &Program
-        ensures { result.now ≡ self.now }
+        ensures program { result.now ≡ self.now }
+        ensures lawful { IsLawful (seen_program self.now) }
+        ensures accepted { IsAccepted (seen_program self.now) }
+        ensures free { IsFree self.now }
     {
+        the_rules_set_free();
         &self.program
     }
 }

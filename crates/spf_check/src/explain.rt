@@ -18,7 +18,7 @@ use crate::check::effects_of;
 use crate::construct::ConstructEffects;
 use crate::rule::Rule;
 use crate::text::{push_range, push_ranges, rule_name};
-use spf_ast::construct::{ConstructKind, TopConstruct, find_construct, top_constructs};
+use spf_ast::construct::{ConstructKind, TopConstruct, constructs};
 use spf_ast::syntax::{Array, Part, Program};
 use spf_effects::effects::Effects;
 use spf_region::list::RangeList;
@@ -184,21 +184,16 @@ fn push_found(
     push_verdict(alloc, arrays, found, text)
 }
 
-/// Adds the lines of a construct, given its number.
+/// Adds the lines of a construct.
 fn push_construct(
     alloc: Global,
     program: &Program,
-    number: u32,
+    construct: TopConstruct,
     text: &mut Vec<u8>,
 ) -> Result<(), AllocError>
-    requires { number < length (constructs_in (seen_program program.now).main) }
-    ensures { (c : Construct) → slice_get (constructs_in (seen_program program.now).main) number ≡ Some c
-        → IfOk result (λ _. (lines : List ℕ) × IsConstructText (seen_program program.now) c lines × (text.new.items ≡ text.old.items ++ lines)) }
+    ensures { IfOk result (λ _. (lines : List ℕ) × IsConstructText (seen_program program.now) (construct_seen construct.entry) lines × (text.new.items ≡ text.old.items ++ lines)) }
 {
-    let Some(construct) = find_construct(&program.main, number) else {
-        unreachable!();
-    };
-    let found = effects_of(alloc, program, number, &construct)?;
+    let found = effects_of(alloc, program, construct)?;
     push_found(alloc, &program.arrays, &construct, &found, text)
 }
 
@@ -209,12 +204,12 @@ fn push_construct(
 ///
 /// `AllocError` where there was no memory for the analysis or the text.
 pub fn explain(alloc: Global, program: &Program) -> Result<Vec<u8>, AllocError>
-    requires lawful { IsLawful (seen_program program.now) }
     ensures { IfOk result (λ text. Explains (seen_program program.now) text.items) }
 {
+    let found = constructs(alloc, &program.main)?;
     let mut text = Vec::new(alloc);
-    for number in 0..top_constructs(program) {
-        push_construct(alloc, program, number, &mut text)?;
+    for construct in &found {
+        push_construct(alloc, program, *construct, &mut text)?;
     }
     Ok(text)
 }

@@ -4,14 +4,15 @@ ghost use Rattle.std.specs.List.{All};
 ghost use Rattle.spf_region.specs.Ranges.{has_array};
 ghost use Rattle.spf_ast.specs.View.{program as seen_program};
 ghost use Rattle.spf_ast.specs.Construct.{Construct, constructs_in};
-ghost use Rattle.spf_exec.specs.BlockRuns.{IsLayoutOf};
+ghost use Rattle.spf_layout.specs.Layout.{IsLayoutOf};
 ghost use Rattle.spf_check.specs.Plans.{AreBlocksOf, IsPlanOf};
 ghost use Rattle.spf_check.specs.Writing.{list_of, AreListed};
 
 use crate::checked::{Checked, Writes};
-use spf_exec::layout::Layout;
+use spf_layout::layout::Layout;
 use spf_region::list::RangeList;
 use spf_region::span::{Plan, Span};
+use spf_rollback::the_rules_set_free;
 use std::alloc::{AllocError, Global};
 
 impl Writes {
@@ -79,13 +80,14 @@ impl Checked {
         requires few { blocks ≤ 4096 }
         requires numbers { (low +ℤ pos blocks) ≤ℤ i64.MAX }
         ensures { (c : Construct) → slice_get (constructs_in (seen_program self.now).main) construct ≡ Some c
-            → IfOk result (λ plan. IsPlanOf (seen_program self.now) c layout.now.extents.items layout.now.cells low blocks (map (λ spans. spans.items) plan.blocks.items)) }
+            → IfOk result (λ plan. IsPlanOf (seen_program self.now) c layout.now.extents layout.now.cells low blocks (map (λ spans. spans.items) plan.blocks.items)) }
     {
+        the_rules_set_free();
         let Some(writes) = self.writes.get(construct as usize) else {
             unreachable!();
         };
         Ok(Plan {
-            blocks: spans_of(alloc, writes, &layout.extents, low, blocks)?,
+            blocks: spans_of(alloc, writes, layout.extents(), low, blocks)?,
         })
     }
 }

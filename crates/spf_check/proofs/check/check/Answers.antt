@@ -1,6 +1,5 @@
 use Rattle.std.proofs.Common.{refl, subst}
 use Rattle.spf_ast.specs.View.{program}
-use Rattle.spf_rollback.proofs.Free.{rules-set-free}
 use Rattle.spf_check.specs.Verdicts.{IsVerdict}
 use Rattle.spf_check.proofs.Examining.{refused-not-accepted}
 use Rattle.spf_check.proofs.check.check.Goals as goal
@@ -8,7 +7,7 @@ use Rattle.spf_check.proofs.check.check.Goals as goal
 pub returns-in-Ok-Accepted : goal.returns-in-Ok-Accepted
 returns-in-Ok-Accepted c =
     let said = subst (IsVerdict (program c.args.program)) c.in-Ok-Accepted.field-0-is c.in-Ok-Accepted.ensures in
-    (refl, said.0, λ number k is. rules-set-free (program c.args.program) number k c.requires.lawful is (said.0 number k is))
+    (refl, said.0, λ number k is. c.the_rules_set_free.ensures (program c.args.program) number k c.requires.lawful is (said.0 number k is))
 
 pub returns-in-Ok-Refused : goal.returns-in-Ok-Refused
 returns-in-Ok-Refused c =

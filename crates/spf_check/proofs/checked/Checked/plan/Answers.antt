@@ -14,12 +14,12 @@ spans_of-requires-clause-inside c = λ block array has.
     let layout = c.requires.layout in
     let found = λ (d : _). c.in-Some.ensures.lookup.3.1 d ∙ ap (λ l. slice_index_or l c.args.construct d) c.deref.ensures.value in
     let are = kept-writes (program c.args.self.now) c.self.inside.writes.items c.args.construct chosen.0 c.in-Some.writes.now kept chosen.1 found in
-    rw (c.deref-2.ensures.value ∙ layout.1.extents) (list-within (program c.args.self.now) c.args.construct chosen.0 c.in-Some.writes.now block layout.0 kept.lawful chosen.1 are array has)
+    rw (c.extents.ensures ∙ layout.1.extents) (list-within (program c.args.self.now) c.args.construct chosen.0 c.in-Some.writes.now block layout.0 kept.lawful chosen.1 are array has)
 
 pub spans_of-requires-clause-fits : goal.spans_of-requires-clause-fits
 spans_of-requires-clause-fits c =
     let layout = c.requires.layout in
-    rw (c.deref-2.ensures.value ∙ layout.1.extents) (extents-fit (program c.args.self.now) layout.0 layout.1.few)
+    rw (c.extents.ensures ∙ layout.1.extents) (extents-fit (program c.args.self.now) layout.0 layout.1.few)
 
 pub returns : goal.returns
 returns c = λ k is.
@@ -27,6 +27,6 @@ returns c = λ k is.
     let layout = c.requires.layout in
     let found = λ (d : _). c.in-Some.ensures.lookup.3.1 d ∙ ap (λ l. slice_index_or l c.args.construct d) c.deref.ensures.value in
     let are = kept-writes (program c.args.self.now) c.self.inside.writes.items c.args.construct k c.in-Some.writes.now kept is found in
-    plan-is (program c.args.self.now) c.args.construct k c.in-Some.writes.now layout.0 c.args.layout.now.extents.items c.args.layout.now.cells c.args.low c.args.blocks _ kept.lawful is (kept.accepted c.args.construct k is) are layout.1.extents layout.1.cells
+    plan-is c.the_rules_set_free.ensures (program c.args.self.now) c.args.construct k c.in-Some.writes.now layout.0 c.args.layout.now.extents c.args.layout.now.cells c.args.low c.args.blocks _ kept.lawful is (kept.accepted c.args.construct k is) are layout.1.extents layout.1.cells
     (subst (λ j. AreBlocksOf j c.args.blocks) (same-construct _ k (sym c.requires.construct.1 ∙ is)) c.requires.construct.2)
-    (rw (c.deref-2.ensures.value, to_z-of_z w64 c.args.low record { sfits = c.ranges.low.sfits }) at c.in_ok-spans_of.ensures)
+    (rw (c.extents.ensures, to_z-of_z w64 c.args.low record { sfits = c.ranges.low.sfits }) at c.in_ok-spans_of.ensures)
