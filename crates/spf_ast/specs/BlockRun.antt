@@ -1,13 +1,15 @@
 -- Runs of single parts of top constructs, as each block of a construct is one.
-use Rattle.std.specs.Prelude.{◌≡◌, ◌<◌, ℕ, List, [], length, ℤ}
+use Rattle.std.specs.Prelude.{◌≡◌, ◌<◌, ℕ, List, [], length, Result, ℤ}
 use Rattle.std.specs.List.{All}
 use Rattle.spf_ast.specs.declared.syntax.Part.{Part}
+use Rattle.spf_ast.specs.declared.syntax.Part.TheVariants.{Predictor}
 use Rattle.spf_ast.specs.Event.{Event}
-use Rattle.spf_ast.specs.Interaction.{Interaction, Ending}
-use Rattle.spf_ast.specs.Carried.{Carried}
+use Rattle.spf_ast.specs.declared.outcome.Trap.{Trap}
+use Rattle.spf_ast.specs.Interaction.{Interaction, Ending, result_of}
+use Rattle.spf_ast.specs.Carried.{Carried, no_value}
 use Rattle.spf_ast.specs.Syntax.{Program}
 use Rattle.spf_ast.specs.Construct.{Construct, part_means}
-use Rattle.spf_ast.specs.Plain.{IsPlainRun}
+use Rattle.spf_ast.specs.Plain.{IsPlainRun, unshared_answer}
 use Rattle.spf_ast.specs.Program.{environment_of}
 
 -- what a run of a part starts from: the input, the slots of `main`, the output so far, a block number and a carried value
@@ -35,3 +37,8 @@ part_asks p construct part s =
 -- the block run of a part from a setup, on a memory: its one list of events, and its answer
 abbrev pub IsBlockRun : Program → Construct → Part → Setup → List ℤ → List Event → Ending Carried → Type 0
 IsBlockRun p construct part s memory events answer = IsPlainRun (part_asks p construct part s) memory events answer
+
+-- What a predictor that is an expression comes to for a block number: its value or its trap, from the slots and the memory at the entry of its construct. No cell is shared: a load gives the entry's word, also after a store. One that is handed in comes to no value.
+abbrev pub predicts : Program → List ℕ → Construct → List ℤ → List ℤ → ℤ → Result Carried Trap
+predicts p input construct slots memory number =
+    result_of (unshared_answer (part_asks p construct Predictor (block_setup input slots number no_value)) memory)

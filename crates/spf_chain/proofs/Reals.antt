@@ -1,7 +1,7 @@
 -- Validated blocks have their real values.
 use Rattle.std.proofs.Common.{◌≡◌, ℕ, ◌+◌, zero, suc, List, [], ◌∷◌, ◌++◌, sym, ap, ◌∙◌, subst, refl, Option, Some, None, ℤ, arith, slice_get, add-zero}
-use Rattle.spf_exec.specs.declared.block_run.Stop.{Stop}
-use Rattle.spf_exec.specs.declared.block_run.Stop.TheVariants as stop
+use Rattle.spf_layout.specs.declared.stop.Stop.{Stop}
+use Rattle.spf_layout.specs.declared.stop.Stop.TheVariants as stop
 use Rattle.spf_chain.specs.declared.task.Settled.{Settled}
 use Rattle.spf_chain.specs.declared.task.Settled.TheVariants.{Carried, Trapped}
 use Rattle.spf_chain.specs.declared.task.Validated.{Validated}

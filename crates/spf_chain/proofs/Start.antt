@@ -1,7 +1,7 @@
 -- A chain that starts.
 use Rattle.std.proofs.Common.{◌≡◌, ℕ, ◌+◌, ◌≤◌, zero, suc, List, [], ◌∷◌, length, map, sym, ap, ◌∙◌, subst, inl, refl, Option, Some, None, ℤ, pos, ◌+ℤ◌, ◌≤ℤ◌, arith, slice_get, add-zero}
 use Rattle.std.proofs.lemmas.List.{length-map}
-use Rattle.spf_exec.specs.declared.block_run.Stop.{Stop}
+use Rattle.spf_layout.specs.declared.stop.Stop.{Stop}
 use Rattle.spf_chain.specs.declared.chain.Chain.TheInside.{Inside}
 use Rattle.spf_chain.specs.declared.place.Place.{Place}
 use Rattle.spf_chain.specs.declared.place.Place.TheVariants.{Out, Home}

@@ -4,7 +4,7 @@ use Rattle.std.specs.Option.{option_map}
 use Rattle.std.proofs.lemmas.List.{length-set, length-take-le}
 use Rattle.std.proofs.lemmas.Option.{slice_get-map, slice_get-get_or, slice_get_read, slice_get_past}
 use Rattle.std.proofs.lemmas.List.{take_more_set, append-nil}
-use Rattle.spf_exec.specs.declared.block_run.Stop.{Stop}
+use Rattle.spf_layout.specs.declared.stop.Stop.{Stop}
 use Rattle.spf_chain.specs.declared.place.Place.{Place}
 use Rattle.spf_chain.specs.declared.place.Place.TheVariants.{Out, Home}
 use Rattle.spf_chain.specs.declared.task.Settled.{Settled}

@@ -5,8 +5,8 @@ use Rattle.std.proofs.lemmas.Option.{slice_get_within, slice_get_read}
 use Rattle.std.specs.Vec.{with_item}
 use Rattle.std.proofs.lemmas.List.{length-map, length-set, length-take-le}
 use Rattle.std.proofs.lemmas.Bool.Decides.{Decides-int_eq}
-use Rattle.spf_exec.specs.declared.block_run.Stop.{Stop}
-use Rattle.spf_exec.specs.declared.block_run.Stop.TheVariants as stop
+use Rattle.spf_layout.specs.declared.stop.Stop.{Stop}
+use Rattle.spf_layout.specs.declared.stop.Stop.TheVariants as stop
 use Rattle.spf_chain.specs.declared.chain.Chain.TheInside.{Inside}
 use Rattle.spf_chain.specs.declared.place.Place.{Place}
 use Rattle.spf_chain.specs.declared.place.Place.TheVariants.{Out, Home}

@@ -1,7 +1,7 @@
 -- Validation: which blocks are validated by what is known of block runs, and what comes of them.
 use Rattle.std.specs.Prelude.{◌≡◌, ℕ, zero, suc, ◌+◌, List, [], ◌∷◌, map, Option, Some, None, ℤ, slice_get}
-use Rattle.spf_exec.specs.declared.block_run.Stop.{Stop}
-use Rattle.spf_exec.specs.declared.block_run.Stop.TheVariants as stop
+use Rattle.spf_layout.specs.declared.stop.Stop.{Stop}
+use Rattle.spf_layout.specs.declared.stop.Stop.TheVariants as stop
 use Rattle.spf_chain.specs.declared.task.Guess.{Guess}
 use Rattle.spf_chain.specs.declared.task.Settled.{Settled}
 use Rattle.spf_chain.specs.declared.task.Settled.TheVariants.{Carried, Trapped}

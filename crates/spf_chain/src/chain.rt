@@ -11,7 +11,7 @@ ghost use Rattle.spf_chain.specs.Kept.{MatchFiled, IsSettledOrOut, IsLowestOut, 
 use crate::place::Place;
 use crate::task::{Filed, Guess, Settled, Task, Validated};
 use crate::validation::Validation;
-use spf_exec::block_run::Stop;
+use spf_layout::stop::Stop;
 use std::alloc::{AllocError, Global};
 use std::marker::Model;
 

@@ -4,7 +4,7 @@ ghost use Rattle.spf_chain.specs.Validation.{result_of};
 ghost use Rattle.spf_chain.specs.Chain.{IsOutPlace, known_at};
 
 use crate::task::Settled;
-use spf_exec::block_run::Stop;
+use spf_layout::stop::Stop;
 
 /// Where the task of a block is.
 #[derive(Clone, Copy, PartialEq, Eq, Debug)]

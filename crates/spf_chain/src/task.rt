@@ -1,12 +1,13 @@
 // What goes into a chain and comes out of it.
 ghost use Rattle.std.specs.Prelude.{◌≡◌};
 
+use spf_ast::carried::Carried;
 use spf_ast::outcome::Trap;
 
 /// A guess for the carried value at a block.
 #[derive(Clone, Copy, PartialEq, Eq, Debug)]
 pub struct Guess {
-    pub value: i64,
+    pub value: Carried,
     /// Whether the predictor trapped, so that nothing is known of the value.
     pub blind: bool,
 }
@@ -17,7 +18,7 @@ pub struct Task {
     pub(crate) block: u64,
     pub(crate) number: i64,
     pub(crate) attempt: u64,
-    pub(crate) carried: i64,
+    pub(crate) carried: Carried,
 }
 
 impl Task {
@@ -43,7 +44,7 @@ impl Task {
     }
 
     /// The carried value at which the block is run.
-    pub fn carried(&self) -> i64
+    pub fn carried(&self) -> Carried
         ensures { result ≡ self.now.carried }
     {
         self.carried
@@ -56,9 +57,9 @@ pub struct Validated {
     /// The block's place in the fold, from 0 on.
     pub block: u64,
     /// The guess given for it. Block 0 has none.
-    pub guess: Option<i64>,
+    pub guess: Option<Carried>,
     /// The carried value at which it begins by the plain meaning.
-    pub real: i64,
+    pub real: Carried,
 }
 
 /// What is to be done after a report was filed.
@@ -76,7 +77,7 @@ pub enum Filed {
 #[derive(Clone, Copy, PartialEq, Eq, Debug)]
 pub enum Settled {
     /// The carried value behind the last block.
-    Carried(i64),
+    Carried(Carried),
     /// The trap of the last validated block.
     Trapped(Trap),
 }

@@ -8,7 +8,7 @@ use crate::chain::Chain;
 use crate::place::Place;
 use crate::task::{Filed, Guess, Settled, Task, Validated};
 use spf_ast::outcome::{Trap, TrapKind};
-use spf_exec::block_run::Stop;
+use spf_layout::stop::Stop;
 use std::alloc::{AllocError, Global};
 use std::test::Fail;
 

@@ -1,44 +1,23 @@
 -- How good the guesses of a run are: a function of its plain meaning and of its predictors, in which no attempt occurs.
-use Rattle.std.specs.Prelude.{ℕ, suc, ◌+◌, Bool, true, false, not, if◌then◌else◌, List, [], ◌∷◌, length, ℤ, pos, ◌+ℤ◌}
-use Rattle.std.specs.Ordering.{int_eq}
-use Rattle.spf_ast.specs.declared.syntax.Part.TheVariants.{Predictor}
-use Rattle.spf_ast.specs.Interaction.{Ending, Value, Trapped}
+use Rattle.std.specs.Prelude.{ℕ, suc, ◌+◌, Bool, true, false, not, if◌then◌else◌, List, [], ◌∷◌, ◌++◌, length, pos, ◌+ℤ◌}
+use Rattle.spf_ast.specs.Carried.{Carried, same_carried}
 use Rattle.spf_ast.specs.Syntax.{Program}
-use Rattle.spf_ast.specs.Meaning.{Environment}
-use Rattle.spf_ast.specs.Plain.{plain_answer}
-use Rattle.spf_ast.specs.Program.{environment_of}
-use Rattle.spf_ast.specs.Construct.{Construct, constructs_in, block_asks, Reached, reals}
+use Rattle.spf_ast.specs.Construct.{Construct, constructs_in, Reached, reals}
+use Rattle.spf_guess.specs.Guess.{Guess, Hosts, no_hosts, Telling, guess_for, tells}
 use Rattle.spf_guess.specs.declared.stats.Stats.{Stats}
-
--- ---- guesses
-
--- a guess for the value at which a block begins, and whether its predictor trapped
-pub record Guess : Type 0 where
-  pub value : ℤ
-  pub blind : Bool
-
--- what a predictor came to: its value, or, where it trapped, 0 and blind
-abbrev pub guess_of : Ending ℤ → Guess
-guess_of (Value value state) = record { value = value; blind = false }
-guess_of (Trapped trap output) = record { value = pos 0; blind = true }
-
--- the guess for a block of a construct that was reached, by its place: the predictor is performed at the construct's entry
-abbrev pub guess_at : Environment → Construct → Reached → ℕ → Guess
-guess_at g construct r place =
-    guess_of (plain_answer (block_asks g construct Predictor r.slots (r.header.low +ℤ pos place) (pos 0)) r.memory)
 
 -- a block with a guess, and the value at which it really begins
 pub record Guessed : Type 0 where
   pub guess : Guess
-  pub real : ℤ
+  pub real : Carried
 
--- the blocks from a place on, with their guesses
-abbrev pub guessed_from : (ℕ → Guess) → ℕ → List ℤ → List Guessed
-guessed_from guess place [] = []
-guessed_from guess place (real ∷ others) = record { guess = guess place; real = real } ∷ guessed_from guess (suc place) others
+-- the blocks from an index on, with their guesses
+abbrev pub guessed_from : (ℕ → Guess) → ℕ → List Carried → List Guessed
+guessed_from guess n [] = []
+guessed_from guess n (real ∷ others) = record { guess = guess n; real = real } ∷ guessed_from guess (suc n) others
 
 -- the blocks that begin at these values; the first of them has no guess
-abbrev pub guessed : (ℕ → Guess) → List ℤ → List Guessed
+abbrev pub guessed : (ℕ → Guess) → List Carried → List Guessed
 guessed guess [] = []
 guessed guess (start ∷ others) = guessed_from guess 1 others
 
@@ -51,7 +30,7 @@ how_many test (x ∷ xs) = (if test x then 1 else 0) + how_many test xs
 
 -- a block was guessed right
 abbrev pub is_hit : Guessed → Bool
-is_hit block = int_eq block.guess.value block.real
+is_hit block = same_carried block.guess.value block.real
 
 -- the statistics of no blocks
 abbrev pub none : Stats
@@ -67,7 +46,7 @@ plus one other = record {
 }
 
 -- the statistics of blocks that begin at these values, with these guesses
-abbrev pub statistics_with : (ℕ → Guess) → List ℤ → Stats
+abbrev pub statistics_with : (ℕ → Guess) → List Carried → Stats
 statistics_with guess values = record {
   blocks = length values;
   hits = how_many is_hit (guessed guess values);
@@ -75,12 +54,28 @@ statistics_with guess values = record {
   blind = how_many (λ block. block.guess.blind) (guessed guess values);
 }
 
--- the statistics of the constructs that were reached
-abbrev pub statistics_of : Environment → List Construct → List Reached → Stats
-statistics_of g (construct ∷ constructs) (r ∷ others) =
-    plus (statistics_with (guess_at g construct r) r.reals.values) (statistics_of g constructs others)
-statistics_of g _ _ = none
+-- ---- whole runs
 
--- the statistics of a program's run on an input
+-- the guess for a block of a construct that was reached, by the block's index
+abbrev pub guess_at : Hosts → List Telling → Program → List ℕ → Construct → Reached → ℕ → Guess
+guess_at hosts telling p input construct r n = guess_for hosts telling p input construct r.slots r.memory (r.header.low +ℤ pos n)
+
+-- the statistics of a run, and what its hosts were told
+pub record Tally : Type 0 where
+  pub stats : Stats
+  pub telling : List Telling
+
+-- one construct that was reached, and those after it: its hosts were told so much before it, and are told its blocks' values after it
+abbrev pub tally_from : Hosts → Program → List ℕ → List Construct → List Reached → List Telling → Tally
+tally_from hosts p input (construct ∷ constructs) (r ∷ others) telling =
+    let later = tally_from hosts p input constructs others (telling ++ tells construct r.header r.reals.values) in
+    record { stats = plus (statistics_with (guess_at hosts telling p input construct r) r.reals.values) later.stats; telling = later.telling }
+tally_from hosts p input _ _ telling = record { stats = none; telling = telling }
+
+-- the tally of a program's run on an input, whose hosts were told nothing before it
+abbrev pub tally : Hosts → Program → List ℕ → Tally
+tally hosts p input = tally_from hosts p input (constructs_in p.main) (reals p input) []
+
+-- the statistics of a run to which no host is handed in
 abbrev pub statistics : Program → List ℕ → Stats
-statistics p input = statistics_of (environment_of p input) (constructs_in p.main) (reals p input)
+statistics p input = (tally no_hosts p input).stats
