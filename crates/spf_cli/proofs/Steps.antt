@@ -15,7 +15,7 @@ use Rattle.spf_check.specs.Explaining.{Explains}
 use Rattle.spf_check.proofs.Unique.{one-first-refusal}
 use Rattle.spf_check.proofs.Explained.{one-explanation}
 use Rattle.spf_ast.specs.Program.{cell_count_of, max_cells, outcome, Outcome, Done, Stopped}
-use Rattle.spf_exec.specs.RunErrors.{counted}
+use Rattle.spf_layout.specs.RunErrors.{counted}
 use Rattle.spf_edge.specs.Entries.{Entry, lookup, HasContent, IsMissing, IsLongerThan}
 use Rattle.spf_edge.specs.Faults.{Rose}
 use Rattle.spf_edge.specs.declared.sink.PutError.{PutError}

@@ -11,9 +11,9 @@ use Rattle.spf_check.specs.Accepting.{IsFirstRefusal}
 use Rattle.spf_edge.specs.Entries.{Entry, IsMissing, IsLongerThan}
 use Rattle.spf_edge.specs.declared.sink.PutError.{PutError}
 use Rattle.spf_edge.specs.declared.sink.PutError.TheVariants.{Failed, OutOfMemory}
-use Rattle.spf_exec.specs.declared.layout.RunError.{RunError}
-use Rattle.spf_exec.specs.declared.layout.RunError.TheVariants.{TooManyCells}
-use Rattle.spf_exec.specs.declared.layout.RunError.TheVariants as run_error
+use Rattle.spf_layout.specs.declared.layout.RunError.{RunError}
+use Rattle.spf_layout.specs.declared.layout.RunError.TheVariants.{TooManyCells}
+use Rattle.spf_layout.specs.declared.layout.RunError.TheVariants as run_error
 use Rattle.spf_cli.specs.Answer as said
 use Rattle.spf_cli.specs.Answer.{text_refused, rule_refused, file_failed, file_too_long, too_many_cells}
 use Rattle.spf_cli.specs.Reading.{Refusal, Refuses, IsVerdict}

@@ -7,7 +7,7 @@ use crate::reading::read_program;
 use spf_ast::construct::find_construct;
 use spf_check::check::check;
 use spf_check::checked::Checked;
-use spf_exec::arrays::layout;
+use spf_layout::arrays::layout;
 use spf_region::span::{Plan, Span};
 use std::alloc::Global;
 use std::test::Fail;

@@ -1,35 +1,36 @@
 -- A run in pieces goes on as the plain run does where a construct is settled as its blocks come out.
 use Rattle.std.proofs.Common.{◌≡◌, ℕ, zero, suc, ◌+◌, true, false, List, [], ◌∷◌, length, ℤ, pos, ◌+ℤ◌, refl, sym, ap, ◌∙◌, subst, add-one}
-use Rattle.std.specs.Prelude.{Some, Result, Ok, Err, nat_lt, slice_set}
-use Rattle.std.specs.Int.{int_gap}
+use Rattle.std.specs.Prelude.{Some, None, Result, Ok, Err, slice_set}
 use Rattle.spf_ast.specs.declared.outcome.Trap.{Trap}
 use Rattle.spf_ast.specs.declared.outcome.TrapKind.TheVariants as trap
 use Rattle.spf_ast.specs.declared.syntax.Part.TheVariants.{Predictor}
-use Rattle.spf_ast.specs.Interaction.{State, Ending, Value, Trapped, Answer}
+use Rattle.spf_ast.specs.Interaction.{Interaction, State, Ending, Value, Trapped, result_of, Performed, Ended, Stopped as stopped_at, Misfit, perform, no_cell}
 use Rattle.spf_ast.specs.Syntax.{Statement, Fold, Pair, Program, Block, FoldHead, PairHead, By, Host, end, on_line}
 use Rattle.spf_ast.specs.Syntax as syntax
 use Rattle.spf_ast.specs.Meaning.{Environment, max_blocks, with_slots, statement_means, block_means}
-use Rattle.spf_ast.specs.Plain.{plain_answer, plain_memory}
+use Rattle.spf_ast.specs.Plain.{plain_answer, plain_memory, unshared_answer}
 use Rattle.spf_ast.specs.Program.{environment_of, extents_of, outcome_from, Stopped}
-use Rattle.spf_ast.specs.Construct.{Moment, moment_after, plainly, Construct, construct_of, constructs_in, Header, header_means, guess_means, part_means, block_asks, Reached, reached, reached_here, unless_trapped, reached_from, blocks_from}
-use Rattle.spf_ast.specs.Pieces.{rest_from, construct_first, carried_of}
+use Rattle.spf_ast.specs.Construct.{Moment, moment_after, plainly, Construct, construct_of, constructs_in, Header, header_means, carried_of, Reached, reached, reached_here, unless_trapped, reached_from, blocks_from}
+use Rattle.spf_ast.specs.Pieces.{rest_from, construct_first}
 use Rattle.spf_ast.specs.Silence.{FunctionsAreSilent}
-use Rattle.spf_ast.proofs.Leaving.{calls-leave}
+use Rattle.spf_ast.specs.Carried.{Carried, no_value}
+use Rattle.spf_ast.specs.Event.{Event}
+use Rattle.spf_ast.specs.BlockRun.{part_asks, block_setup, predicts}
+use Rattle.spf_ast.specs.Laws.{HasOneUnsharedAnswer, PartsHaveOneUnsharedAnswer}
 use Rattle.spf_ast.specs.Lawful.{Names, Scope, in_predictor, names_at, IsLawfulPredictor, IsLawfulStatement, IsLawfulBlock, scope_after}
-use Rattle.spf_exec.specs.Frame.{main_slots}
+use Rattle.spf_layout.specs.Frame.{main_slots}
 use Rattle.spf_exec.specs.Pieces.{Stand, EndsAt, TrapsAt, moment_of, ahead}
-use Rattle.spf_laws.specs.Agreement.{Relation, LookAlike, EndAlike}
+use Rattle.spf_laws.specs.Agreement.{Relation, LookAlike, EndAlike, GoAlike, PartsSeeVisibleSlots}
 use Rattle.spf_laws.specs.Keeping.{IsSelfContained}
-use Rattle.spf_laws.specs.Chained.{chained, IsSettledAs, IsItsBlocks}
-use Rattle.spf_laws.proofs.Slots.{cons_rest}
-use Rattle.spf_laws.proofs.Primitives.{Sees, sees-then, sees-if, sees-fewer, gives-sees, traps-sees, sets-sees, looking}
-use Rattle.spf_laws.proofs.Forms.{CallsSee, calls-see, operand-sees}
-use Rattle.spf_laws.proofs.Keeping.{calls-keep}
-use Rattle.spf_laws.proofs.Chains.{is-statement, construct-is-blocks, header-traps}
-use Rattle.spf_laws.proofs.Plainly.{Comes, answer-bind, answers-alike, comes-then, comes-trap}
+use Rattle.spf_laws.specs.Chained.{chained, IsSettledAs, IsItsBlocks, ConstructsAreTheirBlocks, HeadersTrap}
+use Rattle.spf_laws.proofs.Forms.{calls-see}
+use Rattle.spf_laws.proofs.Parts.{header-sees}
+use Rattle.spf_laws.proofs.Chains.{is-statement, header-traps}
+use Rattle.spf_laws.proofs.Plainly.{Comes, comes-then, comes-trap}
 use Rattle.spf_guess.specs.declared.stats.Stats.{Stats}
-use Rattle.spf_guess.specs.Statistics.{guess_of, guess_at, none, plus, statistics_of, statistics_with}
-use Rattle.spf_engine.specs.Standing.{IsAt, GoesOn, HasCome, CameOut, guesses_from, counts}
+use Rattle.spf_guess.specs.Guess.{guess_of}
+use Rattle.spf_guess.specs.Statistics.{none, plus, statistics_with}
+use Rattle.spf_engine.specs.Standing.{IsAt, GoesOn, HasCome, CameOut, guesses_from, statistics_of, counts}
 use Rattle.spf_engine.proofs.Places.{goes-to}
 use Rattle.spf_engine.proofs.Fronts.{declared-after}
 use Rattle.spf_engine.proofs.Standing.{Follows, follows, follows-trap, traps-here, no-statistics, plus-none, plus-plus, outcome-of}
@@ -63,50 +64,41 @@ rest-next place b line s rest e = ap (λ n. rest_from n b) (add-one place) ∙ g
 
 -- ---- headers and predictors
 
-header-sees : (g : Environment) → CallsSee g → (names : Names) (scope : Scope) (line : ℕ) (s : Statement) (c : Construct) → construct_of line s ≡ Some c → IsLawfulStatement names true scope s → Sees (LookAlike scope.visible) (LookAlike scope.visible) (header_means g c)
-header-sees g calls names scope line s c e l =
-    is-statement line s c
-    (λ t k. IsLawfulStatement names true scope t → Sees (LookAlike scope.visible) (LookAlike scope.visible) (header_means g k))
-    (λ head body l.
-    sees-then (operand-sees g calls names scope line head.start l.0)
-    (λ start. sees-then (operand-sees g calls names scope line head.low l.1)
-    (λ low. sees-then (operand-sees g calls names scope line head.high l.2)
-    (λ high. sees-if (nat_lt max_blocks (int_gap low high)) (traps-sees scope.visible (LookAlike scope.visible) (looking scope.visible) trap.Blocks line)
-    (gives-sees (record { low = low; blocks = int_gap low high; start = start }))))))
-    (λ head producer consumer l. gives-sees (record { low = pos 0; blocks = 2; start = pos 0 }))
-    e l
+-- from slots that look alike predictors come to the same
+alike-results : (After : Relation) (e d : Ending Carried) → EndAlike After e d → result_of e ≡ result_of d
+alike-results After (Value a s) (Value b t) h = ap Ok h.0
+alike-results After (Value a s) (Trapped t o) h = elim h [ ]
+alike-results After (Trapped t o) (Value a s) h = elim h [ ]
+alike-results After (Trapped t o) (Trapped u q) h = ap Err h.0
 
-guess-sees : (g : Environment) → CallsSee g → (names : Names) (scope : Scope) (line : ℕ) (p : syntax.Predictor) → IsLawfulPredictor names scope p → Sees (LookAlike scope.visible) (LookAlike scope.visible) (guess_means g line p)
-guess-sees g calls names scope line (By guess) l = operand-sees g calls names scope line guess l
-guess-sees g calls names scope line (Host number) l = gives-sees (pos 0)
+-- what one of two trees that are performed alike comes to with no shared cell, the other comes to as well
+same-result : (After : Relation) (t u : Interaction (Ending Carried)) (m : List ℤ) → HasOneUnsharedAnswer t m → HasOneUnsharedAnswer u m
+    → ((es : List Event) → GoAlike After (perform no_cell m None t es) (perform no_cell m None u es)) → result_of (unshared_answer t m) ≡ result_of (unshared_answer u m)
+same-result After t u m one other alike = go (perform no_cell m None u one.events) refl (subst (λ x. GoAlike After x (perform no_cell m None u one.events)) one.ends (alike one.events))
+  where
+    go : (r : Performed (Ending Carried)) → perform no_cell m None u one.events ≡ r → GoAlike After (Ended (unshared_answer t m) []) r → result_of (unshared_answer t m) ≡ result_of (unshared_answer u m)
+    go (Ended e rest) is h = alike-results After (unshared_answer t m) e h.0 ∙ ap result_of (other.only one.events e (is ∙ ap (Ended e) (sym h.1)))
+    go (stopped_at n rest) is h = elim h [ ]
+    go Misfit is h = elim h [ ]
 
-predictor-sees : (g : Environment) → CallsSee g → (names : Names) (scope : Scope) (line : ℕ) (s : Statement) (c : Construct) → construct_of line s ≡ Some c → IsLawfulStatement names true scope s → (b v : ℤ) → Sees (LookAlike scope.visible) (LookAlike scope.visible) (part_means g c Predictor b v)
-predictor-sees g calls names scope line s c e l b v =
-    is-statement line s c
-    (λ t k. IsLawfulStatement names true scope t → Sees (LookAlike scope.visible) (LookAlike scope.visible) (part_means g k Predictor b v))
-    (λ head body l. sees-then (sets-sees head.block b) (λ u. sees-fewer (cons_rest head.block scope.visible) (guess-sees g calls names (in_predictor scope head.block) line head.predict l.5)))
-    (λ head producer consumer l. guess-sees g calls names scope line head.predict l.3)
-    e l
+-- so predictors make the same guesses
+same-guesses : PartsSeeVisibleSlots → PartsHaveOneUnsharedAnswer → (p : Program) (input : List ℕ) (scope : Scope) (line : ℕ) (s : Statement) (c : Construct) → construct_of line s ≡ Some c → IsLawfulStatement (names_at p (length p.functions) p.slots) true scope s
+    → (one other : State) → LookAlike scope.visible one other → (m : List ℤ) (k : ℤ) → predicts p input c one.slots m k ≡ predicts p input c other.slots m k
+same-guesses see unshared p input scope line s c is l one other h m k =
+    same-result (LookAlike scope.visible)
+    (part_asks p c Predictor (block_setup input one.slots k no_value)) (part_asks p c Predictor (block_setup input other.slots k no_value)) m
+    (unshared p c Predictor (block_setup input one.slots k no_value) m) (unshared p c Predictor (block_setup input other.slots k no_value) m)
+    (λ es. see (names_at p (length p.functions) p.slots) scope line s c is l input (extents_of p (length input)) p.functions (length p.functions) Predictor k no_value
+    (record { slots = one.slots; output = [] }) (record { slots = other.slots; output = [] })
+    (record { agree = record { slots = h.agree.slots; output = refl }; slot_count = h.slot_count }) no_cell m None es)
 
--- endings that are alike make the same guess
-same-guess : (After : Relation) (e d : Ending ℤ) (xs ys : List ℤ) → EndAlike After e d → guess_of (with_slots xs e) ≡ guess_of (with_slots ys d)
-same-guess After (Value a s) (Value b t) xs ys h = ap (λ v. record { value = v; blind = false }) h.0
-same-guess After (Value a s) (Trapped t o) xs ys h = elim h [ ]
-same-guess After (Trapped t o) (Value a s) xs ys h = elim h [ ]
-same-guess After (Trapped t o) (Trapped u q) xs ys h = refl
+-- ---- the laws that are used
 
--- from slots that look alike predictors make the same guesses
-same-guesses : (g : Environment) (scope : Scope) (c : Construct) (k : ℤ) → Sees (LookAlike scope.visible) (LookAlike scope.visible) (part_means g c Predictor k (pos 0))
-    → (one other : State) → LookAlike scope.visible one other → (m : List ℤ)
-    → guess_of (plain_answer (block_asks g c Predictor one.slots k (pos 0)) m) ≡ guess_of (plain_answer (block_asks g c Predictor other.slots k (pos 0)) m)
-same-guesses g scope c k sees one other h m =
-    let form = part_means g c Predictor k (pos 0) in
-    let from : State = record { slots = one.slots; output = [] } in
-    let to : State = record { slots = other.slots; output = [] } in
-    let alike : LookAlike scope.visible from to = record { agree = record { slots = h.agree.slots; output = refl }; slot_count = h.slot_count } in
-    ap guess_of (answer-bind (form from) (λ e. Answer (with_slots one.slots e)) m)
-    ∙ same-guess (LookAlike scope.visible) (plain_answer (form from) m) (plain_answer (form to) m) one.slots other.slots (answers-alike (LookAlike scope.visible) (form from) (form to) (sees.alike from to alike) m)
-    ∙ sym (ap guess_of (answer-bind (form to) (λ e. Answer (with_slots other.slots e)) m))
+pub record Laws : Type 0 where
+  pub see : PartsSeeVisibleSlots
+  pub unshared : PartsHaveOneUnsharedAnswer
+  pub blocks : ConstructsAreTheirBlocks
+  pub headers : HeadersTrap
 
 -- ---- entering a construct
 
@@ -176,14 +168,13 @@ counts-first line s rest c e =
     is-statement line s c (λ t k. constructs_in (on_line line t rest) ≡ k ∷ constructs_in rest) (λ head body. refl) (λ head producer consumer. refl) e
 
 -- what is known of a construct that was entered, by the law on block runs
-is-its-blocks : (p : Program) (input : List ℕ) (before after : Stand) (counted : Stats) (c : Construct) (h : Header) (e : Entered p input before after counted c h)
+is-its-blocks : Laws → (p : Program) (input : List ℕ) (before after : Stand) (counted : Stats) (c : Construct) (h : Header) (e : Entered p input before after counted c h)
     → FunctionsAreSilent p.functions → IsSelfContained e.goes.scope.visible c
     → IsItsBlocks (environment_of p input) e.goes.scope.visible e.stands.line e.stands.statement c e.goes.moment h e.header.state (moment_of p after).state
-is-its-blocks p input before after counted c h e silent own =
-    let extents = extents_of p (length input) in
-    construct-is-blocks (environment_of p input) (calls-see input extents p.functions (length p.functions)) (calls-keep input extents p.functions (length p.functions)) (calls-leave input extents p.functions silent (length p.functions))
-    (names_at p (length p.functions) p.slots) e.goes.scope e.goes.declared e.stands.line e.stands.statement c e.stands.construct
-    (first-lawful p input before counted e.goes c e.stands).0 own e.goes.moment h e.header.state (moment_of p after).state e.header.comes.answer e.header.alike
+is-its-blocks laws p input before after counted c h e silent own =
+    laws.blocks (names_at p (length p.functions) p.slots) e.goes.scope e.stands.line e.stands.statement c e.stands.construct
+    (first-lawful p input before counted e.goes c e.stands).0 e.goes.declared own input (extents_of p (length input)) p.functions silent (length p.functions)
+    e.goes.moment h e.header.state (moment_of p after).state e.header.comes.answer e.header.alike
 
 -- the construct as it was reached
 abbrev reached_as : Environment → Construct → Moment → Header → State → Reached
@@ -195,22 +186,20 @@ reached_as g c m h entered = record {
 }
 
 -- it counts what its blocks count that were run from the slots of the run
-counts-alike : (p : Program) (input : List ℕ) (before after : Stand) (counted : Stats) (c : Construct) (h : Header) (e : Entered p input before after counted c h)
+counts-alike : Laws → (p : Program) (input : List ℕ) (before after : Stand) (counted : Stats) (c : Construct) (h : Header) (e : Entered p input before after counted c h)
     → FunctionsAreSilent p.functions → IsSelfContained e.goes.scope.visible c → (r : Result ℤ Trap) (values memory : List ℤ) → CameOut p input c h after r values memory
-    → statistics_with (guess_at (environment_of p input) c (reached_as (environment_of p input) c e.goes.moment h e.header.state)) (reached_as (environment_of p input) c e.goes.moment h e.header.state).reals.values
+    → statistics_with (guesses_from p input c e.header.state.slots h.low (plain_memory (header_means (environment_of p input) c e.goes.moment.state) e.goes.moment.memory)) (reached_as (environment_of p input) c e.goes.moment h e.header.state).reals.values
     ≡ counts p input c h after values
-counts-alike p input before after counted c h e silent own r values memory out =
+counts-alike laws p input before after counted c h e silent own r values memory out =
     let g = environment_of p input in
-    let law = is-its-blocks p input before after counted c h e silent own in
+    let law = is-its-blocks laws p input before after counted c h e silent own in
     let x = plain_memory (header_means g c e.goes.moment.state) e.goes.moment.memory in
     let lawful = (first-lawful p input before counted e.goes c e.stands).0 in
-    let sees : (k : ℤ) → Sees (LookAlike e.goes.scope.visible) (LookAlike e.goes.scope.visible) (part_means g c Predictor k (pos 0))
-    = λ k. predictor-sees g (calls-see input (extents_of p (length input)) p.functions (length p.functions)) (names_at p (length p.functions) p.slots) e.goes.scope e.stands.line e.stands.statement c e.stands.construct lawful k (pos 0) in
-    let guess : (n : ℕ) → guess_at g c (reached_as g c e.goes.moment h e.header.state) n ≡ guesses_from g c (main_slots p after.frame) h.low after.cells n
-    = λ n. same-guesses g e.goes.scope c (h.low +ℤ pos n) (sees (h.low +ℤ pos n)) e.header.state (moment_of p after).state e.header.alike x
-    ∙ ap (λ y. guess_of (plain_answer (block_asks g c Predictor (main_slots p after.frame) (h.low +ℤ pos n) (pos 0)) y)) e.header.comes.memory in
+    let guess : (n : ℕ) → guesses_from p input c e.header.state.slots h.low x n ≡ guesses_from p input c (main_slots p after.frame) h.low after.cells n
+    = λ n. ap guess_of (same-guesses laws.see laws.unshared p input e.goes.scope e.stands.line e.stands.statement c e.stands.construct lawful e.header.state (moment_of p after).state e.header.alike x (h.low +ℤ pos n))
+    ∙ ap (λ y. guess_of (predicts p input c (main_slots p after.frame) y (h.low +ℤ pos n))) e.header.comes.memory in
     (λ i. statistics_with (λ n. guess n i) (reached_as g c e.goes.moment h e.header.state).reals.values)
-    ∙ ap (statistics_with (guesses_from g c (main_slots p after.frame) h.low after.cells))
+    ∙ ap (statistics_with (guesses_from p input c (main_slots p after.frame) h.low after.cells))
     (law.values ∙ ap (λ y. (chained g c (main_slots p after.frame) 0 h.blocks h.low h.start y).values) e.header.comes.memory ∙ out.values_are)
 
 -- the ending of a construct that has a value
@@ -228,15 +217,15 @@ settles-trap visible entry carried t (Value u s) h = elim h [ ]
 settles-trap visible entry carried t (Trapped u o) h = ap (λ w. Trapped w o) h.0 ∙ ap (Trapped t) h.1
 
 -- where its blocks gave a value, and the run goes on behind it with this value and their memory
-pub settles-so : (p : Program) (input : List ℕ) (before after last : Stand) (counted : Stats) (c : Construct) (h : Header) (e : Entered p input before after counted c h)
+pub settles-so : Laws → (p : Program) (input : List ℕ) (before after last : Stand) (counted : Stats) (c : Construct) (h : Header) (e : Entered p input before after counted c h)
     → FunctionsAreSilent p.functions → IsSelfContained e.goes.scope.visible c → (v : ℤ) (values : List ℤ) → CameOut p input c h after (Ok v) values last.cells
     → main_slots p last.frame ≡ slice_set (main_slots p after.frame) (carried_of c) v → last.output ≡ after.output → last.place ≡ before.place + 1
     → GoesOn p input last (plus counted (counts p input c h after values))
-settles-so p input before after last counted c h e silent own v values out slots output place =
+settles-so laws p input before after last counted c h e silent own v values out slots output place =
     let g = environment_of p input in
     let m = e.goes.moment in
     let b = e.stands in
-    let law = is-its-blocks p input before after counted c h e silent own in
+    let law = is-its-blocks laws p input before after counted c h e silent own in
     let x = plain_memory (header_means g c m.state) m.memory in
     let chain : List ℤ → Result ℤ Trap = λ y. (chained g c (main_slots p after.frame) 0 h.blocks h.low h.start y).result in
     let result : chain x ≡ Ok v = ap chain e.header.comes.memory ∙ out.result in
@@ -267,26 +256,26 @@ settles-so p input before after last counted c h e silent own v values out slots
           ∙ ap (λ all. outcome_from (plain_answer (block_means g all m.state) m.memory) (plain_memory (block_means g all m.state) m.memory)) (sym b.is)
           ∙ e.goes.outcome_is;
       statistics_are =
-          ap (λ rest. plus (plus counted (counts p input c h after values)) (statistics_of g (constructs_in rest) (reached_from g rest next))) behind
-          ∙ plus-plus counted (counts p input c h after values) (statistics_of g (constructs_in b.rest) (reached_from g b.rest next))
-          ∙ ap (λ one. plus counted (plus one (statistics_of g (constructs_in b.rest) (reached_from g b.rest next)))) (sym (counts-alike p input before after counted c h e silent own (Ok v) values last.cells out))
-          ∙ ap (λ d. plus counted (statistics_of g (c ∷ constructs_in b.rest) (reached_as g c m h e.header.state ∷ unless_trapped d (λ state. reached_from g b.rest (record { state = state; memory = last.cells }))))) (sym ended.is)
-          ∙ ap (λ y. plus counted (statistics_of g (c ∷ constructs_in b.rest) (reached_as g c m h e.header.state ∷ unless_trapped (plainly (statement_means g b.line b.statement) m) (λ state. reached_from g b.rest (record { state = state; memory = y }))))) (sym memory)
-          ∙ ap (λ l. plus counted (statistics_of g (c ∷ constructs_in b.rest) l)) (sym (reaches g b.line b.statement b.rest c m h e.header.state b.construct e.header.comes.answer))
-          ∙ ap (λ cs. plus counted (statistics_of g cs (reached_from g (on_line b.line b.statement b.rest) m))) (sym (counts-first b.line b.statement b.rest c b.construct))
-          ∙ ap (λ all. plus counted (statistics_of g (constructs_in all) (reached_from g all m))) (sym b.is)
+          ap (λ rest. plus (plus counted (counts p input c h after values)) (statistics_of p input (constructs_in rest) (reached_from g rest next))) behind
+          ∙ plus-plus counted (counts p input c h after values) (statistics_of p input (constructs_in b.rest) (reached_from g b.rest next))
+          ∙ ap (λ one. plus counted (plus one (statistics_of p input (constructs_in b.rest) (reached_from g b.rest next)))) (sym (counts-alike laws p input before after counted c h e silent own (Ok v) values last.cells out))
+          ∙ ap (λ d. plus counted (statistics_of p input (c ∷ constructs_in b.rest) (reached_as g c m h e.header.state ∷ unless_trapped d (λ state. reached_from g b.rest (record { state = state; memory = last.cells }))))) (sym ended.is)
+          ∙ ap (λ y. plus counted (statistics_of p input (c ∷ constructs_in b.rest) (reached_as g c m h e.header.state ∷ unless_trapped (plainly (statement_means g b.line b.statement) m) (λ state. reached_from g b.rest (record { state = state; memory = y }))))) (sym memory)
+          ∙ ap (λ l. plus counted (statistics_of p input (c ∷ constructs_in b.rest) l)) (sym (reaches g b.line b.statement b.rest c m h e.header.state b.construct e.header.comes.answer))
+          ∙ ap (λ cs. plus counted (statistics_of p input cs (reached_from g (on_line b.line b.statement b.rest) m))) (sym (counts-first b.line b.statement b.rest c b.construct))
+          ∙ ap (λ all. plus counted (statistics_of p input (constructs_in all) (reached_from g all m))) (sym b.is)
           ∙ e.goes.statistics_are;
     }
 
 -- where one of its blocks trapped
-pub settles-to-trap : (p : Program) (input : List ℕ) (before after : Stand) (counted : Stats) (c : Construct) (h : Header) (e : Entered p input before after counted c h)
+pub settles-to-trap : Laws → (p : Program) (input : List ℕ) (before after : Stand) (counted : Stats) (c : Construct) (h : Header) (e : Entered p input before after counted c h)
     → FunctionsAreSilent p.functions → IsSelfContained e.goes.scope.visible c → (t : Trap) (values memory : List ℤ) → CameOut p input c h after (Err t) values memory
     → HasCome p input (Stopped t after.output) (plus counted (counts p input c h after values))
-settles-to-trap p input before after counted c h e silent own t values memory out =
+settles-to-trap laws p input before after counted c h e silent own t values memory out =
     let g = environment_of p input in
     let m = e.goes.moment in
     let b = e.stands in
-    let law = is-its-blocks p input before after counted c h e silent own in
+    let law = is-its-blocks laws p input before after counted c h e silent own in
     let x = plain_memory (header_means g c m.state) m.memory in
     let chain : List ℤ → Result ℤ Trap = λ y. (chained g c (main_slots p after.frame) 0 h.blocks h.low h.start y).result in
     let result : chain x ≡ Err t = ap chain e.header.comes.memory ∙ out.result in
@@ -300,30 +289,30 @@ settles-to-trap p input before after counted c h e silent own t values memory ou
           ∙ e.goes.outcome_is;
       statistics_are =
           ap (plus counted) (sym (plus-none (counts p input c h after values)))
-          ∙ ap (λ one. plus counted (plus one none)) (sym (counts-alike p input before after counted c h e silent own (Err t) values memory out))
-          ∙ ap (λ last. plus counted (plus (statistics_with (guess_at g c (reached_as g c m h e.header.state)) (reached_as g c m h e.header.state).reals.values) last)) (sym (no-statistics g (constructs_in b.rest)))
-          ∙ ap (λ d. plus counted (statistics_of g (c ∷ constructs_in b.rest) (reached_as g c m h e.header.state ∷ unless_trapped d (λ state. reached_from g b.rest (record { state = state; memory = y }))))) (sym ended)
-          ∙ ap (λ l. plus counted (statistics_of g (c ∷ constructs_in b.rest) l)) (sym (reaches g b.line b.statement b.rest c m h e.header.state b.construct e.header.comes.answer))
-          ∙ ap (λ cs. plus counted (statistics_of g cs (reached_from g (on_line b.line b.statement b.rest) m))) (sym (counts-first b.line b.statement b.rest c b.construct))
-          ∙ ap (λ all. plus counted (statistics_of g (constructs_in all) (reached_from g all m))) (sym b.is)
+          ∙ ap (λ one. plus counted (plus one none)) (sym (counts-alike laws p input before after counted c h e silent own (Err t) values memory out))
+          ∙ ap (λ last. plus counted (plus (statistics_with (guesses_from p input c e.header.state.slots h.low (plain_memory (header_means g c m.state) m.memory)) (reached_as g c m h e.header.state).reals.values) last)) (sym (no-statistics p input (constructs_in b.rest)))
+          ∙ ap (λ d. plus counted (statistics_of p input (c ∷ constructs_in b.rest) (reached_as g c m h e.header.state ∷ unless_trapped d (λ state. reached_from g b.rest (record { state = state; memory = y }))))) (sym ended)
+          ∙ ap (λ l. plus counted (statistics_of p input (c ∷ constructs_in b.rest) l)) (sym (reaches g b.line b.statement b.rest c m h e.header.state b.construct e.header.comes.answer))
+          ∙ ap (λ cs. plus counted (statistics_of p input cs (reached_from g (on_line b.line b.statement b.rest) m))) (sym (counts-first b.line b.statement b.rest c b.construct))
+          ∙ ap (λ all. plus counted (statistics_of p input (constructs_in all) (reached_from g all m))) (sym b.is)
           ∙ e.goes.statistics_are;
     }
 
 -- ---- constructs of a run
 
-pub construct-settles : (p : Program) (input : List ℕ) (before after last : Stand) (counted : Stats) (c : Construct) (h : Header) (v : ℤ) (values : List ℤ)
+pub construct-settles : Laws → (p : Program) (input : List ℕ) (before after last : Stand) (counted : Stats) (c : Construct) (h : Header) (v : ℤ) (values : List ℤ)
     → (goes : GoesOn p input before counted) → construct_first (ahead p before) ≡ Some c → EndsAt p (header_means (environment_of p input) c) before after h
     → FunctionsAreSilent p.functions → IsSelfContained goes.scope.visible c → CameOut p input c h after (Ok v) values last.cells
     → main_slots p last.frame ≡ slice_set (main_slots p after.frame) (carried_of c) v → last.output ≡ after.output → last.place ≡ before.place + 1
     → GoesOn p input last (plus counted (counts p input c h after values))
 unfolding enters
-construct-settles p input before after last counted c h v values goes first went silent own out slots output place =
-    settles-so p input before after last counted c h (enters p input before after counted c h goes first went) silent own v values out slots output place
+construct-settles laws p input before after last counted c h v values goes first went silent own out slots output place =
+    settles-so laws p input before after last counted c h (enters p input before after counted c h goes first went) silent own v values out slots output place
 
-pub construct-ends-run : (p : Program) (input : List ℕ) (before after : Stand) (counted : Stats) (c : Construct) (h : Header) (t : Trap) (values memory : List ℤ)
+pub construct-ends-run : Laws → (p : Program) (input : List ℕ) (before after : Stand) (counted : Stats) (c : Construct) (h : Header) (t : Trap) (values memory : List ℤ)
     → (goes : GoesOn p input before counted) → construct_first (ahead p before) ≡ Some c → EndsAt p (header_means (environment_of p input) c) before after h
     → FunctionsAreSilent p.functions → IsSelfContained goes.scope.visible c → CameOut p input c h after (Err t) values memory
     → HasCome p input (Stopped t after.output) (plus counted (counts p input c h after values))
 unfolding enters
-construct-ends-run p input before after counted c h t values memory goes first went silent own out =
-    settles-to-trap p input before after counted c h (enters p input before after counted c h goes first went) silent own t values memory out
+construct-ends-run laws p input before after counted c h t values memory goes first went silent own out =
+    settles-to-trap laws p input before after counted c h (enters p input before after counted c h goes first went) silent own t values memory out

@@ -3,7 +3,8 @@ use Rattle.std.proofs.Common.{◌≡◌, ℕ, zero, suc, ◌+◌, ◌<◌, ◌�
 use Rattle.std.specs.Prelude.{if◌then◌else◌}
 use Rattle.spf_chain.specs.declared.task.Guess as code_guess
 use Rattle.spf_chain.specs.declared.task.Validated.{Validated}
-use Rattle.spf_guess.specs.Statistics.{Guess, guessed_from}
+use Rattle.spf_guess.specs.Guess.{Guess}
+use Rattle.spf_guess.specs.Statistics.{guessed_from}
 use Rattle.spf_engine.specs.Blocks.{seen_guess, real_values, guesses_after, paired}
 
 -- one guess more

@@ -1,30 +1,16 @@
 -- How far a run has come, and how much it has counted.
 use Rattle.std.proofs.Common.{◌≡◌, ℕ, suc, ◌+◌, ◌-◌, ◌*◌, ◌<◌, ◌≤◌, Bool, true, false, length, ℤ, refl, sym, ap, ◌∙◌, subst, arith}
-use Rattle.std.specs.Prelude.{Option, Some, None}
+use Rattle.std.specs.Prelude.{Some}
 use Rattle.spf_ast.specs.Syntax.{Fold, Pair, Block, end, on_line, Program}
 use Rattle.spf_ast.specs.Construct.{Construct, is_construct, constructs_in}
 use Rattle.spf_ast.specs.Pieces.{rest_from, from_construct, construct_first, statement_count}
-use Rattle.spf_ast.specs.Size.{by_size, block_measure, function_sizes}
-use Rattle.spf_ast.specs.Lawful.{IsLawful}
-use Rattle.spf_exec.specs.BlockRuns.{IsLayoutOf}
-use Rattle.spf_exec.specs.Pieces.{Stand, IsRunOf, IsSettled, ahead}
+use Rattle.spf_exec.specs.Pieces.{Stand, ahead}
 use Rattle.spf_guess.specs.declared.stats.Stats.{Stats}
 use Rattle.spf_guess.specs.Statistics.{none, plus}
 use Rattle.spf_engine.specs.Blocks.{AreAtMost}
 use Rattle.spf_engine.specs.Runs.{AreFew}
 use Rattle.spf_engine.proofs.Fronts.{front-constructs}
 use Rattle.spf_engine.proofs.Constructs.{stands-before, rest-next, counts-first}
-
--- ---- how many constructs there are
-
-constructs-measured : (f : ℕ → ℕ) (b : Block) → length (constructs_in b) ≤ block_measure (by_size f) b
-constructs-measured f end = omega arith
-constructs-measured f (on_line line (Fold head body) rest) = let h = constructs-measured f rest in omega (arith, h)
-constructs-measured f (on_line line (Pair head producer consumer) rest) = let h = constructs-measured f rest in omega (arith, h)
-constructs-measured f (on_line line s rest) = let h = constructs-measured f rest in omega (arith, h)
-
-pub few-constructs : (p : Program) → IsLawful p → length (constructs_in p.main) ≤ 65536
-few-constructs p l = let most = constructs-measured (function_sizes p) p.main in let size = l.limits.size in omega (arith, most, size)
 
 -- ---- how far a run has come
 
@@ -44,20 +30,16 @@ pub record WentPast (p : Program) (s last : Stand) : Type 0 where
   pub statements : statement_count (ahead p last) < statement_count (ahead p s)
   pub constructs : length (constructs_in (ahead p s)) ≡ suc (length (constructs_in (ahead p last)))
 
-pub goes-past : (p : Program) (s last : Stand) → (construct_first (ahead p s) ≡ None → ⊥) → last.place ≡ s.place + 1 → WentPast p s last
-goes-past p s last there place = go (construct_first (ahead p s)) refl
-  where
-    go : (o : Option Construct) → construct_first (ahead p s) ≡ o → WentPast p s last
-    go None e = absurd (there e)
-    go (Some c) e =
-        let b = stands-before (ahead p s) c e in
-        let rest : ahead p last ≡ b.rest = ap (λ n. rest_from n p.main) place ∙ rest-next s.place p.main b.line b.statement b.rest b.is in
-        let left = ap statement_count rest in
-        let all = ap statement_count b.is in
-        record {
-          statements = omega (arith, left, all);
-          constructs = ap (λ (x : Block). length (constructs_in x)) b.is ∙ ap length (counts-first b.line b.statement b.rest c b.construct) ∙ ap (λ (x : Block). suc (length (constructs_in x))) (sym rest);
-        }
+pub goes-past : (p : Program) (s last : Stand) → (c : Construct) → construct_first (ahead p s) ≡ Some c → last.place ≡ s.place + 1 → WentPast p s last
+goes-past p s last c e place =
+    let b = stands-before (ahead p s) c e in
+    let rest : ahead p last ≡ b.rest = ap (λ n. rest_from n p.main) place ∙ rest-next s.place p.main b.line b.statement b.rest b.is in
+    let left = ap statement_count rest in
+    let all = ap statement_count b.is in
+    record {
+      statements = omega (arith, left, all);
+      constructs = ap (λ (x : Block). length (constructs_in x)) b.is ∙ ap length (counts-first b.line b.statement b.rest c b.construct) ∙ ap (λ (x : Block). suc (length (constructs_in x))) (sym rest);
+    }
 
 -- ---- how much was counted
 
@@ -69,7 +51,7 @@ few-advanced p before after counted e f =
     subst (λ n. AreAtMost counted (4096 * (length (constructs_in p.main) - n))) (sym (ap (λ (x : Block). length (constructs_in x)) e ∙ ap length (front-constructs (ahead p before)))) f
 
 -- within a step
-pub few-within : (p : Program) (s : Stand) (counted more : Stats) (number : ℕ) → length (constructs_in p.main) ≤ 65536 → AreFew p s counted → AreAtMost more 4096 → AreAtMost (plus counted more) 268439552
+pub few-within : (p : Program) (s : Stand) (counted more : Stats) (number : ℕ) → length (constructs_in p.main) < 2 ^ 32 → AreFew p s counted → AreAtMost more 4096 → AreAtMost (plus counted more) (2 ^ 45)
 few-within p s counted more number total f m =
     let b = f.blocks in let h = f.hits in let w = f.misses in let n = f.blind in
     let mb = m.blocks in let mh = m.hits in let mw = m.misses in let mn = m.blind in
@@ -91,13 +73,3 @@ few-past p s last counted more number count past f m =
       misses = omega (arith, count, one, w, mw);
       blind = omega (arith, count, one, n, mn);
     }
-
--- ---- a run that was settled
-
-pub run-settled : (p : Program) (len : ℕ) (s last : Stand) (o : Option Construct) (v : ℤ) → IsRunOf p len s → IsSettled p o s last v → length last.frame ≡ length s.frame → last.place ≤ statement_count p.main → IsRunOf p len last
-run-settled p len s last o v r settled size within = record {
-  layout = subst (IsLayoutOf p len) (sym settled.layout) r.layout;
-  frame = size ∙ r.frame;
-  cells = ap length settled.cells ∙ r.cells;
-  place = within;
-}

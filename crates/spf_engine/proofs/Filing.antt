@@ -4,7 +4,7 @@ use Rattle.std.specs.Prelude.{Option, Some, None, slice_get, slice_set}
 use Rattle.std.proofs.Math.Decide.{dec_le}
 use native.Mathlib.Decide.{ℕ_discrete}
 use Rattle.std.proofs.lemmas.List.{length-set, length-append}
-use Rattle.spf_exec.specs.declared.block_run.Stop.{Stop}
+use Rattle.spf_layout.specs.declared.stop.Stop.{Stop}
 use Rattle.spf_chain.specs.declared.place.Place.{Place}
 use Rattle.spf_chain.specs.declared.place.Place.TheVariants.{Out, Home}
 use Rattle.spf_chain.specs.declared.task.Filed.{Filed}

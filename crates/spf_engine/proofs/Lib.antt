@@ -1,3 +1,4 @@
+pub mod Tallies
 pub mod Fronts
 pub mod Places
 pub mod Standing

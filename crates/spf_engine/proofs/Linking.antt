@@ -8,13 +8,14 @@ use Rattle.spf_ast.specs.Syntax.{Program}
 use Rattle.spf_ast.specs.Meaning.{Environment}
 use Rattle.spf_ast.specs.Plain.{plain_answer, plain_memory}
 use Rattle.spf_ast.specs.Program.{environment_of}
-use Rattle.spf_ast.specs.Construct.{Construct, part_of, block_asks}
-use Rattle.spf_exec.specs.BlockRuns.{top_construct, run_asks}
+use Rattle.spf_ast.specs.BlockRun.{part_asks, block_setup}
+use Rattle.spf_ast.specs.Construct.{Construct, part_of}
 use Rattle.spf_chain.specs.declared.task.Settled.{Settled}
 use Rattle.spf_chain.specs.declared.task.Validated.{Validated}
 use Rattle.spf_chain.specs.Validation.{Answers, result_of, results_of, validated_then, validated_from, settled_then, settled_from, all_validated, all_settled}
-use Rattle.spf_laws.specs.Chained.{Chained, chained, chained_on}
-use Rattle.spf_guess.specs.Statistics.{Guess, statistics_with}
+use Rattle.spf_laws.specs.Chained.{Chained, block_asks, chained, chained_on}
+use Rattle.spf_guess.specs.Guess.{Guess}
+use Rattle.spf_guess.specs.Statistics.{statistics_with}
 use Rattle.spf_engine.specs.Blocks.{stop_of, answers, real_values, settled_result, guesses_after, paired, counts_of}
 use Rattle.spf_engine.proofs.PlainBlocks.{no-cells}
 use Rattle.spf_engine.proofs.Counting.{paired-is, paired-nothing}
@@ -38,17 +39,17 @@ one-more n guess v (Value w s) mem none history settled chain later =
 one-more n guess v (Trapped t o) mem none history settled chain later = record { values = refl; result = refl; memory = none }
 
 linked : (g : Environment) (c : Construct) (slots : List ℤ) (low : ℤ) (f : Answers)
-    → ((n : ℕ) (w : ℤ) → f n w ≡ stop_of (plain_answer (block_asks g c (part_of c n) slots (low +ℤ pos n) w) []))
+    → ((n : ℕ) (w : ℤ) → f n w ≡ stop_of (plain_answer (block_asks g c slots n (low +ℤ pos n) w) []))
     → (gs : List (Option ℤ)) (n : ℕ) (b v : ℤ) → b ≡ low +ℤ pos n
     → Linked (validated_from (results_of f) n v gs) (settled_from (results_of f) n v gs) (chained g c slots n (length gs) b v [])
 linked g c slots low f is [] n b v at = record { values = refl; result = refl; memory = refl }
 linked g c slots low f is (guess ∷ gs) n b v at =
     let next : b +ℤ pos 1 ≡ low +ℤ pos (n + 1) = ap (λ x. x +ℤ pos 1) at ∙ +ℤ_assoc low (pos n) (pos 1) ∙ ap (λ x. low +ℤ x) (pos-+ℤ-pos n 1) in
-    let more = one-more n guess v (plain_answer (block_asks g c (part_of c n) slots b v) []) (plain_memory (block_asks g c (part_of c n) slots b v) []) (no-cells (block_asks g c (part_of c n) slots b v))
+    let more = one-more n guess v (plain_answer (block_asks g c slots n b v) []) (plain_memory (block_asks g c slots n b v) []) (no-cells (block_asks g c slots n b v))
     (λ w. validated_from (results_of f) (n + 1) w gs) (λ w. settled_from (results_of f) (n + 1) w gs)
     (λ w m. chained g c slots (suc n) (length gs) (b +ℤ pos 1) w m)
     (λ w. subst (λ k. Linked (validated_from (results_of f) (n + 1) w gs) (settled_from (results_of f) (n + 1) w gs) (chained g c slots k (length gs) (b +ℤ pos 1) w [])) (add-one n) (linked g c slots low f is gs (n + 1) (b +ℤ pos 1) w next)) in
-    let answer : f n v ≡ stop_of (plain_answer (block_asks g c (part_of c n) slots b v) []) = is n v ∙ ap (λ x. stop_of (plain_answer (block_asks g c (part_of c n) slots x v) [])) (sym at) in
+    let answer : f n v ≡ stop_of (plain_answer (block_asks g c slots n b v) []) = is n v ∙ ap (λ x. stop_of (plain_answer (block_asks g c slots n x v) [])) (sym at) in
     rw answer more
 
 -- the counts of blocks are their statistics
@@ -58,17 +59,15 @@ counts-are guess count (v ∷ others) h = ap (counts_of (length (v ∷ others)))
 
 -- ---- jobs
 
--- what is known of a construct by its number
-pub record IsJobOf (p : Program) (input : List ℕ) (number : ℕ) (c : Construct) : Type 0 where
-  pub there : top_construct p number ≡ Some c
-  pub part : (place : ℕ) → part_of c place ≡ Body
+-- a construct each of whose blocks runs its body
+pub record HasBodies (c : Construct) : Type 0 where
+  pub part : (n : ℕ) → part_of c n ≡ Body
 
 -- the answers of its blocks are those of its block runs
-answers-are : (p : Program) (input : List ℕ) (number : ℕ) (c : Construct) → IsJobOf p input number c → (slots : List ℤ) (low : ℤ) (n : ℕ) (w : ℤ)
-    → answers p input number slots low n w ≡ stop_of (plain_answer (block_asks (environment_of p input) c (part_of c n) slots (low +ℤ pos n) w) [])
-answers-are p input number c job slots low n w =
-    ap (λ o. stop_of (plain_answer (run_asks p input o Body slots (low +ℤ pos n) w) [])) job.there
-    ∙ ap (λ part. stop_of (plain_answer (block_asks (environment_of p input) c part slots (low +ℤ pos n) w) [])) (sym (job.part n))
+answers-are : (p : Program) (input : List ℕ) (c : Construct) → HasBodies c → (slots : List ℤ) (low : ℤ) (n : ℕ) (w : ℤ)
+    → answers p input c slots low n w ≡ stop_of (plain_answer (block_asks (environment_of p input) c slots n (low +ℤ pos n) w) [])
+answers-are p input c job slots low n w =
+    ap (λ part. stop_of (plain_answer (part_asks p c part (block_setup input slots (low +ℤ pos n) w)) [])) (sym (job.part n))
 
 -- the whole fold
 pub record IsLinked (p : Program) (input : List ℕ) (c : Construct) (slots : List ℤ) (low start : ℤ) (blocks : ℕ) (history : List Validated) (settled : Settled) : Type 0 where
@@ -76,8 +75,8 @@ pub record IsLinked (p : Program) (input : List ℕ) (c : Construct) (slots : Li
   pub result : (chained (environment_of p input) c slots 0 blocks low start []).result ≡ settled_result settled
   pub memory : (chained (environment_of p input) c slots 0 blocks low start []).memory ≡ []
 
-pub links : (p : Program) (input : List ℕ) (number : ℕ) (c : Construct) → IsJobOf p input number c → (slots : List ℤ) (low start : ℤ) (gs : List (Option ℤ))
-    → IsLinked p input c slots low start (length gs) (all_validated (answers p input number slots low) start gs) (all_settled (answers p input number slots low) start gs)
-links p input number c job slots low start gs =
-    let l = linked (environment_of p input) c slots low (answers p input number slots low) (λ n w. answers-are p input number c job slots low n w) gs 0 low start (sym (+ℤ_idr low)) in
+pub links : (p : Program) (input : List ℕ) (c : Construct) → HasBodies c → (slots : List ℤ) (low start : ℤ) (gs : List (Option ℤ))
+    → IsLinked p input c slots low start (length gs) (all_validated (answers p input c slots low) start gs) (all_settled (answers p input c slots low) start gs)
+links p input c job slots low start gs =
+    let l = linked (environment_of p input) c slots low (answers p input c slots low) (λ n w. answers-are p input c job slots low n w) gs 0 low start (sym (+ℤ_idr low)) in
     record { values = sym l.values; result = sym l.result; memory = l.memory }

@@ -16,8 +16,10 @@ use Rattle.spf_laws.proofs.Primitives.{Sees}
 use Rattle.spf_laws.proofs.Forms.{calls-see, block-sees}
 use Rattle.spf_laws.proofs.Plainly.{Comes, answers-alike, memories-alike}
 use Rattle.spf_guess.specs.declared.stats.Stats.{Stats}
-use Rattle.spf_guess.specs.Statistics.{none, plus, statistics, statistics_of}
-use Rattle.spf_engine.specs.Standing.{IsAt, GoesOn, HasCome}
+use Rattle.spf_guess.specs.Statistics.{none, plus, statistics, tally_from}
+use Rattle.spf_guess.specs.Guess.{Telling, no_hosts, tells}
+use Rattle.spf_engine.specs.Standing.{IsAt, GoesOn, HasCome, statistics_of}
+use Rattle.spf_engine.proofs.Tallies.{without-hosts}
 use Rattle.spf_engine.proofs.Places.{goes-to, whole-again}
 use Rattle.spf_engine.proofs.Fronts.{front-goes, front-traps, front-constructs, split-lawfully, declared-at-end}
 
@@ -59,9 +61,9 @@ follows-trap {A} {Before} {After} {form} sees m s cells h same t o e =
 -- ---- outcomes and statistics
 
 -- nothing that is reached counts nothing
-pub no-statistics : (g : Environment) (constructs : List Construct) → statistics_of g constructs [] ≡ none
-no-statistics g [] = refl
-no-statistics g (c ∷ cs) = refl
+pub no-statistics : (p : Program) (input : List ℕ) (constructs : List Construct) → statistics_of p input constructs [] ≡ none
+no-statistics p input [] = refl
+no-statistics p input (c ∷ cs) = refl
 
 pub plus-none : (one : Stats) → plus one none ≡ one
 plus-none one =
@@ -110,7 +112,7 @@ begins p input s l b =
       alike = record { agree = record { slots = λ slot c. absurd (nothing-visible slot c); output = sym b.output }; slot_count = ap length (sym b.slots) };
       memory = sym b.cells;
       outcome_is = ap (λ rest. outcome_from (plain_answer (block_means g rest m.state) m.memory) (plain_memory (block_means g rest m.state) m.memory)) all;
-      statistics_are = ap (λ rest. plus none (statistics_of g (constructs_in rest) (reached_from g rest m))) all ∙ none-plus (statistics p input);
+      statistics_are = ap (λ rest. plus none (statistics_of p input (constructs_in rest) (reached_from g rest m))) all ∙ none-plus (statistics_of p input (constructs_in p.main) (reached_from g p.main m)) ∙ sym (without-hosts p input (constructs_in p.main) (reached_from g p.main m) []);
     }
 
 -- ---- the end of a run
@@ -124,7 +126,7 @@ finishes p input s counted h none_left =
           ∙ ap (λ rest. outcome_from (plain_answer (block_means g rest h.moment.state) h.moment.memory) (plain_memory (block_means g rest h.moment.state) h.moment.memory)) (sym none_left)
           ∙ h.outcome_is;
       statistics_are = sym (plus-none counted)
-          ∙ ap (λ rest. plus counted (statistics_of g (constructs_in rest) (reached_from g rest h.moment))) (sym none_left)
+          ∙ ap (λ rest. plus counted (statistics_of p input (constructs_in rest) (reached_from g rest h.moment))) (sym none_left)
           ∙ h.statistics_are;
     }
 
@@ -136,8 +138,8 @@ traps-here p input s counted h t o x c r =
     let g = environment_of p input in
     record {
       outcome_is = sym (outcome-of {form = block_means g (ahead p s)} c) ∙ h.outcome_is;
-      statistics_are = sym (plus-none counted) ∙ ap (plus counted) (sym (no-statistics g (constructs_in (ahead p s))))
-          ∙ ap (λ l. plus counted (statistics_of g (constructs_in (ahead p s)) l)) (sym r) ∙ h.statistics_are;
+      statistics_are = sym (plus-none counted) ∙ ap (plus counted) (sym (no-statistics p input (constructs_in (ahead p s))))
+          ∙ ap (λ l. plus counted (statistics_of p input (constructs_in (ahead p s)) l)) (sym r) ∙ h.statistics_are;
     }
 
 -- ---- statements before a construct
@@ -171,9 +173,9 @@ advances p input before after counted h went at =
       outcome_is = ap (λ rest. outcome_from (plain_answer (block_means g rest m.state) m.memory) (plain_memory (block_means g rest m.state) m.memory)) at
           ∙ sym (outcome-of {form = block_means g (ahead p before)} (goes.comes _ _ (record { answer = refl; memory = refl })))
           ∙ h.outcome_is;
-      statistics_are = ap (λ rest. plus counted (statistics_of g (constructs_in rest) (reached_from g rest m))) at
-          ∙ ap (λ l. plus counted (statistics_of g l (reached_from g (from_construct (ahead p before)) m))) (front-constructs (ahead p before))
-          ∙ ap (λ l. plus counted (statistics_of g (constructs_in (ahead p before)) l)) (sym goes.reached)
+      statistics_are = ap (λ rest. plus counted (statistics_of p input (constructs_in rest) (reached_from g rest m))) at
+          ∙ ap (λ l. plus counted (statistics_of p input l (reached_from g (from_construct (ahead p before)) m))) (front-constructs (ahead p before))
+          ∙ ap (λ l. plus counted (statistics_of p input (constructs_in (ahead p before)) l)) (sym goes.reached)
           ∙ h.statistics_are;
     }
 

@@ -2,7 +2,7 @@
 use Rattle.std.proofs.Common.{◌≡◌, inl, ℕ, zero, suc, ◌+◌, ◌≤◌, List, [], ◌∷◌, length, map, ℤ, refl, sym, ap, ◌∙◌, arith}
 use Rattle.std.specs.Prelude.{Option, Some, None, slice_get}
 use Rattle.std.proofs.lemmas.List.{length-map}
-use Rattle.spf_exec.specs.declared.block_run.Stop.{Stop}
+use Rattle.spf_layout.specs.declared.stop.Stop.{Stop}
 use Rattle.spf_chain.specs.declared.place.Place.TheVariants.{Out, Home}
 use Rattle.spf_chain.specs.declared.task.Guess as code_guess
 use Rattle.spf_chain.specs.declared.task.Settled.{Settled}
@@ -10,7 +10,7 @@ use Rattle.spf_chain.specs.declared.task.Settled.TheVariants.{Carried, Trapped}
 use Rattle.spf_chain.specs.declared.task.Task.{Task}
 use Rattle.spf_chain.specs.Validation.{Results, guesses_for, first_value, validated_from}
 use Rattle.spf_chain.specs.Chain.{ChainValue, new_chain, first_tasks, IsOut}
-use Rattle.spf_guess.specs.Statistics.{Guess}
+use Rattle.spf_guess.specs.Guess.{Guess}
 use Rattle.spf_engine.specs.Blocks.{seen_guess, guesses_after, chain_guesses, IsFiledTo, AreOutFrom}
 use Rattle.spf_engine.proofs.Counting.{guesses-length}
 

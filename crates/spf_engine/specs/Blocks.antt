@@ -1,15 +1,18 @@
 -- The blocks of a construct of a program without cells, run on their own.
 use Rattle.std.specs.Prelude.{◌≡◌, ◌⊎◌, ℕ, zero, suc, ◌<◌, ◌≤◌, ◌-◌, not, List, [], ◌∷◌, Option, None, map, length, drop, Result, Ok, Err, ℤ, pos, ◌+ℤ◌, slice_get, Some}
 use Rattle.spf_ast.specs.declared.outcome.Trap.{Trap}
-use Rattle.spf_ast.specs.declared.syntax.Part.TheVariants.{Body, Predictor}
+use Rattle.spf_ast.specs.declared.syntax.Part.TheVariants.{Body}
+use Rattle.spf_ast.specs.BlockRun.{part_asks, block_setup, predicts}
+use Rattle.spf_ast.specs.Carried.{Carried}
+use Rattle.spf_ast.specs.Construct.{Construct}
+use Rattle.spf_ast.specs.ConstructView.{construct as construct_seen}
 use Rattle.spf_ast.specs.Interaction.{Ending, Value, Trapped}
 use Rattle.spf_ast.specs.Syntax.{Program}
 use Rattle.spf_ast.specs.Plain.{plain_answer}
-use Rattle.spf_ast.specs.View.{program as seen_program}
-use Rattle.spf_exec.specs.declared.block_run.Stop.{Stop}
-use Rattle.spf_exec.specs.declared.block_run.Stop.TheVariants as stop
-use Rattle.spf_exec.specs.BlockRuns.{top_construct, run_asks}
-use Rattle.spf_exec.specs.Frame.{main_slots}
+use Rattle.spf_layout.specs.declared.stop.Stop.{Stop}
+use Rattle.spf_layout.specs.declared.stop.Stop.TheVariants as stop
+use Rattle.spf_layout.specs.Frame.{main_slots}
+use Rattle.spf_layout.specs.Instance.{program_of}
 use Rattle.spf_chain.specs.declared.task.Guess as code_guess
 use Rattle.spf_chain.specs.declared.task.Settled.{Settled}
 use Rattle.spf_chain.specs.declared.task.Settled.TheVariants as settled
@@ -19,46 +22,43 @@ use Rattle.spf_chain.specs.declared.place.Place.TheVariants.{Home}
 use Rattle.spf_chain.specs.Validation.{Answers, all_validated, all_settled}
 use Rattle.spf_chain.specs.Chain.{ChainValue, IsOut, IsBlockOut, HasEnded, HasTrapped, front}
 use Rattle.spf_guess.specs.declared.stats.Stats.{Stats}
-use Rattle.spf_guess.specs.Statistics.{Guess, guess_of, Guessed, is_hit, how_many}
+use Rattle.spf_guess.specs.Guess.{Guess, guess_of}
+use Rattle.spf_guess.specs.Statistics.{Guessed, is_hit, how_many}
 use Rattle.spf_exec.specs.declared.pieces.Header as code_header
 use Rattle.spf_engine.specs.declared.blocks.Job.{Job}
 use Rattle.spf_engine.specs.declared.blocks.Came.{Came}
 
 -- how a block run stops that ends so
-abbrev pub stop_of : Ending ℤ → Stop
+abbrev pub stop_of : Ending Carried → Stop
 stop_of (Value value state) = stop.Ended value
 stop_of (Trapped trap output) = stop.Trapped trap
 
--- what the bodies of a construct answer, by their places and carried values, where the first has this number
-abbrev pub answers : Program → List ℕ → ℕ → List ℤ → ℤ → Answers
-answers p input construct slots low place carried =
-    stop_of (plain_answer (run_asks p input (top_construct p construct) Body slots (low +ℤ pos place) carried) [])
+-- what the bodies of a construct answer, by their indices and carried values, where the first has this number
+abbrev pub answers : Program → List ℕ → Construct → List ℤ → ℤ → Answers
+answers p input c slots low n carried = stop_of (plain_answer (part_asks p c Body (block_setup input slots (low +ℤ pos n) carried)) [])
 
--- the same, of a job over this frame
-abbrev pub job_answers : Job → List ℤ → ℤ → Answers
-job_answers job frame low =
-    answers (seen_program job.program.now) job.input.now job.construct (main_slots (seen_program job.program.now) frame) low
+-- the slots of `main` where a job's fold was entered
+abbrev pub entry_slots : Job → List ℤ
+entry_slots job = main_slots (program_of job.instance.now) job.entry.now
+
+-- the same, of a job's fold
+abbrev pub job_answers : Job → ℤ → Answers
+job_answers job low = answers (program_of job.instance.now) job.instance.now.input (construct_seen job.construct) (entry_slots job) low
 
 -- a guess, as definitions see it
 abbrev pub seen_guess : code_guess.Guess → Guess
 seen_guess guess = record { value = guess.value; blind = guess.blind }
 
--- the guess of a construct's predictor for a block number
-abbrev pub guess_for : Program → List ℕ → ℕ → List ℤ → ℤ → Guess
-guess_for p input construct slots number =
-    guess_of (plain_answer (run_asks p input (top_construct p construct) Predictor slots number (pos 0)) [])
-
--- the same, of a job over this frame
-abbrev pub job_guess : Job → List ℤ → ℤ → Guess
-job_guess job frame number =
-    guess_for (seen_program job.program.now) job.input.now job.construct (main_slots (seen_program job.program.now) frame) number
+-- the guess of a job's predictor for a block number
+abbrev pub job_guess : Job → ℤ → Guess
+job_guess job number = guess_of (predicts (program_of job.instance.now) job.instance.now.input (construct_seen job.construct) (entry_slots job) [] number)
 
 -- the real values of validated blocks
-abbrev pub real_values : List Validated → List ℤ
+abbrev pub real_values : List Validated → List Carried
 real_values history = map (λ b. b.real) history
 
 -- what a chain came to, as a value or a trap
-abbrev pub settled_result : Settled → Result ℤ Trap
+abbrev pub settled_result : Settled → Result Carried Trap
 settled_result (settled.Carried value) = Ok value
 settled_result (settled.Trapped trap) = Err trap
 
@@ -67,7 +67,7 @@ settled_result (settled.Trapped trap) = Err trap
 -- the task of this block is home
 pub record IsHome (c : ChainValue) (n : ℕ) : Type 0 where
   pub attempt : ℕ
-  pub carried : ℤ
+  pub carried : Carried
   pub stop : Stop
   pub place : slice_get c.places n ≡ Some (Home attempt carried stop)
 
@@ -95,13 +95,13 @@ pub record IsSameFold (one other : ChainValue) : Type 0 where
 
 -- ---- guesses and counts
 
--- the guesses for so many blocks from a place on
+-- the guesses for so many blocks from an index on
 abbrev pub guesses_after : (ℕ → Guess) → ℕ → ℕ → List Guess
-guesses_after guess place zero = []
-guesses_after guess place (suc count) = guess place ∷ guesses_after guess (suc place) count
+guesses_after guess n zero = []
+guesses_after guess n (suc count) = guess n ∷ guesses_after guess (suc n) count
 
 -- blocks with their guesses, as far as there are both
-abbrev pub paired : List Guess → List ℤ → List Guessed
+abbrev pub paired : List Guess → List Carried → List Guessed
 paired (guess ∷ guesses) (real ∷ reals) = record { guess = guess; real = real } ∷ paired guesses reals
 paired _ _ = []
 
@@ -123,17 +123,17 @@ pub record AreAtMost (stats : Stats) (most : ℕ) : Type 0 where
 
 -- ---- whole folds
 
--- the guesses of a job for a fold with this header, over this frame
-abbrev pub fold_guesses : Job → List ℤ → code_header.Header → List Guess
-fold_guesses job frame header = guesses_after (λ place. job_guess job frame (header.low +ℤ pos place)) 1 (header.blocks - 1)
+-- the guesses of a job for a fold with this header
+abbrev pub fold_guesses : Job → code_header.Header → List Guess
+fold_guesses job header = guesses_after (λ n. job_guess job (header.low +ℤ pos n)) 1 (header.blocks - 1)
 
 -- as a chain knows them
-abbrev pub chain_guesses : List Guess → List (Option ℤ)
+abbrev pub chain_guesses : List Guess → List (Option Carried)
 chain_guesses guesses = None ∷ map (λ (g : Guess). Some g.value) guesses
 
 -- what a fold came to by its job's answers and guesses
-pub record CameFrom (job : Job) (frame : List ℤ) (header : code_header.Header) (came : Came) : Type 0 where
-  pub settled : came.settled ≡ all_settled (job_answers job frame header.low) header.start (chain_guesses (fold_guesses job frame header))
+pub record CameFrom (job : Job) (header : code_header.Header) (came : Came) : Type 0 where
+  pub settled : came.settled ≡ all_settled (job_answers job header.low) header.start (chain_guesses (fold_guesses job header))
   pub stats : came.stats
-      ≡ counts_of (length (all_validated (job_answers job frame header.low) header.start (chain_guesses (fold_guesses job frame header))))
-      (paired (fold_guesses job frame header) (drop 1 (real_values (all_validated (job_answers job frame header.low) header.start (chain_guesses (fold_guesses job frame header))))))
+      ≡ counts_of (length (all_validated (job_answers job header.low) header.start (chain_guesses (fold_guesses job header))))
+      (paired (fold_guesses job header) (drop 1 (real_values (all_validated (job_answers job header.low) header.start (chain_guesses (fold_guesses job header))))))

@@ -2,8 +2,7 @@
 use Rattle.std.specs.Prelude.{ℕ, ◌*◌, ◌-◌, List, length}
 use Rattle.spf_ast.specs.Syntax.{Program}
 use Rattle.spf_ast.specs.Program.{Stopped}
-use Rattle.spf_ast.specs.Construct.{constructs_in}
-use Rattle.spf_ast.specs.Pieces.{construct_first}
+use Rattle.spf_ast.specs.Construct.{Construct, constructs_in}
 use Rattle.spf_exec.specs.Pieces.{Stand, IsSettled, ahead}
 use Rattle.spf_chain.specs.declared.task.Settled.{Settled}
 use Rattle.spf_chain.specs.declared.task.Settled.TheVariants.{Carried, Trapped}
@@ -13,14 +12,14 @@ use Rattle.spf_engine.specs.declared.blocks.Came.{Came}
 use Rattle.spf_engine.specs.Blocks.{AreAtMost}
 use Rattle.spf_engine.specs.Standing.{GoesOn, HasCome}
 
--- where a construct came to a value, a run that is settled with it goes on; where it came to a trap, the run has come to its end
-abbrev pub IsCameSo : Program → List ℕ → Stand → Settled → Stats → Type 0
-IsCameSo p input s (Carried value) counted = (last : Stand) → IsSettled p (construct_first (ahead p s)) s last value → GoesOn p input last counted
-IsCameSo p input s (Trapped trap) counted = HasCome p input (Stopped trap s.output) counted
+-- where the construct that stands next came to a value, a run that is settled with it goes on; where it came to a trap, the run has come to its end
+abbrev pub IsCameSo : Program → List ℕ → Stand → Construct → Settled → Stats → Type 0
+IsCameSo p input s c (Carried value) counted = (last : Stand) → IsSettled p c s last value → GoesOn p input last counted
+IsCameSo p input s c (Trapped trap) counted = HasCome p input (Stopped trap s.output) counted
 
 -- so it is of a run that went on before the construct, with what was counted and what the construct counts
-abbrev pub LeadsOn : Program → List ℕ → Stand → Stand → Came → Type 0
-LeadsOn p input before after came = (counted : Stats) → GoesOn p input before counted → IsCameSo p input after came.settled (plus counted came.stats)
+abbrev pub LeadsOn : Program → List ℕ → Stand → Stand → Construct → Came → Type 0
+LeadsOn p input before after c came = (counted : Stats) → GoesOn p input before counted → IsCameSo p input after c came.settled (plus counted came.stats)
 
 -- each construct that a run went over has counted at most so much
 abbrev pub AreFew : Program → Stand → Stats → Type 0

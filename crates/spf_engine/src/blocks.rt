@@ -2,12 +2,15 @@
 
 ghost use Rattle.std.specs.Prelude.{◌≡◌, ◌≤◌, ◌<◌, ◌^◌, ◌+◌, ◌-◌, ◌+ℤ◌, ◌≤ℤ◌, ℕ, ℤ, List, [], length, map, drop, pos, IfOk, slice_get, Some, if◌then◌else◌, not};
 ghost use Rattle.std.specs.Ordering.{int_eq};
-ghost use Rattle.spf_ast.specs.declared.syntax.Part.TheVariants.{Body, Predictor};
-ghost use Rattle.spf_ast.specs.View.{program as seen_program};
+ghost use Rattle.spf_ast.specs.declared.syntax.Part.TheVariants.{Body};
+ghost use Rattle.std.specs.List.{Contains};
 ghost use Rattle.spf_ast.specs.Meaning.{max_blocks};
 ghost use Rattle.spf_ast.specs.Program.{cell_count_of};
-ghost use Rattle.spf_exec.specs.Frame.{frame_size, main_slots};
-ghost use Rattle.spf_exec.specs.BlockRuns.{IsLayoutOf, IsSilentPart, StoresNothing, run_asks, top_construct};
+ghost use Rattle.spf_ast.specs.Construct.{constructs_in};
+ghost use Rattle.spf_ast.specs.ConstructView.{construct as construct_seen};
+ghost use Rattle.spf_ast.specs.Silence.{FunctionsAreSilent, PartIsSilent};
+ghost use Rattle.spf_layout.specs.Frame.{frame_size};
+ghost use Rattle.spf_layout.specs.Instance.{program_of};
 ghost use Rattle.spf_chain.specs.declared.task.Task.{Task as SeenTask};
 ghost use Rattle.spf_chain.specs.declared.task.Validated.{Validated as SeenValidated};
 ghost use Rattle.spf_chain.specs.Validation.{IsNotCancelled, guesses_for, all_validated, all_settled};
@@ -15,37 +18,41 @@ ghost use Rattle.spf_chain.specs.Chain.{IsOut, IsChainOf, HasEnded};
 ghost use Rattle.spf_guess.specs.Statistics.{statistics_with};
 ghost use Rattle.spf_engine.specs.Blocks.{guesses_after, paired, counts_of, AreAtMost, job_answers, job_guess, seen_guess, real_values, settled_result, IsFiledTo, IsUnderWay, AreOutFrom, IsSameFold, CameFrom};
 
-use spf_ast::syntax::{Part, Program};
+use spf_ast::carried::is_same;
+use spf_ast::construct::TopConstruct;
+use spf_ast::syntax::Part;
 use spf_chain::chain::Chain;
 use spf_chain::task::{Filed, Guess, Settled, Task, Validated};
-use spf_exec::block_run::{Block, Stop, exec_block, exec_predictor};
+use spf_exec::block_run::{Block, exec_block, exec_predictor};
 use spf_exec::frame::Frame;
-use spf_exec::layout::Layout;
 use spf_exec::pieces::Header;
 use spf_exec::plain::Plain;
 use spf_guess::stats::Stats;
+use spf_layout::instance::Instance;
+use spf_layout::stop::Stop;
 use std::alloc::{AllocError, Global};
 
 /// What the blocks of a fold are run in.
 #[derive(Clone, Copy)]
 pub(crate) struct Job<'a> {
-    pub program: &'a Program,
-    pub layout: &'a Layout,
-    pub input: &'a [u8],
-    /// The number of the top construct.
-    pub construct: u32,
+    /// The program with its input.
+    pub instance: &'a Instance<'a>,
+    /// The fold.
+    pub construct: TopConstruct<'a>,
+    /// The frame where the fold was entered.
+    pub entry: &'a Frame,
 }
 
 /// Runs the block of a task.
 fn run_task(alloc: Global, job: &Job, task: &Task, frame: &mut Frame) -> Stop
-    requires program_layout { IsLayoutOf (seen_program job.now.program.now) (length job.now.input.now) job.now.layout.now }
-    requires no_cells { cell_count_of (seen_program job.now.program.now) (length job.now.input.now) ≡ 0 }
-    requires short { length job.now.input.now < 2 ^ 63 }
-    requires program_frame { length frame.old ≡ frame_size (seen_program job.now.program.now) }
-    requires silent { IsSilentPart (seen_program job.now.program.now) (top_construct (seen_program job.now.program.now) job.now.construct) Body }
-    ensures answer { (low : ℤ) → task.now.number ≡ low +ℤ pos task.now.block → job_answers job.now frame.old low task.now.block task.now.carried ≡ result }
+    requires no_cells { cell_count_of (program_of job.now.instance.now) (length job.now.instance.now.input) ≡ 0 }
+    requires program_frame { length frame.old ≡ frame_size (program_of job.now.instance.now) }
+    requires entry { length job.now.entry.now ≡ frame_size (program_of job.now.instance.now) }
+    requires construct { Contains (constructs_in (program_of job.now.instance.now).main) (construct_seen job.now.construct) }
+    requires functions { FunctionsAreSilent (program_of job.now.instance.now).functions }
+    requires body { PartIsSilent (construct_seen job.now.construct) Body }
+    ensures answer { (low : ℤ) → task.now.number ≡ low +ℤ pos task.now.block → job_answers job.now low task.now.block task.now.carried ≡ result }
     ensures ran { IsNotCancelled result }
-    ensures kept { main_slots (seen_program job.now.program.now) frame.new ≡ main_slots (seen_program job.now.program.now) frame.old }
     ensures size { length frame.new ≡ length frame.old }
 {
     let block = Block {
@@ -58,39 +65,22 @@ fn run_task(alloc: Global, job: &Job, task: &Task, frame: &mut Frame) -> Stop
         cells: Vec::new(alloc),
         output: Vec::new(alloc),
     };
-    exec_block(
-        job.program,
-        job.layout,
-        job.input,
-        block,
-        frame,
-        &mut memory,
-    )
+    frame.restore(job.entry);
+    exec_block(job.instance, block, frame, &mut memory)
 }
 
 /// Takes the guess for a block number.
 fn take_guess(job: &Job, number: i64, frame: &mut Frame) -> Guess
-    requires program_layout { IsLayoutOf (seen_program job.now.program.now) (length job.now.input.now) job.now.layout.now }
-    requires no_cells { cell_count_of (seen_program job.now.program.now) (length job.now.input.now) ≡ 0 }
-    requires short { length job.now.input.now < 2 ^ 63 }
-    requires program_frame { length frame.old ≡ frame_size (seen_program job.now.program.now) }
-    requires silent { IsSilentPart (seen_program job.now.program.now) (top_construct (seen_program job.now.program.now) job.now.construct) Predictor }
-    requires stores_nothing { StoresNothing
-        (run_asks (seen_program job.now.program.now) job.now.input.now (top_construct (seen_program job.now.program.now) job.now.construct)
-        Predictor (main_slots (seen_program job.now.program.now) frame.old) number (pos 0)) }
-    ensures guess { seen_guess result ≡ job_guess job.now frame.old number }
-    ensures kept { main_slots (seen_program job.now.program.now) frame.new ≡ main_slots (seen_program job.now.program.now) frame.old }
+    requires no_cells { cell_count_of (program_of job.now.instance.now) (length job.now.instance.now.input) ≡ 0 }
+    requires program_frame { length frame.old ≡ frame_size (program_of job.now.instance.now) }
+    requires entry { length job.now.entry.now ≡ frame_size (program_of job.now.instance.now) }
+    requires construct { Contains (constructs_in (program_of job.now.instance.now).main) (construct_seen job.now.construct) }
+    requires functions { FunctionsAreSilent (program_of job.now.instance.now).functions }
+    ensures guess { seen_guess result ≡ job_guess job.now number }
     ensures size { length frame.new ≡ length frame.old }
 {
-    match exec_predictor(
-        job.program,
-        job.layout,
-        job.input,
-        job.construct,
-        number,
-        frame,
-        &[],
-    ) {
+    frame.restore(job.entry);
+    match exec_predictor(job.instance, job.construct, number, frame, &[]) {
         Ok(value) => Guess {
             value,
             blind: false,
@@ -102,13 +92,13 @@ fn take_guess(job: &Job, number: i64, frame: &mut Frame) -> Guess
     }
 }
 
-/// The number of the block at a place.
-fn number_at(header: Header, place: u64) -> i64
-    requires few { place ≤ 4096 }
-    requires fits { (header.low +ℤ pos place) ≤ℤ i64.MAX }
-    ensures { result ≡ header.low +ℤ pos place }
+/// The number of the block at an index.
+fn number_at(header: Header, n: u64) -> i64
+    requires few { n ≤ 4096 }
+    requires fits { (header.low +ℤ pos n) ≤ℤ i64.MAX }
+    ensures { result ≡ header.low +ℤ pos n }
 {
-    header.low + place as i64
+    header.low + n as i64
 }
 
 /// Takes the guesses for all blocks but the first, in order.
@@ -118,44 +108,40 @@ fn take_guesses(
     header: Header,
     frame: &mut Frame,
 ) -> Result<Vec<Guess>, AllocError>
-    requires program_layout { IsLayoutOf (seen_program job.now.program.now) (length job.now.input.now) job.now.layout.now }
-    requires no_cells { cell_count_of (seen_program job.now.program.now) (length job.now.input.now) ≡ 0 }
-    requires short { length job.now.input.now < 2 ^ 63 }
-    requires program_frame { length frame.old ≡ frame_size (seen_program job.now.program.now) }
-    requires silent_predictor { IsSilentPart (seen_program job.now.program.now) (top_construct (seen_program job.now.program.now) job.now.construct) Predictor }
-    requires stores_nothing { (number : ℤ) → StoresNothing
-        (run_asks (seen_program job.now.program.now) job.now.input.now (top_construct (seen_program job.now.program.now) job.now.construct)
-        Predictor (main_slots (seen_program job.now.program.now) frame.old) number (pos 0)) }
+    requires no_cells { cell_count_of (program_of job.now.instance.now) (length job.now.instance.now.input) ≡ 0 }
+    requires program_frame { length frame.old ≡ frame_size (program_of job.now.instance.now) }
+    requires entry { length job.now.entry.now ≡ frame_size (program_of job.now.instance.now) }
+    requires construct { Contains (constructs_in (program_of job.now.instance.now).main) (construct_seen job.now.construct) }
+    requires functions { FunctionsAreSilent (program_of job.now.instance.now).functions }
     requires some { 0 < header.blocks }
     requires few { header.blocks ≤ max_blocks }
     requires numbers { (header.low +ℤ pos header.blocks) ≤ℤ i64.MAX }
-    ensures guesses { IfOk result (λ r. map seen_guess r.items ≡ guesses_after (λ place. job_guess job.now frame.old (header.low +ℤ pos place)) 1 (header.blocks - 1)) }
-    ensures kept { main_slots (seen_program job.now.program.now) frame.new ≡ main_slots (seen_program job.now.program.now) frame.old }
+    ensures guesses { IfOk result (λ r. map seen_guess r.items ≡ guesses_after (λ n. job_guess job.now (header.low +ℤ pos n)) 1 (header.blocks - 1)) }
     ensures size { length frame.new ≡ length frame.old }
 {
     let mut guesses = Vec::new(alloc);
-    for place in 1..header.blocks {
-        guesses.push(take_guess(job, number_at(header, place), frame))?;
+    for n in 1..header.blocks {
+        guesses.push(take_guess(job, number_at(header, n), frame))?;
     }
     Ok(guesses)
 }
 
 /// Runs the block of a task and files what came of it. Where its guess was wrong it is run again, at its real value.
 fn file_task(alloc: Global, job: &Job, task: Task, chain: &mut Chain, frame: &mut Frame)
-    requires program_layout { IsLayoutOf (seen_program job.now.program.now) (length job.now.input.now) job.now.layout.now }
-    requires no_cells { cell_count_of (seen_program job.now.program.now) (length job.now.input.now) ≡ 0 }
-    requires short { length job.now.input.now < 2 ^ 63 }
-    requires program_frame { length frame.old ≡ frame_size (seen_program job.now.program.now) }
-    requires silent_body { IsSilentPart (seen_program job.now.program.now) (top_construct (seen_program job.now.program.now) job.now.construct) Body }
+    requires no_cells { cell_count_of (program_of job.now.instance.now) (length job.now.instance.now.input) ≡ 0 }
+    requires program_frame { length frame.old ≡ frame_size (program_of job.now.instance.now) }
+    requires entry { length job.now.entry.now ≡ frame_size (program_of job.now.instance.now) }
+    requires construct { Contains (constructs_in (program_of job.now.instance.now).main) (construct_seen job.now.construct) }
+    requires functions { FunctionsAreSilent (program_of job.now.instance.now).functions }
+    requires body { PartIsSilent (construct_seen job.now.construct) Body }
     requires out { IsOut chain.old task }
     requires filed { IsFiledTo chain.old task.block }
-    requires answers { IsChainOf (job_answers job.now frame.old chain.old.low) chain.old }
+    requires answers { IsChainOf (job_answers job.now chain.old.low) chain.old }
     ensures filed { IsFiledTo chain.new (task.block + 1) }
-    ensures answers { IsChainOf (job_answers job.now frame.old chain.old.low) chain.new }
+    ensures answers { IsChainOf (job_answers job.now chain.old.low) chain.new }
     ensures others { (t : SeenTask) → IsOut chain.old t → task.block < t.block → IsOut chain.new t }
     ensures same { IsSameFold chain.old chain.new }
     ensures way { IsUnderWay chain.new }
-    ensures kept { main_slots (seen_program job.now.program.now) frame.new ≡ main_slots (seen_program job.now.program.now) frame.old }
     ensures size { length frame.new ≡ length frame.old }
 {
     let stop = run_task(alloc, job, &task, frame);
@@ -171,20 +157,20 @@ fn file_task(alloc: Global, job: &Job, task: Task, chain: &mut Chain, frame: &mu
 
 /// Runs and files all tasks, in the order of blocks.
 fn file_all(alloc: Global, job: &Job, tasks: Vec<Task>, chain: &mut Chain, frame: &mut Frame)
-    requires program_layout { IsLayoutOf (seen_program job.now.program.now) (length job.now.input.now) job.now.layout.now }
-    requires no_cells { cell_count_of (seen_program job.now.program.now) (length job.now.input.now) ≡ 0 }
-    requires short { length job.now.input.now < 2 ^ 63 }
-    requires program_frame { length frame.old ≡ frame_size (seen_program job.now.program.now) }
-    requires silent_body { IsSilentPart (seen_program job.now.program.now) (top_construct (seen_program job.now.program.now) job.now.construct) Body }
+    requires no_cells { cell_count_of (program_of job.now.instance.now) (length job.now.instance.now.input) ≡ 0 }
+    requires program_frame { length frame.old ≡ frame_size (program_of job.now.instance.now) }
+    requires entry { length job.now.entry.now ≡ frame_size (program_of job.now.instance.now) }
+    requires construct { Contains (constructs_in (program_of job.now.instance.now).main) (construct_seen job.now.construct) }
+    requires functions { FunctionsAreSilent (program_of job.now.instance.now).functions }
+    requires body { PartIsSilent (construct_seen job.now.construct) Body }
     requires some { 0 < length tasks.items }
     requires all { length chain.old.places ≡ length tasks.items }
     requires out { AreOutFrom chain.old tasks.items 0 }
     requires filed { IsFiledTo chain.old 0 }
-    requires answers { IsChainOf (job_answers job.now frame.old chain.old.low) chain.old }
+    requires answers { IsChainOf (job_answers job.now chain.old.low) chain.old }
     ensures ended { HasEnded chain.new }
-    ensures answers { IsChainOf (job_answers job.now frame.old chain.old.low) chain.new }
+    ensures answers { IsChainOf (job_answers job.now chain.old.low) chain.new }
     ensures same { IsSameFold chain.old chain.new }
-    ensures kept { main_slots (seen_program job.now.program.now) frame.new ≡ main_slots (seen_program job.now.program.now) frame.old }
     ensures size { length frame.new ≡ length frame.old }
 {
     for task in tasks {
@@ -207,7 +193,7 @@ fn with_guess(stats: Stats, guess: Guess, block: Validated) -> Stats
     ensures misses { result.misses ≡ stats.misses + (if not (int_eq guess.value block.real) then 1 else 0) }
     ensures blind { result.blind ≡ stats.blind + (if guess.blind then 1 else 0) }
 {
-    let hit = guess.value == block.real;
+    let hit = is_same(guess.value, block.real);
     Stats {
         blocks: stats.blocks,
         hits: stats.hits + one_if(hit),
@@ -246,24 +232,19 @@ pub(crate) fn run_blocks(
     alloc: Global,
     job: &Job,
     header: Header,
-    entry: &Frame,
 ) -> Result<Came, AllocError>
-    requires program_layout { IsLayoutOf (seen_program job.now.program.now) (length job.now.input.now) job.now.layout.now }
-    requires no_cells { cell_count_of (seen_program job.now.program.now) (length job.now.input.now) ≡ 0 }
-    requires short { length job.now.input.now < 2 ^ 63 }
-    requires program_frame { length entry.now ≡ frame_size (seen_program job.now.program.now) }
-    requires silent_body { IsSilentPart (seen_program job.now.program.now) (top_construct (seen_program job.now.program.now) job.now.construct) Body }
-    requires silent_predictor { IsSilentPart (seen_program job.now.program.now) (top_construct (seen_program job.now.program.now) job.now.construct) Predictor }
-    requires stores_nothing { (number : ℤ) → StoresNothing
-        (run_asks (seen_program job.now.program.now) job.now.input.now (top_construct (seen_program job.now.program.now) job.now.construct)
-        Predictor (main_slots (seen_program job.now.program.now) entry.now) number (pos 0)) }
+    requires no_cells { cell_count_of (program_of job.now.instance.now) (length job.now.instance.now.input) ≡ 0 }
+    requires entry { length job.now.entry.now ≡ frame_size (program_of job.now.instance.now) }
+    requires construct { Contains (constructs_in (program_of job.now.instance.now).main) (construct_seen job.now.construct) }
+    requires functions { FunctionsAreSilent (program_of job.now.instance.now).functions }
+    requires body { PartIsSilent (construct_seen job.now.construct) Body }
     requires some { 0 < header.blocks }
     requires few { header.blocks ≤ max_blocks }
     requires numbers { (header.low +ℤ pos header.blocks) ≤ℤ i64.MAX }
-    ensures came { IfOk result (λ r. CameFrom job.now entry.now header r) }
+    ensures came { IfOk result (λ r. CameFrom job.now header r) }
     ensures few { IfOk result (λ r. AreAtMost r.stats 4096) }
 {
-    let mut frame = entry.copy(alloc)?;
+    let mut frame = job.entry.copy(alloc)?;
     let guesses = take_guesses(alloc, job, header, &mut frame)?;
     let (mut chain, tasks) = Chain::start(alloc, header.start, header.low, guesses.as_slice())?;
     file_all(alloc, job, tasks, &mut chain, &mut frame);

@@ -1,12 +1,14 @@
 // Whole runs of programs of the first form, by blocks from guesses.
 
-ghost use Rattle.std.specs.Prelude.{◌≡◌, ◌<◌, ◌≤◌, ◌^◌, ◌+◌, length, IfOk, IfErr, None, true};
+ghost use Rattle.std.specs.Prelude.{◌≡◌, ◌<◌, ◌^◌, length, IfOk, IfErr, Some, true};
 ghost use Rattle.spf_ast.specs.View.{program as seen_program};
 ghost use Rattle.spf_ast.specs.Lawful.{IsLawful};
-ghost use Rattle.spf_ast.specs.Construct.{constructs_in};
+ghost use Rattle.spf_ast.specs.ConstructView.{construct as construct_seen};
+ghost use Rattle.spf_ast.specs.Silence.{FunctionsAreSilent};
+ghost use Rattle.spf_layout.specs.Instance.{program_of};
 ghost use Rattle.spf_ast.specs.Pieces.{construct_first};
-ghost use Rattle.spf_ast.specs.Program.{cell_count_of, outcome as outcome_of, seen_outcome, Done, Stopped};
-ghost use Rattle.spf_exec.specs.declared.layout.RunError.TheVariants.{OutOfMemory};
+ghost use Rattle.spf_ast.specs.Program.{outcome as outcome_of, seen_outcome, Done, Stopped};
+ghost use Rattle.spf_layout.specs.declared.layout.RunError.TheVariants.{OutOfMemory};
 ghost use Rattle.spf_exec.specs.Pieces.{IsRunOf, ahead};
 ghost use Rattle.spf_guess.specs.Statistics.{statistics as statistics_of_run};
 ghost use Rattle.spf_engine.specs.FirstForm.{is_first_form as is_first_program};
@@ -15,12 +17,16 @@ ghost use Rattle.spf_engine.specs.Blocks.{AreAtMost};
 ghost use Rattle.spf_engine.specs.Runs.{LeadsOn};
 
 use crate::blocks::{Came, Job, run_blocks};
+use spf_ast::construct::TopConstruct;
+use spf_ast::laws::{each_guess_has_one_answer, lawful_programs_are_quiet_and_small};
 use spf_ast::outcome::{Outcome, Trap};
 use spf_ast::syntax::Program;
 use spf_chain::task::Settled;
-use spf_exec::layout::RunError;
 use spf_exec::pieces::{Pause, Run};
 use spf_guess::stats::Stats;
+use spf_layout::instance::Instance;
+use spf_layout::layout::RunError;
+use spf_laws::{each_construct_is_its_block_runs, each_form_sees_visible_slots_alone};
 use std::alloc::{AllocError, Global};
 
 /// How a whole run came out, and how good its guesses were.
@@ -30,25 +36,26 @@ pub struct RunReport {
     pub stats: Stats,
 }
 
-/// Runs the construct that stands next, of this number.
+/// Runs the construct that stands next.
 fn run_construct(
     alloc: Global,
-    program: &Program,
-    input: &[u8],
-    construct: u32,
+    instance: &Instance,
+    construct: TopConstruct,
     run: &mut Run,
 ) -> Result<Came, AllocError>
-    requires first_form { is_first_program (seen_program program.now) ≡ true }
-    requires short { length input.now < 2 ^ 63 }
-    requires run { IsRunOf (seen_program program.now) (length input.now) run.old }
-    requires construct { construct_first (ahead (seen_program program.now) run.old) ≡ None → ⊥ }
-    requires number { construct + length (constructs_in (ahead (seen_program program.now) run.old)) ≡ length (constructs_in (seen_program program.now).main) }
-    ensures run { IsRunOf (seen_program program.now) (length input.now) run.new }
+    requires first_form { is_first_program (program_of instance.now) ≡ true }
+    requires functions { FunctionsAreSilent (program_of instance.now).functions }
+    requires run { IsRunOf (program_of instance.now) (length instance.now.input) run.old }
+    requires construct { construct_first (ahead (program_of instance.now) run.old) ≡ Some (construct_seen construct) }
+    ensures run { IsRunOf (program_of instance.now) (length instance.now.input) run.new }
     ensures place { run.new.place ≡ run.old.place }
-    ensures came { IfOk result (LeadsOn (seen_program program.now) input.now run.old run.new) }
+    ensures came { IfOk result (LeadsOn (program_of instance.now) instance.now.input run.old run.new (construct_seen construct.entry)) }
     ensures few { IfOk result (λ r. AreAtMost r.stats 4096) }
 {
-    let header = match run.header(program, input) {
+    each_form_sees_visible_slots_alone();
+    each_guess_has_one_answer();
+    each_construct_is_its_block_runs();
+    let header = match run.header(instance, construct) {
         Ok(header) => header,
         Err(trap) => {
             return Ok(Came {
@@ -64,12 +71,11 @@ fn run_construct(
         });
     }
     let job = Job {
-        program,
-        layout: run.layout(),
-        input,
+        instance,
         construct,
+        entry: run.frame(),
     };
-    run_blocks(alloc, &job, header, run.frame())
+    run_blocks(alloc, &job, header)
 }
 
 /// The report of a run that came to its end.
@@ -108,19 +114,21 @@ pub fn run_by_blocks(alloc: Global, program: &Program, input: &[u8]) -> Result<R
     requires short { length input.now < 2 ^ 63 }
     ensures outcome { IfOk result (λ r. seen_outcome r.outcome ≡ outcome_of (seen_program program.now) input.now) }
     ensures statistics { IfOk result (λ r. r.stats ≡ statistics_of_run (seen_program program.now) input.now) }
-    ensures want { IfErr result (λ why. why ≡ OutOfMemory) }
+    ensures out_of_memory { IfErr result (λ why. why ≡ OutOfMemory) }
 {
-    let mut run = Run::start(alloc, program, input)?;
+    lawful_programs_are_quiet_and_small();
+    let instance = Instance::make(alloc, program, input)?;
+    let mut run = Run::start(alloc, &instance)?;
     let mut stats = Stats::none();
     loop {
-        match run.advance(program, input)? {
+        match run.advance(&instance)? {
             Pause::Finished => return Ok(finished(run, stats)),
             Pause::Trapped(trap) => return Ok(trapped(run, trap, stats)),
-            Pause::AtConstruct(construct) => {
-                let came = run_construct(alloc, program, input, construct, &mut run)?;
+            Pause::AtConstruct { construct, .. } => {
+                let came = run_construct(alloc, &instance, construct, &mut run)?;
                 stats = stats.plus(came.stats);
                 match came.settled {
-                    Settled::Carried(value) => run.settle(program, value),
+                    Settled::Carried(value) => run.settle(&instance, construct, value),
                     Settled::Trapped(trap) => return Ok(trapped(run, trap, stats)),
                 }
             }

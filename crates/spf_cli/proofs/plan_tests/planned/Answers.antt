@@ -4,7 +4,7 @@ use Rattle.std.specs.Result.{result_ok}
 use Rattle.spf_ast.specs.Construct.{Construct, fold, pair, constructs_in}
 use Rattle.spf_ast.specs.ConstructView.{construct}
 use Rattle.spf_ast.specs.View.{block, program}
-use Rattle.spf_exec.specs.BlockRuns.{IsLayoutOf}
+use Rattle.spf_layout.specs.Layout.{IsLayoutOf}
 use Rattle.spf_check.specs.Plans.{AreBlocksOf}
 use Rattle.spf_cli.proofs.plan_tests.planned.Goals as goal
 

@@ -1,10 +1,8 @@
 use Rattle.std.proofs.Common.{◌≡◌, inr, ◌+◌, List, [], ◌∷◌, ◌++◌, length, sym, ap, ◌∙◌, subst, arith, append_assoc}
 use Rattle.std.proofs.lemmas.List.{append-nil}
-use Rattle.spf_ast.specs.View.{program as seen_program}
-use Rattle.spf_exec.specs.Frame.{main_slots}
 use Rattle.spf_chain.specs.declared.task.Task.{Task}
 use Rattle.spf_chain.specs.Chain.{IsChainOf}
-use Rattle.spf_engine.specs.Blocks.{IsFiledTo, answers}
+use Rattle.spf_engine.specs.Blocks.{IsFiledTo, job_answers}
 use Rattle.spf_engine.proofs.Filing.{next-is, all-filed, same-on, one-more, begun-way, no-rest}
 use Rattle.spf_engine.proofs.blocks.file_all.Goals as goal
 
@@ -39,11 +37,9 @@ loop-task-preserved c =
       len = omega arith;
       filed = subst (IsFiledTo c.file_task.new.chain) (ap (λ n. n + 1) at ∙ sym more) c.file_task.ensures.filed;
       out = λ k t behind there. let before = inv.out k t (omega (arith, behind, more)) there in (before.0, c.file_task.ensures.others t before.1 (let e = before.0 in omega (arith, behind, more, at, e)));
-      answers = subst (λ low. IsChainOf (λ n w. answers (seen_program c.args.job.now.program.now) c.args.job.now.input.now c.args.job.now.construct (main_slots (seen_program c.args.job.now.program.now) c.args.frame.now) low n w) c.file_task.new.chain) inv.same.low
-          (subst (λ slots. IsChainOf (λ n w. answers (seen_program c.args.job.now.program.now) c.args.job.now.input.now c.args.job.now.construct slots c.loop-task.chain.low n w) c.file_task.new.chain) inv.kept c.file_task.ensures.answers);
+      answers = subst (λ low. IsChainOf (job_answers c.args.job.now low) c.file_task.new.chain) inv.same.low c.file_task.ensures.answers;
       same = same-on inv.same c.file_task.ensures.same;
       way = inr c.file_task.ensures.way;
-      kept = c.file_task.ensures.kept ∙ inv.kept;
       size = c.file_task.ensures.size ∙ inv.size;
     }
 

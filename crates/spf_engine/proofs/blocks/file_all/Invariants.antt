@@ -1,6 +1,4 @@
 use Rattle.std.proofs.Common.{◌≡◌, ◌⊎◌, ◌++◌, length}
-use Rattle.spf_ast.specs.View.{program as seen_program}
-use Rattle.spf_exec.specs.Frame.{main_slots}
 use Rattle.spf_chain.specs.Chain.{IsChainOf}
 use Rattle.spf_engine.specs.Blocks.{job_answers, IsFiledTo, IsUnderWay, AreOutFrom, IsSameFold}
 use Rattle.spf_engine.proofs.blocks.file_all.Given as goal
@@ -13,9 +11,8 @@ invariant-loop-task l = record {
   len : l.task-iterator.rest.len ≡ length l.task-iterator.rest.items;
   filed : IsFiledTo l.chain (length l.yielded);
   out : AreOutFrom l.chain l.fn.tasks.items (length l.yielded);
-  answers : IsChainOf (job_answers l.fn.job l.fn.frame l.fn.chain.low) l.chain;
+  answers : IsChainOf (job_answers l.fn.job l.fn.chain.low) l.chain;
   same : IsSameFold l.fn.chain l.chain;
   way : (length l.yielded ≡ 0) ⊎ IsUnderWay l.chain;
-  kept : main_slots (seen_program l.fn.job.program.now) l.frame ≡ main_slots (seen_program l.fn.job.program.now) l.fn.frame;
   size : length l.frame ≡ length l.fn.frame;
 }

@@ -1,7 +1,6 @@
 use Rattle.std.proofs.Common.{◌≡◌, inl, inr, ◌+◌, pos, ◌+ℤ◌, refl, sym, ap, ◌∙◌, subst, arith}
-use Rattle.spf_ast.specs.View.{program as seen_program}
 use Rattle.spf_chain.specs.Chain.{ChainValue, history, came_home, after, IsOut}
-use Rattle.spf_engine.specs.Blocks.{answers, job_answers, IsFiledTo}
+use Rattle.spf_engine.specs.Blocks.{job_answers, IsFiledTo}
 use Rattle.spf_engine.proofs.Filing.{coming, waits, ends, IsAgain, again, IsFurther, further-second, rerun-here, front-further, trapped-then}
 use Rattle.spf_engine.proofs.blocks.file_task.Goals as goal
 
@@ -13,7 +12,7 @@ returns-in-Waiting-clause-filed c =
 
 pub returns-in-Waiting-clause-answers : goal.returns-in-Waiting-clause-answers
 returns-in-Waiting-clause-answers c =
-    c.file.ensures.answers (job_answers c.args.job.now c.args.frame.now c.args.chain.now.low) c.requires.answers (c.run_task-stop.ensures.answer c.args.chain.now.low c.requires.out.number)
+    c.file.ensures.answers (job_answers c.args.job.now c.args.chain.now.low) c.requires.answers (c.run_task-stop.ensures.answer c.args.chain.now.low c.requires.out.number)
 
 pub returns-in-Ended-clause-filed : goal.returns-in-Ended-clause-filed
 returns-in-Ended-clause-filed c =
@@ -23,7 +22,7 @@ returns-in-Ended-clause-filed c =
 
 pub returns-in-Ended-clause-answers : goal.returns-in-Ended-clause-answers
 returns-in-Ended-clause-answers c =
-    c.file.ensures.answers (job_answers c.args.job.now c.args.frame.now c.args.chain.now.low) c.requires.answers (c.run_task-stop.ensures.answer c.args.chain.now.low c.requires.out.number)
+    c.file.ensures.answers (job_answers c.args.job.now c.args.chain.now.low) c.requires.answers (c.run_task-stop.ensures.answer c.args.chain.now.low c.requires.out.number)
 
 -- where a block ran again, the chain is further, and under way
 further : (c : goal.After-file-in-Rerun) → IsFurther c.file-in-Rerun.new.self c.args.task.block
@@ -48,16 +47,15 @@ returns-in-Rerun-clause-way c = (further c).1
 pub returns-in-Rerun-clause-answers : goal.returns-in-Rerun-clause-answers
 returns-in-Rerun-clause-answers c =
     let low = c.args.chain.now.low in
-    let p = seen_program c.args.job.now.program.now in
     let home = came_home c.args.chain.now c.args.task c.run_task-stop.result in
     let again = c.in-Rerun.again in
-    let f = job_answers c.args.job.now c.args.frame.now low in
+    let f = job_answers c.args.job.now low in
     let sent = c.file.ensures.state ∙ ap (after home) c.in-Rerun.is in
     let out = (c.file.ensures.out again).1 (inr c.in-Rerun.is) in
     let number : again.number ≡ low +ℤ pos again.block = out.number ∙ ap (λ (x : ChainValue). x.low +ℤ pos again.block) sent in
     let first = c.file.ensures.answers f c.requires.answers (c.run_task-stop.ensures.answer low c.requires.out.number) in
     c.file-in-Rerun.ensures.answers f first
-    (ap (λ slots. answers p c.args.job.now.input.now c.args.job.now.construct slots low again.block again.carried) (sym c.run_task-stop.ensures.kept) ∙ c.run_task-stop-in-Rerun.ensures.answer low number)
+    (c.run_task-stop-in-Rerun.ensures.answer low number)
 
 pub returns-in-Rerun-clause-others : goal.returns-in-Rerun-clause-others
 returns-in-Rerun-clause-others c t out later =

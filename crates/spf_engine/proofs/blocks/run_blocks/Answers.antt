@@ -1,16 +1,14 @@
 use Rattle.std.proofs.Common.{◌≡◌, ◌+◌, ◌-◌, length, map, drop, sym, ap, ◌∙◌, subst, arith, rules, w64, FitsSigned, to_z, of_z}
 use Rattle.std.proofs.lemmas.Int.{to_z-of_z}
-use Rattle.spf_ast.specs.View.{program as seen_program}
-use Rattle.spf_exec.specs.Frame.{main_slots}
 use Rattle.spf_chain.specs.Validation.{guesses_for, all_validated, all_settled, results_of}
 use Rattle.spf_chain.specs.Chain.{ChainValue}
-use Rattle.spf_engine.specs.Blocks.{seen_guess, job_answers, answers, fold_guesses, chain_guesses, counts_of, paired, real_values, IsFiledTo}
+use Rattle.spf_engine.specs.Blocks.{seen_guess, job_answers, fold_guesses, chain_guesses, counts_of, paired, real_values, IsFiledTo}
 use Rattle.spf_engine.proofs.Starting.{guess-count, same-guesses, for-count, place-count, task-count, are-out, filed-none, validated-count}
 use Rattle.spf_engine.proofs.blocks.run_blocks.Goals as goal
 
 pub start-requires-clause-few : goal.start-requires-clause-few
 start-requires-clause-few c =
-    let g : map seen_guess c.in_ok-guesses.guesses.items ≡ fold_guesses c.args.job.now c.in_ok-frame.frame c.args.header = c.in_ok-guesses.ensures.guesses in
+    let g : map seen_guess c.in_ok-guesses.guesses.items ≡ fold_guesses c.args.job.now c.args.header = c.in_ok-guesses.ensures.guesses in
     let count = guess-count c.in_ok-guesses.guesses.items _ (c.args.header.blocks - 1) g in
     let slice = ap length c.as_slice.ensures.value in
     let few = c.requires.few in
@@ -18,7 +16,7 @@ start-requires-clause-few c =
 
 pub start-requires-clause-fits : goal.start-requires-clause-fits
 start-requires-clause-fits c =
-    let g : map seen_guess c.in_ok-guesses.guesses.items ≡ fold_guesses c.args.job.now c.in_ok-frame.frame c.args.header = c.in_ok-guesses.ensures.guesses in
+    let g : map seen_guess c.in_ok-guesses.guesses.items ≡ fold_guesses c.args.job.now c.args.header = c.in_ok-guesses.ensures.guesses in
     let count = guess-count c.in_ok-guesses.guesses.items _ (c.args.header.blocks - 1) g in
     let slice = ap length c.as_slice.ensures.value in
     let some = c.requires.some in
@@ -43,8 +41,8 @@ file_all-requires-clause-answers c = c.in_ok-chain.ensures.answers _
 
 pub count_blocks-stats-requires-clause-few : goal.count_blocks-stats-requires-clause-few
 count_blocks-stats-requires-clause-few c =
-    let f = job_answers c.args.job.now c.take_guesses.new.frame c.in_ok-chain.chain.low in
-    let g : map seen_guess c.in_ok-guesses.guesses.items ≡ fold_guesses c.args.job.now c.in_ok-frame.frame c.args.header = c.in_ok-guesses.ensures.guesses in
+    let f = job_answers c.args.job.now c.in_ok-chain.chain.low in
+    let g : map seen_guess c.in_ok-guesses.guesses.items ≡ fold_guesses c.args.job.now c.args.header = c.in_ok-guesses.ensures.guesses in
     let count = guess-count c.in_ok-guesses.guesses.items _ (c.args.header.blocks - 1) g in
     let slice = ap length c.as_slice.ensures.value in
     let guesses : c.file_all.new.chain.guesses ≡ guesses_for c.as_slice.result.now = c.file_all.ensures.same.guesses ∙ ap (λ (x : ChainValue). x.guesses) c.in_ok-chain.ensures.chain in
@@ -58,7 +56,7 @@ count_blocks-stats-requires-clause-few c =
 
 pub count_blocks-stats-requires-clause-enough : goal.count_blocks-stats-requires-clause-enough
 count_blocks-stats-requires-clause-enough c =
-    let f = job_answers c.args.job.now c.take_guesses.new.frame c.in_ok-chain.chain.low in
+    let f = job_answers c.args.job.now c.in_ok-chain.chain.low in
     let slice = ap length c.as_slice.ensures.value in
     let again = ap length c.as_slice-2.ensures.value in
     let guesses : c.file_all.new.chain.guesses ≡ guesses_for c.as_slice.result.now = c.file_all.ensures.same.guesses ∙ ap (λ (x : ChainValue). x.guesses) c.in_ok-chain.ensures.chain in
@@ -70,24 +68,20 @@ count_blocks-stats-requires-clause-enough c =
 
 pub returns-clause-came : goal.returns-clause-came
 returns-clause-came c =
-    let p = seen_program c.args.job.now.program.now in
     let low = c.args.header.low in
     let fits : FitsSigned w64 c.args.header.low = search rules in
     let start_fits : FitsSigned w64 c.args.header.start = search rules in
-    let f = job_answers c.args.job.now c.take_guesses.new.frame c.in_ok-chain.chain.low in
+    let f = job_answers c.args.job.now c.in_ok-chain.chain.low in
     let low_is : c.in_ok-chain.chain.low ≡ low = ap (λ (x : ChainValue). x.low) c.in_ok-chain.ensures.chain ∙ to_z-of_z w64 low fits in
     let start_is : c.file_all.new.chain.start ≡ c.args.header.start
     = c.file_all.ensures.same.start ∙ ap (λ (x : ChainValue). x.start) c.in_ok-chain.ensures.chain ∙ to_z-of_z w64 c.args.header.start start_fits in
-    let slots : main_slots p c.take_guesses.new.frame ≡ main_slots p c.args.entry.now = c.in_ok-guesses.ensures.kept ∙ ap (main_slots p) c.in_ok-frame.ensures.equal in
-    let same : f ≡ job_answers c.args.job.now c.args.entry.now low
-    = ap (λ x. answers p c.args.job.now.input.now c.args.job.now.construct x c.in_ok-chain.chain.low) slots
-    ∙ ap (λ n. answers p c.args.job.now.input.now c.args.job.now.construct (main_slots p c.args.entry.now) n) low_is in
-    let g : map seen_guess c.in_ok-guesses.guesses.items ≡ fold_guesses c.args.job.now c.args.entry.now c.args.header
-    = c.in_ok-guesses.ensures.guesses ∙ ap (λ x. fold_guesses c.args.job.now x c.args.header) c.in_ok-frame.ensures.equal in
-    let guesses : c.file_all.new.chain.guesses ≡ chain_guesses (fold_guesses c.args.job.now c.args.entry.now c.args.header)
+    let same : f ≡ job_answers c.args.job.now low = ap (job_answers c.args.job.now) low_is in
+    let g : map seen_guess c.in_ok-guesses.guesses.items ≡ fold_guesses c.args.job.now c.args.header
+    = c.in_ok-guesses.ensures.guesses in
+    let guesses : c.file_all.new.chain.guesses ≡ chain_guesses (fold_guesses c.args.job.now c.args.header)
     = c.file_all.ensures.same.guesses ∙ ap (λ (x : ChainValue). x.guesses) c.in_ok-chain.ensures.chain ∙ ap guesses_for c.as_slice.ensures.value
-    ∙ same-guesses c.in_ok-guesses.guesses.items (fold_guesses c.args.job.now c.args.entry.now c.args.header) g in
-    let history : c.history.result.now ≡ all_validated (job_answers c.args.job.now c.args.entry.now low) c.args.header.start (chain_guesses (fold_guesses c.args.job.now c.args.entry.now c.args.header))
+    ∙ same-guesses c.in_ok-guesses.guesses.items (fold_guesses c.args.job.now c.args.header) g in
+    let history : c.history.result.now ≡ all_validated (job_answers c.args.job.now low) c.args.header.start (chain_guesses (fold_guesses c.args.job.now c.args.header))
     = c.history.ensures.whole f c.file_all.ensures.answers c.file_all.ensures.ended ∙ (λ i. all_validated (same i) (start_is i) (guesses i)) in
     record {
       settled = c.finish.ensures.whole f c.file_all.ensures.answers ∙ (λ i. all_settled (same i) (start_is i) (guesses i));
