@@ -1,47 +1,32 @@
 -- Block runs and guesses, from performances on memories that emit nothing.
-use Rattle.std.proofs.Common.{◌≡◌, ℕ, suc, List, [], ◌∷◌, ◌++◌, length, replicate, Option, None, Some, Result, Ok, Err, ℤ, refl, sym, ap, subst, ◌∙◌, append-nil}
-use Rattle.std.specs.Prelude.{◌==◌, MatchOption}
-use Rattle.spf_ast.specs.declared.outcome.Trap.{Trap}
+use Rattle.std.proofs.Common.{◌≡◌, ℕ, List, [], ◌∷◌, ◌++◌, length, Option, None, Result, Ok, Err, ℤ, refl, sym, ap, subst, ◌∙◌, append-nil}
+use Rattle.std.proofs.lemmas.Bool.Decides.{Decides-eqb}
+use Rattle.std.specs.Prelude.{◌==◌, ◌&&◌}
+use Rattle.std.specs.Ordering.{int_eq}
 use Rattle.spf_ast.specs.Event.{Event, Load, Store, Turn, word_at}
-use Rattle.spf_ast.specs.Interaction.{Interaction, Answer, AskLoad, AskStore, AskTurn, Performed, Ended, Stopped, Misfit, perform, every_cell, State, Ending, Value, Trapped, Meaning}
+use Rattle.spf_ast.specs.Interaction.{Interaction, Answer, AskLoad, AskStore, AskTurn, Performed, Ended, Stopped, Misfit, perform, every_cell, State, Ending, Value, Trapped, result_of, Meaning}
 use Rattle.spf_ast.specs.declared.syntax.Part.{Part}
-use Rattle.spf_ast.specs.Syntax.{Program, Function}
-use Rattle.spf_ast.specs.Meaning.{Extent, Environment, environment_before, with_slots, in_own_slots}
+use Rattle.spf_ast.specs.declared.syntax.Part.TheVariants.{Predictor}
+use Rattle.spf_ast.specs.Carried.{no_value}
+use Rattle.spf_ast.specs.Syntax.{Program}
 use Rattle.spf_ast.specs.Program.{environment_of, extents_of}
-use Rattle.spf_ast.specs.Construct.{Construct, Header, part_means, header_means}
-use Rattle.spf_ast.specs.Plain.{plain_answer, plain_memory}
-use Rattle.spf_ast.specs.Silence.{with_output, LeavesOutput}
+use Rattle.spf_ast.specs.Construct.{Construct, fold, pair, part_means}
+use Rattle.spf_ast.specs.BlockRun.{block_setup, part_asks}
+use Rattle.spf_ast.specs.Plain.{plain_memory, unshared_answer}
+use Rattle.spf_ast.specs.Silence.{PartIsSilent, FunctionsAreSilent, with_output, LeavesOutput}
 use Rattle.spf_ast.proofs.Leaving.{calls-leave, part-leaves}
 use Rattle.spf_ast.proofs.Performing.{perform-bind, carry}
-use Rattle.spf_ast.proofs.PlainRuns.{plain_run, only_run, chosen}
+use Rattle.spf_ast.proofs.PlainRuns.{chosen}
 use Rattle.spf_exec.specs.declared.memory.Halt.{Halt}
 use Rattle.spf_exec.specs.declared.memory.Halt.TheVariants as h
 use Rattle.spf_exec.specs.declared.pieces.Header as code_header
 use Rattle.spf_exec.specs.Pieces.{header_result}
 use Rattle.spf_exec.specs.Performs.{Performs, performed_as, IsDecided, LackIsAllowed}
-use Rattle.spf_exec.specs.QuietMemory.{LeadsQuietly, LeadsUnstored, HasNoStore}
-use Rattle.spf_exec.specs.BlockRuns.{IsSilentPart, PerformsOver, StoresNothing, IsGuess, run_asks, no_cell}
+use Rattle.spf_exec.specs.QuietMemory.{LeadsQuietly}
+use Rattle.spf_exec.specs.ReadMemory.{LeadsUnstored, IsReadOf}
+use Rattle.spf_exec.specs.BlockRuns.{PerformsOver}
 use Rattle.spf_exec.specs.PlainMemory.{LeadsPlainly, IsPlainOutcome}
 use Rattle.spf_exec.proofs.Outcome.{never_stops, plain_outcome}
-
--- what a performance with one output says of the performance with none, over slots of its own
-same_stop : (x : Performed (Ending ℤ)) (full : List ℕ) (own slots : List ℤ) (r : Result ℤ Halt) → IsDecided r → (rest : List Event)
-    → carry x (λ e es. Ended (with_output [] e) es) ≡ x
-    → carry x (λ e es. Ended (with_output full e) es) ≡ performed_as r (record { slots = own; output = full }) rest
-    → carry x (λ e es. Ended (with_slots slots e) es) ≡ performed_as r (record { slots = slots; output = [] }) rest
-same_stop (Ended (Value v s) es) full own slots (Ok w) d rest e p = cc
-same_stop (Ended (Trapped t o) es) full own slots (Ok w) d rest e p = cc
-same_stop (Stopped n es) full own slots (Ok w) d rest e p = cc
-same_stop Misfit full own slots (Ok w) d rest e p = cc
-same_stop (Ended (Value v s) es) full own slots (Err (h.Trapped u)) d rest e p = cc
-same_stop (Ended (Trapped t o) es) full own slots (Err (h.Trapped u)) d rest e p = cc
-same_stop (Stopped n es) full own slots (Err (h.Trapped u)) d rest e p = cc
-same_stop Misfit full own slots (Err (h.Trapped u)) d rest e p = cc
-same_stop (Ended (Value v s) es) full own slots (Err (h.Cancelled m)) d rest e p = cc
-same_stop (Ended (Trapped t o) es) full own slots (Err (h.Cancelled m)) d rest e p = cc
-same_stop (Stopped n es) full own slots (Err (h.Cancelled m)) d rest e p = cc
-same_stop Misfit full own slots (Err (h.Cancelled m)) d rest e p = cc
-same_stop x full own slots (Err h.NoMemory) d rest e p = absurd d
 
 -- the slots at an end
 abbrev slots_at : {A : Type 0} → Performed (Ending A) → List ℤ
@@ -87,70 +72,24 @@ with_any_output {stop = stop} form l slots full out {own = own} {a = a} {r = r} 
       ∙ same_output x full out own r d rest all;
 }
 
--- a form that leaves the output alone, performed with any output, is performed with none over slots of its own
-pub over_copy : {M : Type 0} {leads : List Event → M → M → Type 0} {stop : M → Option ℕ} {may_lack : Type 0} (form : Meaning ℤ) → LeavesOutput form → (slots : List ℤ) (full : List ℕ) {own : List ℤ} {a b : M} {r : Result ℤ Halt}
-    → Performs leads stop may_lack (form (record { slots = slots; output = full })) a b r (record { slots = own; output = full })
-    → Performs leads stop may_lack (in_own_slots slots form (record { slots = slots; output = [] })) a b r (record { slots = slots; output = [] })
-over_copy {stop = stop} form l slots full {own = own} {a = a} {r = r} p = record {
-  events = p.events;
-  led = p.led;
-  lacking = p.lacking;
-  performed = λ d rest.
-      let es = p.events ++ rest in
-      let silent = form (record { slots = slots; output = [] }) in
-      let x = perform every_cell [] (stop a) silent es in
-      let none : carry x (λ e es. Ended (with_output [] e) es) ≡ x =
-      sym (perform-bind every_cell [] (stop a) silent (λ e. Answer (with_output [] e)) es) ∙ ap (λ t. perform every_cell [] (stop a) t es) (sym (l.same slots [])) in
-      let all : carry x (λ e es. Ended (with_output full e) es) ≡ performed_as r (record { slots = own; output = full }) rest =
-      sym (perform-bind every_cell [] (stop a) silent (λ e. Answer (with_output full e)) es) ∙ ap (λ t. perform every_cell [] (stop a) t es) (sym (l.same slots full)) ∙ p.performed d rest in
-      perform-bind every_cell [] (stop a) silent (λ e. Answer (with_slots slots e)) es ∙ same_stop x full own slots r d rest none all;
-}
-
 -- what a memory does that emits nothing, the memory does that is lent to it
 pub unquiet : {S M N A : Type 0} {leads : List Event → M → M → Type 0} {stop : M → Option ℕ} {output : M → List ℕ} {lent : S → M} {place : S → N} {may_lack : Type 0} {t : Interaction (Ending A)} {a b : S} {r : Result A Halt} {s : State}
     → Performs (LeadsQuietly leads output lent place) (λ m. stop (lent m)) may_lack t a b r s → Performs leads stop may_lack t (lent a) (lent b) r s
 unquiet p = record { events = p.events; led = p.led.led; lacking = p.lacking; performed = p.performed }
 
--- a part that emits nothing, performed so, is a block run
-pub quiet_run : {S M N : Type 0} {leads : List Event → M → M → Type 0} {stop : M → Option ℕ} (output : M → List ℕ) (lent : S → M) (place : S → N) (p : Program) (input : List ℕ) (o : Option Construct) (part : Part) (slots : List ℤ) (full : List ℕ) (n v : ℤ) {a b : S} {r d : Result ℤ Halt} → r ≡ d
-    → IsSilentPart p o part
-    → MatchOption o (Unit {0}) (λ c. PerformsOver (LeadsQuietly leads output lent place) (λ m. stop (lent m)) ⊥ (part_means (environment_of p input) c part n v (record { slots = slots; output = full })) a b r full)
-    → Performs leads stop ⊥ (run_asks p input o part slots n v) (lent a) (lent b) d (record { slots = slots; output = [] })
-quiet_run output lent place p input None part slots full n v e s q = absurd s
-quiet_run {leads = leads} {stop = stop} output lent place p input (Some c) part slots full n v {a = a} {b = b} e s q =
-    subst (λ x. Performs leads stop ⊥ (run_asks p input (Some c) part slots n v) (lent a) (lent b) x (record { slots = slots; output = [] })) e
-    (unquiet (over_copy (part_means (environment_of p input) c part n v)
-    (part-leaves (environment_of p input) (calls-leave input (extents_of p (length input)) p.functions s.1 (length p.functions)) c part s.0 n v) slots full q.performs))
+-- a part that holds no `emit` leaves the output alone
+part_leaves : (p : Program) (input : List ℕ) (c : Construct) (part : Part) (n v : ℤ) → PartIsSilent c part → FunctionsAreSilent p.functions → LeavesOutput (part_means (environment_of p input) c part n v)
+part_leaves p input c part n v silent functions =
+    part-leaves (environment_of p input) (calls-leave input (extents_of p (length input)) p.functions functions (length p.functions)) c part silent n v
 
--- and the memory that is lent stays the same one, with the same output
-pub quiet_led : {S M N : Type 0} (leads : List Event → M → M → Type 0) (stop : M → Option ℕ) (output : M → List ℕ) (lent : S → M) (place : S → N) (p : Program) (input : List ℕ) (o : Option Construct) (part : Part) (slots : List ℤ) (full : List ℕ) (n v : ℤ) {a b : S} (r : Result ℤ Halt)
-    → IsSilentPart p o part
-    → MatchOption o (Unit {0}) (λ c. PerformsOver (LeadsQuietly leads output lent place) (λ m. stop (lent m)) ⊥ (part_means (environment_of p input) c part n v (record { slots = slots; output = full })) a b r full)
-    → (place b ≡ place a) × (output (lent b) ≡ output (lent a))
-quiet_led leads stop output lent place p input None part slots full n v r s q = absurd s
-quiet_led leads stop output lent place p input (Some c) part slots full n v r s q = (q.performs.led.same_place, q.performs.led.same_output)
-
--- a guess, performed over cells that are only read
-pub read_run : {S : Type 0} {leads : List Event → S → S → Type 0} {stop : S → Option ℕ} (p : Program) (input : List ℕ) (o : Option Construct) (part : Part) (slots : List ℤ) (full : List ℕ) (n v : ℤ) {a b : S} {r : Result ℤ Halt}
-    → IsSilentPart p o part
-    → MatchOption o (Unit {0}) (λ c. PerformsOver leads stop ⊥ (part_means (environment_of p input) c part n v (record { slots = slots; output = full })) a b r full)
-    → Performs leads stop ⊥ (run_asks p input o part slots n v) a b r (record { slots = slots; output = [] })
-read_run p input None part slots full n v s q = absurd s
-read_run p input (Some c) part slots full n v s q =
-    over_copy (part_means (environment_of p input) c part n v)
-    (part-leaves (environment_of p input) (calls-leave input (extents_of p (length input)) p.functions s.1 (length p.functions)) c part s.0 n v) slots full q.performs
-
--- what the code's parts make up is the environment of the program
-pub same_environment : (p : Program) (input : List ℕ) (fs : List Function) (n : ℕ) (es : List Extent) → fs ≡ p.functions → n ≡ length p.functions → es ≡ extents_of p (length input) → environment_before input es fs n ≡ environment_of p input
-same_environment p input fs n es e1 e2 e3 = λ i. environment_before input (e3 i) (e1 i) (e2 i)
-
--- a part, performed in the environment of the program and from these slots
-pub part_along : {M : Type 0} {leads : List Event → M → M → Type 0} {stop : M → Option ℕ} {may_lack : Type 0} {g d : Environment} {a b : M} {r : Result ℤ Halt} {own : List ℤ} {out : List ℕ} (c : Construct) (part : Part) (n v : ℤ) (slots held : List ℤ) (full : List ℕ) → g ≡ d → slots ≡ held
-    → Performs leads stop may_lack (part_means g c part n v (record { slots = slots; output = full })) a b r (record { slots = own; output = out })
-    → PerformsOver leads stop may_lack (part_means d c part n v (record { slots = held; output = full })) a b r out
-part_along {leads = leads} {stop = stop} {may_lack = may_lack} {a = a} {b = b} {r = r} {own = own} {out = out} c part n v slots held full e f p = record {
+-- a part that emits nothing, performed with any output, is a block run
+pub quiet_run : {S M N : Type 0} {leads : List Event → M → M → Type 0} {stop : M → Option ℕ} {output : M → List ℕ} {lent : S → M} {place : S → N} (p : Program) (input : List ℕ) (c : Construct) (part : Part) (slots own : List ℤ) (full : List ℕ) (n v : ℤ) {a b : S} {r : Result ℤ Halt}
+    → PartIsSilent c part → FunctionsAreSilent p.functions
+    → Performs (LeadsQuietly leads output lent place) (λ m. stop (lent m)) ⊥ (part_means (environment_of p input) c part n v (record { slots = slots; output = full })) a b r (record { slots = own; output = full })
+    → PerformsOver leads stop ⊥ (part_asks p c part (block_setup input slots n v)) (lent a) (lent b) r []
+quiet_run p input c part slots own full n v silent functions q = record {
   slots = own;
-  performs = subst (λ (x : Interaction (Ending ℤ)). Performs leads stop may_lack x a b r (record { slots = own; output = out })) (λ i. part_means (e i) c part n v (record { slots = f i; output = full })) p;
+  performs = unquiet (with_any_output (part_means (environment_of p input) c part n v) (part_leaves p input c part n v silent functions) slots full [] q);
 }
 
 -- on a memory of its own such a form comes to its plain outcome, whatever the output is
@@ -160,14 +99,6 @@ pub quiet_outcome : {S M N A : Type 0} (cells : M → List ℤ) (output : M → 
 quiet_outcome cells output lent place form l slots full out own a b r p =
     plain_outcome cells (form (record { slots = slots; output = out })) (lent a) (lent b) r (record { slots = own; output = out }) ⊥
     (unquiet (with_any_output form l slots full out p))
-
--- a header, performed in the environment of the program and from these slots
-pub header_along : {M : Type 0} {leads : List Event → M → M → Type 0} {stop : M → Option ℕ} {may_lack : Type 0} {g d : Environment} {a b : M} {r : Result Header Halt} (c : Construct) (slots held : List ℤ) (full : List ℕ) → g ≡ d → slots ≡ held
-    → Performs leads stop may_lack (header_means g c (record { slots = slots; output = full })) a b r (record { slots = slots; output = full })
-    → Performs leads stop may_lack (header_means d c (record { slots = held; output = full })) a b r (record { slots = held; output = full })
-header_along {leads = leads} {stop = stop} {may_lack = may_lack} {g = g} {a = a} {b = b} {r = r} c slots held full e f p =
-    subst (λ (x : Environment). Performs leads stop may_lack (header_means x c (record { slots = held; output = full })) a b r (record { slots = held; output = full })) e
-    (subst (λ (x : List ℤ). Performs leads stop may_lack (header_means g c (record { slots = x; output = full })) a b r (record { slots = x; output = full })) f p)
 
 -- the cells at a plain outcome
 pub plain_cells : {A : Type 0} (r : Result A Halt) (t : Interaction (Ending A)) (m n : List ℤ) (s : State) → IsDecided r → IsPlainOutcome r t m n s → n ≡ plain_memory t m
@@ -185,63 +116,53 @@ header_decided (Err h.NoMemory) l = l
 
 -- ---- guesses
 
--- how many turns a tree makes over these cells
-abbrev guess_turns : {A : Type 0} → Interaction A → List ℤ → ℕ
-guess_turns (Answer a) m = 0
-guess_turns (AskLoad c k) m = guess_turns (k (word_at m c)) m
-guess_turns (AskStore c v t) m = 0
-guess_turns (AskTurn t) m = suc (guess_turns t m)
+-- a performance over cells that are only read comes to the answer with no shared cell
+unshared : {A : Type 0} (t : Interaction A) (m : List ℤ) (es : List Event) (a : A) → IsReadOf m es → perform every_cell [] None t es ≡ Ended a [] → a ≡ unshared_answer t m
+unshared (Answer b) m [] a r e = cc
+unshared (Answer b) m (f ∷ es) a r e = cc
+unshared (AskLoad c k) m [] a r e = cc
+unshared (AskLoad c k) m (Load d w ∷ es) a r e =
+    let found = chosen (c == d) (perform every_cell [] None (k w) es) a [] e in
+    let word : w ≡ word_at m c = r.0 ∙ ap (word_at m) (sym ((Decides-eqb c d).0 found.0)) in
+    unshared (k w) m es a r.1 found.1 ∙ ap (λ x. unshared_answer (k x) m) word
+unshared (AskLoad c k) m (Store d w ∷ es) a r e = cc
+unshared (AskLoad c k) m (Turn n ∷ es) a r e = cc
+unshared (AskStore c v t) m [] a r e = cc
+unshared (AskStore c v t) m (Load d w ∷ es) a r e = cc
+unshared (AskStore c v t) m (Store d w ∷ es) a r e = unshared t m es a r (chosen ((c == d) && int_eq v w) _ a [] e).1
+unshared (AskStore c v t) m (Turn n ∷ es) a r e = cc
+unshared (AskTurn t) m [] a r e = cc
+unshared (AskTurn t) m (Load d w ∷ es) a r e = cc
+unshared (AskTurn t) m (Store d w ∷ es) a r e = cc
+unshared (AskTurn t) m (Turn n ∷ es) a r e = unshared t m es a r e
 
--- with no shared cell, the turns alone lead to the plain answer
-turns_alone : {A : Type 0} (t : Interaction A) (m : List ℤ) → StoresNothing t → (rest : List Event) → perform no_cell m None t (replicate (guess_turns t m) (Turn 0) ++ rest) ≡ Ended (plain_answer t m) rest
-turns_alone (Answer a) m s rest = refl
-turns_alone (AskLoad c k) m s rest = turns_alone (k (word_at m c)) m (s (word_at m c)) rest
-turns_alone (AskStore c v t) m s rest = absurd s
-turns_alone (AskTurn t) m s rest = turns_alone t m s rest
+-- what a performance over cells that are only read came to
+abbrev pub IsUnshared : Result ℤ Halt → Interaction (Ending ℤ) → List ℤ → Type 0
+IsUnshared (Ok v) t m = Ok v ≡ result_of (unshared_answer t m)
+IsUnshared (Err (h.Trapped trap)) t m = Err trap ≡ result_of (unshared_answer t m)
+IsUnshared (Err (h.Cancelled seen)) t m = ⊥
+IsUnshared (Err h.NoMemory) t m = ⊥
 
--- events that end a tree that stores nothing have no store
-stores_none : {A : Type 0} (t : Interaction A) (es : List Event) (a : A) → StoresNothing t → perform every_cell [] None t es ≡ Ended a [] → HasNoStore es
-stores_none (Answer b) [] a s e = tt
-stores_none (Answer b) (f ∷ es) a s e = cc
-stores_none (AskLoad c k) [] a s e = cc
-stores_none (AskLoad c k) (Load d w ∷ es) a s e = stores_none (k w) es a (s w) (chosen (c == d) _ a [] e).1
-stores_none (AskLoad c k) (Store d w ∷ es) a s e = cc
-stores_none (AskLoad c k) (Turn n ∷ es) a s e = cc
-stores_none (AskStore c v t) es a s e = absurd s
-stores_none (AskTurn t) [] a s e = cc
-stores_none (AskTurn t) (Load d w ∷ es) a s e = cc
-stores_none (AskTurn t) (Store d w ∷ es) a s e = cc
-stores_none (AskTurn t) (Turn n ∷ es) a s e = stores_none t es a s e
+read_answer : {S : Type 0} (cells : S → List ℤ) (t : Interaction (Ending ℤ)) (a b : S) (e : Ending ℤ) (es : List Event) → LeadsUnstored es (cells a) (cells b) → perform every_cell [] None t (es ++ []) ≡ Ended e [] → e ≡ unshared_answer t (cells a)
+read_answer cells t a b e es l q = unshared t (cells a) es e l.read (ap (perform every_cell [] None t) (sym (append-nil es)) ∙ q)
 
--- so a performance over cells that are only read gives the plain answer
-read_answer : {A : Type 0} (t : Interaction A) (m n : List ℤ) (es : List Event) (a : A) → StoresNothing t → LeadsUnstored es m n → perform every_cell [] None t (es ++ []) ≡ Ended a [] → plain_answer t m ≡ a
-read_answer t m n es a s l e =
-    let ends : perform every_cell [] None t es ≡ Ended a [] = ap (perform every_cell [] None t) (sym (append-nil es)) ∙ e in
-    let none = stores_none t es a s ends in
-    let same = only_run t m es a (record { ends = ends; consistent = l.consistent none; unpolled = l.unpolled none }) in
-    let both : Ended (plain_answer t m) [] ≡ Ended a [] = sym (plain_run t m).ends ∙ ap (perform every_cell [] None t) (sym same) ∙ ends in cc
+came : {S : Type 0} (cells : S → List ℤ) (t : Interaction (Ending ℤ)) (a b : S) (r : Result ℤ Halt) (s : State)
+    → Performs (λ es x y. LeadsUnstored es (cells x) (cells y)) (λ m. None) ⊥ t a b r s → IsUnshared r t (cells a)
+came cells t a b (Ok v) s p = ap result_of (read_answer cells t a b (Value v s) p.events p.led (p.performed tt []))
+came cells t a b (Err (h.Trapped trap)) s p = ap result_of (read_answer cells t a b (Trapped trap s.output) p.events p.led (p.performed tt []))
+came cells t a b (Err (h.Cancelled seen)) s p = never_stops t (p.events ++ []) seen [] (p.performed tt [])
+came cells t a b (Err h.NoMemory) s p = p.lacking
 
--- a performance over cells that are only read, as a guess
-pub guess_value : {S : Type 0} (cells : S → List ℤ) (t : Interaction (Ending ℤ)) (a b : S) (v : ℤ) (s : State) → StoresNothing t
-    → Performs (λ es x y. LeadsUnstored es (cells x) (cells y)) (λ m. None) ⊥ t a b (Ok v) s → IsGuess t (cells a) (Ok v) s
-guess_value cells t a b v s n p = record {
-  turns = guess_turns t (cells a);
-  performed = λ rest. turns_alone t (cells a) n rest ∙ ap (λ e. Ended e rest) (read_answer t (cells a) (cells b) p.events (Value v s) n p.led (p.performed tt []));
-}
+-- a predictor holds no statements, so no `emit`
+predictor_silent : (c : Construct) → PartIsSilent c Predictor
+predictor_silent (fold line head body) = refl
+predictor_silent (pair line head producer consumer) = refl
 
-pub guess_trap : {S : Type 0} (cells : S → List ℤ) (t : Interaction (Ending ℤ)) (a b : S) (trap : Trap) (s : State) → StoresNothing t
-    → Performs {A = ℤ} (λ es x y. LeadsUnstored es (cells x) (cells y)) (λ m. None) ⊥ t a b (Err (h.Trapped trap)) s → IsGuess t (cells a) (Err trap) s
-guess_trap cells t a b trap s n p = record {
-  turns = guess_turns t (cells a);
-  performed = λ rest. turns_alone t (cells a) n rest ∙ ap (λ e. Ended e rest) (read_answer t (cells a) (cells b) p.events (Trapped trap s.output) n p.led (p.performed tt []));
-}
-
--- cells that are only read stop nothing
-pub guess_stop : {S : Type 0} (cells : S → List ℤ) (t : Interaction (Ending ℤ)) (a b : S) (seen : ℕ) (s : State)
-    → Performs {A = ℤ} (λ es x y. LeadsUnstored es (cells x) (cells y)) (λ m. None) ⊥ t a b (Err (h.Cancelled seen)) s → ⊥
-guess_stop cells t a b seen s p = never_stops t (p.events ++ []) seen [] (p.performed tt [])
-
--- where a part is silent its construct is there
-pub there : (p : Program) (o : Option Construct) (part : Part) → IsSilentPart p o part → o ≡ None → ⊥
-there p None part s e = s
-there p (Some c) part s e = cc
+-- a guess, performed over cells that are only read with any output
+pub guess_answer : {S : Type 0} (cells : S → List ℤ) (p : Program) (input : List ℕ) (c : Construct) (slots own : List ℤ) (full : List ℕ) (n : ℤ) (a b : S) (r d : Result ℤ Halt) → r ≡ d
+    → FunctionsAreSilent p.functions
+    → Performs (λ es x y. LeadsUnstored es (cells x) (cells y)) (λ m. None) ⊥ (part_means (environment_of p input) c Predictor n no_value (record { slots = slots; output = full })) a b r (record { slots = own; output = full })
+    → IsUnshared d (part_asks p c Predictor (block_setup input slots n no_value)) (cells a)
+guess_answer cells p input c slots own full n a b r d e functions q =
+    came cells _ a b d _ (subst (λ x. Performs (λ es y z. LeadsUnstored es (cells y) (cells z)) (λ m. None) ⊥ (part_asks p c Predictor (block_setup input slots n no_value)) a b x (record { slots = own; output = [] })) e
+    (with_any_output (part_means (environment_of p input) c Predictor n no_value) (part_leaves p input c Predictor n no_value (predictor_silent c) functions) slots full [] q))

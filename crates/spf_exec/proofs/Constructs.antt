@@ -1,16 +1,10 @@
 -- The top constructs among statements.
-use Rattle.std.proofs.Common.{◌≡◌, ℕ, suc, ◌+◌, ◌<◌, Bool, true, false, List, length, get_or, drop, drop-cons, add-one, refl, sym, ap, ◌∙◌, arith}
-use Rattle.spf_ast.specs.declared.syntax.Stmt.{Stmt}
-use Rattle.spf_ast.specs.Syntax.{Statement, Let, Assign, Store, Fill, Emit, Fail, If, For, While, Do, Fold, Pair, Block, on_line}
-use Rattle.spf_ast.specs.View.{statement, block}
-use Rattle.spf_ast.specs.Construct.{constructs_in, is_construct}
-
--- the block from one place on
-pub next_block : (xs : List Stmt) (i : ℕ) (x : Stmt) → i < length xs → x ≡ get_or xs i x → block (drop i xs) ≡ on_line x.line (statement x.kind) (block (drop (i + 1) xs))
-next_block xs i x h e =
-    ap block (drop-cons xs i x h)
-    ∙ ap (λ (y : Stmt). on_line y.line (statement y.kind) (block (drop (suc i) xs))) (sym e)
-    ∙ ap (λ n. on_line x.line (statement x.kind) (block (drop n xs))) (sym (add-one i))
+use Rattle.std.proofs.Common.{◌≡◌, ℕ, zero, suc, ◌+◌, ◌<◌, ◌≤◌, Bool, true, false, List, ◌∷◌, Some, length, refl, sym, ap, ◌∙◌, arith}
+use Rattle.std.specs.List.{Contains}
+use Rattle.std.specs.Prelude.{if◌then◌else◌}
+use Rattle.spf_ast.specs.Syntax.{Statement, Let, Assign, Store, Fill, Emit, Fail, If, For, While, Do, Fold, Pair, Block, end, on_line}
+use Rattle.spf_ast.specs.Construct.{Construct, construct_of, constructs_in, is_construct}
+use Rattle.spf_ast.specs.Pieces.{construct_first, rest_from, from_construct, statement_count}
 
 -- a statement that is no construct is passed over
 pub constructs-skip : (line : ℕ) (s : Statement) (rest : Block) → is_construct s ≡ false → constructs_in (on_line line s rest) ≡ constructs_in rest
@@ -28,11 +22,11 @@ constructs-skip line (Fold head body) rest e = cc
 constructs-skip line (Pair head producer consumer) rest e = cc
 
 -- how many constructs there are
-abbrev pub one_if : Bool → ℕ
+abbrev one_if : Bool → ℕ
 one_if true = 1
 one_if false = 0
 
-pub constructs-count : (line : ℕ) (s : Statement) (rest : Block) → length (constructs_in (on_line line s rest)) ≡ one_if (is_construct s) + length (constructs_in rest)
+constructs-count : (line : ℕ) (s : Statement) (rest : Block) → length (constructs_in (on_line line s rest)) ≡ one_if (is_construct s) + length (constructs_in rest)
 constructs-count line (Let slot value) rest = omega arith
 constructs-count line (Assign slot value) rest = omega arith
 constructs-count line (Store array index value) rest = omega arith
@@ -45,3 +39,95 @@ constructs-count line (While test most body) rest = omega arith
 constructs-count line (Do f given) rest = omega arith
 constructs-count line (Fold head body) rest = omega arith
 constructs-count line (Pair head producer consumer) rest = omega arith
+
+-- ---- the construct that stands first
+
+here : {A : Type 0} (x : A) (xs : List A) (y : A) → Some x ≡ Some y → Contains (x ∷ xs) y
+here x xs y e = (0, omega arith, cc)
+
+there : {A : Type 0} (x : A) (xs : List A) (y : A) → Contains xs y → Contains (x ∷ xs) y
+there x xs y c = (suc c.0, omega (arith, c.1), c.2)
+
+-- what stands among the statements after one stands among all
+after_one : (line : ℕ) (s : Statement) (rest : Block) (k : Construct) → Contains (constructs_in rest) k → Contains (constructs_in (on_line line s rest)) k
+after_one line (Let slot value) rest k c = c
+after_one line (Assign slot value) rest k c = c
+after_one line (Store array index value) rest k c = c
+after_one line (Fill array low high value) rest k c = c
+after_one line (Emit value) rest k c = c
+after_one line (Fail number) rest k c = c
+after_one line (If test a b) rest k c = c
+after_one line (For slot low high body) rest k c = c
+after_one line (While test most body) rest k c = c
+after_one line (Do f given) rest k c = c
+after_one line (Fold head body) rest k c = there _ (constructs_in rest) k c
+after_one line (Pair head producer consumer) rest k c = there _ (constructs_in rest) k c
+
+at_first : (line : ℕ) (s : Statement) (rest : Block) (k : Construct) → construct_of line s ≡ Some k → Contains (constructs_in (on_line line s rest)) k
+at_first line (Let slot value) rest k e = cc
+at_first line (Assign slot value) rest k e = cc
+at_first line (Store array index value) rest k e = cc
+at_first line (Fill array low high value) rest k e = cc
+at_first line (Emit value) rest k e = cc
+at_first line (Fail number) rest k e = cc
+at_first line (If test a b) rest k e = cc
+at_first line (For slot low high body) rest k e = cc
+at_first line (While test most body) rest k e = cc
+at_first line (Do f given) rest k e = cc
+at_first line (Fold head body) rest k e = here _ (constructs_in rest) k e
+at_first line (Pair head producer consumer) rest k e = here _ (constructs_in rest) k e
+
+-- a construct that stands first from some index on is a top construct
+pub first_contained : (b : Block) (n : ℕ) (k : Construct) → construct_first (rest_from n b) ≡ Some k → Contains (constructs_in b) k
+first_contained end zero k e = cc
+first_contained end (suc n) k e = cc
+first_contained (on_line line s rest) zero k e = at_first line s rest k e
+first_contained (on_line line s rest) (suc n) k e = after_one line s rest k (first_contained rest n k e)
+
+is_one : (line : ℕ) (s : Statement) (k : Construct) → construct_of line s ≡ Some k → one_if (is_construct s) ≡ 1
+is_one line (Let slot value) k e = cc
+is_one line (Assign slot value) k e = cc
+is_one line (Store array index value) k e = cc
+is_one line (Fill array low high value) k e = cc
+is_one line (Emit value) k e = cc
+is_one line (Fail number) k e = cc
+is_one line (If test a b) k e = cc
+is_one line (For slot low high body) k e = cc
+is_one line (While test most body) k e = cc
+is_one line (Do f given) k e = cc
+is_one line (Fold head body) k e = refl
+is_one line (Pair head producer consumer) k e = refl
+
+-- after it there is one construct less
+pub one_less : (b : Block) (n : ℕ) (k : Construct) → construct_first (rest_from n b) ≡ Some k → length (constructs_in (rest_from n b)) ≡ 1 + length (constructs_in (rest_from (n + 1) b))
+one_less end zero k e = cc
+one_less end (suc n) k e = cc
+one_less (on_line line s rest) zero k e = let count = constructs-count line s rest in let one = is_one line s k e in omega (arith, count, one)
+one_less (on_line line s rest) (suc n) k e =
+    let next : suc n + 1 ≡ suc (n + 1) = omega arith in
+    one_less rest n k e ∙ ap (λ m. 1 + length (constructs_in (rest_from m (on_line line s rest)))) (sym next)
+
+-- and there is a statement
+pub within : (b : Block) (n : ℕ) (k : Construct) → construct_first (rest_from n b) ≡ Some k → n < statement_count b
+within end zero k e = cc
+within end (suc n) k e = cc
+within (on_line line s rest) zero k e = omega arith
+within (on_line line s rest) (suc n) k e = let w = within rest n k e in omega (arith, w)
+
+-- there are no more constructs than statements
+pub few_constructs : (b : Block) → length (constructs_in b) ≤ statement_count b
+few_constructs end = omega arith
+few_constructs (on_line line s rest) = let few = few_constructs rest in let count = constructs-count line s rest in let one = at_most_one (is_construct s) in omega (arith, few, count, one)
+  where
+    at_most_one : (b : Bool) → one_if b ≤ 1
+    at_most_one true = omega arith
+    at_most_one false = omega arith
+
+front_or_rest : (c : Bool) (line : ℕ) (s : Statement) (rest : Block) → is_construct s ≡ c → constructs_in (from_construct rest) ≡ constructs_in rest → constructs_in (if c then on_line line s rest else from_construct rest) ≡ constructs_in (on_line line s rest)
+front_or_rest true line s rest e h = refl
+front_or_rest false line s rest e h = h ∙ sym (constructs-skip line s rest e)
+
+-- no construct stands before the first one
+pub constructs_from : (b : Block) → constructs_in (from_construct b) ≡ constructs_in b
+constructs_from end = refl
+constructs_from (on_line line s rest) = front_or_rest (is_construct s) line s rest refl (constructs_from rest)

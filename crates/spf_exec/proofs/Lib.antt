@@ -5,7 +5,8 @@ pub mod Turns
 pub mod Calls
 pub mod Rooms
 pub mod Outcome
-pub mod Cells
+pub mod Within
 pub mod Constructs
+pub mod Leaving
 pub mod BlockRuns
 pub mod Fronts

@@ -6,9 +6,9 @@ use Rattle.spf_ast.specs.Event.{Event, Load, Store, Turn, after}
 use Rattle.spf_ast.specs.Interaction.{Interaction, Answer, AskLoad, AskStore, AskTurn, Performed, Ended, Stopped, Misfit, perform, every_cell, State, Ending, Value, Trapped}
 use Rattle.spf_ast.specs.Plain.{plain_events, plain_answer}
 use Rattle.spf_ast.specs.Plain.{plain_memory}
-use Rattle.spf_ast.specs.Syntax.{Function, Block, Program}
-use Rattle.spf_ast.specs.Meaning.{Extent, environment_before, block_means}
-use Rattle.spf_ast.specs.Program.{extents_of, zeros_of, main_asks, outcome, outcome_from}
+use Rattle.spf_ast.specs.Syntax.{Block, Program}
+use Rattle.spf_ast.specs.Meaning.{Environment, block_means}
+use Rattle.spf_ast.specs.Program.{environment_of, zeros_of, main_asks, outcome, outcome_from}
 use Rattle.spf_ast.proofs.PlainRuns.{plain_run, only_run}
 use Rattle.spf_ast.specs.declared.outcome.Trap.{Trap}
 use Rattle.spf_exec.specs.declared.memory.Halt.{Halt}
@@ -62,11 +62,11 @@ zeros_front (suc size) (x ∷ front) back e =
     λ i. first i ∷ zeros_front size front back rest i
 
 -- where `main` is performed from zeros, it comes to the program's outcome
-pub whole_outcome : (p : Program) (input : List ℕ) (fs : List Function) (n : ℕ) (es : List Extent) (main : Block) (slots cells : List ℤ) (out : List ℕ) (a : Ending (Unit {0})) (after_ : List ℤ)
-    → fs ≡ p.functions → n ≡ length p.functions → es ≡ extents_of p (length input) → main ≡ p.main → slots ≡ replicate (length p.slots) (pos 0) → out ≡ [] → cells ≡ zeros_of p (length input)
-    → plain_answer (block_means (environment_before input es fs n) main (record { slots = slots; output = out })) cells ≡ a
-    → after_ ≡ plain_memory (block_means (environment_before input es fs n) main (record { slots = slots; output = out })) cells
+pub whole_outcome : (p : Program) (input : List ℕ) (g : Environment) (main : Block) (slots cells : List ℤ) (out : List ℕ) (a : Ending (Unit {0})) (after_ : List ℤ)
+    → g ≡ environment_of p input → main ≡ p.main → slots ≡ replicate (length p.slots) (pos 0) → out ≡ [] → cells ≡ zeros_of p (length input)
+    → plain_answer (block_means g main (record { slots = slots; output = out })) cells ≡ a
+    → after_ ≡ plain_memory (block_means g main (record { slots = slots; output = out })) cells
     → outcome_from a after_ ≡ outcome p input
-whole_outcome p input fs n es main slots cells out a after_ e1 e2 e3 e4 e5 e6 e7 answer memory =
-    let tree : block_means (environment_before input es fs n) main (record { slots = slots; output = out }) ≡ main_asks p input = λ i. block_means (environment_before input (e3 i) (e1 i) (e2 i)) (e4 i) (record { slots = e5 i; output = e6 i }) in
-    (λ i. outcome_from (sym answer i) (memory i)) ∙ (λ i. outcome_from (plain_answer (tree i) (e7 i)) (plain_memory (tree i) (e7 i)))
+whole_outcome p input g main slots cells out a after_ e1 e2 e3 e4 e5 answer memory =
+    let tree : block_means g main (record { slots = slots; output = out }) ≡ main_asks p input = λ i. block_means (e1 i) (e2 i) (record { slots = e3 i; output = e4 i }) in
+    (λ i. outcome_from (sym answer i) (memory i)) ∙ (λ i. outcome_from (plain_answer (tree i) (e5 i)) (plain_memory (tree i) (e5 i)))

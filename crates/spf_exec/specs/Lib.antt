@@ -1,8 +1,9 @@
 pub mod MemoryLaws
 pub mod PlainMemory
 pub mod QuietMemory
+pub mod ReadMemory
+pub mod Rooms
 pub mod Performs
-pub mod Frame
+pub mod Leaves
 pub mod BlockRuns
 pub mod Pieces
-pub mod RunErrors

@@ -1,44 +1,48 @@
 -- What it means that code ran one piece of `main`.
-use Rattle.std.specs.Prelude.{◌≡◌, ℕ, ◌+◌, ◌≤◌, List, [], ◌++◌, length, take, drop, slice_set, Option, Some, None, Result, Ok, Err, ℤ}
+use Rattle.std.specs.Prelude.{◌≡◌, ℕ, ◌+◌, ◌≤◌, List, [], ◌++◌, length, take, drop, Some, Result, Ok, Err, ℤ}
 use Rattle.spf_ast.specs.declared.outcome.Trap.{Trap}
+use Rattle.spf_ast.specs.Carried.{Carried, with_carried}
 use Rattle.spf_ast.specs.Interaction.{Interaction, State, Ending, Value, Trapped, Meaning}
 use Rattle.spf_ast.specs.Syntax.{Program, Block, end}
 use Rattle.spf_ast.specs.Meaning.{block_means}
 use Rattle.spf_ast.specs.Plain.{plain_answer, plain_memory}
 use Rattle.spf_ast.specs.Program.{environment_of, cell_count_of, start_of, zeros_of}
-use Rattle.spf_ast.specs.Construct.{Construct, Moment, Header, plainly, header_means, constructs_in}
-use Rattle.spf_ast.specs.Pieces.{statement_count, rest_from, before_construct, from_construct, construct_first, carried_of}
-use Rattle.spf_exec.specs.declared.layout.Layout as code_layout
+use Rattle.spf_ast.specs.Construct.{Construct, Moment, Header, plainly, header_means, constructs_in, carried_of}
+use Rattle.spf_ast.specs.ConstructView.{construct as construct_seen}
+use Rattle.spf_ast.specs.Pieces.{statement_count, rest_from, before_construct, from_construct, construct_first}
+use Rattle.spf_layout.specs.Frame.{frame_size, main_slots}
 use Rattle.spf_exec.specs.declared.memory.Halt.{Halt}
 use Rattle.spf_exec.specs.declared.plain.Plain.{Plain}
 use Rattle.spf_exec.specs.declared.pieces.Header as code_header
 use Rattle.spf_exec.specs.declared.pieces.Pause.{Pause}
 use Rattle.spf_exec.specs.declared.pieces.Pause.TheVariants as pause
-use Rattle.spf_exec.specs.BlockRuns.{IsLayoutOf}
-use Rattle.spf_exec.specs.Frame.{frame_size, main_slots}
 
--- a run that has stopped between two statements of `main`: where its arrays lie, its frame, its cells, its output, and the place of the next statement
+-- a run that has stopped between two statements of `main`: its frame, its cells, its output, the index of the next statement, and how many top constructs it has passed
 pub record Stand : Type 0 where
-  pub layout : code_layout.Layout
   pub frame : List ℤ
   pub cells : List ℤ
   pub output : List ℕ
   pub place : ℕ
+  pub passed : ℕ
 
 -- where a run stands with these parts
-abbrev pub stand : code_layout.Layout → List ℤ → Plain → ℕ → Stand
-stand layout frame memory place = record { layout = layout; frame = frame; cells = memory.cells.items; output = memory.output.items; place = place }
+abbrev pub stand : List ℤ → Plain → ℕ → ℕ → Stand
+stand frame memory place passed = record { frame = frame; cells = memory.cells.items; output = memory.output.items; place = place; passed = passed }
 
 -- cells with these words; a list of another length is cut, or filled up with the cells' own words
 abbrev pub refilled : List ℤ → List ℤ → List ℤ
 refilled cells words = take (length cells) (words ++ drop (length words) cells)
 
--- a run of this program on an input of this length
+-- the statements of `main` that a run has before it
+abbrev pub ahead : Program → Stand → Block
+ahead p s = rest_from s.place p.main
+
+-- a run of this program on an input of this length: the top constructs of `main` are those that it has passed and those ahead of it
 pub record IsRunOf (p : Program) (len : ℕ) (s : Stand) : Type 0 where
-  pub layout : IsLayoutOf p len s.layout
   pub frame : length s.frame ≡ frame_size p
   pub cells : length s.cells ≡ cell_count_of p len
   pub place : s.place ≤ statement_count p.main
+  pub passed : s.passed + length (constructs_in (ahead p s)) ≡ length (constructs_in p.main)
 
 -- a run stands where the plain run of its program begins
 pub record HasBegun (p : Program) (len : ℕ) (s : Stand) : Type 0 where
@@ -51,10 +55,6 @@ pub record HasBegun (p : Program) (len : ℕ) (s : Stand) : Type 0 where
 abbrev pub moment_of : Program → Stand → Moment
 moment_of p s = record { state = record { slots = main_slots p s.frame; output = s.output }; memory = s.cells }
 
--- the statements of `main` that a run has before it
-abbrev pub ahead : Program → Stand → Block
-ahead p s = rest_from s.place p.main
-
 -- a form, run plainly from where a run stands, ends with this value where the run stands then
 pub record EndsAt {A : Type 0} (p : Program) (form : Meaning A) (before after : Stand) (value : A) : Type 0 where
   pub answer : plainly form (moment_of p before) ≡ Value value (moment_of p after).state
@@ -64,11 +64,11 @@ pub record EndsAt {A : Type 0} (p : Program) (form : Meaning A) (before after : 
 abbrev pub TrapsAt : {A : Type 0} → Program → Meaning A → Stand → Stand → Trap → Type 0
 TrapsAt p form before after trap = plainly form (moment_of p before) ≡ Trapped trap after.output
 
--- The run went over all statements up to the next construct, and stands there. So many constructs stand before it.
-pub record StandsAt (p : Program) (input : List ℕ) (before after : Stand) (count : ℕ) : Type 0 where
+-- the run went over all statements up to the next construct, and stands at this one, which has this number
+pub record StandsAt (p : Program) (input : List ℕ) (before after : Stand) (count : ℕ) (next : Construct) : Type 0 where
   pub went : EndsAt p (block_means (environment_of p input) (before_construct (ahead p before))) before after tt
   pub at : ahead p after ≡ from_construct (ahead p before)
-  pub construct : construct_first (ahead p after) ≡ None → ⊥
+  pub construct : construct_first (ahead p after) ≡ Some next
   pub number : count + length (constructs_in (ahead p after)) ≡ length (constructs_in p.main)
 
 -- the run went over all statements that were left
@@ -77,15 +77,9 @@ pub record IsFinished (p : Program) (input : List ℕ) (before after : Stand) : 
   pub at : ahead p after ≡ from_construct (ahead p before)
   pub none : ahead p after ≡ end
 
--- the pause before these statements of all: at their end, or with so many constructs before them
-abbrev pub IsPauseAt : Block → Block → Pause → Type 0
-IsPauseAt all rest (pause.AtConstruct number) = (rest ≡ end → ⊥) × (number + length (constructs_in rest) ≡ length (constructs_in all))
-IsPauseAt all rest pause.Finished = rest ≡ end
-IsPauseAt all rest (pause.Trapped trap) = ⊥
-
 -- what the answer of `advance` says
 abbrev pub Advanced : Program → List ℕ → Stand → Stand → Pause → Type 0
-Advanced p input before after (pause.AtConstruct number) = StandsAt p input before after number
+Advanced p input before after (pause.AtConstruct number construct) = StandsAt p input before after number (construct_seen construct)
 Advanced p input before after pause.Finished = IsFinished p input before after
 Advanced p input before after (pause.Trapped trap) =
     TrapsAt p (block_means (environment_of p input) (before_construct (ahead p before))) before after trap
@@ -104,21 +98,15 @@ abbrev pub IsHeaderAnswer : Interaction (Ending Header) → List ℤ → State �
 IsHeaderAnswer tree before s (Ok header) = plain_answer tree before ≡ Value (seen_header header) s
 IsHeaderAnswer tree before s (Err trap) = plain_answer tree before ≡ Trapped trap s.output
 
--- the header of the construct that stands next was performed where the run stands, which stays where it is
-abbrev pub HeaderDone : Program → List ℕ → Option Construct → Stand → Stand → Result code_header.Header Trap → Type 0
-HeaderDone p input None before after result = ⊥
-HeaderDone p input (Some construct) before after (Ok header) = EndsAt p (header_means (environment_of p input) construct) before after (seen_header header)
-HeaderDone p input (Some construct) before after (Err trap) = TrapsAt p (header_means (environment_of p input) construct) before after trap
+-- the header of a construct was performed where the run stands, which stays where it is
+abbrev pub HeaderDone : Program → List ℕ → Construct → Stand → Stand → Result code_header.Header Trap → Type 0
+HeaderDone p input construct before after (Ok header) = EndsAt p (header_means (environment_of p input) construct) before after (seen_header header)
+HeaderDone p input construct before after (Err trap) = TrapsAt p (header_means (environment_of p input) construct) before after trap
 
--- slots with the carried slot of a construct set
-abbrev pub carried_set : Option Construct → List ℤ → ℤ → List ℤ
-carried_set None slots value = slots
-carried_set (Some construct) slots value = slice_set slots (carried_of construct) value
-
--- the construct that stands next was settled: its carried slot has this value, all else is as before, and the run stands behind it
-pub record IsSettled (p : Program) (construct : Option Construct) (before after : Stand) (value : ℤ) : Type 0 where
-  pub slots : main_slots p after.frame ≡ carried_set construct (main_slots p before.frame) value
-  pub layout : after.layout ≡ before.layout
+-- the construct that stands next was settled: its carried slot has this value, all else is as before, and the run stands after it
+pub record IsSettled (p : Program) (construct : Construct) (before after : Stand) (value : Carried) : Type 0 where
+  pub slots : main_slots p after.frame ≡ with_carried (carried_of construct) value (main_slots p before.frame)
   pub cells : after.cells ≡ before.cells
   pub output : after.output ≡ before.output
   pub place : after.place ≡ before.place + 1
+  pub passed : after.passed ≡ before.passed + 1

@@ -4,6 +4,7 @@ ghost use Rattle.std.specs.Prelude.{◌≡◌, ◌<◌, ◌≤◌, ◌^◌, leng
 ghost use Rattle.spf_ast.specs.View.{expression, block as block_of};
 ghost use Rattle.spf_ast.specs.Meaning.{expression_means, block_means};
 ghost use Rattle.spf_ast.specs.Size.{expression_measure, block_measure};
+ghost use Rattle.spf_exec.specs.Leaves.{Leaves, block_changes};
 ghost use Rattle.spf_exec.specs.Performs.{Performs, AreWithin, call_slots, environment, state};
 
 use crate::context::Context;
@@ -56,6 +57,7 @@ pub(crate) fn exec_block<M: Memory>(
         (state slots.old (M.output memory.old)))
         memory.old memory.new result (state slots.new (M.output memory.new)) }
     ensures cells { M.cell_count memory.new ≡ M.cell_count memory.old }
+    ensures others { Leaves (block_changes (block_of statements.now)) slots.old slots.new }
 {
     let mut halt = Halt::NoMemory;
     match run::exec_block(

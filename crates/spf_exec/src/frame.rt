@@ -1,17 +1,16 @@
 // The slots of a program's `main`, with room for calls.
 
-ghost use Rattle.std.specs.Prelude.{◌≡◌, ◌+◌, ℤ, List, pos, replicate, slice_set, IfOk};
-ghost use Rattle.spf_ast.specs.View.{program as seen_program};
-ghost use Rattle.spf_exec.specs.Frame.{call_room, frame_size};
+ghost use Rattle.std.specs.Prelude.{◌≡◌, ℤ, List, length, pos, replicate, IfOk};
+ghost use Rattle.spf_ast.specs.Carried.{with_carried};
+ghost use Rattle.spf_layout.specs.Frame.{frame_size};
+ghost use Rattle.spf_layout.specs.Instance.{program_of};
 
-use crate::primitives::write_slot;
-use spf_ast::syntax::Program;
-use spf_size::functions::sizes;
-use spf_size::measure::block;
+use spf_ast::carried::{Carried, set_carried};
+use spf_layout::instance::Instance;
 use std::alloc::{AllocError, Global};
 use std::marker::Model;
 
-/// The slots of a program's `main`, with room for a copy of them and for its deepest chain of calls.
+/// The slots of a program's `main`, with room for its deepest chain of calls.
 #[derive(Drop)]
 pub struct Frame {
     pub(crate) slots: Vec<i64>,
@@ -23,44 +22,25 @@ impl Model for Frame {
     ghost view = { λ f. f.slots.items };
 }
 
-/// The number of slots that `own` slots and the deepest chain of calls from `main` have together, where it fits.
-pub(crate) fn size_with_calls(
-    alloc: Global,
-    own: usize,
-    program: &Program,
-) -> Result<usize, AllocError>
-    ensures { IfOk result (λ size. size ≡ own + call_room (seen_program program.now)) }
-{
-    let sizes = sizes(alloc, &program.functions)?;
-    let calls = block(&sizes, &program.main).slots;
-    if calls == u64::MAX {
-        return Err(AllocError);
-    }
-    own.checked_add(calls as usize).ok_or(AllocError)
-}
-
 impl Frame {
     /// Makes the frame of a program: all its slots are 0.
     ///
     /// # Errors
     ///
     /// `AllocError` where there is no memory for it.
-    pub fn make(alloc: Global, program: &Program) -> Result<Frame, AllocError>
-        ensures zeros { IfOk result (λ f. f ≡ replicate (frame_size (seen_program program.now)) (pos 0)) }
+    pub fn make(alloc: Global, instance: &Instance) -> Result<Frame, AllocError>
+        ensures zeros { IfOk result (λ f. f ≡ replicate (frame_size (program_of instance.now)) (pos 0)) }
     {
-        let own = program.slots.len();
-        let both = own.checked_add(own).ok_or(AllocError)?;
-        let size = size_with_calls(alloc, both, program)?;
         Ok(Frame {
-            slots: vec![in alloc; 0i64; size]?,
+            slots: vec![in alloc; 0i64; instance.frame_size()]?,
         })
     }
 
-    /// Sets a slot of `main`.
-    pub(crate) fn set(&mut self, slot: u32, value: i64)
-        ensures { self.new ≡ slice_set self.old slot value }
+    /// Puts a carried value into its slot.
+    pub(crate) fn set_carried(&mut self, slot: u32, value: Carried)
+        ensures { self.new ≡ with_carried slot value self.old }
     {
-        write_slot(&mut self.slots, slot, value);
+        set_carried(&mut self.slots, slot, value);
     }
 
     /// Makes an equal frame.
@@ -74,5 +54,13 @@ impl Frame {
         let mut slots = vec![in alloc; 0i64; self.slots.len()]?;
         slots.copy_from_slice(&self.slots);
         Ok(Frame { slots })
+    }
+
+    /// Makes this frame equal to another one of the same size. It takes no memory.
+    pub fn restore(&mut self, from: &Frame)
+        requires size { length from.now ≡ length self.old }
+        ensures equal { self.new ≡ from.now }
+    {
+        self.slots.copy_from_slice(&from.slots);
     }
 }

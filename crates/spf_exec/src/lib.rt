@@ -5,12 +5,10 @@
 //! `block_run::exec_block` one block of a top construct on any memory, and `pieces::Run` a program in pieces.
 #![tactic(auto)]
 
-pub mod arrays;
 pub mod block_run;
 mod context;
 mod entry;
 pub mod frame;
-pub mod layout;
 pub mod memory;
 pub mod pieces;
 pub mod plain;
@@ -18,5 +16,3 @@ pub mod plain_run;
 mod primitives;
 mod quiet;
 mod run;
-#[cfg(test)]
-mod tests;

@@ -4,21 +4,21 @@ ghost use Rattle.std.specs.Prelude.{◌≡◌, ◌<◌, ◌≤◌, ◌^◌, leng
 ghost use Rattle.spf_ast.specs.View.{block as block_of, program as seen_program};
 ghost use Rattle.spf_ast.specs.Meaning.{block_means};
 ghost use Rattle.spf_ast.specs.Program.{cell_count_of, max_cells, outcome, seen_outcome};
-ghost use Rattle.spf_exec.specs.declared.layout.RunError.TheVariants.{OutOfMemory};
+ghost use Rattle.spf_layout.specs.declared.layout.RunError.TheVariants.{OutOfMemory};
 ghost use Rattle.spf_ast.specs.Size.{block_measure};
 ghost use Rattle.spf_exec.specs.Performs.{AreWithin, call_slots, environment, state};
 ghost use Rattle.spf_exec.specs.PlainMemory.{IsPlainOutcome};
-ghost use Rattle.spf_exec.specs.RunErrors.{IsTooMany};
+ghost use Rattle.spf_layout.specs.RunErrors.{IsTooMany};
 
-use crate::arrays::layout;
 use crate::context::Context;
 use crate::entry::exec_block;
-use crate::frame::size_with_calls;
-use crate::layout::RunError;
+use crate::frame::Frame;
 use crate::memory::Halt;
 use crate::plain::Plain;
 use spf_ast::outcome::Outcome;
 use spf_ast::syntax::{Program, Stmt};
+use spf_layout::instance::Instance;
+use spf_layout::layout::RunError;
 use std::alloc::Global;
 
 /// Performs the statements of `main` on a memory of its own.
@@ -64,21 +64,15 @@ pub fn run_plain(alloc: Global, program: &Program, input: &[u8]) -> Result<Outco
     ensures few { cell_count_of (seen_program program.now) (length input.now) ≤ max_cells
         → IfErr result (λ why. why ≡ OutOfMemory) }
 {
-    let layout = layout(alloc, program, input.len() as u64)?;
-    let own = program.slots.len();
-    let size = size_with_calls(alloc, own, program)?;
-    let mut frame = vec![in alloc; 0i64; size]?;
-    let cells = vec![in alloc; 0i64; layout.cells as usize]?;
+    let instance = Instance::make(alloc, program, input)?;
+    let mut frame = Frame::make(alloc, &instance)?;
+    let cells = vec![in alloc; 0i64; instance.layout().cells() as usize]?;
     let mut memory = Plain {
         cells,
         output: Vec::new(alloc),
     };
-    let context = Context {
-        functions: &program.functions,
-        extents: &layout.extents,
-        input,
-    };
-    let (slots, scratch) = frame.split_at_mut(own);
+    let context = Context::of(&instance);
+    let (slots, scratch) = frame.slots.split_at_mut(program.slots.len());
     match run_main(&context, &program.main, slots, scratch, &mut memory) {
         Ok(()) => Ok(Outcome::Done {
             cells: memory.cells,

@@ -43,7 +43,7 @@ impl<'a, M: Memory> Memory for Quiet<'a, M> {
     }
 }
 
-/// Cells that are only read. Nothing is said of what is performed on them once it has stored a word.
+/// Cells that are only read: a load gives the word that is there, whatever was stored before.
 #[derive(Drop)]
 pub(crate) struct ReadOnly<'a> {
     pub(crate) cells: &'a [i64],
@@ -52,7 +52,8 @@ pub(crate) struct ReadOnly<'a> {
 impl<'a> Memory for ReadOnly<'a> {
     ghost use Rattle.std.specs.Prelude.{◌≡◌, length, None, refl};
     ghost use Rattle.std.proofs.Common.{ap};
-    ghost use Rattle.spf_exec.specs.QuietMemory.{LeadsUnstored, full_output, unstored_laws};
+    ghost use Rattle.spf_exec.specs.QuietMemory.{full_output};
+    ghost use Rattle.spf_exec.specs.ReadMemory.{LeadsUnstored, unstored_laws};
 
     ghost leads = { λ es a b. LeadsUnstored es a.cells.now b.cells.now };
 

@@ -51,7 +51,6 @@ impl<'a> Instance<'a> {
         program: &'a Program,
         input: &'a [u8],
     ) -> Result<Instance<'a>, RunError>
-        requires short { length input.now < 2 ^ 63 }
         ensures program { IfOk result (λ i. program_of i ≡ seen_program program.now) }
         ensures input { IfOk result (λ i. i.input ≡ input.now) }
         ensures too_many { max_cells < cell_count_of (seen_program program.now) (length input.now)

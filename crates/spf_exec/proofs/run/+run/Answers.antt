@@ -13,6 +13,7 @@ use Rattle.spf_ast.specs.Meaning.{while_turns, for_turns, fold_blocks, sets, fun
 use Rattle.spf_exec.proofs.Forms.{expr_means, cond_means, stmts_mean, expr_weight, exprs_weight, cond_weight, kind_weight, stmts_weight, fold_weight, pair_weight}
 use Rattle.spf_exec.proofs.Weight.{weight_before, weight_of}
 use Rattle.spf_exec.proofs.Forms.{expr_means-call, call_means-is, slot_count, kind_means-if, kind_means-for, kind_means-while, kind_means-fold, kind_means-pair, expr_weight-call, kind_weight-if, kind_weight-for, kind_weight-while, kind_weight-fold, kind_weight-pair, weight_at, fold_room, pair_room, room_at}
+use Rattle.spf_exec.proofs.Leaving.{leaves-then, set-then, sets-then, one-leaves, let-leaves, assign-leaves, first-leaves, second-leaves, for-leaves, while-leaves, same-leaves}
 use Rattle.spf_exec.specs.Performs.{block_value, call_slots, environment, state, at_line}
 use Rattle.spf_exec.proofs.Steps.{at_once, checked_is, traps_now, load_now, store_now, then_value, then_halt, exit_left, along, in_own, steps}
 use Rattle.spf_exec.proofs.Turns.{no_statements, next_statement, still, next_fits, to_z_fits, for_turn, while_is, while_last, while_turn, after_sets, block_turn, int_gap_none}
@@ -472,6 +473,7 @@ exec_block-loop-statement-preserved g t c =
     record {
       goes = steps _ g.met.M.Memory.laws (still (next_statement (environment c.args.context.now c.args.below) c.args.statements.now c.loop-statement.statement-index c.statement-item.result c.loop-statement-test.true c.statement-item.is) c.loop-statement.invariant.goes) c.in_ok-exec.ensures.performs;
       cells = c.in_ok-exec.ensures.cells ∙ c.loop-statement.invariant.cells;
+      others = one-leaves c.args.statements.now c.loop-statement.statement-index c.statement-item.result c.loop-statement-test.true c.statement-item.is c.loop-statement.invariant.others c.in_ok-exec.ensures.others;
     }
 
 pub exec_blocks-returns-in_err-turn-clause-performs : goal.exec_blocks-returns-in_err-turn-clause-performs
@@ -519,6 +521,7 @@ exec_blocks-loop-k-preserved g t c =
     (record {
       goes = steps (λ w. fold_blocks (int_gap (i +ℤ pos 1) c.args.high) (i +ℤ pos 1) c.args.block_slot c.args.carried_slot w (block_value (environment c.args.context.now c.args.below) (block c.args.body.now) c.args.next_line (expression c.args.next.now))) g.met.M.Memory.laws k3 c.in_ok-value.ensures.performs;
       cells = c.in_ok-value.ensures.cells ∙ c.in_ok-exec_block.ensures.cells ∙ c.in_ok-turn.ensures.cells ∙ c.loop-k.invariant.cells;
+      others = sets-then c.args.carried_slot c.args.block_slot v i c.loop-k.invariant.others c.write_slot.ensures c.write_slot-in-loop-k.ensures c.in_ok-exec_block.ensures.others;
     })
 
 pub exec_blocks-returns-clause-performs : goal.exec_blocks-returns-clause-performs
@@ -640,6 +643,7 @@ exec_for-loop-i-preserved g t c =
     (record {
       goes = steps (λ _. rest) g.met.M.Memory.laws k2 (rw c.write_slot.ensures at c.in_ok-exec_block.ensures.performs);
       cells = c.in_ok-exec_block.ensures.cells ∙ c.in_ok-turn.ensures.cells ∙ c.loop-i.invariant.cells;
+      others = set-then c.args.slot i c.loop-i.invariant.others c.write_slot.ensures c.in_ok-exec_block.ensures.others;
     })
 
 pub exec_while-returns-in_err-test-clause-performs : goal.exec_while-returns-in_err-test-clause-performs
@@ -661,6 +665,7 @@ exec_while-loop-halt-preserved g t c =
     record {
       goes = steps (λ _. while_turns c.args.line (c.loop-halt.left - 1) (cond_means (environment c.args.context.now c.args.below) c.args.line c.args.cond.now) (stmts_mean (environment c.args.context.now c.args.below) c.args.body.now)) g.met.M.Memory.laws (steps (λ _. stmts_mean (environment c.args.context.now c.args.below) c.args.body.now >> while_turns c.args.line (c.loop-halt.left - 1) (cond_means (environment c.args.context.now c.args.below) c.args.line c.args.cond.now) (stmts_mean (environment c.args.context.now c.args.below) c.args.body.now)) g.met.M.Memory.laws (still (while_turn c.args.line c.loop-halt.left (cond_means (environment c.args.context.now c.args.below) c.args.line c.args.cond.now) (stmts_mean (environment c.args.context.now c.args.below) c.args.body.now) c.if-left-eq0.false) (rw c.if-branch.true at (steps _ g.met.M.Memory.laws (still (while_is c.args.line c.loop-halt.left (cond_means (environment c.args.context.now c.args.below) c.args.line c.args.cond.now) (stmts_mean (environment c.args.context.now c.args.below) c.args.body.now)) c.loop-halt.invariant.goes) c.in_ok-test.ensures.performs))) c.in_ok-turn.ensures.performs) c.in_ok-exec_block.ensures.performs;
       cells = c.in_ok-exec_block.ensures.cells ∙ c.in_ok-turn.ensures.cells ∙ c.in_ok-test.ensures.cells ∙ c.loop-halt.invariant.cells;
+      others = leaves-then c.loop-halt.invariant.others c.in_ok-exec_block.ensures.others;
     }
 
 pub exec_while-returns-in_err-exec_block-clause-performs : goal.exec_while-returns-in_err-exec_block-clause-performs
@@ -932,3 +937,55 @@ pass-eval-requires-in-len2-2 g t c =
     let k : weight_before (map function c.args.context.now.functions.now) c.args.below + 2 * expr_weight c.second-item.result + 1 < t = omega (arith, m, e) in
     let room = ap (λ es. arguments_measure (call_slots c.args.context.now c.args.below) (arguments es)) xs in
     λ κs h. (k, (h, (rw c.in_ok-x-in-len2.ensures.cells c.requires.within, (c.requires.short, omega (arith, c.requires.room, room)))))
+
+-- ---- slots that stay
+
+pub exec-returns-then-branch-clause-others : goal.exec-returns-then-branch-clause-others
+exec-returns-then-branch-clause-others g t c =
+    first-leaves (condition c.in-If.cond) (block c.in-If.first.items) (block c.in-If.second.items) (ap statement c.in-If.is ∙ statement-if c.in-If.cond c.in-If.first c.in-If.second) (rw c.deref.ensures.value at c.exec_block.ensures.others)
+
+pub exec-returns-else-is_empty-clause-others : goal.exec-returns-else-is_empty-clause-others
+exec-returns-else-is_empty-clause-others g t c =
+    second-leaves (condition c.in-If.cond) (block c.in-If.first.items) (block c.in-If.second.items) (ap statement c.in-If.is ∙ statement-if c.in-If.cond c.in-If.first c.in-If.second) (rw c.deref-else-is_empty.ensures.value at c.exec_block-else-is_empty.ensures.others)
+
+pub exec-returns-in_ok-high-in-For-clause-others : goal.exec-returns-in_ok-high-in-For-clause-others
+exec-returns-in_ok-high-in-For-clause-others g t c =
+    for-leaves c.in-For.slot (expression c.in-For.low) (expression c.in-For.high) (block c.in-For.body.items) (ap statement c.in-For.is ∙ statement-for c.in-For.slot c.in-For.low c.in-For.high c.in-For.body) (rw c.deref-in-For.ensures.value at c.exec_for.ensures.others)
+
+pub exec-returns-in-While-clause-others : goal.exec-returns-in-While-clause-others
+exec-returns-in-While-clause-others g t c =
+    while-leaves (condition c.in-While.cond) c.in-While.most (block c.in-While.body.items) (ap statement c.in-While.is ∙ statement-while c.in-While.cond c.in-While.most c.in-While.body) (rw c.deref-in-While.ensures.value at c.exec_while.ensures.others)
+
+pub exec-returns-in-Fold-clause-others : goal.exec-returns-in-Fold-clause-others
+exec-returns-in-Fold-clause-others g t c =
+    same-leaves (ap statement c.in-Fold.is ∙ statement-fold c.in-Fold.fold) (rw c.deref-in-Fold.ensures at c.exec_fold.ensures.others)
+
+pub exec-returns-in-Pair-clause-others : goal.exec-returns-in-Pair-clause-others
+exec-returns-in-Pair-clause-others g t c =
+    same-leaves (ap statement c.in-Pair.is ∙ statement-pair c.in-Pair.pair) (rw c.deref-in-Pair.ensures at c.exec_pair.ensures.others)
+
+pub exec-returns-in_ok-value-in-Let-clause-others : goal.exec-returns-in_ok-value-in-Let-clause-others
+exec-returns-in_ok-value-in-Let-clause-others g t c =
+    elim c.in-Let.is [
+      | inl e ↦ let-leaves c.in-Let.slot (expression c.in-Let.value) _ (ap statement e) c.write_slot.ensures
+      | inr e ↦ assign-leaves c.in-Let.slot (expression c.in-Let.value) _ (ap statement e) c.write_slot.ensures
+    ]
+
+pub exec_block-returns-in_err-exec-clause-others : goal.exec_block-returns-in_err-exec-clause-others
+exec_block-returns-in_err-exec-clause-others g t c =
+    one-leaves c.args.statements.now c.loop-statement.statement-index c.statement-item.result c.loop-statement-test.true c.statement-item.is c.loop-statement.invariant.others c.in_err-exec.ensures.others
+
+pub exec_for-returns-in_err-exec_block-clause-others : goal.exec_for-returns-in_err-exec_block-clause-others
+exec_for-returns-in_err-exec_block-clause-others g t c =
+    set-then c.args.slot (to_z w64 c.loop-i.i-bits) c.loop-i.invariant.others c.write_slot.ensures c.in_err-exec_block.ensures.others
+
+pub exec_while-returns-in_err-exec_block-clause-others : goal.exec_while-returns-in_err-exec_block-clause-others
+exec_while-returns-in_err-exec_block-clause-others g t c = leaves-then c.loop-halt.invariant.others c.in_err-exec_block.ensures.others
+
+pub exec_blocks-returns-in_err-exec_block-clause-others : goal.exec_blocks-returns-in_err-exec_block-clause-others
+exec_blocks-returns-in_err-exec_block-clause-others g t c =
+    sets-then c.args.carried_slot c.args.block_slot (to_z w64 c.loop-k.value-bits) (to_z w64 c.loop-k.k-bits) c.loop-k.invariant.others c.write_slot.ensures c.write_slot-in-loop-k.ensures c.in_err-exec_block.ensures.others
+
+pub exec_blocks-returns-in_err-value-clause-others : goal.exec_blocks-returns-in_err-value-clause-others
+exec_blocks-returns-in_err-value-clause-others g t c =
+    sets-then c.args.carried_slot c.args.block_slot (to_z w64 c.loop-k.value-bits) (to_z w64 c.loop-k.k-bits) c.loop-k.invariant.others c.write_slot.ensures c.write_slot-in-loop-k.ensures c.in_ok-exec_block.ensures.others

@@ -5,6 +5,7 @@ use Rattle.spf_ast.specs.View.{function, block, expression}
 use Rattle.spf_exec.proofs.Forms.{cond_means, stmts_mean, expr_weight, exprs_weight, cond_weight, kind_weight, stmts_weight, fold_weight, pair_weight}
 use Rattle.spf_ast.specs.Meaning.{for_turns, while_turns, fold_blocks}
 use Rattle.spf_exec.proofs.Weight.{weight_before}
+use Rattle.spf_exec.specs.Leaves.{Leaves, also, block_changes}
 use Rattle.spf_exec.specs.Performs.{block_value, environment, state}
 use Rattle.spf_exec.proofs.Steps.{Continues}
 use Rattle.spf_exec.proofs.run.+run.Given as goal
@@ -63,18 +64,21 @@ abbrev pub invariant-exec_block-loop-statement : goal.invariant-exec_block-loop-
 invariant-exec_block-loop-statement g l = record {
   goes : Continues g.M.Memory.leads g.M.Memory.stop g.M.Memory.may_lack_memory (stmts_mean (environment l.context l.below) l.statements (state l.initial.slots (g.M.Memory.output l.initial.memory))) l.initial.memory (stmts_mean (environment l.context l.below) (drop l.statement-index l.statements) (state l.slots (g.M.Memory.output l.memory))) l.memory;
   cells : g.M.Memory.cell_count l.memory ≡ g.M.Memory.cell_count l.initial.memory;
+  others : Leaves (block_changes (block l.statements)) l.initial.slots l.slots;
 }
 
 abbrev pub invariant-exec_for-loop-i : goal.invariant-exec_for-loop-i
 invariant-exec_for-loop-i g l = record {
   goes : Continues g.M.Memory.leads g.M.Memory.stop g.M.Memory.may_lack_memory (for_turns (int_gap l.low l.high) l.low l.slot (stmts_mean (environment l.context l.below) l.body) (state l.initial.slots (g.M.Memory.output l.initial.memory))) l.initial.memory (for_turns (int_gap l.i l.high) l.i l.slot (stmts_mean (environment l.context l.below) l.body) (state l.slots (g.M.Memory.output l.memory))) l.memory;
   cells : g.M.Memory.cell_count l.memory ≡ g.M.Memory.cell_count l.initial.memory;
+  others : Leaves (also l.slot (block_changes (block l.body))) l.initial.slots l.slots;
 }
 
 abbrev pub invariant-exec_while-loop-halt : goal.invariant-exec_while-loop-halt
 invariant-exec_while-loop-halt g l = record {
   goes : Continues g.M.Memory.leads g.M.Memory.stop g.M.Memory.may_lack_memory (while_turns l.line l.most (cond_means (environment l.context l.below) l.line l.cond) (stmts_mean (environment l.context l.below) l.body) (state l.initial.slots (g.M.Memory.output l.initial.memory))) l.initial.memory (while_turns l.line l.left (cond_means (environment l.context l.below) l.line l.cond) (stmts_mean (environment l.context l.below) l.body) (state l.slots (g.M.Memory.output l.memory))) l.memory;
   cells : g.M.Memory.cell_count l.memory ≡ g.M.Memory.cell_count l.initial.memory;
+  others : Leaves (block_changes (block l.body)) l.initial.slots l.slots;
 }
 
 abbrev pub decreases-exec_while-loop-halt : goal.decreases-exec_while-loop-halt
@@ -84,4 +88,5 @@ abbrev pub invariant-exec_blocks-loop-k : goal.invariant-exec_blocks-loop-k
 invariant-exec_blocks-loop-k g l = record {
   goes : Continues g.M.Memory.leads g.M.Memory.stop g.M.Memory.may_lack_memory (fold_blocks (int_gap l.low l.high) l.low l.block_slot l.carried_slot l.start (block_value (environment l.context l.below) (block l.body) l.next_line (expression l.next)) (state l.initial.slots (g.M.Memory.output l.initial.memory))) l.initial.memory (fold_blocks (int_gap l.k l.high) l.k l.block_slot l.carried_slot l.value (block_value (environment l.context l.below) (block l.body) l.next_line (expression l.next)) (state l.slots (g.M.Memory.output l.memory))) l.memory;
   cells : g.M.Memory.cell_count l.memory ≡ g.M.Memory.cell_count l.initial.memory;
+  others : Leaves (also l.carried_slot (also l.block_slot (block_changes (block l.body)))) l.initial.slots l.slots;
 }

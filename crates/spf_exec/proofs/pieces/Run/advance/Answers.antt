@@ -5,14 +5,14 @@ use Rattle.spf_exec.proofs.pieces.Run.advance.Goals as goal
 pub advance_from-requires-clause-within : goal.advance_from-requires-clause-within
 advance_from-requires-clause-within c =
     let r = rw (← c.self.view_is) at c.requires.run in
-    omega (arith, count_is c.args.program.now.main.items, r.place)
+    omega (arith, count_is c.args.instance.now.code.main.items, r.place)
 
 pub returns-clause-run : goal.returns-clause-run
 returns-clause-run c =
     let r = rw (← c.self.view_is) at c.requires.run in
     record {
-      layout = r.layout;
       frame = c.in_ok-place.ensures.size ∙ r.frame;
       cells = c.in_ok-place.ensures.cells ∙ r.cells;
-      place = omega (arith, count_is c.args.program.now.main.items, c.in_ok-place.ensures.place);
+      place = omega (arith, count_is c.args.instance.now.code.main.items, c.in_ok-place.ensures.place);
+      passed = c.in_ok-place.ensures.passed;
     }

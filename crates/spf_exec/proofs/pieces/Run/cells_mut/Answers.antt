@@ -8,7 +8,7 @@ returns c =
       (
         refl,
         λ w.
-            ap (λ k. record { layout = inside.layout; frame = inside.frame; cells = take k (w ++ drop (length w) inside.memory.cells.items); output = inside.memory.output.items; place = inside.place }) inside.memory.cells.ok.0
+            ap (λ k. record { frame = inside.frame; cells = take k (w ++ drop (length w) inside.memory.cells.items); output = inside.memory.output.items; place = inside.place; passed = inside.passed }) inside.memory.cells.ok.0
             ∙ ap (λ (s : Stand). record s { cells = refilled s.cells w }) c.self.view_is,
       ),
       record { writes_back = tt; value = c.as_mut_slice.ensures.value ∙ ap (λ (s : Stand). s.cells) c.self.view_is },

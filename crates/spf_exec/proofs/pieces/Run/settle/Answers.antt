@@ -1,50 +1,54 @@
-use Rattle.std.proofs.Common.{rules, ◌≡◌, ◌<◌, ◌∙◌, arith, refl, length, ap, w64}
+use Rattle.std.proofs.Common.{rules, ◌≡◌, ◌∙◌, arith, refl, length, ap, w64}
 use Rattle.std.proofs.lemmas.Int.{to_z-of_z}
-use Rattle.spf_ast.specs.View.{program}
-use Rattle.spf_ast.specs.Pieces.{construct_first, rest_from, carried_of}
+use Rattle.std.proofs.Math.ListN.{length-set}
 use Rattle.spf_ast.specs.ConstructView.{construct}
-use Rattle.spf_exec.specs.Frame.{main_slots}
-use Rattle.spf_exec.proofs.Fronts.{place_within, first_is, carried_is, take_set, count_is}
+use Rattle.spf_ast.specs.Construct.{carried_of}
+use Rattle.spf_layout.specs.Frame.{main_slots}
+use Rattle.spf_layout.specs.Instance.{program_of}
+use Rattle.spf_exec.proofs.Constructs.{within, one_less, few_constructs}
+use Rattle.spf_exec.proofs.Fronts.{take_set, count_is}
 use Rattle.spf_exec.proofs.pieces.Run.settle.Goals as goal
 
-pub index-requires : goal.index-requires
-index-requires c =
-    let k = rw (← c.self.view_is) at c.requires.construct in
-    let w : c.self.inside.place < length c.args.program.now.main.items = place_within c.args.program.now.main.items c.self.inside.place k in
-    let long : c.args.program.now.main.len ≡ length c.args.program.now.main.items = search rules in
-    omega (arith, w, long)
+pub prove-unreachable-requires : goal.prove-unreachable-requires
+prove-unreachable-requires c =
+    let p = program_of c.args.instance.now in
+    let xs = c.args.instance.now.code.main.items in
+    let w = within p.main c.self.inside.place (construct c.args.construct) (rw (← c.self.view_is) at c.requires.construct) in
+    let long : c.len-statements.result ≡ length xs = search rules in
+    omega (arith, w, long, count_is xs, c.if-prove.true)
 
-pub unreachable-requires : goal.unreachable-requires
-unreachable-requires c =
-    let k = rw (← c.self.view_is) at c.requires.construct in
-    let w = place_within c.args.program.now.main.items c.self.inside.place k in
-    k (first_is c.args.program.now.main.items c.self.inside.place c.index.result.now w c.index.ensures ∙ c.in_default.ensures)
-
-pub overflow_add-self : goal.overflow_add-self
-overflow_add-self c =
-    let k = rw (← c.self.view_is) at c.requires.construct in
-    let w : c.self.inside.place < length c.args.program.now.main.items = place_within c.args.program.now.main.items c.self.inside.place k in
-    omega (arith, w)
-
-pub returns-clause-within : goal.returns-clause-within
-returns-clause-within c =
-    let k = rw (← c.self.view_is) at c.requires.construct in
-    let w = place_within c.args.program.now.main.items c.self.inside.place k in
-    omega (arith, w, count_is c.args.program.now.main.items)
+pub overflow_add-self-2 : goal.overflow_add-self-2
+overflow_add-self-2 c =
+    let p = program_of c.args.instance.now in
+    let xs = c.args.instance.now.code.main.items in
+    let r = rw (← c.self.view_is) at c.requires.run in
+    let less = one_less p.main c.self.inside.place (construct c.args.construct) (rw (← c.self.view_is) at c.requires.construct) in
+    let long : c.len-statements.result ≡ length xs = search rules in
+    omega (arith, r.passed, less, few_constructs p.main, count_is xs, long, c.len-statements.type_inv)
 
 pub returns-clause-settled : goal.returns-clause-settled
 returns-clause-settled c =
-    let p = program c.args.program.now in
-    let xs = c.args.program.now.main.items in
-    let k = rw (← c.self.view_is) at c.requires.construct in
-    let w = place_within xs c.self.inside.place k in
-    let first = first_is xs c.self.inside.place c.index.result.now w c.index.ensures ∙ c.in-Some.ensures in
-    let frame = rw (to_z-of_z w64 c.args.value c.ranges.value, c.carried_slot-slot.ensures) at c.set.ensures in
+    let p = program_of c.args.instance.now in
+    let frame = rw (to_z-of_z w64 c.args.value c.ranges.value, c.carried_slot.ensures) at c.set_carried.ensures in
     rw (← c.self.view_is)
     (record {
-      slots = ap (main_slots p) frame ∙ take_set (length p.slots) c.self.inside.frame (carried_of (construct c.in-Some.construct)) c.args.value ∙ carried_is (construct_first (rest_from c.self.inside.place p.main)) (construct c.in-Some.construct) (main_slots p c.self.inside.frame) c.args.value first;
-      layout = refl;
+      slots = ap (main_slots p) frame ∙ take_set (length p.slots) c.self.inside.frame (carried_of (construct c.args.construct)) c.args.value;
       cells = refl;
       output = refl;
       place = refl;
+      passed = refl;
     })
+
+pub returns-clause-run : goal.returns-clause-run
+returns-clause-run c =
+    let p = program_of c.args.instance.now in
+    let k = rw (← c.self.view_is) at c.requires.construct in
+    let r = rw (← c.self.view_is) at c.requires.run in
+    let w = within p.main c.self.inside.place (construct c.args.construct) k in
+    let less = one_less p.main c.self.inside.place (construct c.args.construct) k in
+    record {
+      frame = ap length c.set_carried.ensures ∙ length-set c.self.inside.frame c.carried_slot.result _ ∙ r.frame;
+      cells = r.cells;
+      place = omega (arith, w);
+      passed = omega (arith, r.passed, less);
+    }
