@@ -1,13 +1,11 @@
 -- A run in pieces goes on as the plain run does where a construct is settled as its blocks come out.
-use Rattle.std.proofs.Common.{◌≡◌, ℕ, zero, suc, ◌+◌, true, false, List, [], ◌∷◌, length, ℤ, pos, ◌+ℤ◌, refl, sym, ap, ◌∙◌, subst, add-one}
+use Rattle.std.proofs.Common.{◌≡◌, ℕ, zero, suc, ◌+◌, true, List, [], ◌∷◌, length, ℤ, pos, ◌+ℤ◌, refl, sym, ap, ◌∙◌, subst, add-one}
 use Rattle.std.specs.Prelude.{Some, None, Result, Ok, Err, slice_set}
 use Rattle.spf_ast.specs.declared.outcome.Trap.{Trap}
-use Rattle.spf_ast.specs.declared.outcome.TrapKind.TheVariants as trap
 use Rattle.spf_ast.specs.declared.syntax.Part.TheVariants.{Predictor}
 use Rattle.spf_ast.specs.Interaction.{Interaction, State, Ending, Value, Trapped, result_of, Performed, Ended, Stopped as stopped_at, Misfit, perform, no_cell}
-use Rattle.spf_ast.specs.Syntax.{Statement, Fold, Pair, Program, Block, FoldHead, PairHead, By, Host, end, on_line}
-use Rattle.spf_ast.specs.Syntax as syntax
-use Rattle.spf_ast.specs.Meaning.{Environment, max_blocks, with_slots, statement_means, block_means}
+use Rattle.spf_ast.specs.Syntax.{Statement, Program, Block, end, on_line}
+use Rattle.spf_ast.specs.Meaning.{Environment, statement_means, block_means}
 use Rattle.spf_ast.specs.Plain.{plain_answer, plain_memory, unshared_answer}
 use Rattle.spf_ast.specs.Program.{environment_of, extents_of, outcome_from, Stopped}
 use Rattle.spf_ast.specs.Construct.{Moment, moment_after, plainly, Construct, construct_of, constructs_in, Header, header_means, carried_of, Reached, reached, reached_here, unless_trapped, reached_from, blocks_from}
@@ -17,7 +15,7 @@ use Rattle.spf_ast.specs.Carried.{Carried, no_value}
 use Rattle.spf_ast.specs.Event.{Event}
 use Rattle.spf_ast.specs.BlockRun.{part_asks, block_setup, predicts}
 use Rattle.spf_ast.specs.Laws.{HasOneUnsharedAnswer, PartsHaveOneUnsharedAnswer}
-use Rattle.spf_ast.specs.Lawful.{Names, Scope, in_predictor, names_at, IsLawfulPredictor, IsLawfulStatement, IsLawfulBlock, scope_after}
+use Rattle.spf_ast.specs.Lawful.{Scope, names_at, IsLawfulStatement, IsLawfulBlock, scope_after}
 use Rattle.spf_layout.specs.Frame.{main_slots}
 use Rattle.spf_exec.specs.Pieces.{Stand, EndsAt, TrapsAt, moment_of, ahead}
 use Rattle.spf_laws.specs.Agreement.{Relation, LookAlike, EndAlike, GoAlike, PartsSeeVisibleSlots}

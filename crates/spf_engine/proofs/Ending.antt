@@ -1,7 +1,7 @@
 -- How far a run has come, and how much it has counted.
-use Rattle.std.proofs.Common.{◌≡◌, ℕ, suc, ◌+◌, ◌-◌, ◌*◌, ◌<◌, ◌≤◌, Bool, true, false, length, ℤ, refl, sym, ap, ◌∙◌, subst, arith}
-use Rattle.std.specs.Prelude.{Some}
-use Rattle.spf_ast.specs.Syntax.{Fold, Pair, Block, end, on_line, Program}
+use Rattle.std.proofs.Common.{◌≡◌, ℕ, suc, ◌+◌, ◌-◌, ◌*◌, ◌<◌, ◌≤◌, Bool, true, false, length, refl, sym, ap, ◌∙◌, subst, arith}
+use Rattle.std.specs.Prelude.{◌^◌, Some}
+use Rattle.spf_ast.specs.Syntax.{Block, end, on_line, Program}
 use Rattle.spf_ast.specs.Construct.{Construct, is_construct, constructs_in}
 use Rattle.spf_ast.specs.Pieces.{rest_from, from_construct, construct_first, statement_count}
 use Rattle.spf_exec.specs.Pieces.{Stand, ahead}
@@ -51,8 +51,8 @@ few-advanced p before after counted e f =
     subst (λ n. AreAtMost counted (4096 * (length (constructs_in p.main) - n))) (sym (ap (λ (x : Block). length (constructs_in x)) e ∙ ap length (front-constructs (ahead p before)))) f
 
 -- within a step
-pub few-within : (p : Program) (s : Stand) (counted more : Stats) (number : ℕ) → length (constructs_in p.main) < 2 ^ 32 → AreFew p s counted → AreAtMost more 4096 → AreAtMost (plus counted more) (2 ^ 45)
-few-within p s counted more number total f m =
+pub few-within : (p : Program) (s : Stand) (counted more : Stats) → length (constructs_in p.main) < 2 ^ 32 → AreFew p s counted → AreAtMost more 4096 → AreAtMost (plus counted more) (2 ^ 45)
+few-within p s counted more total f m =
     let b = f.blocks in let h = f.hits in let w = f.misses in let n = f.blind in
     let mb = m.blocks in let mh = m.hits in let mw = m.misses in let mn = m.blind in
     record {
@@ -62,8 +62,8 @@ few-within p s counted more number total f m =
       blind = omega (arith, total, n, mn);
     }
 
-pub few-past : (p : Program) (s last : Stand) (counted more : Stats) (number : ℕ) → number + length (constructs_in (ahead p s)) ≡ length (constructs_in p.main) → WentPast p s last → AreFew p s counted → AreAtMost more 4096 → AreFew p last (plus counted more)
-few-past p s last counted more number count past f m =
+pub few-past : (p : Program) (s last : Stand) (counted more : Stats) → s.passed + length (constructs_in (ahead p s)) ≡ length (constructs_in p.main) → WentPast p s last → AreFew p s counted → AreAtMost more 4096 → AreFew p last (plus counted more)
+few-past p s last counted more count past f m =
     let one = past.constructs in
     let b = f.blocks in let h = f.hits in let w = f.misses in let n = f.blind in
     let mb = m.blocks in let mh = m.hits in let mw = m.misses in let mn = m.blind in

@@ -1,9 +1,9 @@
 -- Folds of programs of the first form.
-use Rattle.std.proofs.Common.{◌≡◌, ℕ, zero, suc, Bool, true, false, List, [], ◌∷◌, refl, subst}
+use Rattle.std.proofs.Common.{◌≡◌, ℕ, zero, suc, Bool, true, false, List, refl, subst}
 use Rattle.std.specs.Prelude.{◌&&◌, ◌==◌, Option, Some, None}
 use Rattle.std.specs.List.{Contains}
 use Rattle.spf_ast.specs.declared.syntax.Part.TheVariants.{Body}
-use Rattle.spf_ast.specs.Syntax.{Statement, Let, Assign, Store, Fill, Emit, Fail, If, For, While, Do, Fold, Pair, Block, end, on_line, FoldHead}
+use Rattle.spf_ast.specs.Syntax.{Statement, Let, Fold, Pair, Block, end, on_line, FoldHead}
 use Rattle.spf_ast.specs.Slots.{assigns, statement_assigns, emits, statement_emits}
 use Rattle.spf_ast.specs.Construct.{Construct, fold, pair, construct_of, constructs_in, part_of}
 use Rattle.spf_ast.specs.Pieces.{rest_from, construct_first}

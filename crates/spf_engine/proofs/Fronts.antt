@@ -10,7 +10,7 @@ use Rattle.spf_ast.specs.Construct.{construct_of, is_construct, constructs_in, M
 use Rattle.spf_ast.specs.Pieces.{before_construct, from_construct}
 use Rattle.spf_ast.specs.Lawful.{Names, Scope, IsLawfulStatement, IsLawfulBlock, scope_after, scope_at_end}
 use Rattle.spf_exec.proofs.Constructs.{constructs-skip}
-use Rattle.spf_laws.specs.Chained.{AreDeclared}
+use Rattle.spf_laws.specs.Keeping.{AreDeclared}
 use Rattle.spf_laws.proofs.Slots.{cons_cases}
 use Rattle.spf_laws.proofs.Plainly.{Comes, Parted, gave, trapped, part, comes-then, comes-trap}
 

@@ -1,7 +1,7 @@
 -- What a chain comes to is what the block runs of its construct come to, one after another.
 use Rattle.std.proofs.Common.{◌≡◌, ℕ, suc, ◌+◌, ◌≤◌, List, [], ◌∷◌, length, drop, ℤ, pos, ◌+ℤ◌, refl, sym, ap, ◌∙◌, subst, arith, add-one}
 use Rattle.std.proofs.Math.IntN.{+ℤ_assoc, pos-+ℤ-pos, +ℤ_idr}
-use Rattle.std.specs.Prelude.{Option, Some}
+use Rattle.std.specs.Prelude.{Option}
 use Rattle.spf_ast.specs.declared.syntax.Part.TheVariants.{Body}
 use Rattle.spf_ast.specs.Interaction.{Ending, Value, Trapped}
 use Rattle.spf_ast.specs.Syntax.{Program}

@@ -1,9 +1,7 @@
 -- Block runs on a memory without cells.
-use Rattle.std.proofs.Common.{◌≡◌, true, false, List, [], ◌∷◌, None, ℤ, pos, refl, sym, ap}
-use Rattle.std.specs.Prelude.{Ok, Err}
-use Rattle.spf_ast.specs.declared.outcome.Trap.{Trap}
-use Rattle.spf_ast.specs.Event.{Event, Load, Store, Turn, word_at, after}
-use Rattle.spf_ast.specs.Interaction.{Interaction, Answer, AskLoad, AskStore, AskTurn, perform, Performed, Ended, Stopped, Misfit, State, Ending, Value, Trapped}
+use Rattle.std.proofs.Common.{◌≡◌, List, [], ◌∷◌, ℤ, refl, ap}
+use Rattle.spf_ast.specs.Event.{Event, Load, Store, Turn, after}
+use Rattle.spf_ast.specs.Interaction.{Interaction, State, Ending}
 use Rattle.spf_ast.specs.Plain.{plain_answer, plain_memory, plain_events}
 use Rattle.spf_layout.specs.declared.stop.Stop.{Stop}
 use Rattle.spf_layout.specs.declared.stop.Stop.TheVariants as stop

@@ -4,7 +4,7 @@ use Rattle.std.specs.List.{Contains}
 use Rattle.spf_ast.specs.declared.outcome.Trap.{Trap}
 use Rattle.spf_ast.specs.Interaction.{State, Ending, Value, Trapped, Meaning}
 use Rattle.spf_ast.specs.Syntax.{Program, Block, end}
-use Rattle.spf_ast.specs.Meaning.{Environment, block_means}
+use Rattle.spf_ast.specs.Meaning.{block_means}
 use Rattle.spf_ast.specs.Plain.{plain_answer, plain_memory}
 use Rattle.spf_ast.specs.Program.{environment_of, extents_of, start_of, zeros_of, outcome_from, Done, Stopped}
 use Rattle.spf_ast.specs.Construct.{Moment, Construct, constructs_in, reached_from}
@@ -16,8 +16,7 @@ use Rattle.spf_laws.proofs.Primitives.{Sees}
 use Rattle.spf_laws.proofs.Forms.{calls-see, block-sees}
 use Rattle.spf_laws.proofs.Plainly.{Comes, answers-alike, memories-alike}
 use Rattle.spf_guess.specs.declared.stats.Stats.{Stats}
-use Rattle.spf_guess.specs.Statistics.{none, plus, statistics, tally_from}
-use Rattle.spf_guess.specs.Guess.{Telling, no_hosts, tells}
+use Rattle.spf_guess.specs.Statistics.{none, plus}
 use Rattle.spf_engine.specs.Standing.{IsAt, GoesOn, HasCome, statistics_of}
 use Rattle.spf_engine.proofs.Tallies.{without-hosts}
 use Rattle.spf_engine.proofs.Places.{goes-to, whole-again}

@@ -1,10 +1,10 @@
 -- Where no host is handed in, what was told changes no statistics.
-use Rattle.std.proofs.Common.{◌≡◌, ℕ, List, [], ◌∷◌, ◌++◌, ℤ, pos, ◌+ℤ◌, refl, sym, ap, ◌∙◌}
+use Rattle.std.proofs.Common.{◌≡◌, ℕ, List, [], ◌∷◌, ◌++◌, ℤ, pos, ◌+ℤ◌, refl, ap, ◌∙◌}
 use Rattle.spf_ast.specs.Syntax.{Program, Predictor, By, Host}
 use Rattle.spf_ast.specs.BlockRun.{predicts}
 use Rattle.spf_ast.specs.Construct.{Construct, fold, pair, Reached}
-use Rattle.spf_guess.specs.Guess.{Guess, guess_of, Telling, no_hosts, guess_for, tells}
-use Rattle.spf_guess.specs.Statistics.{plus, statistics_with, guess_at, tally_from}
+use Rattle.spf_guess.specs.Guess.{guess_of, Telling, no_hosts, guess_for, tells}
+use Rattle.spf_guess.specs.Statistics.{plus, statistics_with, tally_from}
 use Rattle.spf_engine.specs.Standing.{guesses_from, statistics_of}
 
 -- a guess without a host is what the predictor comes to

@@ -102,8 +102,38 @@ fn trapped(run: Run, trap: Trap, stats: Stats) -> RunReport
     }
 }
 
-/// Runs a program of the first form on an input. The blocks of each fold of `main` are run from guesses, and those again whose
+/// Runs an instance of a program of the first form. The blocks of each fold of `main` are run from guesses, and those again whose
 /// guesses were wrong. What comes of it is the plain outcome, whatever the guesses are.
+///
+/// # Errors
+///
+/// `AllocError` where there is no memory for the run.
+pub fn run_instance(alloc: Global, instance: &Instance) -> Result<RunReport, AllocError>
+    requires lawful { IsLawful (program_of instance.now) }
+    requires first_form { is_first_program (program_of instance.now) ≡ true }
+    ensures outcome { IfOk result (λ r. seen_outcome r.outcome ≡ outcome_of (program_of instance.now) instance.now.input) }
+    ensures statistics { IfOk result (λ r. r.stats ≡ statistics_of_run (program_of instance.now) instance.now.input) }
+{
+    lawful_programs_are_quiet_and_small();
+    let mut run = Run::start(alloc, instance)?;
+    let mut stats = Stats::none();
+    loop {
+        match run.advance(instance)? {
+            Pause::Finished => return Ok(finished(run, stats)),
+            Pause::Trapped(trap) => return Ok(trapped(run, trap, stats)),
+            Pause::AtConstruct { construct, .. } => {
+                let came = run_construct(alloc, instance, construct, &mut run)?;
+                stats = stats.plus(came.stats);
+                match came.settled {
+                    Settled::Carried(value) => run.settle(instance, construct, value),
+                    Settled::Trapped(trap) => return Ok(trapped(run, trap, stats)),
+                }
+            }
+        }
+    }
+}
+
+/// Runs a program of the first form on an input, by blocks from guesses.
 ///
 /// # Errors
 ///
@@ -116,22 +146,7 @@ pub fn run_by_blocks(alloc: Global, program: &Program, input: &[u8]) -> Result<R
     ensures statistics { IfOk result (λ r. r.stats ≡ statistics_of_run (seen_program program.now) input.now) }
     ensures out_of_memory { IfErr result (λ why. why ≡ OutOfMemory) }
 {
-    lawful_programs_are_quiet_and_small();
     let instance = Instance::make(alloc, program, input)?;
-    let mut run = Run::start(alloc, &instance)?;
-    let mut stats = Stats::none();
-    loop {
-        match run.advance(&instance)? {
-            Pause::Finished => return Ok(finished(run, stats)),
-            Pause::Trapped(trap) => return Ok(trapped(run, trap, stats)),
-            Pause::AtConstruct { construct, .. } => {
-                let came = run_construct(alloc, &instance, construct, &mut run)?;
-                stats = stats.plus(came.stats);
-                match came.settled {
-                    Settled::Carried(value) => run.settle(&instance, construct, value),
-                    Settled::Trapped(trap) => return Ok(trapped(run, trap, stats)),
-                }
-            }
-        }
-    }
+    let report = run_instance(alloc, &instance)?;
+    Ok(report)
 }

@@ -9,7 +9,7 @@ pub returns-clause-answer : goal.returns-clause-answer
 returns-clause-answer c low e =
     let fn : FitsSigned w64 c.number.result = search rules in
     let fv : FitsSigned w64 c.carried.result = search rules in
-    let p = rw (to_z-of_z w64 c.number.result fn, to_z-of_z w64 c.carried.result fv, c.number.ensures, c.carried.ensures, e, c.new.ensures.items, c.restore.ensures) at (plain_outcome (λ (m : Plain). m.cells.items) _ _ _ _ _ _ c.exec_block.ensures.performs.performs) in
+    let p = rw (to_z-of_z w64 c.number.result fn, to_z-of_z w64 c.carried.result fv, c.number.ensures, c.carried.ensures, e, c.new.ensures.items, c.restore.ensures.equal) at (plain_outcome (λ (m : Plain). m.cells.items) _ _ _ _ _ _ c.exec_block.ensures.performs.performs) in
     stop-is c.exec_block.result _ _ _ _ p
 
 pub returns-clause-ran : goal.returns-clause-ran

@@ -1,7 +1,7 @@
 use Rattle.spf_exec.specs.declared.pieces.Pause.TheVariants as pause
 use Rattle.spf_engine.specs.Laws.{RunsAdvance}
 use Rattle.spf_engine.proofs.Standing.{begins, advances, advances-to-trap, finishes}
-use Rattle.spf_engine.proofs.Constructs.{Laws, header-traps-run, construct-settles, construct-ends-run}
+use Rattle.spf_engine.proofs.Constructs.{header-traps-run, construct-settles, construct-ends-run}
 use Rattle.spf_engine.proofs.laws.runs_in_pieces_go_on.Goals as goal
 
 pub returns-clause-begin : goal.returns-clause-begin
