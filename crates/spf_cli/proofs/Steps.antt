@@ -73,6 +73,15 @@ fetched_long name limit held content next e l =
     beyond : (a b : ℕ) → b < a → nat_le a b ≡ false
     beyond a b l = grind arith
 
+-- a program was run, whose cells aren't too many
+pub run_done : (options : Options) (p : Program) (input : List ℕ) (a : Answer) → (max_cells < cell_count_of p (length input) → ⊥) → a ≡ ran options p (length input) (outcome p input) (stats_of options p input) → IsOnly (Runs options p input) a
+run_done options p input a few e =
+    let done = ran options p (length input) (outcome p input) (stats_of options p input) in
+    subst (IsOnly (Runs options p input)) (sym e) (either_first _ _ (nat_le (cell_count_of p (length input)) max_cells) done (within (cell_count_of p (length input)) max_cells few) (only_this done))
+  where
+    within : (a b : ℕ) → (b < a → ⊥) → nat_le a b ≡ true
+    within a b few = grind (arith, few)
+
 -- with a text that says a program
 pub read_says : (text : List ℕ) (p : Program) (next : Program → Wanted) (a : Answer) → IsOnly (IsVerdict text) (Says p) → IsOnly (next p) a → IsOnly (Read text next) a
 read_says text p next a v h = record {

@@ -2,9 +2,9 @@
 
 ghost use Rattle.std.specs.Prelude.{◌≡◌, ◌≤◌, ◌<◌, ◌^◌, ◌++◌, List, Option, Some, IfOk, IfErr, map, length, string_bytes, true};
 ghost use Rattle.spf_ast.specs.View.{program as program_of, array as array_of};
-ghost use Rattle.spf_ast.specs.Program.{extents_from, extents_of, cell_count_of, max_cells, outcome as outcome_of, seen_outcome};
+ghost use Rattle.spf_ast.specs.Program.{extents_from, outcome as outcome_of, seen_outcome};
 ghost use Rattle.spf_ast.specs.Lawful.{IsLawful};
-ghost use Rattle.spf_layout.specs.declared.layout.RunError.TheVariants.{OutOfMemory};
+ghost use Rattle.spf_layout.specs.Instance.{program_of as instance_program};
 ghost use Rattle.spf_edge.specs.Entries.{Entry, HasContent};
 ghost use Rattle.spf_edge.specs.Faults.{Rose};
 ghost use Rattle.spf_cli.specs.Message.{array_lines};
@@ -32,11 +32,12 @@ use spf_check::explain::explain;
 use spf_check::rule::{CheckError, Refusal};
 use spf_edge::{FetchError, Files};
 use spf_engine::first_form::is_first_form;
-use spf_engine::run::{RunReport, run_by_blocks};
-use spf_layout::arrays::layout;
-use spf_layout::layout::{Layout, RunError};
-use spf_exec::plain_run::run_plain;
+use spf_engine::run;
+use spf_engine::run::RunReport;
+use spf_exec::plain_run;
 use spf_guess::stats::Stats;
+use spf_layout::instance::Instance;
+use spf_layout::layout::RunError;
 use std::alloc::{AllocError, Global};
 
 /// How many bytes the file of a program may have.
@@ -233,13 +234,10 @@ fn push_arrays(
 fn ran(
     alloc: Global,
     options: Options,
-    program: &Program,
-    layout: &Layout,
-    len: u64,
+    instance: &Instance,
     report: RunReport,
 ) -> Result<Answer, AllocError>
-    requires { layout.now.extents.items ≡ extents_of (program_of program.now) len }
-    ensures { IfOk result (λ a. seen_answer a ≡ ran_answer (seen_options options) (program_of program.now) len (seen_outcome report.outcome) report.stats) }
+    ensures { IfOk result (λ a. seen_answer a ≡ ran_answer (seen_options options) (instance_program instance.now) (length instance.now.input) (seen_outcome report.outcome) report.stats) }
 {
     let RunReport { outcome, stats } = report;
     let mut messages = Vec::new(alloc);
@@ -250,9 +248,9 @@ fn ran(
                 push_arrays(
                     alloc,
                     &mut messages,
-                    &program.arrays,
-                    &layout.extents,
-                    len,
+                    &instance.program().arrays,
+                    instance.layout().extents(),
+                    instance.input().len() as u64,
                     &cells,
                 )?;
             }
@@ -294,25 +292,21 @@ fn too_many(alloc: Global, count: u128) -> Result<Answer, AllocError>
     refused(alloc, Status::OverLimit, too_many_line(alloc, count)?)
 }
 
-/// Runs a program: by its plain meaning where that is asked for, or by blocks from guesses.
-fn run_program(
+/// Runs an instance: by the plain meaning of its program where that is asked for, or by blocks from guesses.
+fn run_instance(
     alloc: Global,
     options: Options,
-    program: &Program,
-    input: &[u8],
-) -> Result<RunReport, RunError>
-    requires lawful { IsLawful (program_of program.now) }
-    requires built { is_built_program (seen_options options) (program_of program.now) ≡ true }
-    requires few { cell_count_of (program_of program.now) (length input.now) ≤ max_cells }
-    requires short { length input.now < 2 ^ 63 }
-    ensures outcome { IfOk result (λ r. seen_outcome r.outcome ≡ outcome_of (program_of program.now) input.now) }
-    ensures stats { IfOk result (λ r. r.stats ≡ stats_of (seen_options options) (program_of program.now) input.now) }
-    ensures want { IfErr result (λ why. why ≡ OutOfMemory) }
+    instance: &Instance,
+) -> Result<RunReport, AllocError>
+    requires lawful { IsLawful (instance_program instance.now) }
+    requires built { is_built_program (seen_options options) (instance_program instance.now) ≡ true }
+    ensures outcome { IfOk result (λ r. seen_outcome r.outcome ≡ outcome_of (instance_program instance.now) instance.now.input) }
+    ensures stats { IfOk result (λ r. r.stats ≡ stats_of (seen_options options) (instance_program instance.now) instance.now.input) }
 {
     if !options.plain {
-        return run_by_blocks(alloc, program, input);
+        return run::run_instance(alloc, instance);
     }
-    let outcome = run_plain(alloc, program, input)?;
+    let outcome = plain_run::run_instance(alloc, instance)?;
     Ok(RunReport {
         outcome,
         stats: Stats::none(),
@@ -323,18 +317,14 @@ fn run_program(
 fn run(alloc: Global, options: Options, program: &Program, input: &[u8]) -> Result<Answer, Left>
     requires lawful { IsLawful (program_of program.now) }
     requires built { is_built_program (seen_options options) (program_of program.now) ≡ true }
-    requires short { length input.now < 2 ^ 63 }
     ensures { AnswersWith (IsOnly (Runs (seen_options options) (program_of program.now) input.now)) result }
 {
-    let len = input.len() as u64;
-    let layout = match layout(alloc, program, len) {
-        Ok(layout) => layout,
+    let instance = match Instance::make(alloc, program, input) {
+        Ok(instance) => instance,
         Err(error) => return Err(not_run(alloc, error)),
     };
-    match run_program(alloc, options, program, input) {
-        Ok(report) => Ok(ran(alloc, options, program, &layout, len, report)?),
-        Err(error) => Err(not_run(alloc, error)),
-    }
+    let report = run_instance(alloc, options, &instance)?;
+    Ok(ran(alloc, options, &instance, report)?)
 }
 
 /// The answer of a run on the file of an input.

@@ -8,6 +8,7 @@ ghost use Rattle.spf_layout.specs.declared.layout.RunError.TheVariants.{OutOfMem
 ghost use Rattle.spf_ast.specs.Size.{block_measure};
 ghost use Rattle.spf_exec.specs.Performs.{AreWithin, call_slots, environment, state};
 ghost use Rattle.spf_exec.specs.PlainMemory.{IsPlainOutcome};
+ghost use Rattle.spf_layout.specs.Instance.{program_of};
 ghost use Rattle.spf_layout.specs.RunErrors.{IsTooMany};
 
 use crate::context::Context;
@@ -19,7 +20,7 @@ use spf_ast::outcome::Outcome;
 use spf_ast::syntax::{Program, Stmt};
 use spf_layout::instance::Instance;
 use spf_layout::layout::RunError;
-use std::alloc::Global;
+use std::alloc::{AllocError, Global};
 
 /// Performs the statements of `main` on a memory of its own.
 pub(crate) fn run_main(
@@ -51,6 +52,37 @@ pub(crate) fn run_main(
     )
 }
 
+/// Runs an instance: the plain meaning of its program on its input, in which predictors don't occur.
+///
+/// # Errors
+///
+/// `AllocError` where there is no memory for the run.
+pub fn run_instance(alloc: Global, instance: &Instance) -> Result<Outcome, AllocError>
+    ensures { IfOk result (λ o. seen_outcome o ≡ outcome (program_of instance.now) instance.now.input) }
+{
+    let mut frame = Frame::make(alloc, instance)?;
+    let cells = vec![in alloc; 0i64; instance.layout().cells() as usize]?;
+    let mut memory = Plain {
+        cells,
+        output: Vec::new(alloc),
+    };
+    let context = Context::of(instance);
+    let program = instance.program();
+    let (slots, scratch) = frame.slots.split_at_mut(program.slots.len());
+    match run_main(&context, &program.main, slots, scratch, &mut memory) {
+        Ok(()) => Ok(Outcome::Done {
+            cells: memory.cells,
+            output: memory.output,
+        }),
+        Err(Halt::Trapped(trap)) => Ok(Outcome::Trapped {
+            trap,
+            output: memory.output,
+        }),
+        Err(Halt::Cancelled { .. }) => unreachable!(),
+        Err(Halt::NoMemory) => Err(AllocError),
+    }
+}
+
 /// Runs a whole program on an input: its plain meaning, in which predictors don't occur.
 ///
 /// # Errors
@@ -65,24 +97,6 @@ pub fn run_plain(alloc: Global, program: &Program, input: &[u8]) -> Result<Outco
         → IfErr result (λ why. why ≡ OutOfMemory) }
 {
     let instance = Instance::make(alloc, program, input)?;
-    let mut frame = Frame::make(alloc, &instance)?;
-    let cells = vec![in alloc; 0i64; instance.layout().cells() as usize]?;
-    let mut memory = Plain {
-        cells,
-        output: Vec::new(alloc),
-    };
-    let context = Context::of(&instance);
-    let (slots, scratch) = frame.slots.split_at_mut(program.slots.len());
-    match run_main(&context, &program.main, slots, scratch, &mut memory) {
-        Ok(()) => Ok(Outcome::Done {
-            cells: memory.cells,
-            output: memory.output,
-        }),
-        Err(Halt::Trapped(trap)) => Ok(Outcome::Trapped {
-            trap,
-            output: memory.output,
-        }),
-        Err(Halt::Cancelled { .. }) => unreachable!(),
-        Err(Halt::NoMemory) => Err(RunError::OutOfMemory),
-    }
+    let outcome = run_instance(alloc, &instance)?;
+    Ok(outcome)
 }

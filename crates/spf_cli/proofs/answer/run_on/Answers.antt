@@ -1,10 +1,10 @@
-use Rattle.std.proofs.Common.{rules, ◌≡◌, true, false}
+use Rattle.std.proofs.Common.{rules, ◌≡◌, true, false, subst}
 use Rattle.std.proofs.lemmas.Result.{err_from_is_err_and}
 use Rattle.spf_ast.specs.View.{program}
 use Rattle.spf_edge.specs.Faults.{Rose}
 use Rattle.spf_cli.specs.Asked.{seen_options}
 use Rattle.spf_cli.specs.Whole.{IsOnly, Runs, RunsOn, IsInputFault, is_built}
-use Rattle.spf_cli.specs.Answering.{IsWholeUnless, IsCaused}
+use Rattle.spf_cli.specs.Answering.{AnswersWith, IsWholeUnless, IsCaused}
 use Rattle.spf_cli.proofs.Steps.{on_not_built, on_whole, on_input_left, answers_with, run_cause, fetch_cause}
 use Rattle.spf_cli.proofs.answer.run_on.Goals as goal
 
@@ -34,8 +34,8 @@ returns-clause-whole g c =
     let Fault = Rose (g.F.Files.faults c.args.files.now) (g.F.Files.faults c.fetch.new.files) in
     let options = seen_options c.args.options in
     let p = program c.args.program.now in
-    let said = rw c.deref.ensures.value at c.run.ensures in
     let b : is_built options p ≡ true = search rules in
+    let said = subst (λ content. AnswersWith (IsOnly (Runs options p content)) c.run.result) c.deref.ensures.value c.run.ensures in
     answers_with (IsWholeUnless (RunsOn options c.args.input.now p) (IsInputFault options c.args.input.now p) told Fault) (IsOnly (Runs options p c.in_ok-content.content.items)) c.run.result said (λ a r.
     on_whole told c.args.input.now c.in_ok-content.content.items options p Fault a b c.in_ok-content.ensures.content c.in_ok-content.ensures.within r)
 
@@ -43,7 +43,7 @@ pub returns-clause-cause : goal.returns-clause-cause
 returns-clause-cause g c =
     let told = g.F.Files.told c.args.files.now in
     let Fault = Rose (g.F.Files.faults c.args.files.now) (g.F.Files.faults c.fetch.new.files) in
-    let said = rw c.deref.ensures.value at c.run.ensures in
     let options = seen_options c.args.options in
     let p = program c.args.program.now in
+    let said = subst (λ content. AnswersWith (IsOnly (Runs options p content)) c.run.result) c.deref.ensures.value c.run.ensures in
     answers_with (IsCaused told Fault) (IsOnly (Runs options p c.in_ok-content.content.items)) c.run.result said (λ a r. run_cause options p c.in_ok-content.content.items a told Fault r.is)
