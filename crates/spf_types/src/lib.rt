@@ -5,6 +5,7 @@ mod expression;
 mod fault;
 mod globals;
 mod header;
+pub mod laws;
 mod limits;
 mod locals;
 mod names;
