@@ -12,8 +12,6 @@ mod names;
 mod program;
 mod simple;
 mod statement;
-#[cfg(test)]
-mod tests;
 
 pub use fault::{TypeError, TypeFault};
 pub use program::resolve;
