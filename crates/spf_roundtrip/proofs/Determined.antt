@@ -28,7 +28,7 @@ says_once text p q a b =
     let reads = subst (λ ts. Reads (length ts) (lexemes_of text ts) b.said) same b.reads in
     sym a.same ∙ ap program_without_lines (reads_once (length a.tokens) (lexemes_of text a.tokens) a.said b.said a.reads reads) ∙ b.same
 
--- a program without its lines is what its spelling stands for without them
+-- a program without its lines is what its spelling without them resolves to
 without_lines_is : (p : Program) → IsScoped p → lines.program_without_lines p ≡ resolved (program_without_lines (spelled 0 p))
 without_lines_is p w = ap lines.program_without_lines (sym (program_same 0 p w)) ∙ sym (program_kept (spelled 0 p))
 

@@ -1,4 +1,4 @@
--- Raw programs that are the same but for their lines stand for programs that are.
+-- Raw programs that are the same but for their lines resolve to programs that are.
 use Rattle.std.proofs.Common.{◌≡◌, ℕ, ◌+◌, List, [], ◌∷◌, ◌++◌, length, map, refl, sym, ap, ◌∙◌}
 use Rattle.spf_ast.specs.Syntax as s
 use Rattle.spf_ast.specs.Syntax.{Array, Function, Program}

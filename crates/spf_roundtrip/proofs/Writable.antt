@@ -14,7 +14,7 @@ use Rattle.spf_types.proofs.SoundPrograms.{range_in}
 
 -- ---- names
 
--- the numbers that forms may hold stand for names
+-- each array, function and slot that a form may name has a name
 record HasNames (names : Names) (v : Vocabulary) : Type 0 where
   pub arrays : (a : ℕ) → a < names.arrays → IsName (name_at v.arrays a)
   pub functions : (f count : ℕ) → IsCallable names f count → IsName (name_at v.functions f)
@@ -75,7 +75,7 @@ inside_end : (names : Names) (m : Bool) (s : Scope) (b : Block) → Room names s
 inside_end names m s end r h = r.inside
 inside_end names m s (on_line line st rest) r h = inside_end names m (scope_after s st) rest (room_after names m s (declared_in rest) st r h.0) h.1
 
--- a number behind a block
+-- a number after a block
 writable_value : (names : Names) (v : Vocabulary) (m : Bool) (s : Scope) → HasNames names v → (b : Block) (e : Expression) → Room names s (declared_in b) → IsLawfulBlock names m s b → IsLawfulExpression names (scope_at_end s b) e → IsWritableExpression (spelled_expression v e)
 writable_value names v m s has b e r h k = writable_expression names v (scope_at_end s b) has (inside_end names m s b r h) e k
 
@@ -182,7 +182,7 @@ arrays_are (a ∷ rest) n s =
     let z = s 0 a (omega arith) in
     all_more IsWritableArray a rest (n 0 a.name (omega arith), z.0, z.1) (arrays_are rest (λ k d q. n (suc k) d (omega (arith, q))) (λ k d q. s (suc k) d (omega (arith, q))))
 
--- the functions from a place on
+-- the functions from an index on
 functions_are : (p : Program) (place : ℕ) (fs : List Function) → IsScoped p → place + length fs ≤ length p.functions → All IsName (map (λ (f : Function). f.name) fs) → ((i : ℕ) → IfSome (slice_get fs i) (IsLawfulFunction p (place + i))) → All IsWritableFunction (map (spelled_function p) fs)
 functions_are p place [] w h n each = all_none IsWritableFunction
 functions_are p place (f ∷ rest) w h n each =

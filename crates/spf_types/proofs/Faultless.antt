@@ -93,7 +93,7 @@ shows_along slots one other fixed sc there back shows = record {
 
 -- ---- names
 
--- the names of arrays and functions stand for them, and any other for nothing
+-- the names of arrays and functions are found as theirs, and no other name is found
 pub record Known (here : Setting) (names : Names) (v : Vocabulary) : Type 0 where
   pub arrays : (a : ℕ) → a < names.arrays → global_named here.globals (name_at v.arrays a) ≡ Some (outer.Array a)
   pub functions : (k count : ℕ) → IsCallable names k count → (global_named here.globals (name_at v.functions k) ≡ Some (outer.Function k)) × (count ≡ params_of here.globals k)
@@ -248,7 +248,7 @@ shows_end here names v m s sc known end r h = r.shows
 shows_end here names v m s sc known (on_line line st rest) r h =
     shows_end here names v m (w.scope_after s st) (f.scope_after sc (spelled_statement v st)) known rest (ready_after here names v m s sc (declared_in rest) known st r h.0) h.1
 
--- a number behind a block
+-- a number after a block
 value_none : (here : Setting) (names : Names) (v : Vocabulary) (s : w.Scope) (sc : Scope) (line : ℕ) → Known here names v → (b : Block) (e : Expression) → Ready names s sc (declared_in b) → IsLawfulBlock names here.in_main s b → IsLawfulExpression names (w.scope_at_end s b) e → expression_faults here (f.scope_at_end sc (spelled_block v b)) line a_number (spelled_expression v e) ≡ []
 value_none here names v s sc line known b e r h k =
     number_none here names v (w.scope_at_end s b) (f.scope_at_end sc (spelled_block v b)) line known (shows_end here names v here.in_main s sc known b r h) e k
