@@ -13,5 +13,7 @@ pub mod Alike
 pub mod SoundPrograms
 pub mod Unique
 pub mod UniquePrograms
+pub mod Faultless
+pub mod FaultlessPrograms
 pub mod Kept
 pub mod Whole

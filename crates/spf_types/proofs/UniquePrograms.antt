@@ -99,11 +99,11 @@ place_back (x ∷ xs) (suc a) d h =
     let k : a < length xs = omega (arith, h) in
     past_first x xs (name_at xs a) a (bytes_eq x (name_at xs a)) refl d.0 (in_list xs a k) (place_back xs a d.1 k)
 
-contains_left : (xs ys : List (List ℕ)) (x : List ℕ) → Contains xs x → Contains (xs ++ ys) x
+pub contains_left : (xs ys : List (List ℕ)) (x : List ℕ) → Contains xs x → Contains (xs ++ ys) x
 contains_left [] ys x h = absurd (omega (arith, h.1))
 contains_left (y ∷ xs) ys x h = elim (contains_cases y x xs h) [ inl e ↦ contains_here y x (xs ++ ys) e | inr g ↦ contains_there y x (xs ++ ys) (contains_left xs ys x g) ]
 
-contains_right : (xs ys : List (List ℕ)) (x : List ℕ) → Contains ys x → Contains (xs ++ ys) x
+pub contains_right : (xs ys : List (List ℕ)) (x : List ℕ) → Contains ys x → Contains (xs ++ ys) x
 contains_right [] ys x h = h
 contains_right (y ∷ xs) ys x h = contains_there y x (xs ++ ys) (contains_right xs ys x h)
 
@@ -115,7 +115,7 @@ different_right : (xs ys : List (List ℕ)) → AreDifferent (xs ++ ys) → AreD
 different_right [] ys d = d
 different_right (x ∷ xs) ys d = different_right xs ys d.1
 
-absent : (x : List ℕ) (y : List ℕ) (b : Bool) (o : Option ℕ) → bytes_eq x y ≡ b → (x ≡ y → ⊥) → o ≡ None → cond b (Some 0) (option_map (λ n. n + 1) o) ≡ None
+pub absent : (x : List ℕ) (y : List ℕ) (b : Bool) (o : Option ℕ) → bytes_eq x y ≡ b → (x ≡ y → ⊥) → o ≡ None → cond b (Some 0) (option_map (λ n. n + 1) o) ≡ None
 absent x y true o e never p = absurd (never (same_bytes x y e))
 absent x y false o e never p = ap (option_map (λ n. n + 1)) p
 
@@ -130,23 +130,27 @@ place_in_place g x n e = rw e refl
 function_in_place : (g : Globals) (x : List ℕ) (n : ℕ) → global_named g x ≡ Some (outer.Function n) → place_of g x ≡ n
 function_in_place g x n e = rw e refl
 
+pub array_named : (g : Globals) (a : ℕ) → AreDifferent (g.arrays ++ g.functions) → a < length g.arrays → global_named g (name_at g.arrays a) ≡ Some (outer.Array a)
+array_named g a d h =
+    ap (λ o. either (option_map outer.Array o) (option_map outer.Function (place_in g.functions (name_at g.arrays a)))) (place_back g.arrays a (different_left g.arrays g.functions d) h)
+
+pub function_named : (g : Globals) (f : ℕ) → AreDifferent (g.arrays ++ g.functions) → f < length g.functions → global_named g (name_at g.functions f) ≡ Some (outer.Function f)
+function_named g f d h =
+    let p = place_back g.functions f (different_right g.arrays g.functions d) h in
+    let q = not_in_front g.arrays g.functions (name_at g.functions f) d (in_list g.functions f h) in
+    λ j. either (option_map outer.Array (q j)) (option_map outer.Function (p j))
+
 array_back : (g : Globals) (a : ℕ) → AreDifferent (g.arrays ++ g.functions) → a < length g.arrays → place_of g (name_at g.arrays a) ≡ a
-array_back g a d h =
-    let p = place_back g.arrays a (different_left g.arrays g.functions d) h in
-    place_in_place g (name_at g.arrays a) a (ap (λ o. either (option_map outer.Array o) (option_map outer.Function (place_in g.functions (name_at g.arrays a)))) p)
+array_back g a d h = place_in_place g (name_at g.arrays a) a (array_named g a d h)
 
 function_back : (g : Globals) (f : ℕ) → AreDifferent (g.arrays ++ g.functions) → f < length g.functions → place_of g (name_at g.functions f) ≡ f
-function_back g f d h =
-    let x = name_at g.functions f in
-    let p = place_back g.functions f (different_right g.arrays g.functions d) h in
-    let q = not_in_front g.arrays g.functions x d (in_list g.functions f h) in
-    function_in_place g x f (λ j. either (option_map outer.Array (q j)) (option_map outer.Function (p j)))
+function_back g f d h = function_in_place g (name_at g.functions f) f (function_named g f d h)
 
 -- the arrays and functions of a program's spelling
 abbrev pub globals_back : Program → Globals
 globals_back p = globals_of p.arrays (map (spelled_function p) p.functions)
 
-functions_are : (p : Program) → map (λ (f : Function). f.name) p.functions ≡ (globals_back p).functions
+pub functions_are : (p : Program) → map (λ (f : Function). f.name) p.functions ≡ (globals_back p).functions
 functions_are p = map_twice (spelled_function p) (λ (f : RawFunction). f.name) p.functions
 
 pub back_program : (p : Program) (place : ℕ) (slots : List (List ℕ)) → AreDifferent (names_taken p) → place ≤ length p.functions → Back (globals_back p) (names_at p place slots) (vocabulary p slots)
@@ -161,7 +165,7 @@ back_program p place slots d h =
 
 -- ---- functions
 
-range_step : (n k : ℕ) → Contains (range_with_len 0 (n + 1)) k → Contains (n ∷ range_with_len 0 n) k
+pub range_step : (n k : ℕ) → Contains (range_with_len 0 (n + 1)) k → Contains (n ∷ range_with_len 0 n) k
 range_step n k c =
     let h = range_in (n + 1) k c in
     elim (le_cases k n (omega (arith, h))) [ inl e ↦ contains_here n k (range_with_len 0 n) (sym e) | inr g ↦ contains_there n k (range_with_len 0 n) (in_range n k (omega (arith, g))) ]
@@ -201,13 +205,13 @@ function_same p place f d h w =
 
 -- ---- programs
 
+pub place_inside : (xs : List Function) (k : ℕ) (x : Function) → slice_get xs k ≡ Some x → k < length xs
+place_inside [] k x e = cc
+place_inside (y ∷ ys) zero x e = omega arith
+place_inside (y ∷ ys) (suc k) x e = let r = place_inside ys k x e in omega (arith, r)
+
 each_same : (p : Program) → AreDifferent (names_taken p) → (o : Option Function) (i : ℕ) → slice_get p.functions i ≡ o → IfSome o (IsLawfulFunction p i) → IfSome o (λ f. resolved_function (globals_back p) (spelled_function p f) ≡ f)
-each_same p d (Some f) i e h = function_same p i f d (let k = inside p.functions i f e in omega (arith, k)) h
-  where
-    inside : (xs : List Function) (k : ℕ) (x : Function) → slice_get xs k ≡ Some x → k < length xs
-    inside [] k x e = cc
-    inside (y ∷ ys) zero x e = omega arith
-    inside (y ∷ ys) (suc k) x e = let r = inside ys k x e in omega (arith, r)
+each_same p d (Some f) i e h = function_same p i f d (let k = place_inside p.functions i f e in omega (arith, k)) h
 each_same p d None i e h = tt
 
 pub program_same : (main_line : ℕ) (p : Program) → IsScoped p → resolved (spelled main_line p) ≡ p

@@ -19,16 +19,21 @@ use Rattle.spf_types.proofs.Steps.{ahead, behind, none_in, first_in, append_none
 use Rattle.spf_types.proofs.Kept.{none_passed, kept_none}
 use Rattle.spf_types.proofs.SoundPrograms.{program_ok}
 use Rattle.spf_types.proofs.UniquePrograms.{program_same}
+use Rattle.spf_types.proofs.FaultlessPrograms.{spelled_faultless}
 
 -- a raw program without faults that passes no limit stands for what it resolves to
 pub resolved_is : (raw : RawProgram) → faults raw ≡ [] → limits_passed raw.main_line (resolved raw) ≡ [] → IsWritable raw → IsResolved raw (resolved raw)
 resolved_is raw h k w =
     let p = program_ok raw h w in
-    record { faultless = h; spelling = p.1; lawful = record { scoped = p.0; limits = none_passed raw.main_line (resolved raw) k } }
+    record { spelling = p.1; lawful = record { scoped = p.0; limits = none_passed raw.main_line (resolved raw) k } }
 
 -- and for nothing else
 pub resolved_only : (raw : RawProgram) (q : Program) → spelled raw.main_line q ≡ raw → IsScoped q → q ≡ resolved raw
 resolved_only raw q spelling scoped = sym (program_same raw.main_line q scoped) ∙ ap resolved spelling
+
+-- what spells a scoped program has no faults
+pub none_of_scoped : (raw : RawProgram) (q : Program) → spelled raw.main_line q ≡ raw → IsScoped q → faults raw ≡ []
+none_of_scoped raw q spelling scoped = subst (λ r. faults r ≡ []) spelling (spelled_faultless raw.main_line q scoped)
 
 -- the faults of a raw program, and then where it passes limits
 abbrev pub all_faults : RawProgram → List Fault
@@ -36,19 +41,19 @@ all_faults raw = faults raw ++ limits_passed raw.main_line (resolved raw)
 
 none_of_lawful : (raw : RawProgram) (q : Program) → IsResolved raw q → all_faults raw ≡ []
 none_of_lawful raw q k =
-    none_in (faults raw) (limits_passed raw.main_line (resolved raw)) k.faultless
+    none_in (faults raw) (limits_passed raw.main_line (resolved raw)) (none_of_scoped raw q k.spelling k.lawful.scoped)
     (subst (λ p. limits_passed raw.main_line p ≡ []) (resolved_only raw q k.spelling k.lawful.scoped) (kept_none raw.main_line q k.lawful.limits))
 
 first_of_refused : (raw : RawProgram) (what : TypeFault) (line : ℕ) → IsRefused raw what line → first (all_faults raw) ≡ Some (record { what = what; line = line })
 first_of_refused raw what line (inl k) = ahead (faults raw) (limits_passed raw.main_line (resolved raw)) (Refused what line) k
 first_of_refused raw what line (inr k) =
-    behind (faults raw) (limits_passed raw.main_line (resolved raw)) (Refused what line) k.faultless
+    behind (faults raw) (limits_passed raw.main_line (resolved raw)) (Refused what line) (none_of_scoped raw k.program k.spelling k.scoped)
     (subst (λ p. first (limits_passed raw.main_line p) ≡ Some (record { what = what; line = line })) (resolved_only raw k.program k.spelling k.scoped) k.passed)
 
 refused_of_first : (raw : RawProgram) → IsWritable raw → (what : TypeFault) (line : ℕ) → first (all_faults raw) ≡ Some (record { what = what; line = line }) → IsRefused raw what line
 refused_of_first raw w what line h = elim (first_in (faults raw) (limits_passed raw.main_line (resolved raw)) (record { what = what; line = line }) h) [
   | inl k ↦ inl k
-  | inr k ↦ inr (record { faultless = k.0; program = resolved raw; spelling = (program_ok raw k.0 w).1; scoped = (program_ok raw k.0 w).0; passed = k.1 })
+  | inr k ↦ inr (record { program = resolved raw; spelling = (program_ok raw k.0 w).1; scoped = (program_ok raw k.0 w).0; passed = k.1 })
 ]
 
 abbrev what_of : Option Fault → TypeError

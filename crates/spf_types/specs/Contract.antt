@@ -1,5 +1,5 @@
 -- What `resolve` answers.
-use Rattle.std.specs.Prelude.{◌≡◌, ◌⊎◌, ℕ, [], Some}
+use Rattle.std.specs.Prelude.{◌≡◌, ◌⊎◌, ℕ, Some}
 use Rattle.spf_ast.specs.Syntax.{Program}
 use Rattle.spf_ast.specs.RawSyntax.{RawProgram}
 use Rattle.spf_ast.specs.Lawful.{IsScoped, IsLawful}
@@ -8,20 +8,18 @@ use Rattle.spf_types.specs.declared.fault.TypeFault.{TypeFault}
 use Rattle.spf_types.specs.Faults.{faults, first}
 use Rattle.spf_types.specs.TooLarge.{limits_passed}
 
--- the raw program has no fault, and it spells this program, which is lawful
+-- the raw program spells this program, which is lawful
 pub record IsResolved (raw : RawProgram) (p : Program) : Type 0 where
-  pub faultless : faults raw ≡ []
   pub spelling : spelled raw.main_line p ≡ raw
   pub lawful : IsLawful p
 
--- the raw program has no fault, but the program that it spells passes a limit, first at this line
+-- the raw program spells a program that is scoped but passes a limit, first at this line
 pub record IsTooLarge (raw : RawProgram) (what : TypeFault) (line : ℕ) : Type 0 where
-  pub faultless : faults raw ≡ []
   pub program : Program
   pub spelling : spelled raw.main_line program ≡ raw
   pub scoped : IsScoped program
   pub passed : first (limits_passed raw.main_line program) ≡ Some (record { what = what; line = line })
 
--- this is the first fault of the raw program, or it has none and is too large
+-- this is the first fault of the raw program, or the program that it spells is too large
 abbrev pub IsRefused : RawProgram → TypeFault → ℕ → Type 0
 IsRefused raw what line = (first (faults raw) ≡ Some (record { what = what; line = line })) ⊎ IsTooLarge raw what line

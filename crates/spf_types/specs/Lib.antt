@@ -10,3 +10,4 @@ pub mod HereView
 pub mod Answers
 pub mod TooLarge
 pub mod Contract
+pub mod Laws

@@ -5,14 +5,13 @@ mod expression;
 mod fault;
 mod globals;
 mod header;
+pub mod laws;
 mod limits;
 mod locals;
 mod names;
 mod program;
 mod simple;
 mod statement;
-#[cfg(test)]
-mod tests;
 
 pub use fault::{TypeError, TypeFault};
 pub use program::resolve;

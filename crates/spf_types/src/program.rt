@@ -141,7 +141,7 @@ fn functions_of<'a>(
 }
 
 /// What a program has besides its arrays.
-pub(crate) fn parts_of(alloc: Global, raw: &RawProgram) -> Result<Parts, TypeError>
+fn parts_of(alloc: Global, raw: &RawProgram) -> Result<Parts, TypeError>
     ensures { Answers {A = List function_form × List (List ℕ) × block_form} (faults (raw_program raw.now)) (λ p. (map seen_function p.functions.items, map seen_name p.slots.items, seen_block p.main.items)) ((resolved (raw_program raw.now)).functions, (resolved (raw_program raw.now)).slots, (resolved (raw_program raw.now)).main) result }
 {
     let arrays: &[Array] = &raw.arrays;
@@ -165,7 +165,7 @@ pub(crate) fn parts_of(alloc: Global, raw: &RawProgram) -> Result<Parts, TypeErr
 }
 
 /// The program that a raw one stands for, tested against the limits.
-pub(crate) fn resolved_of(alloc: Global, raw: RawProgram) -> Result<Program, TypeError>
+fn resolved_of(alloc: Global, raw: RawProgram) -> Result<Program, TypeError>
     ensures { Answers (faults (raw_program raw) ++ limits_passed raw.main_line (resolved (raw_program raw))) seen_program (resolved (raw_program raw)) result }
 {
     let parts = parts_of(alloc, &raw)?;

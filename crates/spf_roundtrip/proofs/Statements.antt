@@ -11,10 +11,10 @@ use Rattle.spf_grammar.specs.Lexemes.{Lexeme}
 use Rattle.spf_grammar.specs.Reading.{line_of}
 use Rattle.spf_grammar.specs.Parts.{token, opens, name as name_part, many, expression, form, block, otherwise, guess, statement, give}
 use Rattle.spf_grammar.specs.Rules.{block_of}
-use Rattle.spf_canonical.specs.Laws.{without_lines, block_without_lines}
-use Rattle.spf_canonical.proofs.Pieces.{w, s, name, count as count_piece, number, space, of_expression, of_arguments, of_predictor, on_own_line, range, let_line, assign_line, stored, store_line, fill_line, word_line, fail_line, opening, if_line, for_line, while_line, do_line, fold_line, pair_line, consumer_line, else_line, close_line, closing, of_statement, of_otherwise, of_block}
-use Rattle.spf_canonical.proofs.Lexing.{Takes, takes-append, takes-line, Said, Told, done, andthen, first_of, second_of, by_rule, on_its_line, Step, token_step, opens_step, name_step, number_step, count_step}
-use Rattle.spf_canonical.proofs.Levels.{facts, whole, done_at, indexed, called, same_arguments}
+use Rattle.spf_roundtrip.specs.Laws.{without_lines, block_without_lines}
+use Rattle.spf_roundtrip.proofs.Pieces.{w, s, name, count as count_piece, number, space, of_expression, of_arguments, of_predictor, on_own_line, range, let_line, assign_line, stored, store_line, fill_line, word_line, fail_line, opening, if_line, for_line, while_line, do_line, fold_line, pair_line, consumer_line, else_line, close_line, closing, of_statement, of_otherwise, of_block}
+use Rattle.spf_roundtrip.proofs.Lexing.{Takes, takes-append, takes-line, Said, Told, done, andthen, first_of, second_of, by_rule, on_its_line, Step, token_step, opens_step, name_step, number_step, count_step}
+use Rattle.spf_roundtrip.proofs.Levels.{facts, whole, done_at, indexed, called, same_arguments}
 
 -- ---- what stands in lines
 

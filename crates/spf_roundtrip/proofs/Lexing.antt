@@ -12,7 +12,7 @@ use Rattle.spf_grammar.specs.Rules.{rule, rank_of}
 use Rattle.spf_grammar.specs.Reading.{line_of, one}
 use Rattle.spf_grammar.specs.Derivations.{Says, Reading}
 use Rattle.spf_grammar.proofs.Derivations.{from_rule, with_line}
-use Rattle.spf_canonical.proofs.Pieces.{blanks, on_own_line, newline}
+use Rattle.spf_roundtrip.proofs.Pieces.{blanks, on_own_line, newline}
 
 -- these lexemes begin with those of the pieces, and the others come after them
 abbrev pub Takes : List Piece → List l.Lexeme → List l.Lexeme → Type 0

@@ -14,8 +14,8 @@ use Rattle.spf_text.specs.declared.token.Sign.TheVariants as sign
 use Rattle.spf_text.specs.declared.token.TokenKind.TheVariants as kind
 use Rattle.spf_text.specs.Tokens.{Piece, bytes_of, IsPiece, IsCut, Spells, EndsBefore, Begins, BeginsWith, IsLetter, IsDigit, IsWordByte, word_spelling, sign_spelling, number_from}
 use Rattle.spf_ast.specs.Lawful.{IsName, IsWord, IsNumber, reserved_words}
-use Rattle.spf_canonical.proofs.Pieces.{bytes}
-use Rattle.spf_canonical.proofs.Bytes.{bytes-append}
+use Rattle.spf_roundtrip.proofs.Pieces.{bytes}
+use Rattle.spf_roundtrip.proofs.Bytes.{bytes-append}
 
 -- ---- whole pieces
 

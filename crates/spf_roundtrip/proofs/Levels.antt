@@ -16,8 +16,8 @@ use Rattle.spf_ast.specs.Canonical as text
 use Rattle.spf_grammar.specs.Lexemes.{Lexeme}
 use Rattle.spf_grammar.specs.Parts.{token, opens, give, many, expression, level, further, compared, operand, arguments, next_argument, Rule}
 use Rattle.spf_grammar.specs.Rules.{rank_of, joined}
-use Rattle.spf_canonical.proofs.Pieces.{s, spaced, enclosed, of_expression, of_arguments, of_further}
-use Rattle.spf_canonical.proofs.Lexing.{Takes, takes-append, Said, Told, done, andthen, first_of, second_of, by_rule, token_step, opens_step, operator_step, name_step, number_step}
+use Rattle.spf_roundtrip.proofs.Pieces.{s, spaced, enclosed, of_expression, of_arguments, of_further}
+use Rattle.spf_roundtrip.proofs.Lexing.{Takes, takes-append, Said, Told, done, andthen, first_of, second_of, by_rule, token_step, opens_step, operator_step, name_step, number_step}
 
 -- how loosely an expression binds, as the grammar counts it
 abbrev pub rank : RawExpression → ℕ

@@ -6,16 +6,15 @@ use Rattle.spf_ast.specs.RawSyntax.{RawProgram}
 use Rattle.spf_ast.specs.Spelling.{IsWritable}
 use Rattle.spf_ast.specs.Canonical.{canonical_text}
 use Rattle.spf_grammar.specs.Lexemes.{lexeme_of, lexemes_of}
-use Rattle.spf_canonical.specs.Laws.{SaysButForLines}
-use Rattle.spf_canonical.proofs.Pieces.{bytes, of_program}
-use Rattle.spf_canonical.proofs.Bytes.{program-bytes}
-use Rattle.spf_canonical.proofs.Cuts.{cut_of}
-use Rattle.spf_canonical.proofs.Wholes.{program-ended}
-use Rattle.spf_canonical.proofs.Lexing.{lexed}
-use Rattle.spf_canonical.proofs.Programs.{program_put}
-use Rattle.spf_canonical.proofs.canonical_texts_read_back.Goals as goal
+use Rattle.spf_roundtrip.specs.Laws.{SaysButForLines}
+use Rattle.spf_roundtrip.proofs.Pieces.{bytes, of_program}
+use Rattle.spf_roundtrip.proofs.Bytes.{program-bytes}
+use Rattle.spf_roundtrip.proofs.Cuts.{cut_of}
+use Rattle.spf_roundtrip.proofs.Wholes.{program-ended}
+use Rattle.spf_roundtrip.proofs.Lexing.{lexed}
+use Rattle.spf_roundtrip.proofs.Programs.{program_put}
 
-read_back : (p : RawProgram) → IsWritable p → SaysButForLines (canonical_text p) p
+pub read_back : (p : RawProgram) → IsWritable p → SaysButForLines (canonical_text p) p
 read_back p h =
     let text = canonical_text p in
     let ps = of_program p in
@@ -25,7 +24,3 @@ read_back p h =
     let room : length (lexemes_of text tokens) ≤ length tokens = omega (arith, length-map tokens (lexeme_of text)) in
     let v = program_put (length tokens) p (lexemes_of text tokens) [] room (lexed text [] text ps refl cut) in
     record { tokens = tokens; are = record { pieces = ps; cut = cut; are = refl }; said = v.found; reads = v.said.says; same = v.same }
-
--- src/lib.rt:10:1
-pub returns : goal.returns
-returns c = read_back

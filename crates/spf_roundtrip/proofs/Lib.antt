@@ -6,3 +6,9 @@ pub mod Lexing
 pub mod Levels
 pub mod Statements
 pub mod Programs
+pub mod Writable
+pub mod Clear
+pub mod Once
+pub mod ReadBack
+pub mod Lines
+pub mod Determined

@@ -10,11 +10,11 @@ use Rattle.spf_ast.specs.Canonical.{deeper}
 use Rattle.spf_grammar.specs.Lexemes.{Lexeme}
 use Rattle.spf_grammar.specs.Parts.{token, opens, name as name_part, many, size, array, parameters, next_parameter, function, program}
 use Rattle.spf_grammar.specs.Rules.{block_of}
-use Rattle.spf_canonical.specs.Laws.{block_without_lines, array_without_lines, function_without_lines, program_without_lines}
-use Rattle.spf_canonical.proofs.Pieces.{w, s, name, number, space, on_own_line, word_line, opening, closing, of_block, of_size, array_line, of_array, of_names, of_further_names, function_line, of_function, of_arrays, of_functions, of_main, of_program}
-use Rattle.spf_canonical.proofs.Lexing.{Takes, takes-append, takes-line, Said, done, andthen, first_of, second_of, by_rule, Step, token_step, opens_step, name_step, number_step}
-use Rattle.spf_canonical.proofs.Levels.{done_at}
-use Rattle.spf_canonical.proofs.Statements.{put_all, Answered, answered, Braced, closed_block}
+use Rattle.spf_roundtrip.specs.Laws.{block_without_lines, array_without_lines, function_without_lines, program_without_lines}
+use Rattle.spf_roundtrip.proofs.Pieces.{w, s, name, number, space, on_own_line, word_line, opening, closing, of_block, of_size, array_line, of_array, of_names, of_further_names, function_line, of_function, of_arrays, of_functions, of_main, of_program}
+use Rattle.spf_roundtrip.proofs.Lexing.{Takes, takes-append, takes-line, Said, done, andthen, first_of, second_of, by_rule, Step, token_step, opens_step, name_step, number_step}
+use Rattle.spf_roundtrip.proofs.Levels.{done_at}
+use Rattle.spf_roundtrip.proofs.Statements.{put_all, Answered, answered, Braced, closed_block}
 
 -- ---- arrays
 

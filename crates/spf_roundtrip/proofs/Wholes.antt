@@ -18,10 +18,10 @@ use Rattle.spf_ast.specs.RawSyntax.{RawFunction, RawProgram}
 use Rattle.spf_ast.specs.Lawful.{IsName, IsNumber}
 use Rattle.spf_ast.specs.Spelling.{IsWritable, IsWritableExpression, AreWritableArguments, IsWritablePredictor, IsWritableStatement, IsWritableBlock, IsWritableArray, IsWritableFunction}
 use Rattle.spf_ast.specs.Canonical.{level, op_level, comparison_level, unary_level, deeper}
-use Rattle.spf_canonical.proofs.Pieces.{fold_line}
-use Rattle.spf_canonical.proofs.Pieces.{w, s, name, space, newline, bytes, op_sign, test_sign, spaced, enclosed, of_expression, of_arguments, of_further, of_predictor, blanks, on_own_line, closing, close_line, range, let_line, assign_line, stored, store_line, fill_line, word_line, fail_line, opening, if_line, for_line, while_line, do_line, pair_line, consumer_line, else_line, of_statement, of_otherwise, of_block, of_size, of_array, array_line, of_names, of_further_names, function_line, of_function, of_arrays, of_functions, of_main, of_program}
-use Rattle.spf_canonical.proofs.Bytes.{bytes-append}
-use Rattle.spf_canonical.proofs.Cuts.{AreWhole, whole-append, is_second, NoSecond, NoWord, no_word, no_word-semicolon, no_word-open, no_word-close, sign_spells, paren_spells, bracket_spells, word_spells, name_spells, count_spells, number_spells, numeral_model}
+use Rattle.spf_roundtrip.proofs.Pieces.{fold_line}
+use Rattle.spf_roundtrip.proofs.Pieces.{w, s, name, space, newline, bytes, op_sign, test_sign, spaced, enclosed, of_expression, of_arguments, of_further, of_predictor, blanks, on_own_line, closing, close_line, range, let_line, assign_line, stored, store_line, fill_line, word_line, fail_line, opening, if_line, for_line, while_line, do_line, pair_line, consumer_line, else_line, of_statement, of_otherwise, of_block, of_size, of_array, array_line, of_names, of_further_names, function_line, of_function, of_arrays, of_functions, of_main, of_program}
+use Rattle.spf_roundtrip.proofs.Bytes.{bytes-append}
+use Rattle.spf_roundtrip.proofs.Cuts.{AreWhole, whole-append, is_second, NoSecond, NoWord, no_word, no_word-semicolon, no_word-open, no_word-close, sign_spells, paren_spells, bracket_spells, word_spells, name_spells, count_spells, number_spells, numeral_model}
 
 -- pieces that are whole where no word goes on, and that make no sign before them longer
 pub record Sound (ps : List Piece) : Type 0 where

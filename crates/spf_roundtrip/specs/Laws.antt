@@ -2,12 +2,16 @@
 use Rattle.std.specs.Prelude.{◌≡◌, ℕ, List, length, map}
 use Rattle.spf_text.specs.declared.token.Token.{Token}
 use Rattle.spf_text.specs.Tokens.{AreTokensOf}
-use Rattle.spf_ast.specs.Syntax.{Array}
+use Rattle.spf_ast.specs.Syntax.{Array, Program}
 use Rattle.spf_ast.specs.RawSyntax.{RawStatement, If, For, While, Fold, Pair, RawBlock, end, on_line, RawFunction, RawProgram}
-use Rattle.spf_ast.specs.Spelling.{IsWritable}
+use Rattle.spf_ast.specs.Lawful.{IsScoped}
+use Rattle.spf_ast.specs.Spelling.{spelled, IsWritable}
 use Rattle.spf_ast.specs.Canonical.{canonical_text}
-use Rattle.spf_grammar.specs.Lexemes.{lexemes_of}
+use Rattle.spf_grammar.specs.Lexemes.{Lexeme, lexemes_of}
 use Rattle.spf_grammar.specs.Reading.{Reads}
+use Rattle.spf_grammar.specs.Texts.{IsProgramOf}
+use Rattle.spf_types.specs.Contract.{IsResolved}
+use Rattle.spf_roundtrip.specs.Lines.{AreSameButForLines}
 
 abbrev mutual
   -- a statement, all of whose lines are 0
@@ -60,3 +64,35 @@ pub record SaysButForLines (text : List ℕ) (p : RawProgram) : Type 0 where
 -- the canonical text of each raw program, whose names are names and whose numbers a text can hold, says it
 abbrev pub CanonicalTextsReadBack : Type 0
 CanonicalTextsReadBack = (p : RawProgram) → IsWritable p → SaysButForLines (canonical_text p) p
+
+-- ---- programs
+
+-- what `print` writes of a program
+abbrev pub text_of : Program → List ℕ
+text_of p = canonical_text (spelled 0 p)
+
+-- the names of a scoped program are names, and its numbers are numbers that a text can hold
+abbrev pub ScopedProgramsAreWritable : Type 0
+ScopedProgramsAreWritable = (main_line : ℕ) (p : Program) → IsScoped p → IsWritable (spelled main_line p)
+
+-- the text of each scoped program, so of each lawful one, says the program that it was printed from
+abbrev pub TextsSayTheirPrograms : Type 0
+TextsSayTheirPrograms = (p : Program) → IsScoped p → SaysButForLines (text_of p) (spelled 0 p)
+
+-- tokens are those of one program at most: the grammar is unambiguous, lines included
+abbrev pub TokensAreOfOneProgram : Type 0
+TokensAreOfOneProgram = (free : ℕ) (tokens : List Lexeme) (p q : RawProgram) → Reads free tokens p → Reads free tokens q → p ≡ q
+
+-- what a text says as the spelling of a scoped program, it says of that one alone
+abbrev pub ReadingsDetermineTheirPrograms : Type 0
+ReadingsDetermineTheirPrograms =
+    (text : List ℕ) (p q : Program) → IsScoped p → IsScoped q → SaysButForLines text (spelled 0 p) → SaysButForLines text (spelled 0 q) → AreSameButForLines p q
+
+-- no two scoped programs have the same text, unless they differ in their lines alone
+abbrev pub TextsDetermineTheirPrograms : Type 0
+TextsDetermineTheirPrograms = (p q : Program) → IsScoped p → IsScoped q → text_of p ≡ text_of q → AreSameButForLines p q
+
+-- what the reader makes of the text of a scoped program is that program: the raw program of the text can stand for no other
+abbrev pub TextsAreReadAsTheirPrograms : Type 0
+TextsAreReadAsTheirPrograms =
+    (p q : Program) (raw : RawProgram) → IsScoped p → IsProgramOf (text_of p) raw → IsResolved raw q → AreSameButForLines p q

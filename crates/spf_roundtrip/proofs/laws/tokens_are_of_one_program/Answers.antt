@@ -1,0 +1,5 @@
+use Rattle.spf_roundtrip.proofs.Once.{reads_once}
+use Rattle.spf_roundtrip.proofs.laws.tokens_are_of_one_program.Goals as goal
+
+pub returns : goal.returns
+returns c = reads_once
