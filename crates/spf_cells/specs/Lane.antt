@@ -2,8 +2,7 @@
 use Rattle.std.specs.Prelude.{◌≡◌, ℕ, ◌+◌, ◌^◌, ◌<◌, [], length}
 use Rattle.spf_cells.specs.declared.view.Setting.{Setting}
 use Rattle.spf_cells.specs.declared.lane.Lane.TheInside.{Inside}
-use Rattle.spf_ast.specs.Event.{IsConsistent}
-use Rattle.spf_cells.specs.Log.{ArePossibleTurns, events}
+use Rattle.spf_cells.specs.Log.{IsLogOf}
 use Rattle.spf_cells.specs.Spans.{cells_with_blocks, cells_of, Covers}
 use Rattle.spf_cells.specs.Rule.{blocks, lane_view, log_of}
 use Rattle.spf_cells.specs.Segments.{AreSegmentsOf, IsSearchable, first_word}
@@ -31,5 +30,4 @@ pub record IsLane (a : Inside) : Type 0 where
   -- its cells lie in the entry
   pub inside : (c : ℕ) → Covers (spans_of (lane_value a)) c → c < length (setting_of a).entry
   -- each load of its log gave its own content, and each turn a possible flag
-  pub consistent : IsConsistent (events (log_of a.seat.me.0.role)) (setting_of a).entry
-  pub turns : ArePossibleTurns (setting_of a) a.block (log_of a.seat.me.0.role)
+  pub log : IsLogOf (setting_of a) a.block (log_of a.seat.me.0.role)

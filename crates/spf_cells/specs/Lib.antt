@@ -3,6 +3,7 @@ pub mod Spans
 pub mod Segments
 pub mod Log
 pub mod Rule
+pub mod Cells
 pub mod Lane
 pub mod Values
 pub mod Warden

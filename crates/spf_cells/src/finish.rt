@@ -4,7 +4,8 @@ ghost use mathlib.Core.Option.{some};
 ghost use lib.ListN.{get_elem?};
 ghost use Rattle.spf_cells.specs.Spans.{consecutive, cells_of, cells_with_blocks, Covers};
 ghost use Rattle.spf_cells.specs.Values.{LaneValue, IsLaneOf, IsWardenOf, with_lane, content_at, spans_of};
-ghost use Rattle.spf_cells.specs.Finish.{write_back, HasTaken, StandFrom, AreAllLanes};
+ghost use Rattle.spf_cells.specs.Finish.{write_back, HasTaken, StandFrom, AreAllLanes, IsFinish};
+ghost use Rattle.spf_cells.specs.Log.{IsLogOf};
 ghost use Rattle.spf_cells.specs.Segments.{AreSegmentsOf, IsSearchable, first_word};
 
 use crate::cells::Cells;
@@ -102,6 +103,7 @@ impl Warden {
         requires lane { IsLaneOf cells.now lane }
         requires inside { (j c : ℕ) → get_elem? (cells_of (spans_of lane)) j ≡ some c → c < length into.old }
         ensures taken { self.new ≡ with_lane self.old lane }
+        ensures log { IsLogOf lane.setting lane.block lane.log }
         ensures into { into.new ≡ write_back (content_at lane) (cells_of (spans_of lane)) into.old }
     {
         let taken = Snapshot::of(&lane);
@@ -113,17 +115,14 @@ impl Warden {
 }
 
 impl Cells {
-    /// Ends all steps: each cell of a span takes its lane's content, and every other cell of `into` stays. `into` is as long as the entry was.
+    /// Ends all steps: each cell of a lane's spans takes the lane's content, and every other cell of `into` stays. `into` is as long as the entry.
     ///
-    /// `lanes` are the lanes of all blocks, in the order of blocks. The trace has their logs.
+    /// `lanes` are the lanes of all blocks, in the order of blocks. The trace has their logs, and each keeps what a lane's log keeps.
     pub fn finish(self, mut warden: Warden, lanes: Vec<Lane>, into: &mut [i64]) -> Trace
         requires warden { IsWardenOf self warden × (warden.view.taken ≡ []) }
         requires lanes { AreAllLanes self lanes.items }
         requires size { length into.old ≡ length self.setting.entry }
-        ensures trace { result ≡ map (λ l. l.log) lanes.items }
-        ensures size { length into.new ≡ length into.old }
-        ensures own { (i c : ℕ) (l : LaneValue) → get_elem? lanes.items i ≡ some l → Covers (spans_of l) c → slice_index_or into.new c (pos 0) ≡ content_at l c }
-        ensures others { (c : ℕ) → ((i : ℕ) (l : LaneValue) → get_elem? lanes.items i ≡ some l → ¬ Covers (spans_of l) c) → slice_index_or into.new c (pos 0) ≡ slice_index_or into.old c (pos 0) }
+        ensures { IsFinish self lanes.items result into.old into.new }
     {
         let _table = &self.table;
         for lane in lanes {
