@@ -10,3 +10,4 @@ pub mod WritingBack
 pub mod Segments
 pub mod Finished
 pub mod Examples
+pub mod Covering

@@ -9,3 +9,4 @@ pub mod Values
 pub mod Warden
 pub mod Made
 pub mod Finish
+pub mod Laws

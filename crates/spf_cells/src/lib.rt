@@ -5,6 +5,7 @@ pub mod cells;
 pub mod finish;
 pub mod key;
 pub mod lane;
+pub mod laws;
 mod make;
 mod rule;
 mod segment;
