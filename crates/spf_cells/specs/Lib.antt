@@ -1,4 +1,3 @@
-pub mod Examples
 pub mod Spans
 pub mod Segments
 pub mod Log

@@ -9,7 +9,5 @@ pub mod laws;
 mod make;
 mod rule;
 mod segment;
-#[cfg(test)]
-mod tests;
 pub mod view;
 pub mod warden;

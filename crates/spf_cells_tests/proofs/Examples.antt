@@ -3,7 +3,7 @@ use Rattle.std.proofs.Common.{length, ◌++◌, take, get_or, refl, ◌∙◌, s
 use Rattle.std.proofs.Math.Seq.{take-append_seam}
 use mathlib.Core.Option.{some, some-ne-none, some-injective}
 use lib.ListN.{get_elem?}
-use Rattle.spf_cells.specs.Examples.{two_blocks_spans, four_blocks_spans, mixed_spans, AreSameLanes}
+use Rattle.spf_cells_tests.specs.Examples.{two_blocks_spans, four_blocks_spans, mixed_spans, AreSameLanes}
 use Rattle.spf_cells.specs.Values.{LaneValue, CellsValue, IsLaneOf}
 use Rattle.spf_cells.specs.Finish.{AreAllLanes}
 use Rattle.spf_cells.proofs.Spans.{below}
