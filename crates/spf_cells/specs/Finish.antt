@@ -27,7 +27,7 @@ taken_as l = record { block = l.block; log = l.log }
 abbrev pub HasTaken : WardenValue → LaneValue → Type 0
 HasTaken w l = (j : ℕ) × (get_elem? w.view.taken j ≡ some (taken_as l))
 
--- these cells of block b stand in the words from n on
+-- these cells of block b have the words from n on
 abbrev pub StandFrom : Setting → ℕ → ℕ → List ℕ → Type 0
 StandFrom k b n cs = (j c : ℕ) → get_elem? cs j ≡ some c → (i : ℕ) × (n + j ≡ length k.plan + i) × (get_elem? (cells_with_blocks k.plan) i ≡ some (b, c))
 
@@ -44,4 +44,5 @@ pub record IsFinish (cells : CellsValue) (lanes : List LaneValue) (trace : List 
   -- the memory is as long as before; a cell of a lane's spans has the lane's content, and every other cell stays
   pub size : length after ≡ length before
   pub own : (i c : ℕ) (l : LaneValue) → get_elem? lanes i ≡ some l → Covers (spans_of l) c → slice_index_or after c (pos 0) ≡ content_at l c
-  pub others : (c : ℕ) → ((i : ℕ) (l : LaneValue) → get_elem? lanes i ≡ some l → ¬ Covers (spans_of l) c) → slice_index_or after c (pos 0) ≡ slice_index_or before c (pos 0)
+  pub others : (c : ℕ) → ((i : ℕ) (l : LaneValue) → get_elem? lanes i ≡ some l → ¬ Covers (spans_of l) c)
+      → slice_index_or after c (pos 0) ≡ slice_index_or before c (pos 0)

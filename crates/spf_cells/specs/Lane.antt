@@ -24,7 +24,7 @@ pub record IsLane (a : Inside) : Type 0 where
   pub block : a.block < blocks (setting_of a)
   pub words : a.seat.table_id.words ≡ blocks (setting_of a) + length (cells_with_blocks (setting_of a).plan)
   pub small : a.seat.table_id.words < 2 ^ 63
-  -- its segments hold the cells of its block's spans, in the words behind those of the blocks before, and can be searched
+  -- its segments hold the cells of its block's spans, in the words after those of the blocks before, and can be searched
   pub segments : AreSegmentsOf a.segments.items (cells_of (spans_of (lane_value a))) (first_word (setting_of a) a.block)
   pub order : IsSearchable a.segments.items
   -- its cells lie in the entry

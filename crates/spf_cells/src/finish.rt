@@ -22,7 +22,7 @@ use std::snapshot::Snapshot;
 /// Only `Cells::finish` makes one, so each event in it was a step on the cells' table.
 #[derive(Drop)]
 pub struct Trace {
-    // its view has the logs
+    /// its view has the logs
     warden: Warden,
 }
 
@@ -36,12 +36,13 @@ impl Model for Trace {
 }
 
 impl Warden {
-    // What the word of a cell of a lane that was taken over holds.
+    /// What the word of a cell of a lane that was taken over holds.
     fn read_back(&mut self, cells: &Cells, lane: &Snapshot<Lane>, cell: u64, word: usize) -> i64
         requires own { IsWardenOf cells.now self.old }
         requires taken { HasTaken self.old lane.now.value }
         requires setting { lane.now.value.setting ≡ cells.now.setting }
-        requires word { (i : ℕ) × (word ≡ length cells.now.setting.plan + i) × (get_elem? (cells_with_blocks cells.now.setting.plan) i ≡ some (lane.now.value.block, cell)) }
+        requires word { (i : ℕ) × (word ≡ length cells.now.setting.plan + i)
+            × (get_elem? (cells_with_blocks cells.now.setting.plan) i ≡ some (lane.now.value.block, cell)) }
         ensures same { self.new ≡ self.old }
         ensures value { result ≡ content_at lane.now.value cell }
     {
@@ -49,7 +50,7 @@ impl Warden {
         shared.load::<ReadBack>(&mut self.seat, word).cast_signed()
     }
 
-    // Writes the contents of one span back; `first` is the word of its first cell.
+    /// Writes the contents of one span back; `first` is the word of its first cell.
     fn write_back_span(
         &mut self,
         cells: &Cells,
@@ -73,7 +74,7 @@ impl Warden {
         }
     }
 
-    // Writes the contents of all segments of a lane back.
+    /// Writes the contents of all segments of a lane back.
     fn write_back_segments(
         &mut self,
         cells: &Cells,
@@ -97,7 +98,7 @@ impl Warden {
         }
     }
 
-    // Takes a lane over, and writes its contents back.
+    /// Takes a lane over, and writes its contents back.
     fn collect(&mut self, cells: &Cells, lane: Lane, into: &mut [i64])
         requires own { IsWardenOf cells.now self.old }
         requires lane { IsLaneOf cells.now lane }

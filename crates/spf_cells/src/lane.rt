@@ -61,7 +61,7 @@ impl Lane {
         seat
     }
 
-    // The seat, and the segments.
+    /// The seat, and the segments.
     pub(crate) fn into_parts(self) -> (CellSeat, Vec<Segment>)
         ensures table { result.0.table_id ≡ self.table }
         ensures view { result.0.me ≡ (lane_view self.setting self.block self.log, []) }
@@ -93,7 +93,7 @@ impl Lane {
         find_word(self.segments.as_slice(), cell).is_some()
     }
 
-    // The word of a cell.
+    /// The word of a cell.
     fn word(&self, cell: u64) -> usize
         requires { Covers (spans_of self.now) cell }
         ensures word { IsWordOf self.now cell result }

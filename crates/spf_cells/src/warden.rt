@@ -55,7 +55,7 @@ impl Warden {
         shared.fetch_max::<Raised>(&mut self.seat, block, 0);
     }
 
-    // Takes a lane's cells and log over.
+    /// Takes a lane's cells and log over.
     fn take_over(&mut self, cells: &Cells, lane: Lane)
         requires own { IsWardenOf cells.now self.old }
         requires lane { IsLaneOf cells.now lane }
