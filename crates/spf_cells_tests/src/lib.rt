@@ -2,4 +2,6 @@
 #![tactic(auto)]
 
 #[cfg(test)]
+mod gated;
+#[cfg(test)]
 mod tests;

@@ -1,4 +1,4 @@
-use Rattle.spf_cells_tests.specs.Examples.{IsSameLane}
+use Rattle.spf_cells.specs.Values.{IsSameLane}
 use Rattle.spf_cells_tests.proofs.tests.count.Given as goal
 
 abbrev pub invariant-loop-cell : goal.invariant-loop-cell
