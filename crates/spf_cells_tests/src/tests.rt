@@ -1,5 +1,5 @@
 //! The worked example on one thread and on two, spans out of order, and four lanes of interleaved spans, each on a thread of its own, while the warden raises.
-ghost use Rattle.std.specs.Prelude.{◌≡◌, ℕ, ◌+◌, ◌<◌, List, [], ◌∷◌, All, IfOk, length, pos};
+ghost use Rattle.std.specs.Prelude.{◌≡◌, ℕ, ◌+◌, ◌<◌, ◌≤◌, List, [], ◌∷◌, All, IfOk, length, pos};
 ghost use Rattle.std.specs.List.{Contains};
 ghost use Rattle.spf_cells.specs.Spans.{Covers};
 ghost use Rattle.spf_cells.specs.Finish.{AreAllLanes};
@@ -11,6 +11,7 @@ ghost use Rattle.spf_cells.specs.declared.view.LogEntry.TheVariants.{Load, Store
 use spf_cells::cells::Cells;
 use spf_cells::finish::Trace;
 use spf_cells::lane::Lane;
+use spf_cells::laws::ascending_plans_are_disjoint;
 use spf_cells::warden::Warden;
 use spf_region::span::{Plan, Span};
 use std::alloc::{AllocError, Global};
@@ -38,6 +39,7 @@ pub(crate) fn two_lanes(alloc: Global) -> Result<(Cells, Warden, Lane, Lane), Al
     ensures lanes { IfOk result (λ r. (r.2 ≡ new_lane r.0 0) × (r.3 ≡ new_lane r.0 1)) }
 {
     let plan = two_blocks(alloc)?;
+    ascending_plans_are_disjoint();
     let (cells, warden, mut lanes) = Cells::make(alloc, &[1, 2, 3, 4], &plan)?;
     let two = lanes.pop().unwrap();
     let one = lanes.pop().unwrap();
@@ -63,10 +65,11 @@ fn step_both(cells: &Cells, warden: &mut Warden, one: &mut Lane, two: &mut Lane)
     (found, turn, one.poll(cells))
 }
 
-/// The worked example, with the logs of its trace.
+/// The worked example, with the logs of its trace. What `finish` says of them is that block 0 polled 0, since it may not be raised.
 fn worked_example(alloc: Global, into: &mut [i64]) -> Result<((i64, u64, u64), Trace), AllocError>
     requires { length into.old ≡ 4 }
     ensures trace { IfOk result (λ r. r.1 ≡ (Store 0 (pos 9) ∷ Turn r.0.2 ∷ []) ∷ (Load 3 (pos 4) ∷ Turn r.0.1 ∷ []) ∷ []) }
+    ensures turns { IfOk result (λ r. (r.0.1 ≤ 1) × (r.0.2 ≡ 0)) }
 {
     let (cells, mut warden, mut one, mut two) = two_lanes(alloc)?;
     let found = step_both(&cells, &mut warden, &mut one, &mut two);
