@@ -1,9 +1,9 @@
 //! The warden takes all lanes over, and their contents go back into a memory.
-ghost use Rattle.std.specs.Prelude.{◌≡◌, ℕ, ◌+◌, ◌-◌, ◌^◌, ◌<◌, ◌≤◌, List, [], map, length, slice_index_or, pos};
+ghost use Rattle.std.specs.Prelude.{◌≡◌, ℕ, ◌+◌, ◌-◌, ◌^◌, ◌<◌, List, [], length};
 ghost use mathlib.Core.Option.{some};
 ghost use lib.ListN.{get_elem?};
-ghost use Rattle.spf_cells.specs.Spans.{consecutive, cells_of, cells_with_blocks, Covers};
-ghost use Rattle.spf_cells.specs.Values.{LaneValue, IsLaneOf, IsWardenOf, with_lane, content_at, spans_of};
+ghost use Rattle.spf_cells.specs.Spans.{consecutive, cells_of, cells_with_blocks};
+ghost use Rattle.spf_cells.specs.Values.{IsLaneOf, IsWardenOf, with_lane, content_at, spans_of};
 ghost use Rattle.spf_cells.specs.Finish.{write_back, HasTaken, StandFrom, AreAllLanes, IsFinish};
 ghost use Rattle.spf_cells.specs.Log.{IsLogOf};
 ghost use Rattle.spf_cells.specs.Segments.{AreSegmentsOf, IsSearchable, first_word};
@@ -22,7 +22,7 @@ use std::snapshot::Snapshot;
 /// Only `Cells::finish` makes one, so each event in it was a step on the cells' table.
 #[derive(Drop)]
 pub struct Trace {
-    /// its view has the logs
+    /// Its view has the logs.
     warden: Warden,
 }
 

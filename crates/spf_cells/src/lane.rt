@@ -1,7 +1,5 @@
 //! A lane: the one seat that steps for its block.
-ghost use Rattle.std.specs.Prelude.{◌≡◌, ◌≢◌, ℕ, ◌+◌, ◌-◌, ◌*◌, ◌^◌, ◌<◌, ◌≤◌, ◌↔◌, List, [], length, IfSome, IfNone, IsTrue};
-ghost use mathlib.Core.Option.{some};
-ghost use lib.ListN.{get_elem?};
+ghost use Rattle.std.specs.Prelude.{◌≡◌, ◌≢◌, ℕ, ◌+◌, ◌-◌, ◌^◌, ◌<◌, ◌↔◌, [], length, IsTrue};
 ghost use Rattle.spf_cells.specs.Log.{IsLogOf, IsPossibleFlag};
 ghost use Rattle.spf_cells.specs.Spans.{cells_of, Covers};
 ghost use Rattle.spf_cells.specs.declared.view.LogEntry.TheVariants.{Load, Store, Turn};

@@ -1,5 +1,5 @@
 //! Cells are made, with their warden and their lanes.
-ghost use Rattle.std.specs.Prelude.{◌≡◌, ℕ, ◌+◌, ◌-◌, ◌<◌, List, [], ◌++◌, map, length, slice_index_or, take, ◌^◌, IfOk, pos};
+ghost use Rattle.std.specs.Prelude.{◌≡◌, ℕ, ◌+◌, ◌-◌, ◌<◌, List, [], ◌++◌, map, length, slice_index_or, ◌^◌, IfOk, pos};
 ghost use Rattle.std.specs.Int.RustNames.{FitsSigned};
 ghost use mir.Syntax.{w64};
 ghost use mathlib.Core.Option.{some};

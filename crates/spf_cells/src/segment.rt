@@ -1,8 +1,7 @@
 //! Which word a cell of a lane has.
-ghost use Rattle.std.specs.Prelude.{◌≡◌, ℕ, ◌+◌, ◌-◌, ◌^◌, ◌<◌, IfSome, IfNone, IfOk, length};
+ghost use Rattle.std.specs.Prelude.{ℕ, ◌+◌, ◌-◌, ◌^◌, ◌<◌, IfSome, IfNone, IfOk, length};
 ghost use Rattle.std.specs.List.{Contains};
 ghost use mathlib.Core.Option.{some};
-ghost use lib.ListN.{get_elem?};
 ghost use Rattle.spf_cells.specs.Spans.{cells_of};
 ghost use Rattle.spf_cells.specs.Segments.{Holds, HasNoCellTwice, AreSegmentsOf, IsSearchable};
 

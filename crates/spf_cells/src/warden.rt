@@ -1,5 +1,5 @@
 //! The warden: the seat that raises flags, and takes lanes over.
-ghost use Rattle.std.specs.Prelude.{◌≡◌, ℕ, ◌+◌, ◌<◌, List, length};
+ghost use Rattle.std.specs.Prelude.{◌≡◌, ◌<◌, length};
 ghost use Rattle.std.specs.List.{Contains};
 ghost use Rattle.spf_cells.specs.Rule.{HasNoBlockTwice};
 ghost use Rattle.spf_cells.specs.Values.{with_flag, with_lane, IsLaneOf, IsWardenOf};

@@ -1,11 +1,11 @@
 //! The worked example on one thread and on two, spans out of order, and four lanes of interleaved spans, each on a thread of its own, while the warden raises.
-ghost use Rattle.std.specs.Prelude.{◌≡◌, ℕ, ◌+◌, ◌<◌, ◌≤◌, List, [], ◌∷◌, All, IfOk, length, pos};
+ghost use Rattle.std.specs.Prelude.{◌≡◌, ◌+◌, ◌<◌, ◌≤◌, [], ◌∷◌, All, IfOk, length, pos};
 ghost use Rattle.std.specs.List.{Contains};
 ghost use Rattle.spf_cells.specs.Spans.{Covers};
 ghost use Rattle.spf_cells.specs.Finish.{AreAllLanes};
 ghost use Rattle.spf_cells.specs.Made.{spans_in, new_warden, new_lane};
 ghost use Rattle.spf_cells_tests.specs.Examples.{two_blocks_spans, four_blocks_spans, mixed_spans, AreSameLanes};
-ghost use Rattle.spf_cells.specs.Values.{LaneValue, IsSameLane, spans_of, content_at, logged, IsWardenOf};
+ghost use Rattle.spf_cells.specs.Values.{IsSameLane, spans_of, content_at, logged, IsWardenOf};
 ghost use Rattle.spf_cells.specs.declared.view.LogEntry.TheVariants.{Load, Store, Turn};
 
 use spf_cells::cells::Cells;

@@ -5,7 +5,9 @@ use std::sync::atomic::{AtomicU64, Ordering};
 /// Which end of an attempt a gate is called at.
 #[derive(Clone, Copy, PartialEq, Eq, Debug)]
 pub enum Place {
+    /// Before its first event.
     Begin,
+    /// After its last event.
     End,
 }
 
@@ -30,13 +32,13 @@ impl Gate for Open {
 /// No clause can say what an atomic holds that threads share, so what a barrier does is shown by tests alone.
 #[derive(Drop)]
 pub struct Barrier {
-    /// the blocks below it are held
+    /// The blocks below this number are held.
     blocks: u64,
-    /// for so many iterations at most
+    /// How many iterations a hold lasts at most.
     limit: u64,
-    /// how many of their first attempts have begun
+    /// How many of their first attempts have begun.
     begun: AtomicU64,
-    /// how many of those ended before all had begun
+    /// How many of those ended before all had begun.
     early: AtomicU64,
 }
 
