@@ -1,5 +1,5 @@
 -- What a memory holds once the contents of all lanes are written back.
-use Rattle.std.proofs.Common.{◌≡◌, ◌⊎◌, inl, inr, ℕ, zero, suc, ◌+◌, ◌-◌, ◌<◌, ◌≤◌, List, [], ◌∷◌, map, length, get_or, take, set, sym, refl, ap, ◌∙◌, subst, arith, ℤ, pos, length-set, get_or-set_same, get_or-set_other}
+use Rattle.std.proofs.Common.{◌≡◌, ◌⊎◌, inl, inr, ℕ, zero, suc, ◌+◌, ◌-◌, ◌<◌, ◌≤◌, List, [], ◌∷◌, ◌++◌, map, slice_get, Some, length, get_or, take, set, sym, refl, ap, ◌∙◌, subst, arith, ℤ, pos, length-set, get_or-set_same, get_or-set_other}
 use Rattle.std.specs.List.{Contains}
 use Rattle.std.proofs.lemmas.List.{same_lists, get_or_default, get_or-map}
 use mathlib.Core.Option.{some, some-injective, some-ne-none}
@@ -8,13 +8,16 @@ use native.Mathlib.Decide.{ℕ_discrete}
 use lib.ListN.{get_elem?, length-map}
 use Rattle.spf_region.specs.declared.span.Span.{Span}
 use Rattle.spf_cells.specs.declared.segment.Segment.{Segment}
+use Rattle.spf_cells.specs.declared.view.Setting.{Setting}
+use Rattle.spf_cells.specs.declared.view.LogEntry.{LogEntry}
 use Rattle.spf_cells.specs.Segments.{AreSegmentsOf}
 use Rattle.spf_cells.specs.Spans.{consecutive, cells_of, cells_of_plan, cells_with_blocks, Covers, IsDisjointWithin}
 use Rattle.spf_cells.specs.Values.{LaneValue, CellsValue, content_at, spans_of}
-use Rattle.spf_cells.specs.Finish.{write_back, write_back_all, AreAllLanes}
+use Rattle.spf_cells.specs.Log.{IsLogOf}
+use Rattle.spf_cells.specs.Finish.{write_back, write_back_all, AreAllLanes, IsFinish}
 use Rattle.spf_cells.proofs.Spans.{below, at_append, consecutive_has, cell_found}
 use Rattle.spf_cells.proofs.Plans.{pair_inside, pair_once, pair_at}
-use Rattle.spf_cells.proofs.WritingBack.{length-write_back}
+use Rattle.spf_cells.proofs.WritingBack.{length-write_back, length-write_back_all}
 
 at_c : List ℤ → ℕ → ℤ
 at_c m c = get_or m c (pos 0)
@@ -34,7 +37,7 @@ pub write_back_other : (f : ℕ → ℤ) (cs : List ℕ) (m : List ℤ) (c : ℕ
 write_back_other f [] m c out = refl
 write_back_other f (x ∷ xs) m c out = write_back_other f xs (set m x (f x)) c (λ j at. out (suc j) at) ∙ get_or-set_other m x c (f x) (pos 0) (λ e. out 0 (ap some (sym e)))
 
-pub write_back_all_other : (ls : List LaneValue) (m : List ℤ) (c : ℕ) → ((i : ℕ) (l : LaneValue) → get_elem? ls i ≡ some l → ¬ Covers (spans_of l) c) → get_or (write_back_all ls m) c (pos 0) ≡ get_or m c (pos 0)
+write_back_all_other : (ls : List LaneValue) (m : List ℤ) (c : ℕ) → ((i : ℕ) (l : LaneValue) → get_elem? ls i ≡ some l → ¬ Covers (spans_of l) c) → get_or (write_back_all ls m) c (pos 0) ≡ get_or m c (pos 0)
 write_back_all_other [] m c out = refl
 write_back_all_other (x ∷ xs) m c out = write_back_all_other xs (write_back (content_at x) (cells_of (spans_of x)) m) c (λ i l at. out (suc i) l at)
     ∙ write_back_other (content_at x) (cells_of (spans_of x)) m c (λ j at. out 0 x refl (j, at))
@@ -49,6 +52,27 @@ write_back_all_own (x ∷ xs) m zero c l low at cov one =
 write_back_all_own (x ∷ xs) m (suc i) c l low at cov one = write_back_all_own xs (write_back (content_at x) (cells_of (spans_of x)) m) i c l
     (let e = length-write_back (content_at x) (cells_of (spans_of x)) m in omega arith) at cov (λ k o there h. let e = one (suc k) o there h in omega arith)
 
+-- each of these lanes keeps what a lane's log keeps
+abbrev pub KeepLogs : List LaneValue → Type 0
+KeepLogs [] = Unit {0}
+KeepLogs (l ∷ ls) = IsLogOf l.setting l.block l.log × KeepLogs ls
+
+pub keep_snoc : (ls : List LaneValue) (l : LaneValue) → KeepLogs ls → IsLogOf l.setting l.block l.log → KeepLogs (ls ++ l ∷ [])
+keep_snoc [] l h k = (k, tt)
+keep_snoc (x ∷ xs) l h k = (h.0, keep_snoc xs l h.1 k)
+
+log_at : (ls : List LaneValue) (b : ℕ) (log : List LogEntry) → KeepLogs ls → slice_get (map (λ l. l.log) ls) b ≡ Some log → (l : LaneValue) × (get_elem? ls b ≡ some l) × (l.log ≡ log) × IsLogOf l.setting l.block l.log
+log_at [] b log h at = absurd cc
+log_at (l ∷ ls) zero log h at = (l, refl, cc, h.0)
+log_at (l ∷ ls) (suc b) log h at = log_at ls b log h.1 at
+
+-- so each log of the trace is one of its block
+logs_kept : (w : CellsValue) (ls : List LaneValue) (trace : List (List LogEntry)) → AreAllLanes w ls → KeepLogs ls → trace ≡ map (λ l. l.log) ls → (b : ℕ) (log : List LogEntry) → slice_get trace b ≡ Some log → IsLogOf w.setting b log
+logs_kept w ls trace are kept logs b log at =
+    let l = log_at ls b log kept (ap (λ (x : List (List LogEntry)). slice_get x b) (sym logs) ∙ at) in
+    let is = are.1 b l.0 l.1 in
+    subst (λ (x : Setting × ℕ × List LogEntry). IsLogOf x.0 x.1 x.2) (λ t. (is.0.1 t, is.1 t, l.2 t)) l.3
+
 -- a lane's cell, with its block, among those of the plan
 lane_pair : (w : CellsValue) (ls : List LaneValue) → AreAllLanes w ls → (i c : ℕ) (l : LaneValue) → get_elem? ls i ≡ some l → (h : Covers (spans_of l) c)
     → (n : ℕ) × (get_elem? (cells_with_blocks w.setting.plan) n ≡ some (i, c))
@@ -58,7 +82,7 @@ lane_pair w ls are i c l at h =
     let mine : get_elem? (cells_of (get_or w.setting.plan i [])) h.0 ≡ some c = (λ t. get_elem? (cells_of (get_or (sym a.0.1 t).plan (sym a.1 t) [])) h.0) ∙ h.1 in
     (length (cells_of_plan (take i w.setting.plan)) + h.0, pair_at w.setting.plan i h.0 c room mine)
 
-pub lane_own : (w : CellsValue) (ls : List LaneValue) (m : List ℤ) → AreAllLanes w ls → IsDisjointWithin w.setting.plan (length m) → (i c : ℕ) (l : LaneValue) → get_elem? ls i ≡ some l → Covers (spans_of l) c
+lane_own : (w : CellsValue) (ls : List LaneValue) (m : List ℤ) → AreAllLanes w ls → IsDisjointWithin w.setting.plan (length m) → (i c : ℕ) (l : LaneValue) → get_elem? ls i ≡ some l → Covers (spans_of l) c
     → get_or (write_back_all ls m) c (pos 0) ≡ content_at l c
 lane_own w ls m are apart i c l at cov =
     let s = lane_pair w ls are i c l at cov in
@@ -66,6 +90,17 @@ lane_own w ls m are apart i c l at cov =
     (λ k o there h. let t = lane_pair w ls are k c o there h in
     let n : t.0 ≡ s.0 = pair_once w.setting.plan (length m) apart t.0 s.0 (k, c) (i, c) t.1 s.1 refl in
     ap (λ p. p.0) (some-injective (k, c) (i, c) (sym t.1 ∙ (ap (get_elem? (cells_with_blocks w.setting.plan)) n ∙ s.1))))
+
+-- what is left, once all lanes are taken over and written back
+pub finished : (w : CellsValue) (ls : List LaneValue) (trace : List (List LogEntry)) (before after : List ℤ) → AreAllLanes w ls → IsDisjointWithin w.setting.plan (length before) → KeepLogs ls
+    → trace ≡ map (λ l. l.log) ls → after ≡ write_back_all ls before → IsFinish w ls trace before after
+finished w ls trace before after are apart kept logs is = record {
+  logs = logs;
+  kept = logs_kept w ls trace are kept logs;
+  size = ap length is ∙ length-write_back_all ls before;
+  own = λ i c l at cov. ap (λ (m : List ℤ). get_or m c (pos 0)) is ∙ lane_own w ls before are apart i c l at cov;
+  others = λ c out. ap (λ (m : List ℤ). get_or m c (pos 0)) is ∙ write_back_all_other ls before c out;
+}
 
 is_there : (cs : List ℕ) (c : ℕ) → ((j : ℕ) × (get_elem? cs j ≡ some c)) ⊎ ((j : ℕ) → get_elem? cs j ≡ some c → ⊥)
 is_there [] c = inr (λ j at. some-ne-none c (sym at))

@@ -11,8 +11,8 @@ use Rattle.spf_cells.specs.declared.view.LogEntry.{LogEntry}
 use Rattle.spf_cells.specs.declared.view.LogEntry.TheVariants.{Store}
 use Rattle.spf_cells.specs.declared.view.View.{View}
 use Rattle.spf_cells.specs.declared.lane.Lane.TheInside.{Inside}
-use Rattle.spf_ast.specs.Event.{after, IsConsistent}
-use Rattle.spf_cells.specs.Log.{IsPossibleTurn, ArePossibleTurns, events}
+use Rattle.spf_ast.specs.Event.{after}
+use Rattle.spf_cells.specs.Log.{IsPossibleTurn, ArePossibleTurns, IsLogOf, events}
 use Rattle.spf_cells.specs.Spans.{cells_with_blocks, cells_of, cells_of_plan, Covers}
 use Rattle.spf_cells.specs.Segments.{AreSegmentsOf, Holds, first_word}
 use Rattle.spf_cells.specs.Rule.{blocks, view_of, lane_view, log_of, role_logging, Logs, IsConsistentTable, cell_of_word, IsLoad, IsStore, IsPoll}
@@ -50,8 +50,8 @@ grows a h e p table one fits turn =
       segments = subst (λ (z : Setting). AreSegmentsOf a.segments.items (cells_of (get_or z.plan a.block [])) (first_word z a.block)) (sym setting) h.segments;
       order = h.order;
       inside = subst (λ (z : Setting). (c : ℕ) → Covers (get_or z.plan a.block []) c → c < length z.entry) (sym setting) h.inside;
-      consistent = subst (λ (z : List LogEntry × Setting). IsConsistent (events z.0) z.1.entry) (λ t. (sym log' t, sym setting t)) (consistent-append log e k.entry h.consistent fits);
-      turns = subst (λ (z : List LogEntry × Setting). ArePossibleTurns z.1 a.block z.0) (λ t. (sym log' t, sym setting t)) (turns-append k a.block log e h.turns turn);
+      log = subst (λ (z : List LogEntry × Setting). IsLogOf z.1 a.block z.0) (λ t. (sym log' t, sym setting t))
+          record { consistent = consistent-append log e k.entry h.log.consistent fits; turns = turns-append k a.block log e h.log.turns turn };
     }
 
 pub grown : (a : Inside) → IsLane a → (e : LogEntry) (p : Seat ℕ View) → p.table_id ≡ a.seat.table_id → Logs a.seat.me e p.me → lane_value (record a { seat = p }) ≡ logged (lane_value a) e

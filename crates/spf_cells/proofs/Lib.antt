@@ -9,4 +9,4 @@ pub mod Opening
 pub mod WritingBack
 pub mod Segments
 pub mod Finished
-pub mod Examples
+pub mod Covering

@@ -13,8 +13,7 @@ use Rattle.spf_cells.specs.Rule.{blocks, view_of, lane_view, IsConsistentTable, 
 use Rattle.spf_cells.specs.Warden.{IsWarden, warden_of}
 use Rattle.spf_cells.specs.declared.lane.Lane.TheInside as L
 use Rattle.spf_cells.specs.Lane.{IsLane, setting_of}
-use Rattle.spf_ast.specs.Event.{IsConsistent}
-use Rattle.spf_cells.specs.Log.{ArePossibleTurns, events}
+use Rattle.spf_cells.specs.Log.{IsLogOf}
 use Rattle.spf_cells.specs.Spans.{cells_with_blocks, cells_of, Covers, IsDisjointWithin}
 use Rattle.spf_cells.specs.Segments.{AreSegmentsOf, IsSearchable, first_word}
 use Rattle.spf_cells.proofs.WritingBack.{cells_inside}
@@ -63,8 +62,7 @@ new_lane_ok l k b is block room words small apart segments order =
       segments = subst (λ (y : Setting × ℕ). AreSegmentsOf l.segments.items (cells_of (get_or y.0.plan y.1 [])) (first_word y.0 y.1)) mine segments;
       order = order;
       inside = subst (λ (y : Setting × ℕ). (c : ℕ) → Covers (get_or y.0.plan y.1 []) c → c < length y.0.entry) mine (λ c there. cells_inside k b (length k.entry) apart room there.0 c there.1);
-      consistent = subst (λ (x : List LogEntry). IsConsistent (events x) (setting_of l).entry) (sym log) tt;
-      turns = subst (λ (x : List LogEntry). ArePossibleTurns (setting_of l) l.block x) (sym log) tt;
+      log = subst (λ (x : List LogEntry). IsLogOf (setting_of l) l.block x) (sym log) record { consistent = tt; turns = tt };
     }
 
 pub taken_keep : (r : Role) → taken_of r ≡ (warden_of r).taken

@@ -2,8 +2,7 @@
 use Rattle.std.specs.Prelude.{◌≡◌, ℕ, ◌+◌, ◌^◌, ◌<◌, [], length}
 use Rattle.spf_cells.specs.declared.view.Setting.{Setting}
 use Rattle.spf_cells.specs.declared.lane.Lane.TheInside.{Inside}
-use Rattle.spf_ast.specs.Event.{IsConsistent}
-use Rattle.spf_cells.specs.Log.{ArePossibleTurns, events}
+use Rattle.spf_cells.specs.Log.{IsLogOf}
 use Rattle.spf_cells.specs.Spans.{cells_with_blocks, cells_of, Covers}
 use Rattle.spf_cells.specs.Rule.{blocks, lane_view, log_of}
 use Rattle.spf_cells.specs.Segments.{AreSegmentsOf, IsSearchable, first_word}
@@ -25,11 +24,10 @@ pub record IsLane (a : Inside) : Type 0 where
   pub block : a.block < blocks (setting_of a)
   pub words : a.seat.table_id.words ≡ blocks (setting_of a) + length (cells_with_blocks (setting_of a).plan)
   pub small : a.seat.table_id.words < 2 ^ 63
-  -- its segments hold the cells of its block's spans, in the words behind those of the blocks before, and can be searched
+  -- its segments hold the cells of its block's spans, in the words after those of the blocks before, and can be searched
   pub segments : AreSegmentsOf a.segments.items (cells_of (spans_of (lane_value a))) (first_word (setting_of a) a.block)
   pub order : IsSearchable a.segments.items
   -- its cells lie in the entry
   pub inside : (c : ℕ) → Covers (spans_of (lane_value a)) c → c < length (setting_of a).entry
   -- each load of its log gave its own content, and each turn a possible flag
-  pub consistent : IsConsistent (events (log_of a.seat.me.0.role)) (setting_of a).entry
-  pub turns : ArePossibleTurns (setting_of a) a.block (log_of a.seat.me.0.role)
+  pub log : IsLogOf (setting_of a) a.block (log_of a.seat.me.0.role)

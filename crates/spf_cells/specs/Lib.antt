@@ -1,10 +1,11 @@
-pub mod Examples
 pub mod Spans
 pub mod Segments
 pub mod Log
 pub mod Rule
+pub mod Cells
 pub mod Lane
 pub mod Values
 pub mod Warden
 pub mod Made
 pub mod Finish
+pub mod Laws

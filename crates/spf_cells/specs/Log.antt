@@ -1,7 +1,7 @@
 -- A lane's log, and the contents that it leads to.
 use Rattle.std.specs.Prelude.{ℕ, ◌<◌, ◌≤◌, List, [], ◌∷◌, map, ℤ}
 use Rattle.std.specs.List.{Contains}
-use Rattle.spf_ast.specs.Event.{Event, after, word_at}
+use Rattle.spf_ast.specs.Event.{Event, after, word_at, IsConsistent}
 use Rattle.spf_ast.specs.Event as event
 use Rattle.spf_cells.specs.declared.view.Setting.{Setting}
 use Rattle.spf_cells.specs.declared.view.LogEntry.{LogEntry}
@@ -35,3 +35,8 @@ IsPossibleTurn setting block (Turn number) = IsPossibleFlag setting block number
 abbrev pub ArePossibleTurns : Setting → ℕ → List LogEntry → Type 0
 ArePossibleTurns setting block [] = Unit {0}
 ArePossibleTurns setting block (entry ∷ log) = IsPossibleTurn setting block entry × ArePossibleTurns setting block log
+
+-- what every lane's log keeps: each load gave the lane's own content, and each turn a possible flag of its block
+pub record IsLogOf (setting : Setting) (block : ℕ) (log : List LogEntry) : Type 0 where
+  pub consistent : IsConsistent (events log) setting.entry
+  pub turns : ArePossibleTurns setting block log

@@ -1,4 +1,5 @@
--- The rule of the table, and what each step on it tells. Word b of the table is the flag of block b; behind the flags stand the plan's cells, in the order of `cells_with_blocks`.
+-- The rule of the table, and what each step on it tells. Word b of the table is the flag of block b; after the flags come the words of the
+-- plan's cells, in the order of `cells_with_blocks`.
 use Rattle.std.specs.Prelude.{◌≡◌, ℕ, ◌+◌, ◌-◌, ◌<◌, ◌≤◌, List, [], ◌∷◌, ◌++◌, length, slice_index, slice_index_or, slice_set, max, replicate}
 use Rattle.std.specs.Int.{cast_signed}
 use mir.Syntax.{w64}
@@ -35,8 +36,9 @@ OwnsTaken logs owner j taken = (i : ℕ) (t : TakenLane) → get_elem? taken i �
 abbrev pub HasNoBlockTwice : List TakenLane → Type 0
 HasNoBlockTwice taken = (i j : ℕ) (t u : TakenLane) → get_elem? taken i ≡ some t → get_elem? taken j ≡ some u → t.block ≡ u.block → i ≡ j
 
--- what the view of the seat j says is so. A spent view says nothing. A lane has a block of the plan, which is its own, and its log is that block's. The warden
--- is the one warden; it knows all flags; each lane that it took over was handed out, is now its own, and none is there twice; each block that was not handed out is its own, with an empty log
+-- what the view of the seat j says is so. A spent view says nothing. A lane has a block of the plan, which is its own, and its log is that
+-- block's. The warden is the one warden; it knows all flags; each lane that it took over was handed out, is now its own, and none is there
+-- twice; each block that was not handed out is its own, with an empty log
 abbrev pub Knows : ℕ → List ℕ → (ℕ → List LogEntry) → (ℕ → ℕ) → ℕ → ℕ → Role → Type 0
 Knows n words logs owner warden j Spent = Unit {0}
 Knows n words logs owner warden j (Lane b log) = (b < n) × (owner b ≡ j) × (logs b ≡ log)
@@ -65,7 +67,8 @@ pub record IsConsistentTable (k : Setting) (s : State ℕ View) : Type 0 where
   -- there is one word for each block and one for each cell
   pub wide : length s.words ≡ blocks k + length (cells_with_blocks k.plan)
   -- the word of each cell is its content after the log of its block
-  pub cells : (i : ℕ) (p : ℕ × ℕ) → get_elem? (cells_with_blocks k.plan) i ≡ some p → cast_signed w64 (slice_index s.words (blocks k + i)) ≡ content k (logs p.0) p.1
+  pub cells : (i : ℕ) (p : ℕ × ℕ) → get_elem? (cells_with_blocks k.plan) i ≡ some p
+      → cast_signed w64 (slice_index s.words (blocks k + i)) ≡ content k (logs p.0) p.1
   -- each flag is 0 or 1, and above 0 only for a block that may be raised
   pub flags : (b : ℕ) → b < blocks k → IsPossibleFlag k b (slice_index s.words b)
   -- all views that are not spent have one setting
@@ -77,7 +80,7 @@ pub record IsConsistentTable (k : Setting) (s : State ℕ View) : Type 0 where
 abbrev pub first : Setting → View
 first k = view_of k (Warden record { made = 0; flags = replicate (blocks k) 0; taken = [] })
 
--- the cell whose content stands in a word
+-- the cell whose content a word has
 abbrev pub cell_of_word : Setting → ℕ → ℕ
 cell_of_word k word = (slice_index_or (cells_with_blocks k.plan) (word - blocks k) (0, 0)).1
 
@@ -129,8 +132,8 @@ IsRaise st m n m' = (m' ≡ (view_of m.0.setting (with_flag m.0.role st.word st.
 -- the warden's load of a cell of a lane that it has taken over: it finds that lane's content, and nothing changes
 abbrev pub IsReadBack : Step ℕ → Me ℕ View → ℕ → Me ℕ View → Type 0
 IsReadBack st m n m' = (m' ≡ m)
-    × ((i c j : ℕ) (t : TakenLane) → st.word ≡ blocks m.0.setting + i → get_elem? (taken_of m.0.role) j ≡ some t → get_elem? (cells_with_blocks m.0.setting.plan) i ≡ some (t.block, c)
-    → cast_signed w64 n ≡ content m.0.setting t.log c)
+    × ((i c j : ℕ) (t : TakenLane) → st.word ≡ blocks m.0.setting + i → get_elem? (taken_of m.0.role) j ≡ some t
+    → get_elem? (cells_with_blocks m.0.setting.plan) i ≡ some (t.block, c) → cast_signed w64 n ≡ content m.0.setting t.log c)
 
 -- the warden, once it has handed out one block more
 abbrev pub role_after_hand_out : Role → Role

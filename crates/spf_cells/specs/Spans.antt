@@ -34,7 +34,7 @@ cells_with_blocks_from b (spans ∷ rest) = map (λ c. (b, c)) (cells_of spans) 
 unfoldable pub cells_with_blocks : List (List Span) → List (ℕ × ℕ)
 cells_with_blocks plan = cells_with_blocks_from 0 plan
 
--- the spans of a plan are disjoint and inside a memory of this size: no cell stands twice in the plan, and each is below the size
+-- the spans of a plan are disjoint and inside a memory of this size: no cell is there twice, and each is below the size
 pub record IsDisjointWithin (plan : List (List Span)) (size : ℕ) : Type 0 where
   pub once : (i j c : ℕ) → get_elem? (cells_of_plan plan) i ≡ some c → get_elem? (cells_of_plan plan) j ≡ some c → i ≡ j
   pub inside : (i c : ℕ) → get_elem? (cells_of_plan plan) i ≡ some c → c < size

@@ -59,3 +59,7 @@ IsLaneOf c l = (l.table ≡ c.table) × (l.setting ≡ c.setting)
 -- the warden is of these cells
 abbrev pub IsWardenOf : CellsValue → WardenValue → Type 0
 IsWardenOf c w = (w.table ≡ c.table) × (w.setting ≡ c.setting)
+
+-- the lane is the same one, perhaps with another log
+abbrev pub IsSameLane : LaneValue → LaneValue → Type 0
+IsSameLane old new = (new.table ≡ old.table) × (new.setting ≡ old.setting) × (new.block ≡ old.block)

@@ -1,4 +1,6 @@
 //! The words that threads share.
+ghost use Rattle.spf_cells.specs.Cells.{AreCells};
+
 use crate::rule::CellTable;
 use std::marker::Model;
 
@@ -15,10 +17,18 @@ impl Model for Cells {
 
     ghost Value = { CellsValue };
 
-    ghost use Rattle.std.specs.Prelude.{length};
-    ghost use Rattle.spf_cells.specs.Spans.{IsDisjointWithin};
+    ghost use Rattle.spf_cells.specs.Cells.{cells_value, AreCells};
 
-    ghost view = { λ c. record { table = c.table.shared.table_id; setting = c.table.shared.key.value } };
+    ghost view = { cells_value };
 
-    ghost invariant = { λ c. IsDisjointWithin c.table.shared.key.value.plan (length c.table.shared.key.value.entry) };
+    ghost invariant = { λ c. AreCells (cells_value c) };
+}
+
+impl Cells {
+    /// What all cells keep: their plan is disjoint within the entry, and their table has a word for each block and each cell of it.
+    pub fn plan_facts(&self)
+        ensures { AreCells self.now }
+    {
+        let _table = &self.table;
+    }
 }

@@ -1,10 +1,11 @@
 //! The warden takes all lanes over, and their contents go back into a memory.
-ghost use Rattle.std.specs.Prelude.{◌≡◌, ℕ, ◌+◌, ◌-◌, ◌^◌, ◌<◌, ◌≤◌, List, [], map, length, slice_index_or, pos};
+ghost use Rattle.std.specs.Prelude.{◌≡◌, ℕ, ◌+◌, ◌-◌, ◌^◌, ◌<◌, List, [], length};
 ghost use mathlib.Core.Option.{some};
 ghost use lib.ListN.{get_elem?};
-ghost use Rattle.spf_cells.specs.Spans.{consecutive, cells_of, cells_with_blocks, Covers};
-ghost use Rattle.spf_cells.specs.Values.{LaneValue, IsLaneOf, IsWardenOf, with_lane, content_at, spans_of};
-ghost use Rattle.spf_cells.specs.Finish.{write_back, HasTaken, StandFrom, AreAllLanes};
+ghost use Rattle.spf_cells.specs.Spans.{consecutive, cells_of, cells_with_blocks};
+ghost use Rattle.spf_cells.specs.Values.{IsLaneOf, IsWardenOf, with_lane, content_at, spans_of};
+ghost use Rattle.spf_cells.specs.Finish.{write_back, HasTaken, StandFrom, AreAllLanes, IsFinish};
+ghost use Rattle.spf_cells.specs.Log.{IsLogOf};
 ghost use Rattle.spf_cells.specs.Segments.{AreSegmentsOf, IsSearchable, first_word};
 
 use crate::cells::Cells;
@@ -21,7 +22,7 @@ use std::snapshot::Snapshot;
 /// Only `Cells::finish` makes one, so each event in it was a step on the cells' table.
 #[derive(Drop)]
 pub struct Trace {
-    // its view has the logs
+    /// Its view has the logs.
     warden: Warden,
 }
 
@@ -35,12 +36,13 @@ impl Model for Trace {
 }
 
 impl Warden {
-    // What the word of a cell of a lane that was taken over holds.
+    /// What the word of a cell of a lane that was taken over holds.
     fn read_back(&mut self, cells: &Cells, lane: &Snapshot<Lane>, cell: u64, word: usize) -> i64
         requires own { IsWardenOf cells.now self.old }
         requires taken { HasTaken self.old lane.now.value }
         requires setting { lane.now.value.setting ≡ cells.now.setting }
-        requires word { (i : ℕ) × (word ≡ length cells.now.setting.plan + i) × (get_elem? (cells_with_blocks cells.now.setting.plan) i ≡ some (lane.now.value.block, cell)) }
+        requires word { (i : ℕ) × (word ≡ length cells.now.setting.plan + i)
+            × (get_elem? (cells_with_blocks cells.now.setting.plan) i ≡ some (lane.now.value.block, cell)) }
         ensures same { self.new ≡ self.old }
         ensures value { result ≡ content_at lane.now.value cell }
     {
@@ -48,7 +50,7 @@ impl Warden {
         shared.load::<ReadBack>(&mut self.seat, word).cast_signed()
     }
 
-    // Writes the contents of one span back; `first` is the word of its first cell.
+    /// Writes the contents of one span back; `first` is the word of its first cell.
     fn write_back_span(
         &mut self,
         cells: &Cells,
@@ -72,7 +74,7 @@ impl Warden {
         }
     }
 
-    // Writes the contents of all segments of a lane back.
+    /// Writes the contents of all segments of a lane back.
     fn write_back_segments(
         &mut self,
         cells: &Cells,
@@ -96,12 +98,13 @@ impl Warden {
         }
     }
 
-    // Takes a lane over, and writes its contents back.
+    /// Takes a lane over, and writes its contents back.
     fn collect(&mut self, cells: &Cells, lane: Lane, into: &mut [i64])
         requires own { IsWardenOf cells.now self.old }
         requires lane { IsLaneOf cells.now lane }
         requires inside { (j c : ℕ) → get_elem? (cells_of (spans_of lane)) j ≡ some c → c < length into.old }
         ensures taken { self.new ≡ with_lane self.old lane }
+        ensures log { IsLogOf lane.setting lane.block lane.log }
         ensures into { into.new ≡ write_back (content_at lane) (cells_of (spans_of lane)) into.old }
     {
         let taken = Snapshot::of(&lane);
@@ -113,17 +116,14 @@ impl Warden {
 }
 
 impl Cells {
-    /// Ends all steps: each cell of a span takes its lane's content, and every other cell of `into` stays. `into` is as long as the entry was.
+    /// Ends all steps: each cell of a lane's spans takes the lane's content, and every other cell of `into` stays. `into` is as long as the entry.
     ///
-    /// `lanes` are the lanes of all blocks, in the order of blocks. The trace has their logs.
+    /// `lanes` are the lanes of all blocks, in the order of blocks. The trace has their logs, and each keeps what a lane's log keeps.
     pub fn finish(self, mut warden: Warden, lanes: Vec<Lane>, into: &mut [i64]) -> Trace
         requires warden { IsWardenOf self warden × (warden.view.taken ≡ []) }
         requires lanes { AreAllLanes self lanes.items }
         requires size { length into.old ≡ length self.setting.entry }
-        ensures trace { result ≡ map (λ l. l.log) lanes.items }
-        ensures size { length into.new ≡ length into.old }
-        ensures own { (i c : ℕ) (l : LaneValue) → get_elem? lanes.items i ≡ some l → Covers (spans_of l) c → slice_index_or into.new c (pos 0) ≡ content_at l c }
-        ensures others { (c : ℕ) → ((i : ℕ) (l : LaneValue) → get_elem? lanes.items i ≡ some l → ¬ Covers (spans_of l) c) → slice_index_or into.new c (pos 0) ≡ slice_index_or into.old c (pos 0) }
+        ensures { IsFinish self lanes.items result into.old into.new }
     {
         let _table = &self.table;
         for lane in lanes {

@@ -1,9 +1,6 @@
 //! A lane: the one seat that steps for its block.
-ghost use Rattle.std.specs.Prelude.{◌≡◌, ◌≢◌, ℕ, ◌+◌, ◌-◌, ◌*◌, ◌^◌, ◌<◌, ◌≤◌, ◌↔◌, List, [], length, IfSome, IfNone, IsTrue};
-ghost use mathlib.Core.Option.{some};
-ghost use lib.ListN.{get_elem?};
-ghost use Rattle.spf_ast.specs.Event.{IsConsistent};
-ghost use Rattle.spf_cells.specs.Log.{ArePossibleTurns, IsPossibleFlag, events};
+ghost use Rattle.std.specs.Prelude.{◌≡◌, ◌≢◌, ℕ, ◌+◌, ◌-◌, ◌^◌, ◌<◌, ◌↔◌, [], length, IsTrue};
+ghost use Rattle.spf_cells.specs.Log.{IsLogOf, IsPossibleFlag};
 ghost use Rattle.spf_cells.specs.Spans.{cells_of, Covers};
 ghost use Rattle.spf_cells.specs.declared.view.LogEntry.TheVariants.{Load, Store, Turn};
 ghost use Rattle.spf_cells.specs.Segments.{AreSegmentsOf, IsSearchable, first_word};
@@ -62,10 +59,11 @@ impl Lane {
         seat
     }
 
-    // The seat, and the segments.
+    /// The seat, and the segments.
     pub(crate) fn into_parts(self) -> (CellSeat, Vec<Segment>)
         ensures table { result.0.table_id ≡ self.table }
         ensures view { result.0.me ≡ (lane_view self.setting self.block self.log, []) }
+        ensures log { IsLogOf self.setting self.block self.log }
         ensures segments { AreSegmentsOf result.1.items (cells_of (spans_of self)) (first_word self.setting self.block) }
         ensures order { IsSearchable result.1.items }
         ensures small { first_word self.setting self.block + length (cells_of (spans_of self)) < 2 ^ 63 }
@@ -79,10 +77,9 @@ impl Lane {
         (seat, segments)
     }
 
-    /// What is so of every lane's log: each load gave the lane's own content, and each turn a number that a flag of the block may have.
+    /// What every lane's log keeps: each load gave the lane's own content, and each turn a possible flag of its block.
     pub fn log_facts(&self)
-        ensures consistent { IsConsistent (events self.now.log) self.now.setting.entry }
-        ensures turns { ArePossibleTurns self.now.setting self.now.block self.now.log }
+        ensures { IsLogOf self.now.setting self.now.block self.now.log }
     {
         let _block = &self.block;
     }
@@ -94,7 +91,7 @@ impl Lane {
         find_word(self.segments.as_slice(), cell).is_some()
     }
 
-    // The word of a cell.
+    /// The word of a cell.
     fn word(&self, cell: u64) -> usize
         requires { Covers (spans_of self.now) cell }
         ensures word { IsWordOf self.now cell result }

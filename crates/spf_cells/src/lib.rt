@@ -5,10 +5,9 @@ pub mod cells;
 pub mod finish;
 pub mod key;
 pub mod lane;
+pub mod laws;
 mod make;
 mod rule;
 mod segment;
-#[cfg(test)]
-mod tests;
 pub mod view;
 pub mod warden;

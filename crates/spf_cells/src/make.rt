@@ -1,5 +1,5 @@
 //! Cells are made, with their warden and their lanes.
-ghost use Rattle.std.specs.Prelude.{◌≡◌, ℕ, ◌+◌, ◌-◌, ◌<◌, List, [], ◌++◌, map, length, slice_index_or, take, ◌^◌, IfOk, pos};
+ghost use Rattle.std.specs.Prelude.{◌≡◌, ℕ, ◌+◌, ◌-◌, ◌<◌, List, [], ◌++◌, map, length, slice_index_or, ◌^◌, IfOk, pos};
 ghost use Rattle.std.specs.Int.RustNames.{FitsSigned};
 ghost use mir.Syntax.{w64};
 ghost use mathlib.Core.Option.{some};
@@ -21,7 +21,8 @@ use atomic_table::Table;
 use spf_region::span::{Plan, Span};
 use std::alloc::{AllocError, Global};
 
-// A key with the setting that the caller names. A ghost value is named by a call's arguments alone, so the call has those that the name speaks of.
+/// A key with the setting that the caller names. The ghost argument of a call may speak of the call's other arguments alone, so the entry
+/// and the plan are passed here though nothing reads them.
 fn key_of_setting(entry: &[i64], plan: &Plan) -> GhostKey<Setting>
     ghost named: { Setting }
     ensures { result.value ≡ named }
@@ -31,7 +32,7 @@ fn key_of_setting(entry: &[i64], plan: &Plan) -> GhostKey<Setting>
     ghost_key::<Setting>()
 }
 
-// Each element fits 64 bits: the range of an element is known once it is read.
+/// Each element fits 64 bits. A proof knows the range of an element once the element is read.
 fn in_range(entry: &[i64])
     ensures { (i : ℕ) → i < length entry.now → FitsSigned w64 (slice_index_or entry.now i (pos 0)) }
 {
@@ -40,7 +41,7 @@ fn in_range(entry: &[i64])
     }
 }
 
-// Adds the words of a span's cells.
+/// Adds the words of a span's cells.
 fn push_span(words: &mut Vec<u64>, entry: &[i64], span: Span) -> Result<(), AllocError>
     requires { (j c : ℕ) → get_elem? (consecutive span.from (span.to - span.from)) j ≡ some c → c < length entry.now }
     ensures { IfOk result (λ _. words.new.items ≡ words.old.items ++ map (entry_word entry.now) (consecutive span.from (span.to - span.from))) }
@@ -51,7 +52,7 @@ fn push_span(words: &mut Vec<u64>, entry: &[i64], span: Span) -> Result<(), Allo
     Ok(())
 }
 
-// Adds the words of the cells of a block's spans.
+/// Adds the words of the cells of a block's spans.
 fn push_block(words: &mut Vec<u64>, entry: &[i64], spans: &[Span]) -> Result<(), AllocError>
     requires { (j c : ℕ) → get_elem? (cells_of spans.now) j ≡ some c → c < length entry.now }
     ensures { IfOk result (λ _. words.new.items ≡ words.old.items ++ map (entry_word entry.now) (cells_of spans.now)) }
@@ -62,7 +63,7 @@ fn push_block(words: &mut Vec<u64>, entry: &[i64], spans: &[Span]) -> Result<(),
     Ok(())
 }
 
-// The words of the table at the start: a flag of 0 for each block, and then each cell's word in the entry.
+/// The words of the table at the start: a flag of 0 for each block, and then each cell's word in the entry.
 fn words_of(alloc: Global, entry: &[i64], plan: &Plan) -> Result<Vec<u64>, AllocError>
     requires { (j c : ℕ) → get_elem? (cells_of_plan (spans_in plan.now)) j ≡ some c → c < length entry.now }
     ensures { IfOk result (λ v. v.items ≡ first_words (spans_in plan.now) entry.now) }
@@ -75,7 +76,7 @@ fn words_of(alloc: Global, entry: &[i64], plan: &Plan) -> Result<Vec<u64>, Alloc
 }
 
 impl Cells {
-    // The table, and the warden with all blocks.
+    /// The table, and the warden with all blocks.
     fn open(alloc: Global, entry: &[i64], plan: &Plan) -> Result<(Cells, Warden), AllocError>
         ghost raisable: { List ℕ }
         requires { IsDisjointWithin (spans_in plan.now) (length entry.now) }
@@ -93,7 +94,7 @@ impl Cells {
     /// The cells of a plan's spans, their warden, and a lane for each block in order.
     ///
     /// `entry` is the whole memory, of which the plan's spans are disjoint parts. Each cell begins with its word there, all flags are 0 and all logs empty.
-    /// The caller names the blocks that may be raised; they stand in contracts alone.
+    /// The caller names the blocks whose flags may be raised; contracts alone see them.
     ///
     /// # Errors
     ///
@@ -115,7 +116,7 @@ impl Cells {
     }
 }
 
-// How many cells spans have.
+/// How many cells spans have.
 fn size_of_spans(spans: &[Span]) -> usize
     requires { length (cells_of spans.now) < 2 ^ 63 }
     ensures { result ≡ length (cells_of spans.now) }
@@ -128,7 +129,7 @@ fn size_of_spans(spans: &[Span]) -> usize
 }
 
 impl Warden {
-    // Each block gets a lane.
+    /// Each block gets a lane.
     fn hand_out_all(
         &mut self,
         alloc: Global,
@@ -153,7 +154,7 @@ impl Warden {
         Ok(lanes)
     }
 
-    // The next block gets a lane.
+    /// The next block gets a lane.
     fn hand_out(&mut self, cells: &Cells, block: usize, segments: Vec<Segment>) -> Lane
         requires own { IsWardenOf cells.now self.old }
         requires next { (block ≡ self.old.view.made) × (block < length cells.now.setting.plan) }

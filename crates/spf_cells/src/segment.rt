@@ -1,15 +1,14 @@
 //! Which word a cell of a lane has.
-ghost use Rattle.std.specs.Prelude.{◌≡◌, ℕ, ◌+◌, ◌-◌, ◌^◌, ◌<◌, IfSome, IfNone, IfOk, length};
+ghost use Rattle.std.specs.Prelude.{ℕ, ◌+◌, ◌-◌, ◌^◌, ◌<◌, IfSome, IfNone, IfOk, length};
 ghost use Rattle.std.specs.List.{Contains};
 ghost use mathlib.Core.Option.{some};
-ghost use lib.ListN.{get_elem?};
 ghost use Rattle.spf_cells.specs.Spans.{cells_of};
 ghost use Rattle.spf_cells.specs.Segments.{Holds, HasNoCellTwice, AreSegmentsOf, IsSearchable};
 
 use spf_region::span::Span;
 use std::alloc::{AllocError, Global};
 
-/// A span, and the word of its first cell. Its other cells have the words behind that one, in order.
+/// A span, and the word of its first cell. Its other cells have the words after that one, in order.
 #[derive(Clone, Copy)]
 pub(crate) struct Segment {
     pub(crate) span: Span,
@@ -17,7 +16,7 @@ pub(crate) struct Segment {
 }
 
 impl Segment {
-    // The word of a cell, if the cell is in the span.
+    /// The word of a cell, if the cell is in the span.
     fn word_of(&self, cell: u64) -> Option<usize>
         requires { self.now.word + (self.now.span.to - self.now.span.from) < 2 ^ 63 }
         ensures some { IfSome result (λ w. Holds self.now cell w) }
@@ -48,7 +47,7 @@ pub(crate) fn find_word(segments: &[Segment], cell: u64) -> Option<usize>
     segments[count - 1].word_of(cell)
 }
 
-/// The segments of spans whose cells stand in the words from `first` on, in ascending order.
+/// The segments of spans whose cells have the words from `first` on, in ascending order of their first cells.
 pub(crate) fn segments_of(
     alloc: Global,
     spans: &[Span],

@@ -1,5 +1,5 @@
 //! The warden: the seat that raises flags, and takes lanes over.
-ghost use Rattle.std.specs.Prelude.{◌≡◌, ℕ, ◌+◌, ◌<◌, List, length};
+ghost use Rattle.std.specs.Prelude.{◌≡◌, ◌<◌, length};
 ghost use Rattle.std.specs.List.{Contains};
 ghost use Rattle.spf_cells.specs.Rule.{HasNoBlockTwice};
 ghost use Rattle.spf_cells.specs.Values.{with_flag, with_lane, IsLaneOf, IsWardenOf};
@@ -55,7 +55,7 @@ impl Warden {
         shared.fetch_max::<Raised>(&mut self.seat, block, 0);
     }
 
-    // Takes a lane's cells and log over.
+    /// Takes a lane's cells and log over.
     fn take_over(&mut self, cells: &Cells, lane: Lane)
         requires own { IsWardenOf cells.now self.old }
         requires lane { IsLaneOf cells.now lane }

@@ -1,6 +1,7 @@
 // That the calls succeed with memory at hand, and what they do to the machine's files and streams.
 use crate::{
-    FetchError, Files, MemFiles, MemSink, PutError, RealFiles, RealSink, Sink, StandardStream,
+    Barrier, FetchError, Files, Gate, MemFiles, MemSink, Open, Place, PutError, RealFiles,
+    RealSink, Sink, StandardStream,
 };
 use std::alloc::{AllocError, Global};
 use std::io::Write;
@@ -131,5 +132,54 @@ fn streams_take_what_is_put(rt: HostRuntime) -> Result<(), Fail> {
     assert_eq!(rt; narrow.put(b"cd"), Err(PutError::Failed));
     assert_eq!(rt; narrow.put(b"e"), Err(PutError::Failed));
     assert_eq!(rt; narrow.put(b""), Ok(()));
+    Ok(())
+}
+
+// The ends of attempts at a gate, one after another: block, attempt and place.
+fn pass<G: Gate + Sync>(gate: &G, ends: &[(u64, u64, Place)]) {
+    for &(block, attempt, place) in ends {
+        gate.at(block, attempt, place);
+    }
+}
+
+#[test]
+fn a_barrier_is_met_where_all_first_attempts_begin_before_one_ends(
+    rt: HostRuntime,
+) -> Result<(), Fail> {
+    let ends = [
+        (0, 1, Place::Begin),
+        (1, 1, Place::Begin),
+        (0, 1, Place::End),
+        (1, 1, Place::End),
+    ];
+    let two = Barrier::make(2, 10);
+    pass(&two, &ends[..1]);
+    assert!(rt; !two.met());
+    pass(&two, &ends[1..]);
+    assert!(rt; two.met());
+    let three = Barrier::make(3, 10);
+    pass(&three, &ends);
+    pass(&three, &[(2, 1, Place::Begin), (2, 1, Place::End)]);
+    assert!(rt; !three.met());
+    pass(&Open, &ends);
+    Ok(())
+}
+
+#[test]
+fn a_barrier_counts_first_attempts_of_its_blocks_alone(rt: HostRuntime) -> Result<(), Fail> {
+    let barrier = Barrier::make(2, 10);
+    pass(
+        &barrier,
+        &[
+            (0, 1, Place::Begin),
+            (0, 2, Place::Begin),
+            (2, 1, Place::Begin),
+            (0, 2, Place::End),
+            (2, 1, Place::End),
+        ],
+    );
+    assert!(rt; !barrier.met());
+    pass(&barrier, &[(1, 1, Place::Begin)]);
+    assert!(rt; barrier.met());
     Ok(())
 }

@@ -1,5 +1,6 @@
 use Rattle.std.proofs.Common.{◌≡◌, ◌++◌, map, length}
 use Rattle.spf_cells.specs.Finish.{write_back_all, taken_as}
+use Rattle.spf_cells.proofs.Finished.{KeepLogs}
 use Rattle.spf_cells.proofs.cells.Cells.finish.Given as goal
 
 abbrev pub invariant-loop-lane : goal.invariant-loop-lane
@@ -11,5 +12,6 @@ invariant-loop-lane l = record {
   table : l.warden.table ≡ l.initial.warden.table;
   setting : l.warden.setting ≡ l.initial.warden.setting;
   taken : l.warden.view.taken ≡ map taken_as l.yielded;
+  logs : KeepLogs l.yielded;
   into : l.into ≡ write_back_all l.yielded l.fn.into;
 }

@@ -1,7 +1,7 @@
-use Rattle.std.proofs.Common.{◌≡◌, ℕ, length, ap, sym, ◌∙◌, List, [], subst, arith}
+use Rattle.std.proofs.Common.{◌≡◌, ℕ, ◌+◌, length, ap, sym, ◌∙◌, List, [], subst, arith}
 use Rattle.atomic_table.specs.Table.{opening}
 use Rattle.spf_cells.specs.declared.view.Setting.{Setting}
-use Rattle.spf_cells.specs.Spans.{IsDisjointWithin}
+use Rattle.spf_cells.specs.Cells.{AreCells}
 use Rattle.spf_cells.specs.Rule.{IsConsistentTable, first}
 use Rattle.spf_cells.specs.Made.{setting, first_words}
 use Rattle.spf_cells.proofs.Plans.{length-cells_with_blocks}
@@ -43,4 +43,12 @@ invariant_of-result g c =
     let k : Setting = setting c.args.plan.now c.args.entry.now g.raisable in
     let made = c.in_ok-table.ensures in
     let value : k ≡ c.in_ok-table.table.shared.key.value = sym (ap (λ t. t.value) made.5 ∙ c.key_of_setting-key.ensures) in
-    subst (λ (z : Setting). IsDisjointWithin z.plan (length z.entry)) value c.requires
+    let words : c.as_slice.result.now ≡ first_words k.plan k.entry = c.as_slice.ensures.value ∙ c.in_ok-words.ensures in
+    let small = c.as_slice.type_inv in
+    let e = ap length words in
+    let count : c.in_ok-table.table.shared.table_id.words ≡ length c.as_slice.result.now = made.0 in
+    subst (λ (z : Setting). AreCells (record { table = c.in_ok-table.table.shared.table_id; setting = z })) value record {
+      disjoint = c.requires;
+      words = count ∙ (e ∙ (length-first_words k.plan k.entry ∙ ap (λ n. length k.plan + n) (length-cells_with_blocks k.plan)));
+      small = omega arith;
+    }

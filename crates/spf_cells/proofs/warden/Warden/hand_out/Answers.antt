@@ -34,6 +34,6 @@ invariant_of-result c =
     let room : b < blocks k = omega arith in
     let table = ap (λ z. z.words) e.3 in
     let small = i.small in
-    let apart : IsDisjointWithin k.plan (length k.entry) = subst (λ (z : Setting). IsDisjointWithin z.plan (length z.entry)) (ap (λ (w : CellsValue). w.setting) c.cells.view_is ∙ same) c.cells.invariant in
+    let apart : IsDisjointWithin k.plan (length k.entry) = subst (λ (z : Setting). IsDisjointWithin z.plan (length z.entry)) (ap (λ (w : CellsValue). w.setting) c.cells.view_is ∙ same) c.cells.invariant.disjoint in
     new_lane_ok _ k b (e.4 ∙ ap (λ m. (handed_out m.0, [])) i.seat) made room (omega arith) (omega arith) apart
     (subst (λ (y : Setting × ℕ). AreSegmentsOf c.args.segments.items (cells_of (get_or y.0.plan y.1 [])) (first_word y.0 y.1)) (λ t. (same t, made t)) c.requires.segments) c.requires.order

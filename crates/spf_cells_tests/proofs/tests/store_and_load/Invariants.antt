@@ -1,5 +1,5 @@
-use Rattle.spf_cells.specs.Examples.{IsSameLane}
-use Rattle.spf_cells.proofs.tests.store_and_load.Given as goal
+use Rattle.spf_cells.specs.Values.{IsSameLane}
+use Rattle.spf_cells_tests.proofs.tests.store_and_load.Given as goal
 
 abbrev pub invariant-loop-cell : goal.invariant-loop-cell
 invariant-loop-cell l = IsSameLane l.fn.lane l.lane

@@ -1,9 +1,9 @@
 use Rattle.std.proofs.Common.{◌≡◌, List, length, drop, sym, subst, arith}
-use Rattle.spf_cells.specs.Examples.{AreSameLanes}
+use Rattle.spf_cells_tests.specs.Examples.{AreSameLanes}
 use Rattle.spf_cells.specs.Finish.{AreAllLanes}
 use Rattle.spf_cells.specs.Values.{LaneValue}
-use Rattle.spf_cells.proofs.Examples.{still_all, written}
-use Rattle.spf_cells.proofs.tests.counted.Goals as goal
+use Rattle.spf_cells_tests.proofs.Examples.{still_all, written}
+use Rattle.spf_cells_tests.proofs.tests.counted.Goals as goal
 
 pub finish-trace-requires-clause-lanes : goal.finish-trace-requires-clause-lanes
 finish-trace-requires-clause-lanes g c =

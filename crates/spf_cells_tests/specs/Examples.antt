@@ -1,7 +1,7 @@
 -- The plans of the tests, and lanes before and after steps.
 use Rattle.std.specs.Prelude.{◌≡◌, ℕ, ◌+◌, ◌<◌, length, slice_index_or, List, [], ◌∷◌}
 use Rattle.spf_region.specs.declared.span.Span.{Span}
-use Rattle.spf_cells.specs.Values.{LaneValue}
+use Rattle.spf_cells.specs.Values.{LaneValue, IsSameLane}
 
 -- the span of one cell
 abbrev cell : ℕ → Span
@@ -23,10 +23,6 @@ span from to = record { from = from; to = to }
 abbrev pub mixed_spans : List (List Span)
 mixed_spans = (span 6 8 ∷ span 0 2 ∷ span 3 4 ∷ []) ∷ (span 4 6 ∷ span 2 3 ∷ []) ∷ []
 
--- the lane is the same one, perhaps with another log
-abbrev pub IsSameLane : LaneValue → LaneValue → Type 0
-IsSameLane old new = (new.table ≡ old.table) × (new.setting ≡ old.setting) × (new.block ≡ old.block)
-
--- at each place the lanes are the same ones
+-- at each index the lanes are the same one
 abbrev pub AreSameLanes : List LaneValue → List LaneValue → Type 0
 AreSameLanes old new = (length new ≡ length old) × ((i : ℕ) (d : LaneValue) → i < length old → IsSameLane (slice_index_or old i d) (slice_index_or new i d))

@@ -1,23 +1,24 @@
 //! The worked example on one thread and on two, spans out of order, and four lanes of interleaved spans, each on a thread of its own, while the warden raises.
-ghost use Rattle.std.specs.Prelude.{◌≡◌, ℕ, ◌+◌, ◌<◌, List, [], ◌∷◌, All, IfOk, length, pos};
+ghost use Rattle.std.specs.Prelude.{◌≡◌, ◌+◌, ◌<◌, ◌≤◌, [], ◌∷◌, All, IfOk, length, pos};
 ghost use Rattle.std.specs.List.{Contains};
 ghost use Rattle.spf_cells.specs.Spans.{Covers};
 ghost use Rattle.spf_cells.specs.Finish.{AreAllLanes};
 ghost use Rattle.spf_cells.specs.Made.{spans_in, new_warden, new_lane};
-ghost use Rattle.spf_cells.specs.Examples.{two_blocks_spans, four_blocks_spans, mixed_spans, IsSameLane, AreSameLanes};
-ghost use Rattle.spf_cells.specs.Values.{LaneValue, spans_of, content_at, logged, IsWardenOf};
+ghost use Rattle.spf_cells_tests.specs.Examples.{two_blocks_spans, four_blocks_spans, mixed_spans, AreSameLanes};
+ghost use Rattle.spf_cells.specs.Values.{IsSameLane, spans_of, content_at, logged, IsWardenOf};
 ghost use Rattle.spf_cells.specs.declared.view.LogEntry.TheVariants.{Load, Store, Turn};
 
-use crate::cells::Cells;
-use crate::finish::Trace;
-use crate::lane::Lane;
-use crate::warden::Warden;
+use spf_cells::cells::Cells;
+use spf_cells::finish::Trace;
+use spf_cells::lane::Lane;
+use spf_cells::laws::ascending_plans_are_disjoint;
+use spf_cells::warden::Warden;
 use spf_region::span::{Plan, Span};
 use std::alloc::{AllocError, Global};
 use std::test::Fail;
 use std::thread::{Threads, for_each_mut, join_mut};
 
-// Block 0 with the span 0..2, and block 1 with the span 3..4.
+/// Block 0 with the span 0..2, and block 1 with the span 3..4.
 fn two_blocks(alloc: Global) -> Result<Plan, AllocError>
     ensures { IfOk result (λ p. spans_in p ≡ two_blocks_spans) }
 {
@@ -31,20 +32,21 @@ fn two_blocks(alloc: Global) -> Result<Plan, AllocError>
     Ok(Plan { blocks })
 }
 
-// The cells of these blocks over the entry `1 2 3 4`, and both lanes. Block 1 may be raised.
-fn two_lanes(alloc: Global) -> Result<(Cells, Warden, Lane, Lane), AllocError>
+/// The cells of these blocks over the entry `1 2 3 4`, and both lanes. Block 1 may be raised.
+pub(crate) fn two_lanes(alloc: Global) -> Result<(Cells, Warden, Lane, Lane), AllocError>
     ensures setting { IfOk result (λ r. r.0.setting ≡ record { plan = two_blocks_spans; entry = pos 1 ∷ pos 2 ∷ pos 3 ∷ pos 4 ∷ []; raisable = 1 ∷ [] }) }
     ensures warden { IfOk result (λ r. r.1 ≡ new_warden r.0 2) }
     ensures lanes { IfOk result (λ r. (r.2 ≡ new_lane r.0 0) × (r.3 ≡ new_lane r.0 1)) }
 {
     let plan = two_blocks(alloc)?;
+    ascending_plans_are_disjoint();
     let (cells, warden, mut lanes) = Cells::make(alloc, &[1, 2, 3, 4], &plan)?;
     let two = lanes.pop().unwrap();
     let one = lanes.pop().unwrap();
     Ok((cells, warden, one, two))
 }
 
-// The steps of the worked example on one thread: what the load and both polls gave.
+/// The steps of the worked example on one thread: what the load and both polls gave.
 fn step_both(cells: &Cells, warden: &mut Warden, one: &mut Lane, two: &mut Lane) -> (i64, u64, u64)
     requires one { (one.old.table ≡ cells.now.table) × Covers (spans_of one.old) 0 }
     requires two { (two.old.table ≡ cells.now.table) × Covers (spans_of two.old) 3 }
@@ -63,10 +65,11 @@ fn step_both(cells: &Cells, warden: &mut Warden, one: &mut Lane, two: &mut Lane)
     (found, turn, one.poll(cells))
 }
 
-// The worked example, with the logs of its trace.
+/// The worked example, with the logs of its trace. What `finish` says of them is that block 0 polled 0, since it may not be raised.
 fn worked_example(alloc: Global, into: &mut [i64]) -> Result<((i64, u64, u64), Trace), AllocError>
     requires { length into.old ≡ 4 }
     ensures trace { IfOk result (λ r. r.1 ≡ (Store 0 (pos 9) ∷ Turn r.0.2 ∷ []) ∷ (Load 3 (pos 4) ∷ Turn r.0.1 ∷ []) ∷ []) }
+    ensures turns { IfOk result (λ r. (r.0.1 ≤ 1) × (r.0.2 ≡ 0)) }
 {
     let (cells, mut warden, mut one, mut two) = two_lanes(alloc)?;
     let found = step_both(&cells, &mut warden, &mut one, &mut two);
@@ -84,7 +87,7 @@ fn two_lanes_in_turn(rt: HostRuntime) -> Result<(), Fail> {
     Ok(())
 }
 
-// One lane stores, the other loads, each in a thread of its own.
+/// One lane stores, the other loads, each in a thread of its own.
 fn both<R: Threads + Sync>(rt: &R, cells: &Cells, one: &mut Lane, two: &mut Lane) -> i64
     requires one { (one.old.table ≡ cells.now.table) × Covers (spans_of one.old) 0 }
     requires two { (two.old.table ≡ cells.now.table) × Covers (spans_of two.old) 3 }
@@ -100,7 +103,7 @@ fn both<R: Threads + Sync>(rt: &R, cells: &Cells, one: &mut Lane, two: &mut Lane
     found
 }
 
-// Both lanes poll, each in a thread of its own.
+/// Both lanes poll, each in a thread of its own.
 fn poll_both<R: Threads + Sync>(rt: &R, cells: &Cells, one: &mut Lane, two: &mut Lane) -> (u64, u64)
     requires { (one.old.table ≡ cells.now.table) × (two.old.table ≡ cells.now.table) }
     ensures one { one.new ≡ logged one.old (Turn result.0) }
@@ -124,7 +127,7 @@ fn two_lanes_in_threads(rt: HostRuntime) -> Result<(), Fail> {
     Ok(())
 }
 
-// Block 0 with the spans 6..8, 0..2 and 3..4, and block 1 with the spans 4..6 and 2..3: out of order, and each between the other's.
+/// Block 0 with the spans 6..8, 0..2 and 3..4, and block 1 with the spans 4..6 and 2..3: out of order, and each between the other's.
 fn mixed_blocks(alloc: Global) -> Result<Plan, AllocError>
     ensures { IfOk result (λ p. spans_in p ≡ mixed_spans) }
 {
@@ -141,7 +144,7 @@ fn mixed_blocks(alloc: Global) -> Result<Plan, AllocError>
     Ok(Plan { blocks })
 }
 
-// The cells of these blocks over the entry `0 10 20 .. 70`, and both lanes. No block may be raised.
+/// The cells of these blocks over the entry `0 10 20 .. 70`, and both lanes. No block may be raised.
 fn mixed_lanes(alloc: Global) -> Result<(Cells, Warden, Lane, Lane), AllocError>
     ensures plan { IfOk result (λ r. r.0.setting.plan ≡ mixed_spans) }
     ensures entry { IfOk result (λ r. length r.0.setting.entry ≡ 8) }
@@ -156,7 +159,7 @@ fn mixed_lanes(alloc: Global) -> Result<(Cells, Warden, Lane, Lane), AllocError>
     Ok((cells, warden, one, two))
 }
 
-// Which of the cells up to 8 the lane has.
+/// Which of the cells up to 8 the lane has.
 fn held(lane: &Lane) -> [bool; 9] {
     let mut held = [false; 9];
     for cell in 0..9 {
@@ -165,7 +168,7 @@ fn held(lane: &Lane) -> [bool; 9] {
     held
 }
 
-// Stores the values to those cells that the lane has, and then loads each of its cells. A cell that it has not gives -1.
+/// Stores the values to those cells that the lane has, and then loads each of its cells. A cell that it has not gives -1.
 fn store_and_load(cells: &Cells, lane: &mut Lane, values: &[(u64, i64)]) -> [i64; 8]
     requires { lane.old.table ≡ cells.now.table }
     ensures { IsSameLane lane.old lane.new }
@@ -203,7 +206,7 @@ fn spans_out_of_order(rt: HostRuntime) -> Result<(), Fail> {
     Ok(())
 }
 
-// Two spans of one cell each.
+/// Two spans of one cell each.
 fn two_spans(alloc: Global, first: u64, second: u64) -> Result<Vec<Span>, AllocError>
     requires { (first < 8) × (second < 8) }
     ensures { IfOk result (λ v. v.items ≡ record { from = first; to = first + 1 } ∷ record { from = second; to = second + 1 } ∷ []) }
@@ -220,7 +223,7 @@ fn two_spans(alloc: Global, first: u64, second: u64) -> Result<Vec<Span>, AllocE
     Ok(spans)
 }
 
-// Four blocks: block n has the cells n and n + 4.
+/// Four blocks: block n has the cells n and n + 4.
 fn four_blocks(alloc: Global) -> Result<Plan, AllocError>
     ensures { IfOk result (λ p. spans_in p ≡ four_blocks_spans) }
 {
@@ -232,7 +235,7 @@ fn four_blocks(alloc: Global) -> Result<Plan, AllocError>
     Ok(Plan { blocks })
 }
 
-// The cells of these blocks, with their warden and lanes. The odd blocks may be raised.
+/// The cells of these blocks, with their warden and lanes. The odd blocks may be raised.
 fn interleaved(alloc: Global) -> Result<(Cells, Warden, Vec<Lane>), AllocError>
     ensures warden { IfOk result (λ r. IsWardenOf r.0 r.1 × (r.1.view.taken ≡ [])) }
     ensures lanes { IfOk result (λ r. AreAllLanes r.0 r.2.items) }
@@ -245,7 +248,7 @@ fn interleaved(alloc: Global) -> Result<(Cells, Warden, Vec<Lane>), AllocError>
     Cells::make(alloc, &[0, 10, 20, 30, 40, 50, 60, 70], &plan)
 }
 
-// Adds 1 to each cell of the lane 20000 times, and polls between. Once the flag has fallen, it adds 1000000, so that the cells show it.
+/// Adds 1 to each cell of the lane 20000 times, and polls between. Once the flag has fallen, it adds 1000000, so that the cells show it.
 fn count(cells: &Cells, lane: &mut Lane)
     requires { lane.old.table ≡ cells.now.table }
     ensures { IsSameLane lane.old lane.new }
@@ -267,7 +270,7 @@ fn count(cells: &Cells, lane: &mut Lane)
     }
 }
 
-// A random number after so many others.
+/// A random number after so many others.
 fn random_after(count: u64) -> u64 {
     let mut random = count;
     for _ in 0..count {
@@ -278,7 +281,7 @@ fn random_after(count: u64) -> u64 {
     random >> 40
 }
 
-// Raises both odd blocks, in an order and at moments that the seed decides, and then both again.
+/// Raises both odd blocks, in an order and at moments that the seed decides, and then both again.
 fn raise_odd(cells: &Cells, warden: &mut Warden, seed: u64)
     requires own { IsWardenOf cells.now warden.old }
     requires blocks { length cells.now.setting.plan ≡ 4 }
@@ -296,7 +299,7 @@ fn raise_odd(cells: &Cells, warden: &mut Warden, seed: u64)
     warden.raise(cells, 3, 1);
 }
 
-// Each lane counts, in threads of their own.
+/// Each lane counts, in threads of their own.
 fn count_each<R: Threads + Sync>(rt: &R, cells: &Cells, lanes: &mut [Lane])
     requires { All (λ l. l.table ≡ cells.now.table) lanes.old }
     ensures { AreSameLanes lanes.old lanes.new }
@@ -304,7 +307,7 @@ fn count_each<R: Threads + Sync>(rt: &R, cells: &Cells, lanes: &mut [Lane])
     for_each_mut(rt, lanes, 4, &|_, lane| count(cells, lane));
 }
 
-// Each lane counts, and meanwhile the warden raises.
+/// Each lane counts, and meanwhile the warden raises.
 fn count_and_raise<R: Threads + Sync>(
     rt: &R,
     cells: &Cells,
@@ -330,7 +333,7 @@ fn count_and_raise<R: Threads + Sync>(
     );
 }
 
-// What all cells hold after four lanes counted while the warden raised.
+/// What all cells hold after four lanes counted while the warden raised.
 fn counted<R: Threads + Sync>(rt: &R, alloc: Global, seed: u64) -> Result<[i64; 8], AllocError> {
     let (cells, mut warden, mut lanes) = interleaved(alloc)?;
     count_and_raise(rt, &cells, &mut warden, lanes.as_mut_slice(), seed);
