@@ -10,6 +10,4 @@ pub mod laws;
 mod slot_sets;
 mod slots;
 mod sweeps;
-#[cfg(test)]
-mod tests;
 mod walk;

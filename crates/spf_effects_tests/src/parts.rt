@@ -1,9 +1,10 @@
 // Parts that are built by hand, and their effects.
-use crate::analysis::effects;
-use crate::effects::Effects;
+use spf_ast::construct::find_construct;
 use spf_ast::syntax::{
     Cond, Expr, Fold, Function, Name, Op, Pair, Part, Predict, Program, Stmt, StmtKind, Test,
 };
+use spf_effects::analysis::effects;
+use spf_effects::effects::Effects;
 use spf_region::range::Range;
 use std::alloc::{AllocError, Global};
 use std::test::Fail;
@@ -117,11 +118,19 @@ fn fold(alloc: Global, guess: Predict, body: Vec<Stmt>) -> Result<StmtKind, Allo
     Ok(StmtKind::Fold(Box::new(alloc, fold)?))
 }
 
+// The effects of a part of the first top construct, which each program here has.
+fn part_effects(alloc: Global, program: &Program, part: Part) -> Result<Effects, AllocError> {
+    match find_construct(&program.main, 0) {
+        Some(construct) => effects(alloc, program, construct, part),
+        None => Err(AllocError),
+    }
+}
+
 // The effects of the body of a fold with these statements.
 fn body_effects(alloc: Global, body: Vec<Stmt>) -> Result<Effects, AllocError> {
     let construct = fold(alloc, Predict::Host(0), body)?;
     let program = program(alloc, construct)?;
-    effects(alloc, &program, 0, Part::Body)
+    part_effects(alloc, &program, Part::Body)
 }
 
 fn affine(factor: i64, from: i64, to: i64) -> Range {
@@ -316,15 +325,13 @@ fn pair(alloc: Global) -> Result<Program, AllocError> {
 fn parts_of_pairs(rt: HostRuntime) -> Result<(), Fail> {
     let alloc = rt.alloc();
     let program = pair(alloc)?;
-    let found = effects(alloc, &program, 0, Part::Producer)?;
+    let found = part_effects(alloc, &program, Part::Producer)?;
     let element = [affine(0, 1, 1)];
     assert!(rt; has(&found, &[affine(0, 0, 0)], &element, &element) && !found.emits);
-    let found = effects(alloc, &program, 0, Part::Consumer)?;
+    let found = part_effects(alloc, &program, Part::Consumer)?;
     assert!(rt; has(&found, &[], &[], &[]) && found.emits);
-    let found = effects(alloc, &program, 0, Part::Predictor)?;
+    let found = part_effects(alloc, &program, Part::Predictor)?;
     assert!(rt; has(&found, &[affine(0, 4, 4)], &[], &[]) && !found.emits);
-    let found = effects(alloc, &program, 1, Part::Producer)?;
-    assert!(rt; has(&found, &[], &[], &[]));
     Ok(())
 }
 
@@ -333,7 +340,7 @@ fn predicted(alloc: Global, offset: i64) -> Result<Effects, AllocError> {
     let guess = load(alloc, at_block(alloc, 1, offset)?)?;
     let construct = fold(alloc, Predict::Expr(guess), Vec::new(alloc))?;
     let program = program(alloc, construct)?;
-    effects(alloc, &program, 0, Part::Predictor)
+    part_effects(alloc, &program, Part::Predictor)
 }
 
 #[test]
