@@ -228,11 +228,7 @@ pub(crate) struct Came {
 }
 
 /// Runs the blocks of a fold whose header is done, each from its guess, and again where the guess was wrong.
-pub(crate) fn run_blocks(
-    alloc: Global,
-    job: &Job,
-    header: Header,
-) -> Result<Came, AllocError>
+pub(crate) fn run_blocks(alloc: Global, job: &Job, header: Header) -> Result<Came, AllocError>
     requires no_cells { cell_count_of (program_of job.now.instance.now) (length job.now.instance.now.input) ≡ 0 }
     requires entry { length job.now.entry.now ≡ frame_size (program_of job.now.instance.now) }
     requires construct { Contains (constructs_in (program_of job.now.instance.now).main) (construct_seen job.now.construct) }

@@ -1,5 +1,5 @@
 -- How good the guesses of a run are: a function of its plain meaning and of its predictors, in which no attempt occurs.
-use Rattle.std.specs.Prelude.{ℕ, suc, ◌+◌, Bool, true, false, not, if◌then◌else◌, List, [], ◌∷◌, ◌++◌, length, pos, ◌+ℤ◌}
+use Rattle.std.specs.Prelude.{ℕ, suc, ◌+◌, Bool, not, if◌then◌else◌, List, [], ◌∷◌, ◌++◌, length, pos, ◌+ℤ◌}
 use Rattle.spf_ast.specs.Carried.{Carried, same_carried}
 use Rattle.spf_ast.specs.Syntax.{Program}
 use Rattle.spf_ast.specs.Construct.{Construct, constructs_in, Reached, reals}

@@ -1,6 +1,6 @@
 -- A slot that a form neither assigns nor declares is as before on every way along the form.
 use Rattle.std.proofs.Common.{◌≡◌, ◌≢◌, inl, ℕ, zero, suc, Bool, true, false, List, [], ◌∷◌, ◌++◌, length, ℤ, pos, negsuc, ◌+ℤ◌, refl, ap, subst, arith}
-use Rattle.std.specs.Prelude.{Result, Ok, Err, Option, Some, None, ◌==◌, ◌||◌, ◌&&◌, not, nat_lt, if◌then◌else◌, slice_get, slice_index_or}
+use Rattle.std.specs.Prelude.{Result, Ok, Err, Option, Some, None, ◌==◌, ◌&&◌, not, nat_lt, if◌then◌else◌, slice_get, slice_index_or}
 use Rattle.std.specs.Int.{int_gap}
 use Rattle.std.proofs.lemmas.List.{get_or-set_other}
 use Rattle.spf_ast.specs.declared.outcome.TrapKind.{TrapKind}

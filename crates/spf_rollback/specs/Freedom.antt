@@ -1,5 +1,5 @@
 -- Rollback freedom: that a run from a wrong guess leaves nothing that has to be undone.
-use Rattle.std.specs.Prelude.{◌≡◌, ◌≢◌, ℕ, Bool, true, false, ◌||◌, ◌==◌, List, [], ◌∷◌, ◌++◌, length, slice_index_or, slice_get, Some, ℤ, pos}
+use Rattle.std.specs.Prelude.{◌≡◌, ◌≢◌, ℕ, true, false, List, [], ◌∷◌, ◌++◌, length, slice_index_or, slice_get, Some, ℤ, pos}
 use Rattle.std.specs.List.{Contains}
 use Rattle.spf_ast.specs.declared.outcome.Trap.{Trap}
 use Rattle.spf_ast.specs.declared.syntax.Part.{Part}
