@@ -1,23 +1,18 @@
 -- The statements before the first construct among them.
 use Rattle.std.proofs.Common.{◌≡◌, ℕ, zero, suc, ◌+◌, ◌-◌, ◌<◌, true, false, List, [], ◌∷◌, length, get_or, take, drop, refl, sym, ap, ◌∙◌, arith, length-drop, take_all, replicate}
-use Rattle.std.specs.Prelude.{MatchOption, Option, None, Some, Result, Ok, Err, slice_set, ℤ}
+use Rattle.std.specs.Prelude.{MatchOption, Option, None, Some, slice_set, ℤ}
 use Rattle.spf_ast.specs.declared.syntax.Stmt.{Stmt}
-use Rattle.spf_ast.specs.declared.outcome.Trap.{Trap}
 use Rattle.spf_ast.specs.Syntax.{Statement, end, on_line, Let, Assign, Store, Fill, Emit, Fail, If, For, While, Do, Fold, Pair, Program}
 use Rattle.spf_ast.specs.View.{statement, block}
-use Rattle.spf_ast.specs.Interaction.{Value, Trapped}
-use Rattle.spf_ast.specs.Plain.{plain_memory}
 use Rattle.spf_ast.specs.Program.{environment_of}
-use Rattle.spf_ast.specs.Construct.{Construct, header_means, construct_of, constructs_in, is_construct}
+use Rattle.spf_ast.specs.Construct.{Construct, construct_of, constructs_in, is_construct}
 use Rattle.spf_ast.specs.Pieces.{before_construct, from_construct, rest_from, statement_count, construct_first}
-use Rattle.spf_layout.specs.Frame.{main_slots}
-use Rattle.spf_exec.specs.declared.pieces.Header as code_header
 use Rattle.spf_ast.specs.declared.construct.TopConstruct as code_top
 use Rattle.spf_ast.specs.ConstructView.{construct as construct_seen}
 use Rattle.spf_ast.specs.Meaning.{block_means}
 use Rattle.spf_exec.specs.declared.pieces.Pause.{Pause}
 use Rattle.spf_exec.specs.declared.pieces.Pause.TheVariants as pause
-use Rattle.spf_exec.specs.Pieces.{Stand, EndsAt, Advanced, HeaderDone, IsHeaderAnswer, ahead, moment_of, seen_header}
+use Rattle.spf_exec.specs.Pieces.{Stand, EndsAt, Advanced, ahead}
 use Rattle.spf_exec.proofs.Constructs.{constructs_from}
 
 -- none of so many first statements is a construct
@@ -153,13 +148,3 @@ take_set zero xs slot v = refl
 take_set (suc m) [] slot v = refl
 take_set (suc m) (x ∷ xs) zero v = refl
 take_set (suc m) (x ∷ xs) (suc slot) v = ap (λ l. x ∷ l) (take_set m xs slot v)
-
--- a header that is done, from what is said of its parts
-pub header_done : (p : Program) (input : List ℕ) (c : Construct) (before after : Stand) (result : Result code_header.Header Trap)
-    → IsHeaderAnswer (header_means (environment_of p input) c (moment_of p before).state) before.cells (moment_of p before).state result
-    → after.cells ≡ plain_memory (header_means (environment_of p input) c (moment_of p before).state) before.cells
-    → main_slots p after.frame ≡ main_slots p before.frame → after.output ≡ before.output
-    → HeaderDone p input c before after result
-header_done p input c before after (Ok header) answer memory kept output =
-    record { answer = answer ∙ (λ i. Value (seen_header header) (record { slots = sym kept i; output = sym output i })); memory = memory }
-header_done p input c before after (Err trap) answer memory kept output = answer ∙ ap (Trapped trap) (sym output)
