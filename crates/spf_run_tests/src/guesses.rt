@@ -9,7 +9,7 @@ use crate::programs::{array, binary, name, names, on_line};
 use spf_ast::carried::Carried;
 use spf_ast::construct::find_construct;
 use spf_ast::outcome::Trap;
-use spf_ast::syntax::{Expr, Fold, Function, Op, Predict, Program, StmtKind};
+use spf_ast::syntax::{Expr, Fold, Function, Op, Predict, Program, Stmt, StmtKind};
 use spf_exec::block_run::exec_predictor;
 use spf_exec::frame::Frame;
 use spf_layout::instance::Instance;
@@ -21,10 +21,10 @@ fn storing_function(alloc: Global) -> Result<Function, AllocError>
     ensures silent { IfOk result (λ f. BlockIsSilent (seen_function f).body) }
 {
     let mut body = Vec::new(alloc);
-    body.push(on_line(
-        1,
-        StmtKind::Store(0, Expr::Number(0), Expr::Local(0)),
-    ))?;
+    body.push(Stmt {
+        line: 1,
+        kind: StmtKind::Store(0, Expr::Number(0), Expr::Local(0)),
+    })?;
     Ok(Function {
         name: name(alloc),
         params: 1,

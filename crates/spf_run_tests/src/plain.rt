@@ -1,8 +1,6 @@
 // How plain runs of whole programs end.
 
-use crate::programs::{
-    calling, counting, dividing, doubling, filling, nesting, program,
-};
+use crate::programs::{calling, counting, dividing, doubling, filling, nesting, program};
 use spf_ast::outcome::{Outcome, Trap, TrapKind};
 use spf_ast::syntax::Program;
 use spf_exec::plain_run::run_plain;
