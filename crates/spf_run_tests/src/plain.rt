@@ -5,56 +5,94 @@ use spf_ast::outcome::{Outcome, Trap, TrapKind};
 use spf_ast::syntax::Program;
 use spf_exec::plain_run::run_plain;
 use spf_layout::layout::RunError;
+use std::alloc::Global;
 use std::test::Fail;
+
+// Whether a program ends so on an empty input: with these cells and this output, or by this trap with this output.
+fn ends_so(
+    alloc: Global,
+    program: Program,
+    cells: &[i64],
+    output: &[u8],
+    trap: Option<Trap>,
+) -> bool {
+    match run_plain(alloc, &program, &[]) {
+        Ok(
+            Outcome::Done {
+                cells: got_cells,
+                output: got,
+            },
+        ) => trap.is_none() && got_cells.as_slice() == cells && got.as_slice() == output,
+        Ok(
+            Outcome::Trapped {
+                trap: why,
+                output: got,
+            },
+        ) => { trap == Some(why) && got.as_slice() == output }
+        Err(_) => false,
+    }
+}
 
 #[test]
 fn programs_end_as_they_mean(rt: HostRuntime) -> Result<(), Fail> {
     let alloc = rt.alloc();
+    assert!(rt; ends_so(alloc, doubling(alloc, 5)?, &[], &[65, 32], None));
+    assert!(rt; ends_so(alloc, counting(alloc, 3)?, &[], &[1, 2, 3], None));
+    assert!(rt; ends_so(alloc, filling(alloc, 3)?, &[0, 7, 7, 0], &[], None));
+    assert!(rt; ends_so(alloc, calling(alloc)?, &[], &[3, 4, 5], None));
+    assert!(rt; ends_so(alloc, nesting(alloc)?, &[], &[4, 2], None));
+    Ok(())
+}
+
+#[test]
+fn programs_trap_on_the_line_of_the_fault(rt: HostRuntime) -> Result<(), Fail> {
+    let alloc = rt.alloc();
     let trap = |kind, line| Some(Trap { kind, line });
-    let rows: [(Program, &[i64], &[u8], Option<Trap>); 10] = [
-        (doubling(alloc, 5)?, &[], &[65, 32], None),
-        (doubling(alloc, 8)?, &[], &[65], trap(TrapKind::Emit, 3)),
-        (
+    assert!(rt;
+        ends_so(
+            alloc,
+            doubling(alloc, 8)?,
+            &[],
+            &[65],
+            trap(TrapKind::Emit, 3)
+        )
+    );
+    assert!(rt;
+        ends_so(
+            alloc,
             doubling(alloc, 4097)?,
             &[],
             &[65],
-            trap(TrapKind::Blocks, 2),
-        ),
-        (dividing(alloc)?, &[], &[], trap(TrapKind::DivZero, 9)),
-        (counting(alloc, 3)?, &[], &[1, 2, 3], None),
-        (counting(alloc, 2)?, &[], &[1, 2], trap(TrapKind::Turns, 5)),
-        (filling(alloc, 3)?, &[0, 7, 7, 0], &[], None),
-        (filling(alloc, 5)?, &[], &[], trap(TrapKind::Range, 6)),
-        (calling(alloc)?, &[], &[3, 4, 5], None),
-        (nesting(alloc)?, &[], &[4, 2], None),
-    ];
-    for (number, (program, cells, output, trap)) in Vec::from_array(alloc, rows)?
-        .into_iter()
-        .enumerate()
-    {
-        match run_plain(alloc, &program, &[]) {
-            Ok(
-                Outcome::Done {
-                    cells: got_cells,
-                    output: got,
-                },
-            ) => {
-                assert_eq!(rt; got.as_slice(), output, "row {number}");
-                assert_eq!(rt; got_cells.as_slice(), cells, "row {number}");
-                assert_eq!(rt; None, trap, "row {number}");
-            }
-            Ok(
-                Outcome::Trapped {
-                    trap: got_trap,
-                    output: got,
-                },
-            ) => {
-                assert_eq!(rt; got.as_slice(), output, "row {number}");
-                assert_eq!(rt; Some(got_trap), trap, "row {number}");
-            }
-            Err(_) => assert!(rt; false, "row {number}"),
-        }
-    }
+            trap(TrapKind::Blocks, 2)
+        )
+    );
+    assert!(rt;
+        ends_so(
+            alloc,
+            dividing(alloc)?,
+            &[],
+            &[],
+            trap(TrapKind::DivZero, 9)
+        )
+    );
+    assert!(rt;
+        ends_so(
+            alloc,
+            counting(alloc, 2)?,
+            &[],
+            &[1, 2],
+            trap(TrapKind::Turns, 5)
+        )
+    );
+    assert!(rt;
+        ends_so(
+            alloc,
+            filling(alloc, 5)?,
+            &[],
+            &[],
+            trap(TrapKind::Range, 6)
+        )
+    );
     Ok(())
 }
 
