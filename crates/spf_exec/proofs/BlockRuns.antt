@@ -54,7 +54,7 @@ same_output Misfit full out own (Err (h.Cancelled m)) d rest p = cc
 same_output x full out own (Err h.NoMemory) d rest p = absurd d
 
 -- a form that leaves the output alone, performed with one output, is performed with any other
-pub with_any_output : {M A : Type 0} {leads : List Event → M → M → Type 0} {stop : M → Option ℕ} {may_lack : Type 0} (form : Meaning A) → LeavesOutput form → (slots : List ℤ) (full out : List ℕ) {own : List ℤ} {a b : M} {r : Result A Halt}
+with_any_output : {M A : Type 0} {leads : List Event → M → M → Type 0} {stop : M → Option ℕ} {may_lack : Type 0} (form : Meaning A) → LeavesOutput form → (slots : List ℤ) (full out : List ℕ) {own : List ℤ} {a b : M} {r : Result A Halt}
     → Performs leads stop may_lack (form (record { slots = slots; output = full })) a b r (record { slots = own; output = full })
     → Performs leads stop may_lack (form (record { slots = slots; output = out })) a b r (record { slots = own; output = out })
 with_any_output {stop = stop} form l slots full out {own = own} {a = a} {r = r} p = record {
@@ -73,7 +73,7 @@ with_any_output {stop = stop} form l slots full out {own = own} {a = a} {r = r} 
 }
 
 -- what a memory does that emits nothing, the memory does that is lent to it
-pub unquiet : {S M N A : Type 0} {leads : List Event → M → M → Type 0} {stop : M → Option ℕ} {output : M → List ℕ} {lent : S → M} {place : S → N} {may_lack : Type 0} {t : Interaction (Ending A)} {a b : S} {r : Result A Halt} {s : State}
+unquiet : {S M N A : Type 0} {leads : List Event → M → M → Type 0} {stop : M → Option ℕ} {output : M → List ℕ} {lent : S → M} {place : S → N} {may_lack : Type 0} {t : Interaction (Ending A)} {a b : S} {r : Result A Halt} {s : State}
     → Performs (LeadsQuietly leads output lent place) (λ m. stop (lent m)) may_lack t a b r s → Performs leads stop may_lack t (lent a) (lent b) r s
 unquiet p = record { events = p.events; led = p.led.led; lacking = p.lacking; performed = p.performed }
 

@@ -9,4 +9,4 @@ pub mod Within
 pub mod Constructs
 pub mod Leaving
 pub mod BlockRuns
-pub mod Fronts
+pub mod Prefixes

@@ -53,13 +53,13 @@ pub trapped_outcome : {A : Type 0} {r : Result A Halt} {trap : Trap} (t : Intera
 trapped_outcome t m n s e p = subst (λ x. IsPlainOutcome x t m n s) e p
 
 -- the first of zeros are zeros
-pub zeros_front : (size : ℕ) (front back : List ℤ) → front ++ back ≡ replicate size (pos 0) → front ≡ replicate (length front) (pos 0)
-zeros_front size [] back e = refl
-zeros_front zero (x ∷ front) back e = cc
-zeros_front (suc size) (x ∷ front) back e =
+pub zeros_prefix : (size : ℕ) (prefix back : List ℤ) → prefix ++ back ≡ replicate size (pos 0) → prefix ≡ replicate (length prefix) (pos 0)
+zeros_prefix size [] back e = refl
+zeros_prefix zero (x ∷ prefix) back e = cc
+zeros_prefix (suc size) (x ∷ prefix) back e =
     let first : x ≡ pos 0 = cc in
-    let rest : front ++ back ≡ replicate size (pos 0) = cc in
-    λ i. first i ∷ zeros_front size front back rest i
+    let rest : prefix ++ back ≡ replicate size (pos 0) = cc in
+    λ i. first i ∷ zeros_prefix size prefix back rest i
 
 -- where `main` is performed from zeros, it comes to the program's outcome
 pub whole_outcome : (p : Program) (input : List ℕ) (g : Environment) (main : Block) (slots cells : List ℤ) (out : List ℕ) (a : Ending (Unit {0})) (after_ : List ℤ)

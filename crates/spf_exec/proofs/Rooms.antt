@@ -10,11 +10,11 @@ use Rattle.spf_ast.specs.Size.{by_slots, block_measure}
 use Rattle.spf_ast.specs.Construct.{Construct, constructs_in}
 use Rattle.spf_exec.specs.Rooms.{construct_measure}
 
--- the front of a list of statements needs no more than the list
-front_room : (f : ℕ → ℕ) (xs : List Stmt) (n : ℕ) → block_measure (by_slots f) (block (take n xs)) ≤ block_measure (by_slots f) (block xs)
-front_room f xs zero = omega arith
-front_room f [] (suc n) = omega arith
-front_room f (x ∷ xs) (suc n) = let r = front_room f xs n in omega (arith, r)
+-- the prefix of a list of statements needs no more than the list
+prefix_room : (f : ℕ → ℕ) (xs : List Stmt) (n : ℕ) → block_measure (by_slots f) (block (take n xs)) ≤ block_measure (by_slots f) (block xs)
+prefix_room f xs zero = omega arith
+prefix_room f [] (suc n) = omega arith
+prefix_room f (x ∷ xs) (suc n) = let r = prefix_room f xs n in omega (arith, r)
 
 -- nor do those behind it
 back_room : (f : ℕ → ℕ) (xs : List Stmt) (n : ℕ) → block_measure (by_slots f) (block (drop n xs)) ≤ block_measure (by_slots f) (block xs)
@@ -23,7 +23,7 @@ back_room f [] (suc n) = omega arith
 back_room f (x ∷ xs) (suc n) = let r = back_room f xs n in omega (arith, r)
 
 pub room_between : (f : ℕ → ℕ) (xs : List Stmt) (from count : ℕ) → block_measure (by_slots f) (block (take count (drop from xs))) ≤ block_measure (by_slots f) (block xs)
-room_between f xs from count = let a = front_room f (drop from xs) count in let b = back_room f xs from in omega (arith, a, b)
+room_between f xs from count = let a = prefix_room f (drop from xs) count in let b = back_room f xs from in omega (arith, a, b)
 
 -- a construct that is there fits
 abbrev Fits : (ℕ → ℕ) → Option Construct → ℕ → Type 0
@@ -58,11 +58,11 @@ contained_room f b k c =
     let found = slice_get-get_or (constructs_in b) c.0 k c.1 ∙ ap Some c.2 in
     subst (λ o. Fits f o (block_measure (by_slots f) b)) found (construct_fits f b c.0)
 
-front_of : (s xs : List ℤ) (n : ℕ) → take (length s) (take (length s + n) (s ++ xs)) ≡ s
-front_of [] xs n = refl
-front_of (x ∷ s) xs n =
+prefix_of : (s xs : List ℤ) (n : ℕ) → take (length s) (take (length s + n) (s ++ xs)) ≡ s
+prefix_of [] xs n = refl
+prefix_of (x ∷ s) xs n =
     let e : length (x ∷ s) + n ≡ suc (length s + n) = omega arith in
-    ap (λ k. take (length (x ∷ s)) (take k (x ∷ s ++ xs))) e ∙ ap (λ l. x ∷ l) (front_of s xs n)
+    ap (λ k. take (length (x ∷ s)) (take k (x ∷ s ++ xs))) e ∙ ap (λ l. x ∷ l) (prefix_of s xs n)
 
 -- the slots of `main` in a frame that was put together again
 pub main_of : (own len : ℕ) (slots scratch rest : List ℤ) → length slots ≡ own → own ≤ len → take own (take len (slots ++ scratch ++ rest)) ≡ slots
@@ -71,4 +71,4 @@ main_of own len slots scratch rest e h =
     ap (λ k. take k (take len (slots ++ scratch ++ rest))) (sym e)
     ∙ ap (λ k. take (length slots) (take k (slots ++ scratch ++ rest))) long
     ∙ ap (λ l. take (length slots) (take (length slots + (len - length slots)) l)) (append_assoc slots scratch rest)
-    ∙ front_of slots (scratch ++ rest) (len - length slots)
+    ∙ prefix_of slots (scratch ++ rest) (len - length slots)

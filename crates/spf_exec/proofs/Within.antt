@@ -1,11 +1,9 @@
 -- The arrays of a program lie within its cells.
-use Rattle.std.proofs.Common.{◌≡◌, ℕ, zero, suc, ◌+◌, ◌≤◌, List, [], ◌∷◌, length, arith}
-use Rattle.spf_ast.specs.Meaning.{Extent, environment_before, extent_in}
-use Rattle.spf_ast.specs.Syntax.{Program, Function}
-use Rattle.spf_ast.specs.Size.{by_slots, function_slots}
-use Rattle.spf_ast.specs.Program.{size_of, sizes, extents_from, extents_of, cell_count_of, environment_of, max_cells}
+use Rattle.std.proofs.Common.{◌≡◌, ℕ, zero, suc, ◌+◌, ◌≤◌, List, [], ◌∷◌, arith}
+use Rattle.spf_ast.specs.Meaning.{Extent, extent_in}
+use Rattle.spf_ast.specs.Syntax.{Program}
+use Rattle.spf_ast.specs.Program.{size_of, sizes, extents_from, cell_count_of, max_cells}
 use Rattle.spf_layout.specs.Layout.{LayoutValue, IsLayoutOf}
-use Rattle.spf_exec.specs.Rooms.{slots_before}
 use Rattle.spf_exec.specs.Performs.{AreWithin}
 
 -- each array lies within the cells of all
@@ -20,11 +18,3 @@ are_within len arrays few = record { each = λ i. omega (arith, each_within len 
 -- the extents of a layout lie within the cells of the program
 pub layout_within : (p : Program) (len : ℕ) (l : LayoutValue) (extents : List Extent) → IsLayoutOf p len l → extents ≡ l.extents → AreWithin extents (cell_count_of p len)
 layout_within p len l extents is e = rw (e, is.extents) (are_within len p.arrays is.few)
-
--- what the code's parts make up is the environment of the program
-pub same_environment : (p : Program) (input : List ℕ) (fs : List Function) (n : ℕ) (es : List Extent) → fs ≡ p.functions → n ≡ length p.functions → es ≡ extents_of p (length input) → environment_before input es fs n ≡ environment_of p input
-same_environment p input fs n es e1 e2 e3 = λ i. environment_before input (e3 i) (e1 i) (e2 i)
-
--- and its calls need as many slots as those of the program
-pub same_slots : (p : Program) (fs : List Function) (n : ℕ) → fs ≡ p.functions → n ≡ length p.functions → by_slots (slots_before fs n) ≡ by_slots (function_slots p)
-same_slots p fs n e f = λ i. by_slots (slots_before (e i) (f i))

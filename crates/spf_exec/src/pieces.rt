@@ -89,7 +89,7 @@ impl Model for Run {
 
 /// The statements before the first top construct among some.
 #[derive(Clone, Copy)]
-struct Front<'a> {
+struct Prefix<'a> {
     /// How many they are.
     count: usize,
     /// The top construct, where there is one.
@@ -97,7 +97,7 @@ struct Front<'a> {
 }
 
 /// The statements before the first top construct among these.
-fn plain_front<'a>(statements: &'a [Stmt]) -> Front<'a>
+fn plain_prefix<'a>(statements: &'a [Stmt]) -> Prefix<'a>
     ensures within { result.count ≤ length statements.now }
     ensures before { block_of (take result.count statements.now) ≡ before_construct (block_of statements.now) }
     ensures rest { block_of (drop result.count statements.now) ≡ from_construct (block_of statements.now) }
@@ -108,20 +108,20 @@ fn plain_front<'a>(statements: &'a [Stmt]) -> Front<'a>
     let mut count = 0;
     for statement in statements {
         if let Some(construct) = as_construct(statement) {
-            return Front {
+            return Prefix {
                 count,
                 construct: Some(construct),
             };
         }
         count += 1;
     }
-    Front {
+    Prefix {
         count,
         construct: None,
     }
 }
 
-impl<'a> Front<'a> {
+impl<'a> Prefix<'a> {
     /// The pause after these statements: at the construct that stands next, which has this number, or at the end.
     fn pause(self, number: u32) -> Pause<'a>
         ensures { MatchOption self.entry.construct (result ≡ Finished) (λ c. result ≡ AtConstruct number c) }
@@ -182,10 +182,10 @@ fn advance_from<'a>(
     ensures cells { length memory.new.cells.items ≡ length memory.old.cells.items }
     ensures size { length frame.new ≡ length frame.old }
 {
-    let front = plain_front(&instance.program().main[place..]);
-    let next = place + front.count;
+    let prefix = plain_prefix(&instance.program().main[place..]);
+    let next = place + prefix.count;
     match perform_between(instance, place, next, frame, memory) {
-        Ok(()) => Ok((next, front.pause(passed as u32))),
+        Ok(()) => Ok((next, prefix.pause(passed as u32))),
         Err(Halt::Trapped(trap)) => Ok((place, Pause::Trapped(trap))),
         Err(Halt::Cancelled { .. }) => unreachable!(),
         Err(Halt::NoMemory) => Err(AllocError),

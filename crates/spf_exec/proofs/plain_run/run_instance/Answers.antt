@@ -7,7 +7,7 @@ use Rattle.spf_ast.specs.Size.{by_slots, block_measure, function_slots}
 use Rattle.spf_ast.specs.Program.{cell_count_of, environment_of}
 use Rattle.spf_layout.specs.Frame.{frame_size}
 use Rattle.spf_layout.specs.Instance.{program_of}
-use Rattle.spf_exec.proofs.Outcome.{trapped_outcome, zeros_front, whole_outcome}
+use Rattle.spf_exec.proofs.Outcome.{trapped_outcome, zeros_prefix, whole_outcome}
 use Rattle.spf_exec.proofs.plain_run.run_instance.Goals as goal
 
 pub run_main-requires-clause-room : goal.run_main-requires-clause-room
@@ -27,8 +27,8 @@ returns-in-Ok c =
     let known : c.len.result ≡ length c.program-program.result.now.slots.items = search rules in
     let count : c.len.result ≡ length c.args.instance.now.code.slots.items = known ∙ ap (λ (q : code.Program). length q.slots.items) c.program-program.ensures in
     let own = c.split_at_mut-slots.ensures.front_len ∙ count ∙ sym (length-map c.args.instance.now.code.slots.items name) in
-    let front = zeros_front (frame_size (program_of c.args.instance.now)) _ _ (sym c.split_at_mut-slots.ensures.value ∙ c.deref_mut.ensures.value ∙ c.frame.view_is ∙ c.in_ok-frame.ensures.zeros) in
-    let slots = front ∙ ap (λ k. replicate k (pos 0)) own in
+    let prefix = zeros_prefix (frame_size (program_of c.args.instance.now)) _ _ (sym c.split_at_mut-slots.ensures.value ∙ c.deref_mut.ensures.value ∙ c.frame.view_is ∙ c.in_ok-frame.ensures.zeros) in
+    let slots = prefix ∙ ap (λ k. replicate k (pos 0)) own in
     let cells = c.in_ok-cells.ensures.items_if_clones_equal (λ y same. same) ∙ ap (λ k. replicate k (pos 0)) (c.cells.ensures ∙ c.layout.ensures.cells) in
     let environment = c.of-context.ensures.environment in
     whole_outcome p c.args.instance.now.input _ _ _ _ _ _ _ environment (ap block c.deref.ensures.value ∙ ap (λ (q : code.Program). block q.main.items) c.program-program.ensures) slots c.new.ensures.items cells c.in-Ok.ensures.outcome.0 c.in-Ok.ensures.outcome.1
@@ -40,8 +40,8 @@ returns-in-Err-Trapped c =
     let known : c.len.result ≡ length c.program-program.result.now.slots.items = search rules in
     let count : c.len.result ≡ length c.args.instance.now.code.slots.items = known ∙ ap (λ (q : code.Program). length q.slots.items) c.program-program.ensures in
     let own = c.split_at_mut-slots.ensures.front_len ∙ count ∙ sym (length-map c.args.instance.now.code.slots.items name) in
-    let front = zeros_front (frame_size (program_of c.args.instance.now)) _ _ (sym c.split_at_mut-slots.ensures.value ∙ c.deref_mut.ensures.value ∙ c.frame.view_is ∙ c.in_ok-frame.ensures.zeros) in
-    let slots = front ∙ ap (λ k. replicate k (pos 0)) own in
+    let prefix = zeros_prefix (frame_size (program_of c.args.instance.now)) _ _ (sym c.split_at_mut-slots.ensures.value ∙ c.deref_mut.ensures.value ∙ c.frame.view_is ∙ c.in_ok-frame.ensures.zeros) in
+    let slots = prefix ∙ ap (λ k. replicate k (pos 0)) own in
     let cells = c.in_ok-cells.ensures.items_if_clones_equal (λ y same. same) ∙ ap (λ k. replicate k (pos 0)) (c.cells.ensures ∙ c.layout.ensures.cells) in
     let environment = c.of-context.ensures.environment in
     whole_outcome p c.args.instance.now.input _ _ _ _ _ _ _ environment (ap block c.deref.ensures.value ∙ ap (λ (q : code.Program). block q.main.items) c.program-program.ensures) slots c.new.ensures.items cells stopped.0 stopped.1

@@ -1,5 +1,5 @@
 use Rattle.std.proofs.Common.{arith, ◌∙◌}
-use Rattle.spf_exec.proofs.Fronts.{count_is}
+use Rattle.spf_exec.proofs.Prefixes.{count_is}
 use Rattle.spf_exec.proofs.pieces.Run.advance.Goals as goal
 
 pub advance_from-requires-clause-within : goal.advance_from-requires-clause-within

@@ -6,7 +6,7 @@ use Rattle.spf_ast.specs.Construct.{carried_of}
 use Rattle.spf_layout.specs.Frame.{main_slots}
 use Rattle.spf_layout.specs.Instance.{program_of}
 use Rattle.spf_exec.proofs.Constructs.{within, one_less, few_constructs}
-use Rattle.spf_exec.proofs.Fronts.{take_set, count_is}
+use Rattle.spf_exec.proofs.Prefixes.{take_set, count_is}
 use Rattle.spf_exec.proofs.pieces.Run.settle.Goals as goal
 
 pub prove-unreachable-requires : goal.prove-unreachable-requires

@@ -1,7 +1,7 @@
 use Rattle.std.proofs.Common.{refl, ap, ◌∙◌, length, replicate, take, pos}
 use Rattle.spf_layout.specs.Frame.{call_room}
 use Rattle.spf_layout.specs.Instance.{program_of}
-use Rattle.spf_exec.proofs.Fronts.{take_zeros}
+use Rattle.spf_exec.proofs.Prefixes.{take_zeros}
 use Rattle.spf_exec.proofs.pieces.Run.start.Goals as goal
 
 pub returns-clause-begins : goal.returns-clause-begins

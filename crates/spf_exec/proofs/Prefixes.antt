@@ -1,36 +1,31 @@
 -- The statements before the first construct among them.
 use Rattle.std.proofs.Common.{◌≡◌, ℕ, zero, suc, ◌+◌, ◌-◌, ◌<◌, true, false, List, [], ◌∷◌, length, get_or, take, drop, refl, sym, ap, ◌∙◌, arith, length-drop, take_all, replicate}
-use Rattle.std.specs.Prelude.{MatchOption, Option, None, Some, Result, Ok, Err, slice_set, ℤ}
+use Rattle.std.specs.Prelude.{MatchOption, Option, None, Some, slice_set, ℤ}
 use Rattle.spf_ast.specs.declared.syntax.Stmt.{Stmt}
-use Rattle.spf_ast.specs.declared.outcome.Trap.{Trap}
 use Rattle.spf_ast.specs.Syntax.{Statement, end, on_line, Let, Assign, Store, Fill, Emit, Fail, If, For, While, Do, Fold, Pair, Program}
 use Rattle.spf_ast.specs.View.{statement, block}
-use Rattle.spf_ast.specs.Interaction.{Value, Trapped}
-use Rattle.spf_ast.specs.Plain.{plain_memory}
 use Rattle.spf_ast.specs.Program.{environment_of}
-use Rattle.spf_ast.specs.Construct.{Construct, header_means, construct_of, constructs_in, is_construct}
+use Rattle.spf_ast.specs.Construct.{Construct, construct_of, constructs_in, is_construct}
 use Rattle.spf_ast.specs.Pieces.{before_construct, from_construct, rest_from, statement_count, construct_first}
-use Rattle.spf_layout.specs.Frame.{main_slots}
-use Rattle.spf_exec.specs.declared.pieces.Header as code_header
 use Rattle.spf_ast.specs.declared.construct.TopConstruct as code_top
 use Rattle.spf_ast.specs.ConstructView.{construct as construct_seen}
 use Rattle.spf_ast.specs.Meaning.{block_means}
 use Rattle.spf_exec.specs.declared.pieces.Pause.{Pause}
 use Rattle.spf_exec.specs.declared.pieces.Pause.TheVariants as pause
-use Rattle.spf_exec.specs.Pieces.{Stand, EndsAt, Advanced, HeaderDone, IsHeaderAnswer, ahead, moment_of, seen_header}
+use Rattle.spf_exec.specs.Pieces.{Stand, EndsAt, Advanced, ahead}
 use Rattle.spf_exec.proofs.Constructs.{constructs_from}
 
 -- none of so many first statements is a construct
-abbrev pub IsPlainFront : List Stmt → ℕ → Type 0
-IsPlainFront xs zero = Unit {0}
-IsPlainFront [] (suc n) = ⊥
-IsPlainFront (x ∷ xs) (suc n) = (is_construct (statement x.kind) ≡ false) × IsPlainFront xs n
+abbrev pub IsPlainPrefix : List Stmt → ℕ → Type 0
+IsPlainPrefix xs zero = Unit {0}
+IsPlainPrefix [] (suc n) = ⊥
+IsPlainPrefix (x ∷ xs) (suc n) = (is_construct (statement x.kind) ≡ false) × IsPlainPrefix xs n
 
 -- one more
-pub front_grows : (xs : List Stmt) (n : ℕ) (x : Stmt) → n < length xs → x ≡ get_or xs n x → is_construct (statement x.kind) ≡ false → IsPlainFront xs n → IsPlainFront xs (suc n)
-front_grows [] n x h e f p = let no : ⊥ = omega arith in absurd no
-front_grows (y ∷ ys) zero x h e f p = (ap (λ (z : Stmt). is_construct (statement z.kind)) (sym e) ∙ f, tt)
-front_grows (y ∷ ys) (suc n) x h e f p = (p.0, front_grows ys n x (omega arith) e f p.1)
+pub prefix_grows : (xs : List Stmt) (n : ℕ) (x : Stmt) → n < length xs → x ≡ get_or xs n x → is_construct (statement x.kind) ≡ false → IsPlainPrefix xs n → IsPlainPrefix xs (suc n)
+prefix_grows [] n x h e f p = let no : ⊥ = omega arith in absurd no
+prefix_grows (y ∷ ys) zero x h e f p = (ap (λ (z : Stmt). is_construct (statement z.kind)) (sym e) ∙ f, tt)
+prefix_grows (y ∷ ys) (suc n) x h e f p = (p.0, prefix_grows ys n x (omega arith) e f p.1)
 
 -- whether a statement is a construct
 pub none_is : (line : ℕ) (s : Statement) → construct_of line s ≡ None → is_construct s ≡ false
@@ -61,12 +56,12 @@ some_is line (Do f given) k e = cc
 some_is line (Fold head body) k e = refl
 some_is line (Pair head producer consumer) k e = refl
 
--- what the front and the rest are, at a construct and at the end
+-- what the prefix and the rest are, at a construct and at the end
 pub record IsSplit (xs : List Stmt) (n : ℕ) : Type 0 where
   pub before : block (take n xs) ≡ before_construct (block xs)
   pub rest : block (drop n xs) ≡ from_construct (block xs)
 
-pub split_at : (xs : List Stmt) (n : ℕ) (x : Stmt) → n < length xs → x ≡ get_or xs n x → is_construct (statement x.kind) ≡ true → IsPlainFront xs n → IsSplit xs n
+pub split_at : (xs : List Stmt) (n : ℕ) (x : Stmt) → n < length xs → x ≡ get_or xs n x → is_construct (statement x.kind) ≡ true → IsPlainPrefix xs n → IsSplit xs n
 split_at [] n x h e f p = let no : ⊥ = omega arith in absurd no
 split_at (y ∷ ys) zero x h e f p =
     let g : is_construct (statement y.kind) ≡ true = ap (λ (z : Stmt). is_construct (statement z.kind)) (sym e) ∙ f in
@@ -75,26 +70,26 @@ split_at (y ∷ ys) (suc n) x h e f p =
     let r = split_at ys n x (omega arith) e f p.1 in
     record { before = rw p.0 (ap (on_line y.line (statement y.kind)) r.before); rest = rw p.0 r.rest }
 
-pub split_end : (xs : List Stmt) → IsPlainFront xs (length xs) → IsSplit xs (length xs)
+pub split_end : (xs : List Stmt) → IsPlainPrefix xs (length xs) → IsSplit xs (length xs)
 split_end [] p = record { before = refl; rest = refl }
 split_end (y ∷ ys) p =
     let r = split_end ys p.1 in
     record { before = rw p.0 (ap (on_line y.line (statement y.kind)) r.before); rest = rw p.0 r.rest }
 
--- after a front of all statements there is none
-pub end_of : (xs : List Stmt) → IsPlainFront xs (length xs) → from_construct (block xs) ≡ end
+-- after a prefix of all statements there is none
+pub end_of : (xs : List Stmt) → IsPlainPrefix xs (length xs) → from_construct (block xs) ≡ end
 end_of [] p = refl
 end_of (y ∷ ys) p = rw p.0 (end_of ys p.1)
 
--- and after one that ends at a construct this stands first
-pub construct_at : (xs : List Stmt) (n : ℕ) (x : Stmt) (k : Construct) → n < length xs → x ≡ get_or xs n x → construct_of x.line (statement x.kind) ≡ Some k → IsPlainFront xs n → construct_first (from_construct (block xs)) ≡ Some k
+-- and after one that ends at a construct this stands next
+pub construct_at : (xs : List Stmt) (n : ℕ) (x : Stmt) (k : Construct) → n < length xs → x ≡ get_or xs n x → construct_of x.line (statement x.kind) ≡ Some k → IsPlainPrefix xs n → construct_first (from_construct (block xs)) ≡ Some k
 construct_at [] n x k h e f p = let no : ⊥ = omega arith in absurd no
 construct_at (y ∷ ys) zero x k h e f p =
     let g : construct_of y.line (statement y.kind) ≡ Some k = ap (λ (z : Stmt). construct_of z.line (statement z.kind)) (sym e) ∙ f in
     rw (some_is y.line (statement y.kind) k g) g
 construct_at (y ∷ ys) (suc n) x k h e f p = rw p.0 (construct_at ys n x k (omega arith) e f p.1)
 
--- what is seen of the statements from a place on
+-- what is seen of the statements from an index on
 pub rest_is : (xs : List Stmt) (n : ℕ) → block (drop n xs) ≡ rest_from n (block xs)
 rest_is xs zero = refl
 rest_is [] (suc n) = refl
@@ -121,7 +116,7 @@ advanced_ok p input before after number (Some c) at_ went at count next e =
       number = ap (λ b. number + length (constructs_in b)) at ∙ ap (λ l. number + length l) (constructs_from (ahead p before)) ∙ count;
     })
 
--- the part of a list from a place on
+-- the part of a list from an index on
 pub part_from : {A : Type 0} (xs : List A) (n : ℕ) → take (length xs - n) (drop n xs) ≡ drop n xs
 part_from xs n = take_all (length xs - n) (drop n xs) (rw (length-drop n xs) (omega arith))
 
@@ -132,9 +127,9 @@ drop_sum (suc n) zero [] = let e : suc n + 0 ≡ suc n = omega arith in rw e ref
 drop_sum (suc n) (suc m) [] = let e : suc n + suc m ≡ suc (n + suc m) = omega arith in rw e refl
 drop_sum (suc n) m (x ∷ xs) = let e : suc (n + m) ≡ suc n + m = omega arith in drop_sum n m xs ∙ ap (λ k. drop k (x ∷ xs)) e
 
--- where a front ends
-pub front_is : (xs ys : List Stmt) (n count : ℕ) → ys ≡ drop n xs → block (take count ys) ≡ before_construct (block ys) → block (take (n + count - n) (drop n xs)) ≡ before_construct (rest_from n (block xs))
-front_is xs ys n count e f =
+-- where a prefix ends
+pub prefix_is : (xs ys : List Stmt) (n count : ℕ) → ys ≡ drop n xs → block (take count ys) ≡ before_construct (block ys) → block (take (n + count - n) (drop n xs)) ≡ before_construct (rest_from n (block xs))
+prefix_is xs ys n count e f =
     let m : n + count - n ≡ count = omega arith in
     ap (λ k. block (take k (drop n xs))) m ∙ ap (λ l. block (take count l)) (sym e) ∙ f ∙ ap (λ l. before_construct (block l)) e ∙ ap before_construct (rest_is xs n)
 
@@ -153,13 +148,3 @@ take_set zero xs slot v = refl
 take_set (suc m) [] slot v = refl
 take_set (suc m) (x ∷ xs) zero v = refl
 take_set (suc m) (x ∷ xs) (suc slot) v = ap (λ l. x ∷ l) (take_set m xs slot v)
-
--- a header that is done, from what is said of its parts
-pub header_done : (p : Program) (input : List ℕ) (c : Construct) (before after : Stand) (result : Result code_header.Header Trap)
-    → IsHeaderAnswer (header_means (environment_of p input) c (moment_of p before).state) before.cells (moment_of p before).state result
-    → after.cells ≡ plain_memory (header_means (environment_of p input) c (moment_of p before).state) before.cells
-    → main_slots p after.frame ≡ main_slots p before.frame → after.output ≡ before.output
-    → HeaderDone p input c before after result
-header_done p input c before after (Ok header) answer memory kept output =
-    record { answer = answer ∙ (λ i. Value (seen_header header) (record { slots = sym kept i; output = sym output i })); memory = memory }
-header_done p input c before after (Err trap) answer memory kept output = answer ∙ ap (Trapped trap) (sym output)
