@@ -2,9 +2,8 @@ use Rattle.std.proofs.Common.{rules, ◌≡◌, length, replicate, Err, pos, sym
 use Rattle.std.proofs.Math.ListN.{length-map}
 use Rattle.std.proofs.lemmas.List.{length-replicate}
 use Rattle.spf_ast.specs.declared.syntax.Program as code
-use Rattle.spf_ast.specs.View.{block, name, program}
+use Rattle.spf_ast.specs.View.{block, name}
 use Rattle.spf_ast.specs.Size.{by_slots, block_measure, function_slots}
-use Rattle.spf_ast.specs.Program.{cell_count_of, environment_of}
 use Rattle.spf_layout.specs.Frame.{frame_size}
 use Rattle.spf_layout.specs.Instance.{program_of}
 use Rattle.spf_exec.proofs.Outcome.{trapped_outcome, zeros_prefix, whole_outcome}
