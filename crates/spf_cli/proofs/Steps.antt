@@ -1,5 +1,6 @@
 -- The steps to the whole answer.
 use Rattle.std.proofs.Common.{◌≡◌, ◌⊎◌, ◌≤◌, ◌<◌, ℕ, Bool, true, false, List, length, refl, sym, ap, ◌∙◌, arith, inl, inr, nat_le, subst}
+use Rattle.std.specs.List.{concat}
 use Rattle.std.specs.Prelude.{Option, Some, None, Result, Ok, Err}
 use Rattle.spf_ast.specs.declared.syntax.Program as code_program
 use Rattle.spf_ast.specs.View.{program}
@@ -302,8 +303,8 @@ no_command words a said files none e only is = at_same (IsOnly (Whole words file
 -- ---- puts
 
 -- an answer that was put is what was answered
-pub answered_by : (words : List (List ℕ)) (files : List Entry) (FileFault PutFault : Type 0) (a : Answer) (status : ℕ) (out_before out_now err_before err_now : Option (List ℕ)) → IsOnly (Whole words files) a ⊎ (FileFault × IsFaultAnswer words files a) → IsGiven a status out_before out_now err_before err_now → IsAnswered words files FileFault PutFault status out_before out_now err_before err_now
-answered_by words files FileFault PutFault a status out_before out_now err_before err_now h given =
+pub answered_by : (words : List (List ℕ)) (files : List Entry) (FileFault PutFault : Type 0) (a : Answer) (status : ℕ) (out_before out_now err_before err_now : Option (List ℕ)) (lines_before lines_now : Option (List (List ℕ))) → IsOnly (Whole words files) a ⊎ (FileFault × IsFaultAnswer words files a) → IsGiven a status out_before out_now err_before err_now lines_before lines_now → IsAnswered words files FileFault PutFault status out_before out_now err_before err_now lines_before lines_now
+answered_by words files FileFault PutFault a status out_before out_now err_before err_now lines_before lines_now h given =
     elim h [
       | inl w ↦ inl (a, w, given)
       | inr f ↦ inr (inr (inl (f.0, (a, f.1, given))))
@@ -314,8 +315,8 @@ pub put_failed : (Fault : Type 0) (error : PutError) (status : ℕ) → IsPutFau
 put_failed Fault Failed status h e = inl (h, e)
 put_failed Fault put_error.OutOfMemory status h e = inr e
 
-pub answered_without : (words : List (List ℕ)) (files : List Entry) (FileFault PutFault : Type 0) (status : ℕ) (out_before out_now err_before err_now : Option (List ℕ)) → (PutFault × (status ≡ 6)) ⊎ (status ≡ 8) → IsAnswered words files FileFault PutFault status out_before out_now err_before err_now
-answered_without words files FileFault PutFault status out_before out_now err_before err_now h =
+pub answered_without : (words : List (List ℕ)) (files : List Entry) (FileFault PutFault : Type 0) (status : ℕ) (out_before out_now err_before err_now : Option (List ℕ)) (lines_before lines_now : Option (List (List ℕ))) → (PutFault × (status ≡ 6)) ⊎ (status ≡ 8) → IsAnswered words files FileFault PutFault status out_before out_now err_before err_now lines_before lines_now
+answered_without words files FileFault PutFault status out_before out_now err_before err_now lines_before lines_now h =
     elim h [
       | inl f ↦ inr (inr (inr f))
       | inr e ↦ inr (inl e)
@@ -339,7 +340,7 @@ put_fault Fault status h s =
 pub nothing_given : (answer : Answer) (out_before out_now err_before err_now : Option (List ℕ)) → out_now ≡ out_before → err_now ≡ err_before → IsGivenInPart answer out_before out_now err_before err_now
 nothing_given answer out_before out_now err_before err_now o e = record {
   out_took = adds_empty_prefix out_before out_now answer.out o;
-  err_took = adds_empty_prefix err_before err_now answer.err e;
+  err_took = adds_empty_prefix err_before err_now (concat answer.err) e;
   lines_wait = inr e;
 }
 

@@ -6,7 +6,7 @@ use Rattle.spf_cli.proofs.top.spf_main.Goals as goal
 
 pub returns-clause-answered : goal.returns-clause-answered
 returns-clause-answered g c told e =
-    answered_without _ told _ _ _ _ _ _ _ (put_failed _ c.in-Err.error _ c.in-Err.ensures.failed (c.number-in-Err.ensures ∙ c.put_status.ensures))
+    answered_without _ told _ _ _ _ _ _ _ _ _ (put_failed _ c.in-Err.error _ c.in-Err.ensures.failed (c.number-in-Err.ensures ∙ c.put_status.ensures))
 
 pub returns-clause-file_fault : goal.returns-clause-file_fault
 returns-clause-file_fault g c s =
