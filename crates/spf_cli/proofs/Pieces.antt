@@ -4,7 +4,7 @@ use Rattle.std.specs.List.{concat}
 use Rattle.std.proofs.lemmas.List.{append-nil}
 use Rattle.std.proofs.lemmas.List.Folds.{concat-append}
 use Rattle.spf_edge.specs.Bytes.{Adds, AddsPrefix, Hands}
-use Rattle.spf_edge.proofs.Taking.{adds_both, adds_whole, adds_prefix_of_both, adds_prefix_of_more, hands_both}
+use Rattle.spf_edge.proofs.Taking.{adds_both, adds_whole, adds_prefix_of_both, adds_prefix_of_more, hands_both, joined-nil}
 use Rattle.spf_cli.specs.Putting.{IsPutUpTo, AreLinesPutUpTo}
 
 -- one piece more
@@ -53,3 +53,21 @@ pub lines_put : (lines : List (List ℕ)) (before now : Option (List ℕ)) (p q 
 lines_put lines before now p q n m up =
     let all : lines ≡ up.first = up.split ∙ append-nil up.first in
     (subst (λ ls. Adds before now (concat ls)) (sym all) up.took, subst (Hands p q) (sym all) up.handed)
+
+-- where the one line was yet to be put, nothing was taken
+pub line_waits : (lines rest : List (List ℕ)) (line : List ℕ) (others : List (List ℕ)) (before between : Option (List ℕ)) (p q : Option (List (List ℕ))) (n m : ℕ) → AreLinesPutUpTo lines rest before between p q n m → rest ≡ line ∷ others → (only : List ℕ) → lines ≡ only ∷ [] → between ≡ before
+line_waits lines rest line others before between p q n m up e only one =
+    nothing up.first (sym one ∙ up.split ∙ ap (λ ls. up.first ++ ls) e) up.took
+  where
+    nothing : (first : List (List ℕ)) → only ∷ [] ≡ first ++ line ∷ others → Adds before between (concat first) → between ≡ before
+    nothing [] is took = took ∙ joined-nil before
+    nothing (x ∷ []) is took = absurd (cc)
+    nothing (x ∷ y ∷ ys) is took = absurd (cc)
+
+-- of nothing, nothing was taken
+pub prefix_of_nothing : (before now : Option (List ℕ)) (bytes : List ℕ) → bytes ≡ [] → AddsPrefix before now bytes → now ≡ before
+prefix_of_nothing before now bytes none a = nothing a.front (sym none ∙ a.split) a.added
+  where
+    nothing : (front : List ℕ) → [] ≡ front ++ a.rest → Adds before now front → now ≡ before
+    nothing [] is added = added ∙ joined-nil before
+    nothing (x ∷ xs) is added = absurd (cc)

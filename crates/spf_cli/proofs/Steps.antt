@@ -24,7 +24,8 @@ use Rattle.spf_edge.specs.declared.sink.PutError.TheVariants.{Failed}
 use Rattle.spf_edge.specs.declared.sink.PutError.TheVariants as put_error
 use Rattle.spf_edge.proofs.Taking.{adds_empty_prefix}
 use Rattle.spf_cli.specs.Answer.{Answer, not_built, text_refused, rule_refused, explained, file_failed, file_too_long, too_many_cells, ran}
-use Rattle.spf_cli.specs.Answering.{seen_answer, FetchAnswer, IsFetchLeft, IsReadLeft, IsRuleLeft, IsNotAccepted, IsWholeUnless, IsCaused, AnswersWith, IsPutFault}
+use Rattle.spf_cli.specs.Answering.{seen_answer, FetchAnswer, IsFetchLeft, IsReadLeft, IsRuleLeft, IsNotAccepted, IsWholeUnless, IsCaused, AnswersWith, IsPutFault, IsOneLine}
+use Rattle.spf_cli.specs.Message.{failed_line}
 use Rattle.spf_cli.specs.Command.{Command, Run, Options, Asks}
 use Rattle.spf_cli.specs.Reading.{Says, Refuses, IsVerdict, Refusal}
 use Rattle.spf_cli.specs.Status.{put_status}
@@ -344,10 +345,34 @@ nothing_given answer out_before out_now err_before err_now o e = record {
   lines_wait = inr e;
 }
 
--- what was put of an answer is a front of the whole one
-pub given_in_part : (words : List (List ℕ)) (files : List Entry) (FileFault : Type 0) (given : Answer) (out_before out_now err_before err_now : Option (List ℕ)) → IsOnly (Whole words files) given ⊎ (FileFault × IsFaultAnswer words files given) → IsGivenInPart given out_before out_now err_before err_now → IsAnsweredInPart words files FileFault out_before out_now err_before err_now
-given_in_part words files FileFault given out_before out_now err_before err_now h part =
+-- what was put of an answer, by its status
+pub given_in_part : (words : List (List ℕ)) (files : List Entry) (FileFault : Type 0) (given : Answer) (status : ℕ) (out_before out_now err_before err_now : Option (List ℕ)) → IsOnly (Whole words files) given ⊎ (FileFault × IsFaultAnswer words files given) → IsGivenInPart given out_before out_now err_before err_now
+    → (IsFaultAnswer words files given → (status ≡ 5) ⊎ (status ≡ 6) ⊎ ((status ≡ 8) × (out_now ≡ out_before) × (err_now ≡ err_before)))
+    → IsAnsweredInPart words files FileFault status out_before out_now err_before err_now
+given_in_part words files FileFault given status out_before out_now err_before err_now h part ends =
     elim h [
-      | inl w ↦ inl (λ answer whole. subst (λ a. IsGivenInPart a out_before out_now err_before err_now) (sym (w.only answer whole)) part)
-      | inr f ↦ inr (f.0, (given, f.1, part))
+      | inl w ↦ inl (given, w, part)
+      | inr f ↦ elim (ends f.1) [
+        | inl five ↦ inr (inr (f.0, inl five, (given, f.1, part)))
+        | inr y ↦ elim y [
+          | inl six ↦ inr (inr (f.0, inr six, (given, f.1, part)))
+          | inr eight ↦ inr (inl eight)
+        ]
+      ]
     ]
+
+-- the answer to a fault of a file has its status, and is one line
+pub fault_status : (words : List (List ℕ)) (files : List Entry) (answer : Answer) → IsFaultAnswer words files answer → answer.status ≡ 5
+fault_status words files answer f = ap (λ (a : Answer). a.status) f.2.2
+
+pub fault_line : (words : List (List ℕ)) (files : List Entry) (answer : Answer) → IsFaultAnswer words files answer → IsOneLine answer
+fault_line words files answer f = record {
+  silent = ap (λ (a : Answer). a.out) f.2.2;
+  line = failed_line f.2.0;
+  one = ap (λ (a : Answer). a.err) f.2.2;
+}
+
+-- a put of the answer to a fault that failed: a sink failed, or memory was short and nothing was put
+pub fault_ends : (error : PutError) (status : ℕ) (out_before out_now err_before err_now : Option (List ℕ)) → status ≡ put_status error → (error ≡ put_error.OutOfMemory → (out_now ≡ out_before) × (err_now ≡ err_before)) → (status ≡ 5) ⊎ (status ≡ 6) ⊎ ((status ≡ 8) × (out_now ≡ out_before) × (err_now ≡ err_before))
+fault_ends Failed status out_before out_now err_before err_now is nothing = inr (inl is)
+fault_ends put_error.OutOfMemory status out_before out_now err_before err_now is nothing = let same = nothing refl in inr (inr (is, same.0, same.1))

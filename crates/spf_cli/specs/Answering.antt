@@ -86,3 +86,9 @@ AnswersWith P (Err NoMemory) = Unit {0}
 abbrev pub IsPutFault : Type 0 → PutError → Type 0
 IsPutFault Fault Failed = Fault
 IsPutFault Fault OutOfMemory = Unit {0}
+
+-- an answer is one line, with nothing on the output
+pub record IsOneLine (answer : said.Answer) : Type 0 where
+  pub silent : answer.out ≡ []
+  pub line : List ℕ
+  pub one : answer.err ≡ line ∷ []

@@ -1,4 +1,4 @@
--- Bytes that are put in pieces.
+-- Bytes and lines that are put.
 use Rattle.std.specs.Prelude.{◌≡◌, ℕ, ◌≤◌, List, ◌++◌, Option}
 use Rattle.std.specs.List.{concat}
 use Rattle.spf_edge.specs.Bytes.{Adds, Hands}
