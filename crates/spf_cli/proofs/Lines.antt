@@ -2,8 +2,8 @@
 use Rattle.spf_ast.specs.declared.syntax.Array as code_array
 use Rattle.spf_ast.specs.View.{name, array}
 use Rattle.spf_ast.specs.Program.{size_of, extents_from}
-use Rattle.std.proofs.Common.{◌≡◌, ◌++◌, ◌∷◌, [], ℕ, zero, suc, ◌+◌, ◌<◌, List, length, map, get_or, slice_index_or, take, drop, min, add-one, ℤ, arith, refl, sym, ap, ◌∙◌, append_assoc}
-use Rattle.std.proofs.lemmas.List.{append-nil, take_min, drop_min}
+use Rattle.std.proofs.Common.{◌≡◌, ◌++◌, ◌∷◌, [], ℕ, zero, suc, ◌+◌, ◌<◌, List, length, map, get_or, slice_index_or, take, drop, min, add-one, ℤ, arith, refl, sym, ap, ◌∙◌}
+use Rattle.std.proofs.lemmas.List.{take_min, drop_min}
 use Rattle.std.proofs.Math.Seq.{drop-cons}
 use Rattle.spf_cli.specs.Message.{array_line, array_lines}
 use Rattle.std.specs.declared.vec.Vec.{Vec}
