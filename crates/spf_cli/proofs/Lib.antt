@@ -3,3 +3,4 @@ pub mod Verdicts
 pub mod Lines
 pub mod Steps
 pub mod Pieces
+pub mod OneAnswer

@@ -1,5 +1,6 @@
 -- The steps to the whole answer.
 use Rattle.std.proofs.Common.{◌≡◌, ◌⊎◌, ◌≤◌, ◌<◌, ℕ, Bool, true, false, List, length, refl, sym, ap, ◌∙◌, arith, inl, inr, nat_le, subst}
+use Rattle.std.specs.List.{concat}
 use Rattle.std.specs.Prelude.{Option, Some, None, Result, Ok, Err}
 use Rattle.spf_ast.specs.declared.syntax.Program as code_program
 use Rattle.spf_ast.specs.View.{program}
@@ -23,7 +24,8 @@ use Rattle.spf_edge.specs.declared.sink.PutError.TheVariants.{Failed}
 use Rattle.spf_edge.specs.declared.sink.PutError.TheVariants as put_error
 use Rattle.spf_edge.proofs.Taking.{adds_empty_prefix}
 use Rattle.spf_cli.specs.Answer.{Answer, not_built, text_refused, rule_refused, explained, file_failed, file_too_long, too_many_cells, ran}
-use Rattle.spf_cli.specs.Answering.{seen_answer, FetchAnswer, IsFetchLeft, IsReadLeft, IsRuleLeft, IsNotAccepted, IsWholeUnless, IsCaused, AnswersWith, IsPutFault}
+use Rattle.spf_cli.specs.Answering.{seen_answer, FetchAnswer, IsFetchLeft, IsReadLeft, IsRuleLeft, IsNotAccepted, IsWholeUnless, IsCaused, AnswersWith, IsPutFault, IsOneLine}
+use Rattle.spf_cli.specs.Message.{failed_line}
 use Rattle.spf_cli.specs.Command.{Command, Run, Options, Asks}
 use Rattle.spf_cli.specs.Reading.{Says, Refuses, IsVerdict, Refusal}
 use Rattle.spf_cli.specs.Status.{put_status}
@@ -302,8 +304,8 @@ no_command words a said files none e only is = at_same (IsOnly (Whole words file
 -- ---- puts
 
 -- an answer that was put is what was answered
-pub answered_by : (words : List (List ℕ)) (files : List Entry) (FileFault PutFault : Type 0) (a : Answer) (status : ℕ) (out_before out_now err_before err_now : Option (List ℕ)) → IsOnly (Whole words files) a ⊎ (FileFault × IsFaultAnswer words files a) → IsGiven a status out_before out_now err_before err_now → IsAnswered words files FileFault PutFault status out_before out_now err_before err_now
-answered_by words files FileFault PutFault a status out_before out_now err_before err_now h given =
+pub answered_by : (words : List (List ℕ)) (files : List Entry) (FileFault PutFault : Type 0) (a : Answer) (status : ℕ) (out_before out_now err_before err_now : Option (List ℕ)) (lines_before lines_now : Option (List (List ℕ))) → IsOnly (Whole words files) a ⊎ (FileFault × IsFaultAnswer words files a) → IsGiven a status out_before out_now err_before err_now lines_before lines_now → IsAnswered words files FileFault PutFault status out_before out_now err_before err_now lines_before lines_now
+answered_by words files FileFault PutFault a status out_before out_now err_before err_now lines_before lines_now h given =
     elim h [
       | inl w ↦ inl (a, w, given)
       | inr f ↦ inr (inr (inl (f.0, (a, f.1, given))))
@@ -314,8 +316,8 @@ pub put_failed : (Fault : Type 0) (error : PutError) (status : ℕ) → IsPutFau
 put_failed Fault Failed status h e = inl (h, e)
 put_failed Fault put_error.OutOfMemory status h e = inr e
 
-pub answered_without : (words : List (List ℕ)) (files : List Entry) (FileFault PutFault : Type 0) (status : ℕ) (out_before out_now err_before err_now : Option (List ℕ)) → (PutFault × (status ≡ 6)) ⊎ (status ≡ 8) → IsAnswered words files FileFault PutFault status out_before out_now err_before err_now
-answered_without words files FileFault PutFault status out_before out_now err_before err_now h =
+pub answered_without : (words : List (List ℕ)) (files : List Entry) (FileFault PutFault : Type 0) (status : ℕ) (out_before out_now err_before err_now : Option (List ℕ)) (lines_before lines_now : Option (List (List ℕ))) → (PutFault × (status ≡ 6)) ⊎ (status ≡ 8) → IsAnswered words files FileFault PutFault status out_before out_now err_before err_now lines_before lines_now
+answered_without words files FileFault PutFault status out_before out_now err_before err_now lines_before lines_now h =
     elim h [
       | inl f ↦ inr (inr (inr f))
       | inr e ↦ inr (inl e)
@@ -339,14 +341,38 @@ put_fault Fault status h s =
 pub nothing_given : (answer : Answer) (out_before out_now err_before err_now : Option (List ℕ)) → out_now ≡ out_before → err_now ≡ err_before → IsGivenInPart answer out_before out_now err_before err_now
 nothing_given answer out_before out_now err_before err_now o e = record {
   out_took = adds_empty_prefix out_before out_now answer.out o;
-  err_took = adds_empty_prefix err_before err_now answer.err e;
+  err_took = adds_empty_prefix err_before err_now (concat answer.err) e;
   lines_wait = inr e;
 }
 
--- what was put of an answer is a front of the whole one
-pub given_in_part : (words : List (List ℕ)) (files : List Entry) (FileFault : Type 0) (given : Answer) (out_before out_now err_before err_now : Option (List ℕ)) → IsOnly (Whole words files) given ⊎ (FileFault × IsFaultAnswer words files given) → IsGivenInPart given out_before out_now err_before err_now → IsAnsweredInPart words files FileFault out_before out_now err_before err_now
-given_in_part words files FileFault given out_before out_now err_before err_now h part =
+-- what was put of an answer, by its status
+pub given_in_part : (words : List (List ℕ)) (files : List Entry) (FileFault : Type 0) (given : Answer) (status : ℕ) (out_before out_now err_before err_now : Option (List ℕ)) → IsOnly (Whole words files) given ⊎ (FileFault × IsFaultAnswer words files given) → IsGivenInPart given out_before out_now err_before err_now
+    → (IsFaultAnswer words files given → (status ≡ 5) ⊎ (status ≡ 6) ⊎ ((status ≡ 8) × (out_now ≡ out_before) × (err_now ≡ err_before)))
+    → IsAnsweredInPart words files FileFault status out_before out_now err_before err_now
+given_in_part words files FileFault given status out_before out_now err_before err_now h part ends =
     elim h [
-      | inl w ↦ inl (λ answer whole. subst (λ a. IsGivenInPart a out_before out_now err_before err_now) (sym (w.only answer whole)) part)
-      | inr f ↦ inr (f.0, (given, f.1, part))
+      | inl w ↦ inl (given, w, part)
+      | inr f ↦ elim (ends f.1) [
+        | inl five ↦ inr (inr (f.0, inl five, (given, f.1, part)))
+        | inr y ↦ elim y [
+          | inl six ↦ inr (inr (f.0, inr six, (given, f.1, part)))
+          | inr eight ↦ inr (inl eight)
+        ]
+      ]
     ]
+
+-- the answer to a fault of a file has its status, and is one line
+pub fault_status : (words : List (List ℕ)) (files : List Entry) (answer : Answer) → IsFaultAnswer words files answer → answer.status ≡ 5
+fault_status words files answer f = ap (λ (a : Answer). a.status) f.2.2
+
+pub fault_line : (words : List (List ℕ)) (files : List Entry) (answer : Answer) → IsFaultAnswer words files answer → IsOneLine answer
+fault_line words files answer f = record {
+  silent = ap (λ (a : Answer). a.out) f.2.2;
+  line = failed_line f.2.0;
+  one = ap (λ (a : Answer). a.err) f.2.2;
+}
+
+-- a put of the answer to a fault that failed: a sink failed, or memory was short and nothing was put
+pub fault_ends : (error : PutError) (status : ℕ) (out_before out_now err_before err_now : Option (List ℕ)) → status ≡ put_status error → (error ≡ put_error.OutOfMemory → (out_now ≡ out_before) × (err_now ≡ err_before)) → (status ≡ 5) ⊎ (status ≡ 6) ⊎ ((status ≡ 8) × (out_now ≡ out_before) × (err_now ≡ err_before))
+fault_ends Failed status out_before out_now err_before err_now is nothing = inr (inl is)
+fault_ends put_error.OutOfMemory status out_before out_now err_before err_now is nothing = let same = nothing refl in inr (inr (is, same.0, same.1))

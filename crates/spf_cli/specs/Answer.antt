@@ -1,5 +1,5 @@
 -- Answers of the program: a status, and what it writes.
-use Rattle.std.specs.Prelude.{ℕ, Bool, true, false, List, [], ◌++◌, Option}
+use Rattle.std.specs.Prelude.{ℕ, Bool, true, false, List, [], ◌∷◌, ◌++◌, Option}
 use Rattle.spf_ast.specs.Syntax.{Program}
 use Rattle.spf_ast.specs.Program.{Outcome, Done, Stopped}
 use Rattle.spf_ast.specs.Spelling.{spelled}
@@ -11,15 +11,15 @@ use Rattle.spf_cli.specs.Message.{trap_line, words_line, failed_line, long_line,
 use Rattle.spf_cli.specs.Command.{Options}
 use Rattle.spf_cli.specs.Reading.{Refusal, refusal_line}
 
--- a status, with the bytes on the output and on the error stream
+-- a status, with the bytes on the output and the lines on the error stream
 pub record Answer : Type 0 where
   pub status : ℕ
   pub out : List ℕ
-  pub err : List ℕ
+  pub err : List (List ℕ)
 
 -- nothing was run: there is a line on the error stream alone
 abbrev pub refused : ℕ → List ℕ → Answer
-refused status said = record { status = status; out = []; err = said }
+refused status said = record { status = status; out = []; err = said ∷ [] }
 
 -- the words aren't those of a command
 abbrev pub not_understood : Answer
@@ -31,7 +31,7 @@ text_refused refusal = refused 3 (refusal_line refusal)
 
 -- the program keeps the rules
 abbrev pub accepted : Answer
-accepted = record { status = 0; out = []; err = accepted_line }
+accepted = record { status = 0; out = []; err = accepted_line ∷ [] }
 
 -- a top construct of the program breaks a rule
 abbrev pub rule_refused : Program → Rule → ℕ → Option Range → Answer
@@ -61,17 +61,17 @@ printed p = record { status = 0; out = canonical_text (spelled 0 p); err = [] }
 abbrev pub explained : List ℕ → Answer
 explained text = record { status = 0; out = text; err = [] }
 
--- text that stands only where it is asked for
-abbrev pub asked : Bool → List ℕ → List ℕ
-asked true text = text
-asked false text = []
+-- lines that stand only where they are asked for
+abbrev pub asked : Bool → List (List ℕ) → List (List ℕ)
+asked true lines = lines
+asked false lines = []
 
--- the statistics of a run
-abbrev pub stats_text : Options → Stats → List ℕ
-stats_text options stats = asked options.stats (stats_line stats.blocks stats.hits stats.misses stats.blind)
+-- the line of the statistics of a run
+abbrev pub stats_lines : Options → Stats → List (List ℕ)
+stats_lines options stats = asked options.stats (stats_line stats.blocks stats.hits stats.misses stats.blind ∷ [])
 
 -- a program was run, on an input of this length, to its end or to a trap, with guesses that were so good
 abbrev pub ran : Options → Program → ℕ → Outcome → Stats → Answer
 ran options p len (Done cells output) stats =
-    record { status = 0; out = output; err = stats_text options stats ++ asked options.cells (array_lines len p.arrays cells) }
-ran options p len (Stopped trap output) stats = record { status = 1; out = output; err = trap_line trap ++ stats_text options stats }
+    record { status = 0; out = output; err = stats_lines options stats ++ asked options.cells (array_lines len p.arrays cells) }
+ran options p len (Stopped trap output) stats = record { status = 1; out = output; err = trap_line trap ∷ stats_lines options stats }

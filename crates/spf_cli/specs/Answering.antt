@@ -1,5 +1,5 @@
 -- What the steps to an answer leave.
-use Rattle.std.specs.Prelude.{◌≡◌, ◌⊎◌, ℕ, List, [], ◌∷◌, ◌++◌, Option, Some, Result, Ok, Err, Vec}
+use Rattle.std.specs.Prelude.{◌≡◌, ◌⊎◌, ℕ, List, [], ◌∷◌, Option, Some, Result, Ok, Err, Vec}
 use Rattle.std.specs.declared.alloc.Global.{Global}
 use Rattle.spf_ast.specs.Syntax.{Program}
 use Rattle.spf_ast.specs.View.{program}
@@ -23,14 +23,14 @@ use Rattle.spf_cli.specs.declared.answer.Answer.{Answer}
 use Rattle.spf_cli.specs.declared.answer.Left.{Left}
 use Rattle.spf_cli.specs.declared.answer.Left.TheVariants.{Answered, NoMemory}
 
--- the bytes of messages, one after another
-abbrev pub bytes_of : List (Vec ℕ Global) → List ℕ
-bytes_of [] = []
-bytes_of (message ∷ messages) = message.items ++ bytes_of messages
+-- the lines that messages are
+abbrev pub lines_of : List (Vec ℕ Global) → List (List ℕ)
+lines_of [] = []
+lines_of (message ∷ messages) = message.items ∷ lines_of messages
 
 -- what contracts see of an answer
 abbrev pub seen_answer : Answer → said.Answer
-seen_answer a = record { status = status_number a.status; out = a.output.items; err = bytes_of a.messages.items }
+seen_answer a = record { status = status_number a.status; out = a.output.items; err = lines_of a.messages.items }
 
 -- a fetch ended the run: a fault was met, the name is missing, or the file is too long
 abbrev pub FetchAnswer : Option (List Entry) → List ℕ → ℕ → Type 0 → said.Answer → Type 0
@@ -86,3 +86,9 @@ AnswersWith P (Err NoMemory) = Unit {0}
 abbrev pub IsPutFault : Type 0 → PutError → Type 0
 IsPutFault Fault Failed = Fault
 IsPutFault Fault OutOfMemory = Unit {0}
+
+-- an answer is one line, with nothing on the output
+pub record IsOneLine (answer : said.Answer) : Type 0 where
+  pub silent : answer.out ≡ []
+  pub line : List ℕ
+  pub one : answer.err ≡ line ∷ []

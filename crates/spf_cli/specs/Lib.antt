@@ -9,3 +9,4 @@ pub mod Options
 pub mod Unread
 pub mod Answering
 pub mod Putting
+pub mod Laws

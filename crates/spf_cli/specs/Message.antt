@@ -95,7 +95,7 @@ abbrev pub array_line : List ℕ → List ℤ → List ℕ
 array_line name words = line (codes "cells " ∷ name ∷ numbers words ∷ [])
 
 -- the lines of arrays whose cells follow each other, for an input of this length
-abbrev pub array_lines : ℕ → List Array → List ℤ → List ℕ
+abbrev pub array_lines : ℕ → List Array → List ℤ → List (List ℕ)
 array_lines len [] cells = []
 array_lines len (a ∷ rest) cells =
-    array_line a.name (take (size_of len a) cells) ++ array_lines len rest (drop (size_of len a) cells)
+    array_line a.name (take (size_of len a) cells) ∷ array_lines len rest (drop (size_of len a) cells)

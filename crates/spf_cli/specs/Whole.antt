@@ -1,10 +1,11 @@
 -- The whole answer of the program: what it says to these words, where these are the files.
 use Rattle.std.specs.Prelude.{◌≡◌, ◌⊎◌, ℕ, ◌≤◌, Bool, true, false, if◌then◌else◌, ◌||◌, nat_le, List, length, Option, Some, None}
+use Rattle.std.specs.List.{concat}
 use Rattle.spf_ast.specs.Syntax.{Program}
 use Rattle.spf_ast.specs.Program.{outcome, cell_count_of, max_cells}
 use Rattle.spf_layout.specs.RunErrors.{counted}
 use Rattle.spf_edge.specs.Entries.{Entry, lookup}
-use Rattle.spf_edge.specs.Bytes.{Adds, AddsPrefix}
+use Rattle.spf_edge.specs.Bytes.{Adds, AddsPrefix, Hands}
 use Rattle.spf_cli.specs.Answer.{Answer, not_understood, text_refused, accepted, rule_refused, explained, not_built, file_failed, file_too_long, too_many_cells, printed, ran}
 use Rattle.spf_cli.specs.Command.{Command, Run, Check, Explain, Print, Options, Asks}
 use Rattle.spf_region.specs.declared.range.Range.{Range}
@@ -132,28 +133,30 @@ IsFaultOf command files answer = (name : List ℕ) × IsReached command files na
 abbrev pub IsFaultAnswer : List (List ℕ) → List Entry → Answer → Type 0
 IsFaultAnswer words files answer = (command : Command) × Asks words command × IsFaultOf command files answer
 
--- what came of an answer: its status, and its bytes on both sinks
-pub record IsGiven (answer : Answer) (status : ℕ) (out_before out_now err_before err_now : Option (List ℕ)) : Type 0 where
+-- what came of an answer: its status, and its bytes on both sinks, each line of the error stream by a put of its own
+pub record IsGiven (answer : Answer) (status : ℕ) (out_before out_now err_before err_now : Option (List ℕ)) (lines_before lines_now : Option (List (List ℕ))) : Type 0 where
   pub status_is : status ≡ answer.status
   pub out_took : Adds out_before out_now answer.out
-  pub err_took : Adds err_before err_now answer.err
+  pub err_took : Adds err_before err_now (concat answer.err)
+  pub lines_put : Hands lines_before lines_now answer.err
 
 -- each sink took the front of what an answer has for it, the error stream nothing before the output had all of its bytes
 pub record IsGivenInPart (answer : Answer) (out_before out_now err_before err_now : Option (List ℕ)) : Type 0 where
   pub out_took : AddsPrefix out_before out_now answer.out
-  pub err_took : AddsPrefix err_before err_now answer.err
+  pub err_took : AddsPrefix err_before err_now (concat answer.err)
   pub lines_wait : Adds out_before out_now answer.out ⊎ (err_now ≡ err_before)
 
--- What was put is a front of the whole answer, whichever it is; or a fault of the files was met, and it is a front of the answer to that.
-abbrev pub IsAnsweredInPart : List (List ℕ) → List Entry → Type 0 → Option (List ℕ) → Option (List ℕ) → Option (List ℕ) → Option (List ℕ) → Type 0
-IsAnsweredInPart words files FileFault out_before out_now err_before err_now =
-    ((answer : Answer) → Whole words files answer → IsGivenInPart answer out_before out_now err_before err_now)
-    ⊎ (FileFault × ((answer : Answer) × IsFaultAnswer words files answer × IsGivenInPart answer out_before out_now err_before err_now))
+-- What was put is a prefix of the one whole answer; or memory was short, and nothing was put; or a fault of a file that was reached was met, and it is a prefix of the answer to that, with its status or that for a sink.
+abbrev pub IsAnsweredInPart : List (List ℕ) → List Entry → Type 0 → ℕ → Option (List ℕ) → Option (List ℕ) → Option (List ℕ) → Option (List ℕ) → Type 0
+IsAnsweredInPart words files FileFault status out_before out_now err_before err_now =
+    ((answer : Answer) × IsOnly (Whole words files) answer × IsGivenInPart answer out_before out_now err_before err_now)
+    ⊎ ((status ≡ 8) × (out_now ≡ out_before) × (err_now ≡ err_before))
+    ⊎ (FileFault × ((status ≡ 5) ⊎ (status ≡ 6)) × ((answer : Answer) × IsFaultAnswer words files answer × IsGivenInPart answer out_before out_now err_before err_now))
 
 -- What the program answered: the one whole answer, put on both sinks; or memory was short, or a fault of a file that was reached, or of a sink, was met.
-abbrev pub IsAnswered : List (List ℕ) → List Entry → Type 0 → Type 0 → ℕ → Option (List ℕ) → Option (List ℕ) → Option (List ℕ) → Option (List ℕ) → Type 0
-IsAnswered words files FileFault PutFault status out_before out_now err_before err_now =
-    ((answer : Answer) × IsOnly (Whole words files) answer × IsGiven answer status out_before out_now err_before err_now)
+abbrev pub IsAnswered : List (List ℕ) → List Entry → Type 0 → Type 0 → ℕ → Option (List ℕ) → Option (List ℕ) → Option (List ℕ) → Option (List ℕ) → Option (List (List ℕ)) → Option (List (List ℕ)) → Type 0
+IsAnswered words files FileFault PutFault status out_before out_now err_before err_now lines_before lines_now =
+    ((answer : Answer) × IsOnly (Whole words files) answer × IsGiven answer status out_before out_now err_before err_now lines_before lines_now)
     ⊎ (status ≡ 8)
-    ⊎ (FileFault × ((answer : Answer) × IsFaultAnswer words files answer × IsGiven answer status out_before out_now err_before err_now))
+    ⊎ (FileFault × ((answer : Answer) × IsFaultAnswer words files answer × IsGiven answer status out_before out_now err_before err_now lines_before lines_now))
     ⊎ (PutFault × (status ≡ 6))

@@ -1,6 +1,6 @@
 // What the program answers, before any of it is put anywhere.
 
-ghost use Rattle.std.specs.Prelude.{◌≡◌, ◌≤◌, ◌<◌, ◌^◌, ◌++◌, List, Option, Some, IfOk, IfErr, map, length, string_bytes, true};
+ghost use Rattle.std.specs.Prelude.{◌≡◌, ◌≤◌, ◌<◌, ◌^◌, ◌++◌, ◌∷◌, [], List, Option, Some, IfOk, IfErr, map, length, string_bytes, true};
 ghost use Rattle.spf_ast.specs.View.{program as program_of, array as array_of};
 ghost use Rattle.spf_ast.specs.Program.{extents_from, outcome as outcome_of, seen_outcome};
 ghost use Rattle.spf_ast.specs.Lawful.{IsLawful};
@@ -11,11 +11,11 @@ ghost use Rattle.spf_cli.specs.Message.{array_lines};
 ghost use Rattle.spf_cli.specs.Command.{Run as run_command, Check as check_command, Explain as explain_command, Print as print_command};
 ghost use Rattle.spf_cli.specs.Reading.{IsVerdict, Says};
 ghost use Rattle.spf_check.specs.Accepting.{IsAccepted};
-ghost use Rattle.spf_cli.specs.Answer.{refused as refused_answer, accepted as accepted_answer, rule_refused as rule_refused_answer, file_failed, too_many_cells, printed, stats_text, ran as ran_answer};
+ghost use Rattle.spf_cli.specs.Answer.{refused as refused_answer, accepted as accepted_answer, rule_refused as rule_refused_answer, file_failed, too_many_cells, printed, stats_lines, ran as ran_answer};
 ghost use Rattle.spf_cli.specs.Asked.{seen_command, seen_options};
 ghost use Rattle.spf_cli.specs.Status.{status_number};
 ghost use Rattle.spf_cli.specs.Whole.{IsOnly, Runs, RunsOn, IsInputFault, Whole, WholeOf, IsFaultOf, IsFaultAnswer, stats_of, is_built as is_built_program};
-ghost use Rattle.spf_cli.specs.Answering.{bytes_of, seen_answer, IsFetchLeft, IsReadLeft, IsRuleLeft, IsNotAccepted, IsNotRun, IsWholeUnless, IsCaused, AnswersWith};
+ghost use Rattle.spf_cli.specs.Answering.{lines_of, seen_answer, IsFetchLeft, IsReadLeft, IsRuleLeft, IsNotAccepted, IsNotRun, IsWholeUnless, IsCaused, AnswersWith};
 
 use crate::command::{Command, Options, read_words};
 use crate::message::{
@@ -74,7 +74,7 @@ impl From<AllocError> for Left {
 
 /// Adds a line to messages.
 fn push_line(messages: &mut Vec<Vec<u8>>, line: String) -> Result<(), AllocError>
-    ensures { IfOk result (λ _. bytes_of messages.new.items ≡ bytes_of messages.old.items ++ string_bytes line) }
+    ensures { IfOk result (λ _. lines_of messages.new.items ≡ lines_of messages.old.items ++ string_bytes line ∷ []) }
 {
     messages.push(line.into_bytes())?;
     Ok(())
@@ -199,7 +199,7 @@ fn push_stats(
     options: Options,
     stats: Stats,
 ) -> Result<(), AllocError>
-    ensures { IfOk result (λ _. bytes_of messages.new.items ≡ bytes_of messages.old.items ++ stats_text (seen_options options) stats) }
+    ensures { IfOk result (λ _. lines_of messages.new.items ≡ lines_of messages.old.items ++ stats_lines (seen_options options) stats) }
 {
     if options.stats {
         let line = stats_line(alloc, stats.blocks, stats.hits, stats.misses, stats.blind)?;
@@ -218,7 +218,7 @@ fn push_arrays(
     cells: &[i64],
 ) -> Result<(), AllocError>
     requires { extents.now ≡ extents_from len 0 (map array_of arrays.now) }
-    ensures { IfOk result (λ _. bytes_of messages.new.items ≡ bytes_of messages.old.items ++ array_lines len (map array_of arrays.now) cells.now) }
+    ensures { IfOk result (λ _. lines_of messages.new.items ≡ lines_of messages.old.items ++ array_lines len (map array_of arrays.now) cells.now) }
 {
     let mut rest = cells;
     for (place, array) in arrays.iter().enumerate() {

@@ -3,15 +3,10 @@
 
 mod answer;
 mod command;
-#[cfg(test)]
-mod explain_tests;
+pub mod laws;
 mod message;
-#[cfg(test)]
-mod plan_tests;
 mod reading;
 mod status;
-#[cfg(test)]
-mod tests;
 mod top;
 
 pub use top::spf_main;

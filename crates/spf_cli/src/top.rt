@@ -1,10 +1,12 @@
 // The top call: all that the program does.
 
-ghost use Rattle.std.specs.Prelude.{◌≡◌, ◌⊎◌, ◌≤◌, List, Option, Some, map, string_bytes, OnOk, IfErr};
-ghost use Rattle.spf_edge.specs.Bytes.{Adds, AddsPrefix};
+ghost use Rattle.std.specs.Prelude.{◌≡◌, ◌⊎◌, ◌≤◌, ◌∷◌, ℕ, List, [], Option, Some, Err, map, string_bytes, OnOk, IfErr};
+ghost use Rattle.std.specs.List.{concat};
+ghost use Rattle.spf_edge.specs.Bytes.{Adds, AddsPrefix, Hands};
+ghost use Rattle.spf_edge.specs.declared.sink.PutError.TheVariants.{OutOfMemory};
 ghost use Rattle.spf_edge.specs.Entries.{Entry};
 ghost use Rattle.spf_edge.specs.Faults.{Rose};
-ghost use Rattle.spf_cli.specs.Answering.{bytes_of, seen_answer, IsPutFault};
+ghost use Rattle.spf_cli.specs.Answering.{lines_of, seen_answer, IsOneLine, IsPutFault};
 ghost use Rattle.spf_cli.specs.Whole.{IsAnswered, IsAnsweredInPart, IsGiven, IsGivenInPart};
 ghost use Rattle.spf_cli.specs.Status.{status_number, put_status as put_status_of};
 
@@ -34,9 +36,11 @@ fn put_pieces<S: Sink>(sink: &mut S, bytes: &[u8]) -> Result<(), PutError>
 
 /// Puts lines, each by a put of its own.
 fn put_lines<S: Sink>(sink: &mut S, lines: &[Vec<u8>]) -> Result<(), PutError>
-    ensures added { OnOk result (Adds (S.taken sink.old) (S.taken sink.new) (bytes_of lines.now)) }
+    ensures added { OnOk result (Adds (S.taken sink.old) (S.taken sink.new) (concat (lines_of lines.now))) }
+    ensures one_each { OnOk result (Hands (S.pieces sink.old) (S.pieces sink.new) (lines_of lines.now)) }
     ensures failed { IfErr result (IsPutFault (Rose (S.faults sink.old) (S.faults sink.new))) }
-    ensures front { AddsPrefix (S.taken sink.old) (S.taken sink.new) (bytes_of lines.now) }
+    ensures nothing { (line : List ℕ) → lines_of lines.now ≡ line ∷ [] → result ≡ Err PutError.OutOfMemory → S.taken sink.new ≡ S.taken sink.old }
+    ensures front { AddsPrefix (S.taken sink.old) (S.taken sink.new) (concat (lines_of lines.now)) }
     ensures later { S.faults sink.old ≤ S.faults sink.new }
 {
     for line in lines {
@@ -57,8 +61,9 @@ fn put_status(error: PutError) -> Status
 
 /// Puts an answer: its output, and then its lines. After a put that failed nothing more is put.
 fn put<S: Sink>(given: &Answer, out: &mut S, err: &mut S) -> Result<(), PutError>
-    ensures given { OnOk result (IsGiven (seen_answer given.now) (status_number given.now.status) (S.taken out.old) (S.taken out.new) (S.taken err.old) (S.taken err.new)) }
+    ensures given { OnOk result (IsGiven (seen_answer given.now) (status_number given.now.status) (S.taken out.old) (S.taken out.new) (S.taken err.old) (S.taken err.new) (S.pieces err.old) (S.pieces err.new)) }
     ensures failed { IfErr result (IsPutFault (Rose (S.faults out.old) (S.faults out.new) ⊎ Rose (S.faults err.old) (S.faults err.new))) }
+    ensures nothing { IsOneLine (seen_answer given.now) → result ≡ Err PutError.OutOfMemory → (S.taken out.new ≡ S.taken out.old) × (S.taken err.new ≡ S.taken err.old) }
     ensures front { IsGivenInPart (seen_answer given.now) (S.taken out.old) (S.taken out.new) (S.taken err.old) (S.taken err.new) }
 {
     put_pieces(out, &given.output)?;
@@ -83,12 +88,12 @@ pub fn spf_main<F: Files, S: Sink>(
     ensures answered { (told : List Entry) → F.told files.old ≡ Some told → IsAnswered (map string_bytes words.now) told
         (Rose (F.faults files.old) (F.faults files.new))
         (Rose (S.faults out.old) (S.faults out.new) ⊎ Rose (S.faults err.old) (S.faults err.new))
-        result (S.taken out.old) (S.taken out.new) (S.taken err.old) (S.taken err.new) }
+        result (S.taken out.old) (S.taken out.new) (S.taken err.old) (S.taken err.new) (S.pieces err.old) (S.pieces err.new) }
 
-    // With every status each sink took a front of what the whole answer has for it, or of the answer to a fault of the files that was met.
+    // With every status each sink took a prefix of what the whole answer has for it; only with status 5 or 6 may it be one of the answer to a fault of the files that was met.
     ensures in_part { (told : List Entry) → F.told files.old ≡ Some told → IsAnsweredInPart (map string_bytes words.now) told
         (Rose (F.faults files.old) (F.faults files.new))
-        (S.taken out.old) (S.taken out.new) (S.taken err.old) (S.taken err.new) }
+        result (S.taken out.old) (S.taken out.new) (S.taken err.old) (S.taken err.new) }
 
     // Whatever the files are, a fault of theirs or of a sink is answered only where there was one.
     ensures file_fault { result ≡ 5 → Rose (F.faults files.old) (F.faults files.new) ⊎ ((told : List Entry) × (F.told files.old ≡ Some told)) }

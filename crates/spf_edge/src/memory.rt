@@ -168,6 +168,8 @@ impl MemSink {
 impl Sink for MemSink {
     ghost taken = { λ sink. Some sink.taken };
 
+    ghost pieces = { λ _. None };
+
     ghost faults = { λ sink. sink.faults };
 
     fn put(&mut self, piece: &[u8]) -> Result<(), PutError>

@@ -138,6 +138,8 @@ impl<W: Write> Sink for RealSink<W> {
 
     ghost taken = { λ _. None };
 
+    ghost pieces = { λ _. None };
+
     ghost faults = { failure_count };
 
     fn put(&mut self, piece: &[u8]) -> Result<(), PutError>

@@ -1,7 +1,7 @@
 // Where output goes.
-ghost use Rattle.std.specs.Prelude.{◌≡◌, ℕ, ◌≤◌, List, Option, Err, OnOk};
+ghost use Rattle.std.specs.Prelude.{◌≡◌, ℕ, ◌≤◌, List, [], ◌∷◌, Option, Err, OnOk};
 ghost use Rattle.spf_edge.specs.declared.sink.PutError.TheVariants.{OutOfMemory};
-ghost use Rattle.spf_edge.specs.Bytes.{Adds, AddsPrefix};
+ghost use Rattle.spf_edge.specs.Bytes.{Adds, AddsPrefix, Hands};
 ghost use Rattle.spf_edge.specs.Faults.{Rose};
 
 use std::alloc::AllocError;
@@ -28,12 +28,18 @@ pub trait Sink {
     /// The bytes taken so far, where they are told.
     ghost taken: { Self → Option (List ℕ) };
 
+    /// The pieces put so far, each as it was handed in, where they are told.
+    ghost pieces: { Self → Option (List (List ℕ)) };
+
     /// How often a put has failed; the count stops at its last value.
     ghost faults: { Self → ℕ };
 
     /// Takes the piece, after what was taken before.
     fn put(&mut self, piece: &[u8]) -> Result<(), PutError>
         ensures later { faults self.old ≤ faults self.new }
+
+        // Whatever the answer, this one piece was put.
+        ensures handed { Hands (pieces self.old) (pieces self.new) (piece.now ∷ []) }
 
         // Whatever the answer, the front of the piece was taken and nothing else.
         ensures front { AddsPrefix (taken self.old) (taken self.new) piece.now }

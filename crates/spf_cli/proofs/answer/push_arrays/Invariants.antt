@@ -1,11 +1,11 @@
 use Rattle.std.proofs.Common.{◌≡◌, ◌++◌, drop, map}
 use Rattle.spf_ast.specs.View.{array}
 use Rattle.spf_cli.specs.Message.{array_lines}
-use Rattle.spf_cli.specs.Answering.{bytes_of}
+use Rattle.spf_cli.specs.Answering.{lines_of}
 use Rattle.spf_cli.proofs.answer.push_arrays.Given as goal
 
 -- the lines with what is left to add
 abbrev pub invariant-loop-place : goal.invariant-loop-place
 invariant-loop-place l =
-    bytes_of l.messages.items ++ array_lines l.len (map array (drop l.place l.arrays)) l.rest
-    ≡ bytes_of l.initial.messages.items ++ array_lines l.len (map array l.arrays) l.cells
+    lines_of l.messages.items ++ array_lines l.len (map array (drop l.place l.arrays)) l.rest
+    ≡ lines_of l.initial.messages.items ++ array_lines l.len (map array l.arrays) l.cells

@@ -1,7 +1,9 @@
-use Rattle.std.proofs.Common.{drop, ◌+◌}
-use Rattle.spf_cli.specs.Answering.{bytes_of}
+use Rattle.std.proofs.Common.{rules, ◌≡◌, ◌∙◌, drop, ◌+◌}
+use Rattle.std.specs.Prelude.{Err}
+use Rattle.spf_edge.specs.declared.sink.PutError.TheVariants.{OutOfMemory}
+use Rattle.spf_cli.specs.Answering.{lines_of}
 use Rattle.spf_cli.proofs.Lines.{from_line}
-use Rattle.spf_cli.proofs.Pieces.{put_more, put_broken}
+use Rattle.spf_cli.proofs.Pieces.{line_put, line_broken, line_waits}
 use Rattle.spf_cli.proofs.top.put_lines.Goals as goal
 
 pub loop-line-preserved : goal.loop-line-preserved
@@ -10,11 +12,20 @@ loop-line-preserved g c =
     let i = c.loop-line.line-index in
     let line = from_line lines i c.line-item.result c.loop-line-test.true c.line-item.is in
     let put = c.in_ok-put.ensures {u = tt} in
-    put_more (bytes_of lines) (bytes_of (drop i lines)) c.line-item.result.items (bytes_of (drop (i + 1) lines)) (g.S.Sink.taken c.args.sink.now) (g.S.Sink.taken c.loop-line.sink) (g.S.Sink.taken c.put.new.self) (g.S.Sink.faults c.args.sink.now) (g.S.Sink.faults c.loop-line.sink) (g.S.Sink.faults c.put.new.self) c.loop-line.invariant line (rw c.deref.ensures.value at put.added) put.later
+    line_put (lines_of lines) (lines_of (drop i lines)) c.line-item.result.items (lines_of (drop (i + 1) lines)) (g.S.Sink.taken c.args.sink.now) (g.S.Sink.taken c.loop-line.sink) (g.S.Sink.taken c.put.new.self) (g.S.Sink.pieces c.args.sink.now) (g.S.Sink.pieces c.loop-line.sink) (g.S.Sink.pieces c.put.new.self) (g.S.Sink.faults c.args.sink.now) (g.S.Sink.faults c.loop-line.sink) (g.S.Sink.faults c.put.new.self) c.loop-line.invariant line (rw c.deref.ensures.value at put.added) (rw c.deref.ensures.value at put.handed) put.later
 
 pub returns-in_err-put-clause-front : goal.returns-in_err-put-clause-front
 returns-in_err-put-clause-front g c =
     let lines = c.args.lines.now in
     let i = c.loop-line.line-index in
     let line = from_line lines i c.line-item.result c.loop-line-test.true c.line-item.is in
-    put_broken (bytes_of lines) (bytes_of (drop i lines)) c.line-item.result.items (bytes_of (drop (i + 1) lines)) (g.S.Sink.taken c.args.sink.now) (g.S.Sink.taken c.loop-line.sink) (g.S.Sink.taken c.put.new.self) (g.S.Sink.faults c.args.sink.now) (g.S.Sink.faults c.loop-line.sink) c.loop-line.invariant line (rw c.deref.ensures.value at c.put.ensures.front)
+    line_broken (lines_of lines) (lines_of (drop i lines)) c.line-item.result.items (lines_of (drop (i + 1) lines)) (g.S.Sink.taken c.args.sink.now) (g.S.Sink.taken c.loop-line.sink) (g.S.Sink.taken c.put.new.self) (g.S.Sink.pieces c.args.sink.now) (g.S.Sink.pieces c.loop-line.sink) (g.S.Sink.faults c.args.sink.now) (g.S.Sink.faults c.loop-line.sink) c.loop-line.invariant line (rw c.deref.ensures.value at c.put.ensures.front)
+
+pub returns-in_err-put-clause-nothing : goal.returns-in_err-put-clause-nothing
+returns-in_err-put-clause-nothing g c only one short =
+    let lines = c.args.lines.now in
+    let i = c.loop-line.line-index in
+    let line = from_line lines i c.line-item.result c.loop-line-test.true c.line-item.is in
+    let refused : c.put.result ≡ Err OutOfMemory = search rules in
+    c.put.ensures.nothing refused
+    ∙ line_waits (lines_of lines) (lines_of (drop i lines)) c.line-item.result.items (lines_of (drop (i + 1) lines)) (g.S.Sink.taken c.args.sink.now) (g.S.Sink.taken c.loop-line.sink) (g.S.Sink.pieces c.args.sink.now) (g.S.Sink.pieces c.loop-line.sink) (g.S.Sink.faults c.args.sink.now) (g.S.Sink.faults c.loop-line.sink) c.loop-line.invariant line only one

@@ -1,5 +1,5 @@
 // What the top call answers, over files and sinks in memory.
-use crate::spf_main;
+use spf_cli::spf_main;
 use spf_edge::{MemFiles, MemSink};
 use std::alloc::{AllocError, Global};
 use std::test::Fail;
@@ -461,6 +461,16 @@ fn other_words_and_files_are_refused(rt: HostRuntime) -> Result<(), Fail> {
 #[test]
 fn faults_end_the_run(rt: HostRuntime) -> Result<(), Fail> {
     let alloc = rt.alloc();
+
+    // A sink that fails at its first put, and keeps a byte of it, has the first byte alone.
+    let words = texts(alloc, &RUN)?;
+    let mut told = files(alloc, "main { emit 65; emit 66; }")?;
+    let mut failing = Vec::new(alloc);
+    failing.push(0)?;
+    let mut out = MemSink::make(failing, 1);
+    let mut err = MemSink::make(Vec::new(alloc), 0);
+    let got = spf_main(alloc, &words, &mut told, &mut out, &mut err);
+    assert_eq!(rt; (got, out.bytes(), err.bytes().len()), (6, b"A".as_slice(), 0));
 
     // A sink that fails at its second put has taken the first whole and 100 bytes of the second.
     let words = texts(alloc, &["run", "P", "I", "--plain"])?;

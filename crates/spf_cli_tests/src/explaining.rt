@@ -1,5 +1,5 @@
 // What is explained of worked programs.
-use crate::tests::answer;
+use crate::answering::answer;
 use std::alloc::{AllocError, Global};
 use std::test::Fail;
 

@@ -6,7 +6,7 @@ use Rattle.spf_ast.specs.ConstructView.{construct}
 use Rattle.spf_ast.specs.View.{block, program}
 use Rattle.spf_layout.specs.Layout.{IsLayoutOf}
 use Rattle.spf_check.specs.Plans.{AreBlocksOf}
-use Rattle.spf_cli.proofs.plan_tests.planned.Goals as goal
+use Rattle.spf_cli_tests.proofs.planning.planned.Goals as goal
 
 -- any construct has two blocks
 two-blocks : (k : Construct) → AreBlocksOf k 2

@@ -3,18 +3,20 @@
 ghost use Rattle.spf_ast.specs.View.{program as program_of};
 ghost use Rattle.spf_ast.specs.Lawful.{IsLawful};
 
-use crate::reading::read_program;
 use spf_ast::construct::find_construct;
 use spf_check::check::check;
 use spf_check::checked::Checked;
 use spf_layout::arrays::layout;
+use spf_parse::parse;
 use spf_region::span::{Plan, Span};
+use spf_types::resolve;
 use std::alloc::Global;
 use std::test::Fail;
 
 // The checked program of a text.
 fn checked(alloc: Global, text: &str) -> Option<Checked> {
-    let program = read_program(alloc, text.as_bytes()).ok()?;
+    let raw = parse(alloc, text.as_bytes()).ok()?;
+    let program = resolve(alloc, raw).ok()?;
     check(alloc, program).ok()
 }
 

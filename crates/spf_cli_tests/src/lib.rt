@@ -1,0 +1,9 @@
+//! Tests of the command line, over files and sinks in memory. They have a crate of their own, since a crate with tests is proved twice.
+#![tactic(auto)]
+
+#[cfg(test)]
+mod answering;
+#[cfg(test)]
+mod explaining;
+#[cfg(test)]
+mod planning;
