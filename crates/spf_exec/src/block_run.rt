@@ -70,7 +70,7 @@ fn perform_value<M: Memory>(
         memory.old memory.new result (state slots.new (M.output memory.new)) }
     ensures others { Leaves (block_changes (block_of statements.now)) slots.old slots.new }
 {
-    entry::exec_block(context, below, statements, slots, scratch, memory)?;
+    entry::perform_statements(context, below, statements, slots, scratch, memory)?;
     entry::eval(context, below, line, answer, slots, scratch, memory)
 }
 
@@ -197,7 +197,7 @@ fn perform_pair<M: Memory>(
         ),
         Part::Consumer => {
             set_carried(slots, pair.carried, value);
-            entry::exec_block(context, below, &pair.consumer, slots, scratch, memory)?;
+            entry::perform_statements(context, below, &pair.consumer, slots, scratch, memory)?;
             Ok(value)
         }
         Part::Predictor => {

@@ -41,7 +41,7 @@ pub(crate) fn eval<M: Memory>(
 }
 
 /// Performs statements, one after another.
-pub(crate) fn exec_block<M: Memory>(
+pub(crate) fn perform_statements<M: Memory>(
     context: &Context,
     below: usize,
     statements: &[Stmt],
@@ -60,7 +60,7 @@ pub(crate) fn exec_block<M: Memory>(
     ensures others { Leaves (block_changes (block_of statements.now)) slots.old slots.new }
 {
     let mut halt = Halt::NoMemory;
-    match run::exec_block(
+    match run::exec_statements(
         context, below, statements, slots, scratch, memory, &mut halt,
     ) {
         Ok(()) => Ok(()),

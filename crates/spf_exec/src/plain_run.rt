@@ -12,7 +12,7 @@ ghost use Rattle.spf_layout.specs.Instance.{program_of};
 ghost use Rattle.spf_layout.specs.RunErrors.{IsTooMany};
 
 use crate::context::Context;
-use crate::entry::exec_block;
+use crate::entry::perform_statements;
 use crate::frame::Frame;
 use crate::memory::Halt;
 use crate::plain::Plain;
@@ -42,7 +42,7 @@ pub(crate) fn run_main(
         (state slots.new memory.new.output.items) }
     ensures cells { length memory.new.cells.items ≡ length memory.old.cells.items }
 {
-    exec_block(
+    perform_statements(
         context,
         context.functions.len(),
         main,

@@ -3,11 +3,11 @@ use Rattle.std.proofs.lemmas.Int.{to_z-of_z}
 use Rattle.spf_exec.proofs.Steps.{at_once, then_value, exit_halt}
 use Rattle.spf_exec.proofs.block_run.perform_pair.Goals as goal
 
-pub returns-in_err-exec_block-in-Consumer-clause-performs : goal.returns-in_err-exec_block-in-Consumer-clause-performs
-returns-in_err-exec_block-in-Consumer-clause-performs g c =
-    rw c.in-Consumer.is (exit_halt _ c.from_residual.ensures.1 (rw (c.deref-in-Consumer.ensures.value, c.set_carried.ensures, to_z-of_z w64 c.args.value c.ranges.value) at c.in_err-exec_block-in-Consumer.ensures.performs))
+pub returns-in_err-perform_statements-in-Consumer-clause-performs : goal.returns-in_err-perform_statements-in-Consumer-clause-performs
+returns-in_err-perform_statements-in-Consumer-clause-performs g c =
+    rw c.in-Consumer.is (exit_halt _ c.from_residual.ensures.1 (rw (c.deref-in-Consumer.ensures.value, c.set_carried.ensures, to_z-of_z w64 c.args.value c.ranges.value) at c.in_err-perform_statements-in-Consumer.ensures.performs))
 
-pub returns-in_ok-exec_block-in-Consumer-clause-performs : goal.returns-in_ok-exec_block-in-Consumer-clause-performs
-returns-in_ok-exec_block-in-Consumer-clause-performs g c =
+pub returns-in_ok-perform_statements-in-Consumer-clause-performs : goal.returns-in_ok-perform_statements-in-Consumer-clause-performs
+returns-in_ok-perform_statements-in-Consumer-clause-performs g c =
     rw (c.in-Consumer.is, to_z-of_z w64 c.args.value c.ranges.value)
-    (then_value _ g.met.M.Memory.laws (rw (c.deref-in-Consumer.ensures.value, c.set_carried.ensures, to_z-of_z w64 c.args.value c.ranges.value) at c.in_ok-exec_block-in-Consumer.ensures.performs) (at_once g.met.M.Memory.laws _ _ _))
+    (then_value _ g.met.M.Memory.laws (rw (c.deref-in-Consumer.ensures.value, c.set_carried.ensures, to_z-of_z w64 c.args.value c.ranges.value) at c.in_ok-perform_statements-in-Consumer.ensures.performs) (at_once g.met.M.Memory.laws _ _ _))

@@ -4,6 +4,6 @@ use Rattle.spf_exec.proofs.plain_run.run_main.Goals as goal
 
 pub returns : goal.returns
 returns c = record {
-  outcome = plain_outcome (λ (m : Plain). m.cells.items) _ _ _ _ _ _ c.exec_block.ensures.performs;
-  cells = c.exec_block.ensures.cells;
+  outcome = plain_outcome (λ (m : Plain). m.cells.items) _ _ _ _ _ _ c.perform_statements.ensures.performs;
+  cells = c.perform_statements.ensures.cells;
 }

@@ -44,8 +44,8 @@ call-split_at_mut-own-requires g t c =
     let count = slot_count c.in-Some.callee.now c.len.result (search rules) in
     omega (arith, r, count, c.requires.room)
 
-pub call-exec_block-requires : goal.call-exec_block-requires
-call-exec_block-requires g t c =
+pub call-exec_statements-requires : goal.call-exec_statements-requires
+call-exec_statements-requires g t c =
     let p = c.in-Some.ensures {u = tt} in
     let m : t ≡ weight_before (map function c.args.context.now.functions.now) c.args.below + 2 * exprs_weight c.args.arguments.now + 1 = sym c.decreases in
     let r = room_of (map function c.args.context.now.functions.now) c.args.function c.args.below (function c.in-Some.callee.now) p.1 p.2 in
@@ -55,8 +55,8 @@ call-exec_block-requires g t c =
     let k : weight_before (map function c.args.context.now.functions.now) c.args.function + 2 * stmts_weight c.deref.result.now < t = omega (arith, m, q, ap weight_of p.2, d) in
     λ κs h. (k, (h, (rw c.in_ok-pass.ensures.cells c.requires.within, (c.requires.short, omega (arith, r, count, c.requires.room, c.split_at_mut-own.ensures.back_len, ap (λ ss. block_measure (call_slots c.args.context.now c.args.function) (block ss)) c.deref.ensures.value)))))
 
-pub call-returns-in_err-exec_block-clause-performs : goal.call-returns-in_err-exec_block-clause-performs
-call-returns-in_err-exec_block-clause-performs g t c =
+pub call-returns-in_err-exec_statements-clause-performs : goal.call-returns-in_err-exec_statements-clause-performs
+call-returns-in_err-exec_statements-clause-performs g t c =
     let p = c.in-Some.ensures {u = tt} in
     let count = slot_count c.in-Some.callee.now c.len.result (search rules) in
     let vs : List ℤ = take (length c.args.arguments.now) (drop 0 c.pass.new.scratch) in
@@ -64,7 +64,7 @@ call-returns-in_err-exec_block-clause-performs g t c =
     let le : length c.args.arguments.now ≤ c.len.result = omega (arith, count, p.3) in
     let own = own_is c.pass.new.scratch _ _ (length c.args.arguments.now) c.len.result c.split_at_mut-own.ensures.value c.split_at_mut-own.ensures.front_len le in
     let same = ap (λ k. own_slots k vs) (sym count) ∙ own ∙ sym c.clear.ensures in
-    let run = in_own (own_slots (length (function c.in-Some.callee.now).slots) vs) (stmts_mean (environment c.args.context.now c.args.function) c.in-Some.callee.now.body.items >> expr_means (environment c.args.context.now c.args.function) c.in-Some.callee.now.answer_line c.in-Some.callee.now.answer) (state c.args.slots.now (g.M.Memory.output c.pass.new.memory)) (exit_left (λ _. expr_means (environment c.args.context.now c.args.function) c.in-Some.callee.now.answer_line c.in-Some.callee.now.answer) (err_from_is_err_and c.from_residual-in_err-exec_block.result c.from_residual-in_err-exec_block.ensures.1).1 (rw (c.deref.ensures.value, ← same) at c.in_err-exec_block.ensures.performs)) in
+    let run = in_own (own_slots (length (function c.in-Some.callee.now).slots) vs) (stmts_mean (environment c.args.context.now c.args.function) c.in-Some.callee.now.body.items >> expr_means (environment c.args.context.now c.args.function) c.in-Some.callee.now.answer_line c.in-Some.callee.now.answer) (state c.args.slots.now (g.M.Memory.output c.pass.new.memory)) (exit_left (λ _. expr_means (environment c.args.context.now c.args.function) c.in-Some.callee.now.answer_line c.in-Some.callee.now.answer) (err_from_is_err_and c.from_residual-in_err-exec_statements.result c.from_residual-in_err-exec_statements.ensures.1).1 (rw (c.deref.ensures.value, ← same) at c.in_err-exec_statements.ensures.performs)) in
     along (call_means-is (environment c.args.context.now c.args.below) c.args.line c.args.function c.args.arguments.now true p.0) (then_value _ g.met.M.Memory.laws c.in_ok-pass.ensures.performs (along called run))
 
 pub call-eval_value-requires : goal.call-eval_value-requires
@@ -75,7 +75,7 @@ call-eval_value-requires g t c =
     let count = slot_count c.in-Some.callee.now c.len.result (search rules) in
     let q = depth_at (map function c.args.context.now.functions.now) c.args.function c.args.below p.1 in
     let k : weight_before (map function c.args.context.now.functions.now) c.args.function + 2 * expr_weight c.in-Some.callee.now.answer + 1 < t = omega (arith, m, q, ap weight_of p.2) in
-    λ κs h. (k, (h, (rw (c.in_ok-exec_block.ensures.cells, c.in_ok-pass.ensures.cells) c.requires.within, (c.requires.short, omega (arith, r, count, c.requires.room, c.split_at_mut-own.ensures.back_len)))))
+    λ κs h. (k, (h, (rw (c.in_ok-exec_statements.ensures.cells, c.in_ok-pass.ensures.cells) c.requires.within, (c.requires.short, omega (arith, r, count, c.requires.room, c.split_at_mut-own.ensures.back_len)))))
 
 pub call-returns-clause-performs : goal.call-returns-clause-performs
 call-returns-clause-performs g t c =
@@ -86,7 +86,7 @@ call-returns-clause-performs g t c =
     let le : length c.args.arguments.now ≤ c.len.result = omega (arith, count, p.3) in
     let own = own_is c.pass.new.scratch _ _ (length c.args.arguments.now) c.len.result c.split_at_mut-own.ensures.value c.split_at_mut-own.ensures.front_len le in
     let same = ap (λ k. own_slots k vs) (sym count) ∙ own ∙ sym c.clear.ensures in
-    let run = in_own (own_slots (length (function c.in-Some.callee.now).slots) vs) (stmts_mean (environment c.args.context.now c.args.function) c.in-Some.callee.now.body.items >> expr_means (environment c.args.context.now c.args.function) c.in-Some.callee.now.answer_line c.in-Some.callee.now.answer) (state c.args.slots.now (g.M.Memory.output c.pass.new.memory)) (then_value (λ _. expr_means (environment c.args.context.now c.args.function) c.in-Some.callee.now.answer_line c.in-Some.callee.now.answer) g.met.M.Memory.laws (rw (c.deref.ensures.value, ← same) at c.in_ok-exec_block.ensures.performs) c.eval_value.ensures.performs) in
+    let run = in_own (own_slots (length (function c.in-Some.callee.now).slots) vs) (stmts_mean (environment c.args.context.now c.args.function) c.in-Some.callee.now.body.items >> expr_means (environment c.args.context.now c.args.function) c.in-Some.callee.now.answer_line c.in-Some.callee.now.answer) (state c.args.slots.now (g.M.Memory.output c.pass.new.memory)) (then_value (λ _. expr_means (environment c.args.context.now c.args.function) c.in-Some.callee.now.answer_line c.in-Some.callee.now.answer) g.met.M.Memory.laws (rw (c.deref.ensures.value, ← same) at c.in_ok-exec_statements.ensures.performs) c.eval_value.ensures.performs) in
     along (call_means-is (environment c.args.context.now c.args.below) c.args.line c.args.function c.args.arguments.now true p.0) (then_value _ g.met.M.Memory.laws c.in_ok-pass.ensures.performs (along called run))
 
 pub compute-returns-in_err-x-in-Neg-clause-performs : goal.compute-returns-in_err-x-in-Neg-clause-performs
@@ -321,8 +321,8 @@ exec-returns-in_err-test-in-If-clause-performs g t c =
     (along (kind_means-if (environment c.args.context.now c.args.below) c.args.line c.in-If.cond c.in-If.first c.in-If.second)
     (exit_left _ (err_from_is_err_and c.from_residual-in_err-test-in-If.result c.from_residual-in_err-test-in-If.ensures.1).1 c.in_err-test-in-If.ensures.performs))
 
-pub exec-exec_block-requires : goal.exec-exec_block-requires
-exec-exec_block-requires g t c =
+pub exec-exec_statements-requires : goal.exec-exec_statements-requires
+exec-exec_statements-requires g t c =
     let m : t ≡ weight_before (map function c.args.context.now.functions.now) c.args.below + 2 * kind_weight c.args.kind.now + 1 = sym c.decreases in
     let e = ap kind_weight c.in-If.is ∙ kind_weight-if c.in-If.cond c.in-If.first c.in-If.second in
     let d = ap stmts_weight c.deref.ensures.value in
@@ -331,8 +331,8 @@ exec-exec_block-requires g t c =
     let part = ap (λ ss. block_measure (call_slots c.args.context.now c.args.below) (block ss)) c.deref.ensures.value in
     λ κs h. (k, (h, (rw c.test.ensures.cells c.requires.within, (c.requires.short, omega (arith, c.requires.room, room, part)))))
 
-pub exec-exec_block-requires-else-is_empty : goal.exec-exec_block-requires-else-is_empty
-exec-exec_block-requires-else-is_empty g t c =
+pub exec-exec_statements-requires-else-is_empty : goal.exec-exec_statements-requires-else-is_empty
+exec-exec_statements-requires-else-is_empty g t c =
     let m : t ≡ weight_before (map function c.args.context.now.functions.now) c.args.below + 2 * kind_weight c.args.kind.now + 1 = sym c.decreases in
     let e = ap kind_weight c.in-If.is ∙ kind_weight-if c.in-If.cond c.in-If.first c.in-If.second in
     let d = ap stmts_weight c.deref-else-is_empty.ensures.value in
@@ -415,7 +415,7 @@ pub exec-returns-then-branch-clause-performs : goal.exec-returns-then-branch-cla
 exec-returns-then-branch-clause-performs g t c =
     rw c.in-If.is
     (along (kind_means-if (environment c.args.context.now c.args.below) c.args.line c.in-If.cond c.in-If.first c.in-If.second)
-    (then_value _ g.met.M.Memory.laws c.in_ok-test-in-If.ensures.performs (rw (c.if-branch.true, ← c.deref.ensures.value) c.exec_block.ensures.performs)))
+    (then_value _ g.met.M.Memory.laws c.in_ok-test-in-If.ensures.performs (rw (c.if-branch.true, ← c.deref.ensures.value) c.exec_statements.ensures.performs)))
 
 pub exec-returns-then-is_empty-clause-performs : goal.exec-returns-then-is_empty-clause-performs
 exec-returns-then-is_empty-clause-performs g t c =
@@ -428,7 +428,7 @@ pub exec-returns-else-is_empty-clause-performs : goal.exec-returns-else-is_empty
 exec-returns-else-is_empty-clause-performs g t c =
     rw c.in-If.is
     (along (kind_means-if (environment c.args.context.now c.args.below) c.args.line c.in-If.cond c.in-If.first c.in-If.second)
-    (then_value _ g.met.M.Memory.laws c.in_ok-test-in-If.ensures.performs (rw (c.if-branch.false, ← c.deref-else-is_empty.ensures.value) c.exec_block-else-is_empty.ensures.performs)))
+    (then_value _ g.met.M.Memory.laws c.in_ok-test-in-If.ensures.performs (rw (c.if-branch.false, ← c.deref-else-is_empty.ensures.value) c.exec_statements-else-is_empty.ensures.performs)))
 
 pub exec-returns-in_ok-high-in-For-clause-performs : goal.exec-returns-in_ok-high-in-For-clause-performs
 exec-returns-in_ok-high-in-For-clause-performs g t c =
@@ -454,22 +454,22 @@ pub exec-returns-in-Fold-clause-performs : goal.exec-returns-in-Fold-clause-perf
 exec-returns-in-Fold-clause-performs g t c =
     rw c.in-Fold.is (along (kind_means-fold (environment c.args.context.now c.args.below) c.args.line c.in-Fold.fold) (rw (← c.deref-in-Fold.ensures) c.exec_fold.ensures.performs))
 
-pub exec_block-exec-requires : goal.exec_block-exec-requires
-exec_block-exec-requires g t c =
+pub exec_statements-exec-requires : goal.exec_statements-exec-requires
+exec_statements-exec-requires g t c =
     let m : t ≡ weight_before (map function c.args.context.now.functions.now) c.args.below + 2 * stmts_weight c.args.statements.now = sym c.decreases in
     let w = weight_at c.args.statements.now c.loop-statement.statement-index c.statement-item.result c.loop-statement-test.true c.statement-item.is in
     let k : weight_before (map function c.args.context.now.functions.now) c.args.below + 2 * kind_weight c.statement-item.result.kind + 1 < t = omega (arith, m, w) in
     let part = room_at (call_slots c.args.context.now c.args.below) refl c.args.statements.now c.loop-statement.statement-index c.statement-item.result c.loop-statement-test.true c.statement-item.is in
     λ κs h. (k, (h, (rw c.loop-statement.invariant.cells c.requires.within, (c.requires.short, omega (arith, c.requires.room, part)))))
 
-pub exec_block-returns-in_err-exec-clause-performs : goal.exec_block-returns-in_err-exec-clause-performs
-exec_block-returns-in_err-exec-clause-performs g t c =
+pub exec_statements-returns-in_err-exec-clause-performs : goal.exec_statements-returns-in_err-exec-clause-performs
+exec_statements-returns-in_err-exec-clause-performs g t c =
     c.loop-statement.invariant.goes.with _ _ _
     (along (next_statement (environment c.args.context.now c.args.below) c.args.statements.now c.loop-statement.statement-index c.statement-item.result c.loop-statement-test.true c.statement-item.is)
     (exit_left _ (err_from_is_err_and c.from_residual.result c.from_residual.ensures.1).1 c.in_err-exec.ensures.performs))
 
-pub exec_block-loop-statement-preserved : goal.exec_block-loop-statement-preserved
-exec_block-loop-statement-preserved g t c =
+pub exec_statements-loop-statement-preserved : goal.exec_statements-loop-statement-preserved
+exec_statements-loop-statement-preserved g t c =
     record {
       goes = steps _ g.met.M.Memory.laws (still (next_statement (environment c.args.context.now c.args.below) c.args.statements.now c.loop-statement.statement-index c.statement-item.result c.loop-statement-test.true c.statement-item.is) c.loop-statement.invariant.goes) c.in_ok-exec.ensures.performs;
       cells = c.in_ok-exec.ensures.cells ∙ c.loop-statement.invariant.cells;
@@ -485,15 +485,15 @@ exec_blocks-returns-in_err-turn-clause-performs g t c =
     let k1 = still (block_turn (environment c.args.context.now c.args.below) c.args.body.now c.args.next_line c.args.next.now i c.args.high v c.args.block_slot c.args.carried_slot h) k0 in
     k1.with _ _ _ (exit_left (λ _. sets c.args.block_slot i >> (sets c.args.carried_slot v >> after_sets (environment c.args.context.now c.args.below) c.args.body.now c.args.next_line c.args.next.now i c.args.high c.args.block_slot c.args.carried_slot)) (err_from_is_err_and c.from_residual.result c.from_residual.ensures.1).1 c.in_err-turn.ensures.performs)
 
-pub exec_blocks-returns-in_err-exec_block-clause-performs : goal.exec_blocks-returns-in_err-exec_block-clause-performs
-exec_blocks-returns-in_err-exec_block-clause-performs g t c =
+pub exec_blocks-returns-in_err-exec_statements-clause-performs : goal.exec_blocks-returns-in_err-exec_statements-clause-performs
+exec_blocks-returns-in_err-exec_statements-clause-performs g t c =
     let i : ℤ = to_z w64 c.loop-k.k-bits in
     let v : ℤ = to_z w64 c.loop-k.value-bits in
     let k0 = rw (to_z-of_z w64 c.args.low c.ranges.low, to_z-of_z w64 c.args.high c.ranges.high, to_z-of_z w64 c.args.start c.ranges.start) at c.loop-k.invariant.goes in
     let h : i <ℤ c.args.high = grind (arith, ints) in
     let k1 = still (block_turn (environment c.args.context.now c.args.below) c.args.body.now c.args.next_line c.args.next.now i c.args.high v c.args.block_slot c.args.carried_slot h) k0 in
     let k2 = steps (λ _. sets c.args.block_slot i >> (sets c.args.carried_slot v >> after_sets (environment c.args.context.now c.args.below) c.args.body.now c.args.next_line c.args.next.now i c.args.high c.args.block_slot c.args.carried_slot)) g.met.M.Memory.laws k1 c.in_ok-turn.ensures.performs in
-    k2.with _ _ _ (exit_left (λ _. expr_means (environment c.args.context.now c.args.below) c.args.next_line c.args.next.now >>= λ w. fold_blocks (int_gap (i +ℤ pos 1) c.args.high) (i +ℤ pos 1) c.args.block_slot c.args.carried_slot w (block_value (environment c.args.context.now c.args.below) (block c.args.body.now) c.args.next_line (expression c.args.next.now))) (err_from_is_err_and c.from_residual-in_err-exec_block.result c.from_residual-in_err-exec_block.ensures.1).1 (rw (c.write_slot-in-loop-k.ensures, c.write_slot.ensures) at c.in_err-exec_block.ensures.performs))
+    k2.with _ _ _ (exit_left (λ _. expr_means (environment c.args.context.now c.args.below) c.args.next_line c.args.next.now >>= λ w. fold_blocks (int_gap (i +ℤ pos 1) c.args.high) (i +ℤ pos 1) c.args.block_slot c.args.carried_slot w (block_value (environment c.args.context.now c.args.below) (block c.args.body.now) c.args.next_line (expression c.args.next.now))) (err_from_is_err_and c.from_residual-in_err-exec_statements.result c.from_residual-in_err-exec_statements.ensures.1).1 (rw (c.write_slot-in-loop-k.ensures, c.write_slot.ensures) at c.in_err-exec_statements.ensures.performs))
 
 pub exec_blocks-returns-in_err-value-clause-performs : goal.exec_blocks-returns-in_err-value-clause-performs
 exec_blocks-returns-in_err-value-clause-performs g t c =
@@ -503,7 +503,7 @@ exec_blocks-returns-in_err-value-clause-performs g t c =
     let h : i <ℤ c.args.high = grind (arith, ints) in
     let k1 = still (block_turn (environment c.args.context.now c.args.below) c.args.body.now c.args.next_line c.args.next.now i c.args.high v c.args.block_slot c.args.carried_slot h) k0 in
     let k2 = steps (λ _. sets c.args.block_slot i >> (sets c.args.carried_slot v >> after_sets (environment c.args.context.now c.args.below) c.args.body.now c.args.next_line c.args.next.now i c.args.high c.args.block_slot c.args.carried_slot)) g.met.M.Memory.laws k1 c.in_ok-turn.ensures.performs in
-    let k3 = steps (λ _. expr_means (environment c.args.context.now c.args.below) c.args.next_line c.args.next.now >>= λ w. fold_blocks (int_gap (i +ℤ pos 1) c.args.high) (i +ℤ pos 1) c.args.block_slot c.args.carried_slot w (block_value (environment c.args.context.now c.args.below) (block c.args.body.now) c.args.next_line (expression c.args.next.now))) g.met.M.Memory.laws k2 (rw (c.write_slot-in-loop-k.ensures, c.write_slot.ensures) at c.in_ok-exec_block.ensures.performs) in
+    let k3 = steps (λ _. expr_means (environment c.args.context.now c.args.below) c.args.next_line c.args.next.now >>= λ w. fold_blocks (int_gap (i +ℤ pos 1) c.args.high) (i +ℤ pos 1) c.args.block_slot c.args.carried_slot w (block_value (environment c.args.context.now c.args.below) (block c.args.body.now) c.args.next_line (expression c.args.next.now))) g.met.M.Memory.laws k2 (rw (c.write_slot-in-loop-k.ensures, c.write_slot.ensures) at c.in_ok-exec_statements.ensures.performs) in
     k3.with _ _ _ (exit_left (λ w. fold_blocks (int_gap (i +ℤ pos 1) c.args.high) (i +ℤ pos 1) c.args.block_slot c.args.carried_slot w (block_value (environment c.args.context.now c.args.below) (block c.args.body.now) c.args.next_line (expression c.args.next.now))) (err_from_is_err_and c.from_residual-in_err-value.result c.from_residual-in_err-value.ensures.1).1 c.in_err-value.ensures.performs)
 
 pub exec_blocks-loop-k-preserved : goal.exec_blocks-loop-k-preserved
@@ -514,14 +514,14 @@ exec_blocks-loop-k-preserved g t c =
     let h : i <ℤ c.args.high = grind (arith, ints) in
     let k1 = still (block_turn (environment c.args.context.now c.args.below) c.args.body.now c.args.next_line c.args.next.now i c.args.high v c.args.block_slot c.args.carried_slot h) k0 in
     let k2 = steps (λ _. sets c.args.block_slot i >> (sets c.args.carried_slot v >> after_sets (environment c.args.context.now c.args.below) c.args.body.now c.args.next_line c.args.next.now i c.args.high c.args.block_slot c.args.carried_slot)) g.met.M.Memory.laws k1 c.in_ok-turn.ensures.performs in
-    let k3 = steps (λ _. expr_means (environment c.args.context.now c.args.below) c.args.next_line c.args.next.now >>= λ w. fold_blocks (int_gap (i +ℤ pos 1) c.args.high) (i +ℤ pos 1) c.args.block_slot c.args.carried_slot w (block_value (environment c.args.context.now c.args.below) (block c.args.body.now) c.args.next_line (expression c.args.next.now))) g.met.M.Memory.laws k2 (rw (c.write_slot-in-loop-k.ensures, c.write_slot.ensures) at c.in_ok-exec_block.ensures.performs) in
+    let k3 = steps (λ _. expr_means (environment c.args.context.now c.args.below) c.args.next_line c.args.next.now >>= λ w. fold_blocks (int_gap (i +ℤ pos 1) c.args.high) (i +ℤ pos 1) c.args.block_slot c.args.carried_slot w (block_value (environment c.args.context.now c.args.below) (block c.args.body.now) c.args.next_line (expression c.args.next.now))) g.met.M.Memory.laws k2 (rw (c.write_slot-in-loop-k.ensures, c.write_slot.ensures) at c.in_ok-exec_statements.ensures.performs) in
     let f : FitsSigned w64 (i +ℤ pos 1) = next_fits i c.args.high h (to_z_fits c.loop-k.k-bits c.loop-k.auto.k) c.ranges.high in
     let fv : FitsSigned w64 c.in_ok-value.value = search rules in
     rw (to_z-of_z w64 (i +ℤ pos 1) f, to_z-of_z w64 c.args.low c.ranges.low, to_z-of_z w64 c.args.high c.ranges.high, to_z-of_z w64 c.args.start c.ranges.start, to_z-of_z w64 c.in_ok-value.value fv)
     (record {
       goes = steps (λ w. fold_blocks (int_gap (i +ℤ pos 1) c.args.high) (i +ℤ pos 1) c.args.block_slot c.args.carried_slot w (block_value (environment c.args.context.now c.args.below) (block c.args.body.now) c.args.next_line (expression c.args.next.now))) g.met.M.Memory.laws k3 c.in_ok-value.ensures.performs;
-      cells = c.in_ok-value.ensures.cells ∙ c.in_ok-exec_block.ensures.cells ∙ c.in_ok-turn.ensures.cells ∙ c.loop-k.invariant.cells;
-      others = sets-then c.args.carried_slot c.args.block_slot v i c.loop-k.invariant.others c.write_slot.ensures c.write_slot-in-loop-k.ensures c.in_ok-exec_block.ensures.others;
+      cells = c.in_ok-value.ensures.cells ∙ c.in_ok-exec_statements.ensures.cells ∙ c.in_ok-turn.ensures.cells ∙ c.loop-k.invariant.cells;
+      others = sets-then c.args.carried_slot c.args.block_slot v i c.loop-k.invariant.others c.write_slot.ensures c.write_slot-in-loop-k.ensures c.in_ok-exec_statements.ensures.others;
     })
 
 pub exec_blocks-returns-clause-performs : goal.exec_blocks-returns-clause-performs
@@ -618,8 +618,8 @@ exec_for-returns-in_err-turn-clause-performs g t c =
     let k1 = still (for_turn i c.args.high c.args.slot body h) k in
     k1.with _ _ _ (exit_left (λ _. sets c.args.slot i >> (body >> rest)) (err_from_is_err_and c.from_residual.result c.from_residual.ensures.1).1 c.in_err-turn.ensures.performs)
 
-pub exec_for-returns-in_err-exec_block-clause-performs : goal.exec_for-returns-in_err-exec_block-clause-performs
-exec_for-returns-in_err-exec_block-clause-performs g t c =
+pub exec_for-returns-in_err-exec_statements-clause-performs : goal.exec_for-returns-in_err-exec_statements-clause-performs
+exec_for-returns-in_err-exec_statements-clause-performs g t c =
     let i : ℤ = to_z w64 c.loop-i.i-bits in
     let h : i <ℤ c.args.high = grind (arith, ints) in
     let k = rw (to_z-of_z w64 c.args.low c.ranges.low, to_z-of_z w64 c.args.high c.ranges.high) at c.loop-i.invariant.goes in
@@ -627,7 +627,7 @@ exec_for-returns-in_err-exec_block-clause-performs g t c =
     let rest : Meaning (Unit {0}) = for_turns (int_gap (i +ℤ pos 1) c.args.high) (i +ℤ pos 1) c.args.slot body in
     let k1 = still (for_turn i c.args.high c.args.slot body h) k in
     let k2 = steps (λ _. sets c.args.slot i >> (body >> rest)) g.met.M.Memory.laws k1 c.in_ok-turn.ensures.performs in
-    k2.with _ _ _ (exit_left (λ _. rest) (err_from_is_err_and c.from_residual-in_err-exec_block.result c.from_residual-in_err-exec_block.ensures.1).1 (rw c.write_slot.ensures at c.in_err-exec_block.ensures.performs))
+    k2.with _ _ _ (exit_left (λ _. rest) (err_from_is_err_and c.from_residual-in_err-exec_statements.result c.from_residual-in_err-exec_statements.ensures.1).1 (rw c.write_slot.ensures at c.in_err-exec_statements.ensures.performs))
 
 pub exec_for-loop-i-preserved : goal.exec_for-loop-i-preserved
 exec_for-loop-i-preserved g t c =
@@ -641,9 +641,9 @@ exec_for-loop-i-preserved g t c =
     let f : FitsSigned w64 (i +ℤ pos 1) = next_fits i c.args.high h (to_z_fits c.loop-i.i-bits c.loop-i.auto.i) c.ranges.high in
     rw (to_z-of_z w64 (i +ℤ pos 1) f, to_z-of_z w64 c.args.low c.ranges.low, to_z-of_z w64 c.args.high c.ranges.high)
     (record {
-      goes = steps (λ _. rest) g.met.M.Memory.laws k2 (rw c.write_slot.ensures at c.in_ok-exec_block.ensures.performs);
-      cells = c.in_ok-exec_block.ensures.cells ∙ c.in_ok-turn.ensures.cells ∙ c.loop-i.invariant.cells;
-      others = set-then c.args.slot i c.loop-i.invariant.others c.write_slot.ensures c.in_ok-exec_block.ensures.others;
+      goes = steps (λ _. rest) g.met.M.Memory.laws k2 (rw c.write_slot.ensures at c.in_ok-exec_statements.ensures.performs);
+      cells = c.in_ok-exec_statements.ensures.cells ∙ c.in_ok-turn.ensures.cells ∙ c.loop-i.invariant.cells;
+      others = set-then c.args.slot i c.loop-i.invariant.others c.write_slot.ensures c.in_ok-exec_statements.ensures.others;
     })
 
 pub exec_while-returns-in_err-test-clause-performs : goal.exec_while-returns-in_err-test-clause-performs
@@ -663,14 +663,14 @@ exec_while-returns-in_err-turn-clause-performs g t c =
 pub exec_while-loop-halt-preserved : goal.exec_while-loop-halt-preserved
 exec_while-loop-halt-preserved g t c =
     record {
-      goes = steps (λ _. while_turns c.args.line (c.loop-halt.left - 1) (cond_means (environment c.args.context.now c.args.below) c.args.line c.args.cond.now) (stmts_mean (environment c.args.context.now c.args.below) c.args.body.now)) g.met.M.Memory.laws (steps (λ _. stmts_mean (environment c.args.context.now c.args.below) c.args.body.now >> while_turns c.args.line (c.loop-halt.left - 1) (cond_means (environment c.args.context.now c.args.below) c.args.line c.args.cond.now) (stmts_mean (environment c.args.context.now c.args.below) c.args.body.now)) g.met.M.Memory.laws (still (while_turn c.args.line c.loop-halt.left (cond_means (environment c.args.context.now c.args.below) c.args.line c.args.cond.now) (stmts_mean (environment c.args.context.now c.args.below) c.args.body.now) c.if-left-eq0.false) (rw c.if-branch.true at (steps _ g.met.M.Memory.laws (still (while_is c.args.line c.loop-halt.left (cond_means (environment c.args.context.now c.args.below) c.args.line c.args.cond.now) (stmts_mean (environment c.args.context.now c.args.below) c.args.body.now)) c.loop-halt.invariant.goes) c.in_ok-test.ensures.performs))) c.in_ok-turn.ensures.performs) c.in_ok-exec_block.ensures.performs;
-      cells = c.in_ok-exec_block.ensures.cells ∙ c.in_ok-turn.ensures.cells ∙ c.in_ok-test.ensures.cells ∙ c.loop-halt.invariant.cells;
-      others = leaves-then c.loop-halt.invariant.others c.in_ok-exec_block.ensures.others;
+      goes = steps (λ _. while_turns c.args.line (c.loop-halt.left - 1) (cond_means (environment c.args.context.now c.args.below) c.args.line c.args.cond.now) (stmts_mean (environment c.args.context.now c.args.below) c.args.body.now)) g.met.M.Memory.laws (steps (λ _. stmts_mean (environment c.args.context.now c.args.below) c.args.body.now >> while_turns c.args.line (c.loop-halt.left - 1) (cond_means (environment c.args.context.now c.args.below) c.args.line c.args.cond.now) (stmts_mean (environment c.args.context.now c.args.below) c.args.body.now)) g.met.M.Memory.laws (still (while_turn c.args.line c.loop-halt.left (cond_means (environment c.args.context.now c.args.below) c.args.line c.args.cond.now) (stmts_mean (environment c.args.context.now c.args.below) c.args.body.now) c.if-left-eq0.false) (rw c.if-branch.true at (steps _ g.met.M.Memory.laws (still (while_is c.args.line c.loop-halt.left (cond_means (environment c.args.context.now c.args.below) c.args.line c.args.cond.now) (stmts_mean (environment c.args.context.now c.args.below) c.args.body.now)) c.loop-halt.invariant.goes) c.in_ok-test.ensures.performs))) c.in_ok-turn.ensures.performs) c.in_ok-exec_statements.ensures.performs;
+      cells = c.in_ok-exec_statements.ensures.cells ∙ c.in_ok-turn.ensures.cells ∙ c.in_ok-test.ensures.cells ∙ c.loop-halt.invariant.cells;
+      others = leaves-then c.loop-halt.invariant.others c.in_ok-exec_statements.ensures.others;
     }
 
-pub exec_while-returns-in_err-exec_block-clause-performs : goal.exec_while-returns-in_err-exec_block-clause-performs
-exec_while-returns-in_err-exec_block-clause-performs g t c =
-    (steps (λ _. stmts_mean (environment c.args.context.now c.args.below) c.args.body.now >> while_turns c.args.line (c.loop-halt.left - 1) (cond_means (environment c.args.context.now c.args.below) c.args.line c.args.cond.now) (stmts_mean (environment c.args.context.now c.args.below) c.args.body.now)) g.met.M.Memory.laws (still (while_turn c.args.line c.loop-halt.left (cond_means (environment c.args.context.now c.args.below) c.args.line c.args.cond.now) (stmts_mean (environment c.args.context.now c.args.below) c.args.body.now) c.if-left-eq0.false) (rw c.if-branch.true at (steps _ g.met.M.Memory.laws (still (while_is c.args.line c.loop-halt.left (cond_means (environment c.args.context.now c.args.below) c.args.line c.args.cond.now) (stmts_mean (environment c.args.context.now c.args.below) c.args.body.now)) c.loop-halt.invariant.goes) c.in_ok-test.ensures.performs))) c.in_ok-turn.ensures.performs).with _ _ _ (exit_left (λ _. while_turns c.args.line (c.loop-halt.left - 1) (cond_means (environment c.args.context.now c.args.below) c.args.line c.args.cond.now) (stmts_mean (environment c.args.context.now c.args.below) c.args.body.now)) (err_from_is_err_and c.from_residual-in_err-exec_block.result c.from_residual-in_err-exec_block.ensures.1).1 c.in_err-exec_block.ensures.performs)
+pub exec_while-returns-in_err-exec_statements-clause-performs : goal.exec_while-returns-in_err-exec_statements-clause-performs
+exec_while-returns-in_err-exec_statements-clause-performs g t c =
+    (steps (λ _. stmts_mean (environment c.args.context.now c.args.below) c.args.body.now >> while_turns c.args.line (c.loop-halt.left - 1) (cond_means (environment c.args.context.now c.args.below) c.args.line c.args.cond.now) (stmts_mean (environment c.args.context.now c.args.below) c.args.body.now)) g.met.M.Memory.laws (still (while_turn c.args.line c.loop-halt.left (cond_means (environment c.args.context.now c.args.below) c.args.line c.args.cond.now) (stmts_mean (environment c.args.context.now c.args.below) c.args.body.now) c.if-left-eq0.false) (rw c.if-branch.true at (steps _ g.met.M.Memory.laws (still (while_is c.args.line c.loop-halt.left (cond_means (environment c.args.context.now c.args.below) c.args.line c.args.cond.now) (stmts_mean (environment c.args.context.now c.args.below) c.args.body.now)) c.loop-halt.invariant.goes) c.in_ok-test.ensures.performs))) c.in_ok-turn.ensures.performs).with _ _ _ (exit_left (λ _. while_turns c.args.line (c.loop-halt.left - 1) (cond_means (environment c.args.context.now c.args.below) c.args.line c.args.cond.now) (stmts_mean (environment c.args.context.now c.args.below) c.args.body.now)) (err_from_is_err_and c.from_residual-in_err-exec_statements.result c.from_residual-in_err-exec_statements.ensures.1).1 c.in_err-exec_statements.ensures.performs)
 
 pub exec_while-returns-clause-performs : goal.exec_while-returns-clause-performs
 exec_while-returns-clause-performs g t c =
@@ -833,8 +833,8 @@ pub exec-returns-in-Pair-clause-performs : goal.exec-returns-in-Pair-clause-perf
 exec-returns-in-Pair-clause-performs g t c =
     rw c.in-Pair.is (along (kind_means-pair (environment c.args.context.now c.args.below) c.args.line c.in-Pair.pair) (rw (← c.deref-in-Pair.ensures) c.exec_pair.ensures.performs))
 
-pub exec_pair-exec_block-requires : goal.exec_pair-exec_block-requires
-exec_pair-exec_block-requires g t c =
+pub exec_pair-exec_statements-requires : goal.exec_pair-exec_statements-requires
+exec_pair-exec_statements-requires g t c =
     let m : t ≡ weight_before (map function c.args.context.now.functions.now) c.args.below + 2 * pair_weight c.args.pair.now = sym c.decreases in
     let d = ap stmts_weight c.deref.ensures.value in
     let k : weight_before (map function c.args.context.now.functions.now) c.args.below + 2 * stmts_weight c.deref.result.now < t = omega (arith, m, d) in
@@ -845,29 +845,29 @@ pub exec_pair-eval-requires : goal.exec_pair-eval-requires
 exec_pair-eval-requires g t c =
     let m : t ≡ weight_before (map function c.args.context.now.functions.now) c.args.below + 2 * pair_weight c.args.pair.now = sym c.decreases in
     let k : weight_before (map function c.args.context.now.functions.now) c.args.below + 2 * expr_weight (out-Pair c.args.pair.now).give + 1 < t = omega (arith, m) in
-    λ κs h. (k, (h, (rw c.in_ok-exec_block.ensures.cells c.requires.within, (c.requires.short, omega (arith, c.requires.room)))))
+    λ κs h. (k, (h, (rw c.in_ok-exec_statements.ensures.cells c.requires.within, (c.requires.short, omega (arith, c.requires.room)))))
 
-pub exec_pair-exec_block-requires-2 : goal.exec_pair-exec_block-requires-2
-exec_pair-exec_block-requires-2 g t c =
+pub exec_pair-exec_statements-requires-2 : goal.exec_pair-exec_statements-requires-2
+exec_pair-exec_statements-requires-2 g t c =
     let m : t ≡ weight_before (map function c.args.context.now.functions.now) c.args.below + 2 * pair_weight c.args.pair.now = sym c.decreases in
     let d = ap stmts_weight c.deref-2.ensures.value in
     let k : weight_before (map function c.args.context.now.functions.now) c.args.below + 2 * stmts_weight c.deref-2.result.now < t = omega (arith, m, d) in
     let part = ap (λ ss. block_measure (call_slots c.args.context.now c.args.below) (block ss)) c.deref-2.ensures.value in
-    λ κs h. (k, (h, (rw (c.in_ok-value.ensures.cells, c.in_ok-exec_block.ensures.cells) c.requires.within, (c.requires.short, omega (arith, c.requires.room, part)))))
+    λ κs h. (k, (h, (rw (c.in_ok-value.ensures.cells, c.in_ok-exec_statements.ensures.cells) c.requires.within, (c.requires.short, omega (arith, c.requires.room, part)))))
 
-pub exec_pair-returns-in_err-exec_block-clause-performs : goal.exec_pair-returns-in_err-exec_block-clause-performs
-exec_pair-returns-in_err-exec_block-clause-performs g t c =
-    (exit_left _ (err_from_is_err_and c.from_residual.result c.from_residual.ensures.1).1 (rw c.deref.ensures.value at c.in_err-exec_block.ensures.performs))
+pub exec_pair-returns-in_err-exec_statements-clause-performs : goal.exec_pair-returns-in_err-exec_statements-clause-performs
+exec_pair-returns-in_err-exec_statements-clause-performs g t c =
+    (exit_left _ (err_from_is_err_and c.from_residual.result c.from_residual.ensures.1).1 (rw c.deref.ensures.value at c.in_err-exec_statements.ensures.performs))
 
 pub exec_pair-returns-in_err-value-clause-performs : goal.exec_pair-returns-in_err-value-clause-performs
 exec_pair-returns-in_err-value-clause-performs g t c =
-    (then_value _ g.met.M.Memory.laws (rw c.deref.ensures.value at c.in_ok-exec_block.ensures.performs) (exit_left _ (err_from_is_err_and c.from_residual-in_err-value.result c.from_residual-in_err-value.ensures.1).1 c.in_err-value.ensures.performs))
+    (then_value _ g.met.M.Memory.laws (rw c.deref.ensures.value at c.in_ok-exec_statements.ensures.performs) (exit_left _ (err_from_is_err_and c.from_residual-in_err-value.result c.from_residual-in_err-value.ensures.1).1 c.in_err-value.ensures.performs))
 
 pub exec_pair-returns-clause-performs : goal.exec_pair-returns-clause-performs
 exec_pair-returns-clause-performs g t c =
     let f : FitsSigned w64 c.in_ok-value.value = search rules in
-    let p = rw (c.deref-2.ensures.value, c.write_slot.ensures, to_z-of_z w64 c.in_ok-value.value f) at c.exec_block-2.ensures.performs in
-    (then_value _ g.met.M.Memory.laws (rw c.deref.ensures.value at c.in_ok-exec_block.ensures.performs) (then_value _ g.met.M.Memory.laws c.in_ok-value.ensures.performs p))
+    let p = rw (c.deref-2.ensures.value, c.write_slot.ensures, to_z-of_z w64 c.in_ok-value.value f) at c.exec_statements-2.ensures.performs in
+    (then_value _ g.met.M.Memory.laws (rw c.deref.ensures.value at c.in_ok-exec_statements.ensures.performs) (then_value _ g.met.M.Memory.laws c.in_ok-value.ensures.performs p))
 
 pub exec-exec_fold-requires : goal.exec-exec_fold-requires
 exec-exec_fold-requires g t c =
@@ -942,11 +942,11 @@ pass-eval-requires-in-len2-2 g t c =
 
 pub exec-returns-then-branch-clause-others : goal.exec-returns-then-branch-clause-others
 exec-returns-then-branch-clause-others g t c =
-    first-leaves (condition c.in-If.cond) (block c.in-If.first.items) (block c.in-If.second.items) (ap statement c.in-If.is ∙ statement-if c.in-If.cond c.in-If.first c.in-If.second) (rw c.deref.ensures.value at c.exec_block.ensures.others)
+    first-leaves (condition c.in-If.cond) (block c.in-If.first.items) (block c.in-If.second.items) (ap statement c.in-If.is ∙ statement-if c.in-If.cond c.in-If.first c.in-If.second) (rw c.deref.ensures.value at c.exec_statements.ensures.others)
 
 pub exec-returns-else-is_empty-clause-others : goal.exec-returns-else-is_empty-clause-others
 exec-returns-else-is_empty-clause-others g t c =
-    second-leaves (condition c.in-If.cond) (block c.in-If.first.items) (block c.in-If.second.items) (ap statement c.in-If.is ∙ statement-if c.in-If.cond c.in-If.first c.in-If.second) (rw c.deref-else-is_empty.ensures.value at c.exec_block-else-is_empty.ensures.others)
+    second-leaves (condition c.in-If.cond) (block c.in-If.first.items) (block c.in-If.second.items) (ap statement c.in-If.is ∙ statement-if c.in-If.cond c.in-If.first c.in-If.second) (rw c.deref-else-is_empty.ensures.value at c.exec_statements-else-is_empty.ensures.others)
 
 pub exec-returns-in_ok-high-in-For-clause-others : goal.exec-returns-in_ok-high-in-For-clause-others
 exec-returns-in_ok-high-in-For-clause-others g t c =
@@ -971,21 +971,21 @@ exec-returns-in_ok-value-in-Let-clause-others g t c =
       | inr e ↦ assign-leaves c.in-Let.slot (expression c.in-Let.value) _ (ap statement e) c.write_slot.ensures
     ]
 
-pub exec_block-returns-in_err-exec-clause-others : goal.exec_block-returns-in_err-exec-clause-others
-exec_block-returns-in_err-exec-clause-others g t c =
+pub exec_statements-returns-in_err-exec-clause-others : goal.exec_statements-returns-in_err-exec-clause-others
+exec_statements-returns-in_err-exec-clause-others g t c =
     one-leaves c.args.statements.now c.loop-statement.statement-index c.statement-item.result c.loop-statement-test.true c.statement-item.is c.loop-statement.invariant.others c.in_err-exec.ensures.others
 
-pub exec_for-returns-in_err-exec_block-clause-others : goal.exec_for-returns-in_err-exec_block-clause-others
-exec_for-returns-in_err-exec_block-clause-others g t c =
-    set-then c.args.slot (to_z w64 c.loop-i.i-bits) c.loop-i.invariant.others c.write_slot.ensures c.in_err-exec_block.ensures.others
+pub exec_for-returns-in_err-exec_statements-clause-others : goal.exec_for-returns-in_err-exec_statements-clause-others
+exec_for-returns-in_err-exec_statements-clause-others g t c =
+    set-then c.args.slot (to_z w64 c.loop-i.i-bits) c.loop-i.invariant.others c.write_slot.ensures c.in_err-exec_statements.ensures.others
 
-pub exec_while-returns-in_err-exec_block-clause-others : goal.exec_while-returns-in_err-exec_block-clause-others
-exec_while-returns-in_err-exec_block-clause-others g t c = leaves-then c.loop-halt.invariant.others c.in_err-exec_block.ensures.others
+pub exec_while-returns-in_err-exec_statements-clause-others : goal.exec_while-returns-in_err-exec_statements-clause-others
+exec_while-returns-in_err-exec_statements-clause-others g t c = leaves-then c.loop-halt.invariant.others c.in_err-exec_statements.ensures.others
 
-pub exec_blocks-returns-in_err-exec_block-clause-others : goal.exec_blocks-returns-in_err-exec_block-clause-others
-exec_blocks-returns-in_err-exec_block-clause-others g t c =
-    sets-then c.args.carried_slot c.args.block_slot (to_z w64 c.loop-k.value-bits) (to_z w64 c.loop-k.k-bits) c.loop-k.invariant.others c.write_slot.ensures c.write_slot-in-loop-k.ensures c.in_err-exec_block.ensures.others
+pub exec_blocks-returns-in_err-exec_statements-clause-others : goal.exec_blocks-returns-in_err-exec_statements-clause-others
+exec_blocks-returns-in_err-exec_statements-clause-others g t c =
+    sets-then c.args.carried_slot c.args.block_slot (to_z w64 c.loop-k.value-bits) (to_z w64 c.loop-k.k-bits) c.loop-k.invariant.others c.write_slot.ensures c.write_slot-in-loop-k.ensures c.in_err-exec_statements.ensures.others
 
 pub exec_blocks-returns-in_err-value-clause-others : goal.exec_blocks-returns-in_err-value-clause-others
 exec_blocks-returns-in_err-value-clause-others g t c =
-    sets-then c.args.carried_slot c.args.block_slot (to_z w64 c.loop-k.value-bits) (to_z w64 c.loop-k.k-bits) c.loop-k.invariant.others c.write_slot.ensures c.write_slot-in-loop-k.ensures c.in_ok-exec_block.ensures.others
+    sets-then c.args.carried_slot c.args.block_slot (to_z w64 c.loop-k.value-bits) (to_z w64 c.loop-k.k-bits) c.loop-k.invariant.others c.write_slot.ensures c.write_slot-in-loop-k.ensures c.in_ok-exec_statements.ensures.others

@@ -38,8 +38,8 @@ decreases-test g l = weight_before (map function l.context.now.functions.now) l.
 abbrev pub decreases-decide : goal.decreases-decide
 decreases-decide g l = weight_before (map function l.context.now.functions.now) l.below + 2 * cond_weight l.cond.now
 
-abbrev pub decreases-exec_block : goal.decreases-exec_block
-decreases-exec_block g l = weight_before (map function l.context.now.functions.now) l.below + 2 * stmts_weight l.statements.now
+abbrev pub decreases-exec_statements : goal.decreases-exec_statements
+decreases-exec_statements g l = weight_before (map function l.context.now.functions.now) l.below + 2 * stmts_weight l.statements.now
 
 abbrev pub decreases-exec : goal.decreases-exec
 decreases-exec g l = weight_before (map function l.context.now.functions.now) l.below + 2 * kind_weight l.kind.now + 1
@@ -60,8 +60,8 @@ abbrev pub decreases-exec_blocks : goal.decreases-exec_blocks
 decreases-exec_blocks g l = weight_before (map function l.context.now.functions.now) l.below + 2 * (stmts_weight l.body.now + expr_weight l.next.now) + 2
 
 -- the statements that are left lead to all of them
-abbrev pub invariant-exec_block-loop-statement : goal.invariant-exec_block-loop-statement
-invariant-exec_block-loop-statement g l = record {
+abbrev pub invariant-exec_statements-loop-statement : goal.invariant-exec_statements-loop-statement
+invariant-exec_statements-loop-statement g l = record {
   goes : Continues g.M.Memory.leads g.M.Memory.stop g.M.Memory.may_lack_memory (stmts_mean (environment l.context l.below) l.statements (state l.initial.slots (g.M.Memory.output l.initial.memory))) l.initial.memory (stmts_mean (environment l.context l.below) (drop l.statement-index l.statements) (state l.slots (g.M.Memory.output l.memory))) l.memory;
   cells : g.M.Memory.cell_count l.memory ≡ g.M.Memory.cell_count l.initial.memory;
   others : Leaves (block_changes (block l.statements)) l.initial.slots l.slots;
