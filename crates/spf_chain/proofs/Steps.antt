@@ -12,7 +12,7 @@ use Rattle.spf_chain.specs.declared.task.Settled.TheVariants.{Carried, Trapped}
 use Rattle.spf_chain.specs.declared.task.Validated.{Validated}
 use Rattle.spf_chain.specs.Validation.{Results, IsNotCancelled, validated_then, validated_from, settled_then, settled_from}
 use Rattle.spf_chain.specs.Chain.{known_at, known_in, results_in}
-use Rattle.spf_chain.specs.Kept.{first_real, guesses_of, AgreeBelow, rest_validated, rest_settled, IsFirst, IsSecond, IsFrontOf, AreBlocksOf, AreAttempts, Stands, IsDone}
+use Rattle.spf_chain.specs.Kept.{first_real, guesses_of, AgreeBelow, rest_validated, rest_settled, IsFirst, IsSecond, IsValidatedPrefix, AreBlocksOf, AreAttempts, Stands, IsDone}
 
 -- ---- lists
 
@@ -82,7 +82,7 @@ module _ (ps : List Place) (start : ℤ) (gs : List (Option ℤ)) (bs : List Val
   guess_here : slice_get gs k ≡ Some b.guess
   guess_here = ap (λ hs. slice_get hs k) (sym h.blocks.guesses) ∙ slice_get-map (λ x. x.guess) bs k ∙ ap (option_map (λ (x : Validated). x.guess)) here
 
-  more_front : IsFrontOf ps start gs (set bs k (with_real b v)) (k + 1) o
+  more_front : IsValidatedPrefix ps start gs (set bs k (with_real b v)) (k + 1) o
   more_front = record {
     validated = λ r agree.
         h.front.validated r (λ n w low. agree n w (omega (arith, low)))
@@ -212,7 +212,7 @@ changed_below ps b k p r above agree = λ n v low. agree n v low ∙ ap (known_i
 
 -- a place changes that isn't below block k
 module _ (ps : List Place) (start : ℤ) (gs : List (Option ℤ)) (bs : List Validated) (k b : ℕ) (s : Settled) (p : Place) (h : Stands ps start gs bs k s) (above : k ≤ b) where
-  changed_front : IsFrontOf (set ps b p) start gs bs k s
+  changed_front : IsValidatedPrefix (set ps b p) start gs bs k s
   changed_front = record {
     validated = λ r agree. h.front.validated r (changed_below ps b k p r above agree);
     settled = λ r agree. h.front.settled r (changed_below ps b k p r above agree);

@@ -70,8 +70,8 @@ pub record IsSecond (k : ℕ) (real : Settled) (n : ℕ) (p : Place) : Type 0 wh
   pub front : n ≡ k
   pub carried : real ≡ Carried (carried_at p)
 
--- the first k blocks are what these places validate, whatever is known of the blocks behind them
-pub record IsFrontOf (places : List Place) (start : ℤ) (gs : List (Option ℤ)) (bs : List Validated) (k : ℕ) (s : Settled) : Type 0 where
+-- the first k blocks are what these places validate, whatever is known of the blocks after them
+pub record IsValidatedPrefix (places : List Place) (start : ℤ) (gs : List (Option ℤ)) (bs : List Validated) (k : ℕ) (s : Settled) : Type 0 where
   pub validated : (r : Results) → AgreeBelow k r (results_in places) → validated_from r 0 start gs ≡ take k bs ++ rest_validated r s k (drop k gs)
   pub settled : (r : Results) → AgreeBelow k r (results_in places) → settled_from r 0 start gs ≡ rest_settled r s k (drop k gs)
   pub begin : k ≡ 0 → s ≡ Carried start
@@ -88,12 +88,12 @@ pub record AreAttempts (places : List Place) (start : ℤ) (gs : List (Option �
   pub attempts : (n : ℕ) (p : Place) (g : Option ℤ) → k ≤ n → slice_get places n ≡ Some p → slice_get gs n ≡ Some g → IsFirst start g p ⊎ IsSecond k s n p
   pub stops : (n attempt : ℕ) (carried : ℤ) (stop : Stop) → slice_get places n ≡ Some (Home attempt carried stop) → IsNotCancelled stop
 
--- of a chain with this start value and these guesses the first k blocks are validated, and what comes behind them is s
+-- of a chain with this start value and these guesses the first k blocks are validated, and what comes after them is s
 pub record Stands (places : List Place) (start : ℤ) (gs : List (Option ℤ)) (bs : List Validated) (k : ℕ) (s : Settled) : Type 0 where
   pub size : length bs ≡ length places
   pub few : length places ≤ 4096
   pub within : k ≤ length places
-  pub front : IsFrontOf places start gs bs k s
+  pub front : IsValidatedPrefix places start gs bs k s
   pub blocks : AreBlocksOf start gs bs
   pub attempts : AreAttempts places start gs k s
 

@@ -58,7 +58,7 @@ settled_then None real others = Carried real
 settled_then (Some (Carried next)) real others = others next
 settled_then (Some (Trapped trap)) real others = Trapped trap
 
--- the trap of the last block that is validated, or else the real value behind it
+-- the trap of the last block that is validated, or else the real value after it
 abbrev pub settled_from : Results → ℕ → ℤ → List (Option ℤ) → Settled
 settled_from r n v [] = Carried v
 settled_from r n v (g ∷ gs) = settled_then (r n v) v (λ next. settled_from r (n + 1) next gs)
@@ -67,7 +67,7 @@ settled_from r n v (g ∷ gs) = settled_then (r n v) v (λ next. settled_from r 
 abbrev pub all_validated : Answers → ℤ → List (Option ℤ) → List Validated
 all_validated f start guesses = validated_from (results_of f) 0 start guesses
 
--- by these answers: the trap of the first block that traps at its real value, or else the real value behind the last block
+-- by these answers: the trap of the first block that traps at its real value, or else the real value after the last block
 abbrev pub all_settled : Answers → ℤ → List (Option ℤ) → Settled
 all_settled f start guesses = settled_from (results_of f) 0 start guesses
 

@@ -196,7 +196,7 @@ impl Chain {
         self.validation.history()
     }
 
-    /// What the fold comes to: the value behind its last block, or the trap of its last validated block. The chain has ended.
+    /// What the fold comes to: the value after its last block, or the trap of its last validated block. The chain has ended.
     pub fn finish(self) -> Settled
         requires { HasEnded self }
         ensures settled { result ≡ settled self }

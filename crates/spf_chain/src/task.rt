@@ -76,7 +76,7 @@ pub enum Filed {
 /// What a chain comes to.
 #[derive(Clone, Copy, PartialEq, Eq, Debug)]
 pub enum Settled {
-    /// The carried value behind the last block.
+    /// The carried value after the last block.
     Carried(Carried),
     /// The trap of the last validated block.
     Trapped(Trap),

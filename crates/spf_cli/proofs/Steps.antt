@@ -24,7 +24,7 @@ use Rattle.spf_edge.specs.declared.sink.PutError.TheVariants.{Failed}
 use Rattle.spf_edge.specs.declared.sink.PutError.TheVariants as put_error
 use Rattle.spf_edge.proofs.Taking.{adds_empty_prefix}
 use Rattle.spf_cli.specs.Answer.{Answer, not_built, text_refused, rule_refused, explained, file_failed, file_too_long, too_many_cells, ran}
-use Rattle.spf_cli.specs.Answering.{seen_answer, FetchAnswer, IsFetchLeft, IsReadLeft, IsRuleLeft, IsNotAccepted, IsWholeUnless, IsCaused, AnswersWith, IsPutFault, IsOneLine}
+use Rattle.spf_cli.specs.Answering.{seen_answer, FetchAnswer, IsFetchExit, IsReadExit, IsRuleExit, IsNotAccepted, IsWholeUnless, IsCaused, AnswersWith, IsPutFault, IsOneLine}
 use Rattle.spf_cli.specs.Message.{failed_line}
 use Rattle.spf_cli.specs.Command.{Command, Run, Options, Asks}
 use Rattle.spf_cli.specs.Reading.{Says, Refuses, IsVerdict, Refusal}
@@ -32,8 +32,8 @@ use Rattle.spf_cli.specs.Status.{put_status}
 use Rattle.spf_guess.specs.declared.stats.Stats.{Stats}
 use Rattle.spf_cli.specs.Whole.{Wanted, Either, Fetched, Judged, Read, CheckedBy, Explained, Runs, RunsOn, MayRun, IsInputFault, stats_of, is_built, WholeOf, Whole, IsOnly, IsFaultOf, IsFaultAnswer, IsGiven, IsGivenInPart, IsAnswered, IsAnsweredInPart, max_program, max_input}
 use Rattle.spf_cli.specs.declared.answer.Answer as made
-use Rattle.spf_cli.specs.declared.answer.Left.{Left}
-use Rattle.spf_cli.specs.declared.answer.Left.TheVariants.{Answered, NoMemory}
+use Rattle.spf_cli.specs.declared.answer.Exit.{Exit}
+use Rattle.spf_cli.specs.declared.answer.Exit.TheVariants.{Answered, NoMemory}
 
 -- ---- the one answer
 
@@ -109,14 +109,14 @@ pub with_text : (next : List Entry → List ℕ → Wanted) (told : Option (List
 with_text next told files program text a e t l h = fetched program max_program (lookup files program) text (next files) a (content_of told files program text e t) l h
 
 -- the text is refused
-pub read_left : (Faulty : List Entry → Wanted) (next : List Entry → Program → Wanted) (told : Option (List Entry)) (program text : List ℕ) (Fault : Type 0) (left : Left) → HasContent told program text → length text ≤ max_program → IsReadLeft text left → AnswersWith (IsWholeUnless (λ files. Fetched program max_program (lookup files program) (λ t. Read t (next files))) Faulty told Fault) (Err left)
+pub read_left : (Faulty : List Entry → Wanted) (next : List Entry → Program → Wanted) (told : Option (List Entry)) (program text : List ℕ) (Fault : Type 0) (left : Exit) → HasContent told program text → length text ≤ max_program → IsReadExit text left → AnswersWith (IsWholeUnless (λ files. Fetched program max_program (lookup files program) (λ t. Read t (next files))) Faulty told Fault) (Err left)
 read_left Faulty next told program text Fault (Answered a) t l h = λ files e.
     inl (with_text (λ fs x. Read x (next fs)) told files program text (seen_answer a) e t l
     (at_same (IsOnly (Read text (next files))) (seen_answer a) (text_refused h.0) h.2 (read_refuses text h.0 (next files) h.1)))
 read_left Faulty next told program text Fault NoMemory t l h = tt
 
 -- what is so of an answer that stands is so of what follows from it
-pub answers_with : (P Q : Answer → Type 0) (r : Result made.Answer Left) → AnswersWith Q r → ((a : Answer) → Q a → P a) → AnswersWith P r
+pub answers_with : (P Q : Answer → Type 0) (r : Result made.Answer Exit) → AnswersWith Q r → ((a : Answer) → Q a → P a) → AnswersWith P r
 answers_with P Q (Ok a) h f = f (seen_answer a) h
 answers_with P Q (Err (Answered a)) h f = f (seen_answer a) h
 answers_with P Q (Err NoMemory) h f = tt
@@ -146,7 +146,7 @@ checked_refused p next rule line range r = record { is = inr (rule, line, range,
     ]
 
 -- what is said of a program that isn't accepted is its first refusal
-pub refusal_left : (p : code_program.Program) (checked : Result code_program.Program CheckError) (error : CheckError) (left : Left) → checked ≡ Err error → IsChecked p checked → IsNotAccepted error left → IsRuleLeft (program p) left
+pub refusal_left : (p : code_program.Program) (checked : Result code_program.Program CheckError) (error : CheckError) (left : Exit) → checked ≡ Err error → IsChecked p checked → IsNotAccepted error left → IsRuleExit (program p) left
 refusal_left p checked (check_error.Refused back refusal) (Answered a) e c n =
     let said = subst (IsChecked p) e c in
     (refusal.rule, refusal.line, refusal.range, said.2, n ∙ ap (λ q. rule_refused (program q) refusal.rule refusal.line refusal.range) said.0)
@@ -154,7 +154,7 @@ refusal_left p checked (check_error.OutOfMemory back) (Answered a) e c n = absur
 refusal_left p checked error NoMemory e c n = tt
 
 -- the rules refuse the program
-pub rule_left : (Faulty : List Entry → Wanted) (next : List Entry → Program → Wanted) (tail : List Entry → Wanted) (told : Option (List Entry)) (program text : List ℕ) (p : Program) (Fault : Type 0) (left : Left) → HasContent told program text → length text ≤ max_program → IsOnly (IsVerdict text) (Says p) → ((files : List Entry) (a : Answer) → IsOnly (CheckedBy p (tail files)) a → IsOnly (next files p) a) → IsRuleLeft p left → AnswersWith (IsWholeUnless (λ files. Fetched program max_program (lookup files program) (λ t. Read t (next files))) Faulty told Fault) (Err left)
+pub rule_left : (Faulty : List Entry → Wanted) (next : List Entry → Program → Wanted) (tail : List Entry → Wanted) (told : Option (List Entry)) (program text : List ℕ) (p : Program) (Fault : Type 0) (left : Exit) → HasContent told program text → length text ≤ max_program → IsOnly (IsVerdict text) (Says p) → ((files : List Entry) (a : Answer) → IsOnly (CheckedBy p (tail files)) a → IsOnly (next files p) a) → IsRuleExit p left → AnswersWith (IsWholeUnless (λ files. Fetched program max_program (lookup files program) (λ t. Read t (next files))) Faulty told Fault) (Err left)
 rule_left Faulty next tail told program text p Fault (Answered a) t l v goes h = λ files is.
     inl (with_text (λ fs x. Read x (next fs)) told files program text (seen_answer a) is t l
     (read_says text p (next files) (seen_answer a) v
@@ -186,7 +186,7 @@ passed input options files p a may h = by_plain options.plain may
       | inr accepted ↦ checked_accepted p (RunsOn options input p files) a accepted h
     ]
 
-pub run_passed : (told : Option (List Entry)) (program input text : List ℕ) (options : Options) (p : Program) (Fault Later : Type 0) (r : Result made.Answer Left) → HasContent told program text → length text ≤ max_program → IsOnly (IsVerdict text) (Says p) → MayRun options p → (Fault → Later) → AnswersWith (IsWholeUnless (RunsOn options input p) (IsInputFault options input p) told Fault) r → AnswersWith (IsWholeUnless (WholeOf (Run program input options)) (IsFaultOf (Run program input options)) told Later) r
+pub run_passed : (told : Option (List Entry)) (program input text : List ℕ) (options : Options) (p : Program) (Fault Later : Type 0) (r : Result made.Answer Exit) → HasContent told program text → length text ≤ max_program → IsOnly (IsVerdict text) (Says p) → MayRun options p → (Fault → Later) → AnswersWith (IsWholeUnless (RunsOn options input p) (IsInputFault options input p) told Fault) r → AnswersWith (IsWholeUnless (WholeOf (Run program input options)) (IsFaultOf (Run program input options)) told Later) r
 run_passed told program input text options p Fault Later r t l v may f h =
     answers_with (IsWholeUnless (WholeOf (Run program input options)) (IsFaultOf (Run program input options)) told Later) (IsWholeUnless (RunsOn options input p) (IsInputFault options input p) told Fault) r h (λ a w files is.
     elim (w files is) [
@@ -196,7 +196,7 @@ run_passed told program input text options p Fault Later r t l v may f h =
     ])
 
 -- the rules refuse the program of a run
-pub run_refused : (told : Option (List Entry)) (program input text : List ℕ) (options : Options) (p : Program) (Fault : Type 0) (left : Left) → HasContent told program text → length text ≤ max_program → IsOnly (IsVerdict text) (Says p) → options.plain ≡ false → IsRuleLeft p left → AnswersWith (IsWholeUnless (WholeOf (Run program input options)) (IsFaultOf (Run program input options)) told Fault) (Err left)
+pub run_refused : (told : Option (List Entry)) (program input text : List ℕ) (options : Options) (p : Program) (Fault : Type 0) (left : Exit) → HasContent told program text → length text ≤ max_program → IsOnly (IsVerdict text) (Says p) → options.plain ≡ false → IsRuleExit p left → AnswersWith (IsWholeUnless (WholeOf (Run program input options)) (IsFaultOf (Run program input options)) told Fault) (Err left)
 run_refused told program input text options p Fault left t l v plain h =
     rule_left (IsFaultOf (Run program input options)) (behind_text input options) (RunsOn options input p) told program text p Fault left t l v
     (λ files a o. either_second (RunsOn options input p files) (CheckedBy p (RunsOn options input p files)) options.plain a plain o) h
@@ -213,7 +213,7 @@ on_whole told input content options p Fault a b i m r files is =
     (fetched input max_input (lookup files input) content (λ c. Runs options p c) a (content_of told files input content is i) m r))
 
 -- the input can't be had
-pub on_input_left : (told : Option (List Entry)) (input : List ℕ) (options : Options) (p : Program) (Fault : Type 0) (left : Left) → is_built options p ≡ true → IsFetchLeft told input max_input Fault left → AnswersWith (IsWholeUnless (RunsOn options input p) (IsInputFault options input p) told Fault) (Err left)
+pub on_input_left : (told : Option (List Entry)) (input : List ℕ) (options : Options) (p : Program) (Fault : Type 0) (left : Exit) → is_built options p ≡ true → IsFetchExit told input max_input Fault left → AnswersWith (IsWholeUnless (RunsOn options input p) (IsInputFault options input p) told Fault) (Err left)
 on_input_left told input options p Fault (Answered a) b h = λ files is.
     elim h [
       | inl x ↦ inr (x.0, (b, x.1))
@@ -273,7 +273,7 @@ cause_of told name limit Fault Later answer f h =
       ]
     ]
 
-pub fetch_cause : (told : Option (List Entry)) (name : List ℕ) (limit : ℕ) (Fault Later : Type 0) (left : Left) → (Fault → Later) → IsFetchLeft told name limit Fault left → AnswersWith (IsCaused told Later) (Err left)
+pub fetch_cause : (told : Option (List Entry)) (name : List ℕ) (limit : ℕ) (Fault Later : Type 0) (left : Exit) → (Fault → Later) → IsFetchExit told name limit Fault left → AnswersWith (IsCaused told Later) (Err left)
 fetch_cause told name limit Fault Later (Answered a) f h = cause_of told name limit Fault Later (seen_answer a) f h
 fetch_cause told name limit Fault Later NoMemory f h = tt
 

@@ -20,8 +20,8 @@ use Rattle.spf_cli.specs.Reading.{Refusal, Refuses, IsVerdict}
 use Rattle.spf_cli.specs.Status.{status_number}
 use Rattle.spf_cli.specs.Whole.{Wanted, IsOnly}
 use Rattle.spf_cli.specs.declared.answer.Answer.{Answer}
-use Rattle.spf_cli.specs.declared.answer.Left.{Left}
-use Rattle.spf_cli.specs.declared.answer.Left.TheVariants.{Answered, NoMemory}
+use Rattle.spf_cli.specs.declared.answer.Exit.{Exit}
+use Rattle.spf_cli.specs.declared.answer.Exit.TheVariants.{Answered, NoMemory}
 
 -- the lines that messages are
 abbrev pub lines_of : List (Vec ℕ Global) → List (List ℕ)
@@ -39,29 +39,29 @@ FetchAnswer told name limit Fault answer =
     ⊎ (IsMissing told name × (answer ≡ file_failed name))
     ⊎ (IsLongerThan limit told name × (answer ≡ file_too_long name limit))
 
-abbrev pub IsFetchLeft : Option (List Entry) → List ℕ → ℕ → Type 0 → Left → Type 0
-IsFetchLeft told name limit Fault (Answered a) = FetchAnswer told name limit Fault (seen_answer a)
-IsFetchLeft told name limit Fault NoMemory = Unit {0}
+abbrev pub IsFetchExit : Option (List Entry) → List ℕ → ℕ → Type 0 → Exit → Type 0
+IsFetchExit told name limit Fault (Answered a) = FetchAnswer told name limit Fault (seen_answer a)
+IsFetchExit told name limit Fault NoMemory = Unit {0}
 
 -- the text is refused, and only so
-abbrev pub IsReadLeft : List ℕ → Left → Type 0
-IsReadLeft text (Answered a) = (refusal : Refusal) × IsOnly (IsVerdict text) (Refuses refusal) × (seen_answer a ≡ text_refused refusal)
-IsReadLeft text NoMemory = Unit {0}
+abbrev pub IsReadExit : List ℕ → Exit → Type 0
+IsReadExit text (Answered a) = (refusal : Refusal) × IsOnly (IsVerdict text) (Refuses refusal) × (seen_answer a ≡ text_refused refusal)
+IsReadExit text NoMemory = Unit {0}
 
--- the rules refuse the program so, or memory was short
-abbrev pub IsRuleLeft : Program → Left → Type 0
-IsRuleLeft p (Answered a) =
+-- the rules refuse the program so, or memory ran out
+abbrev pub IsRuleExit : Program → Exit → Type 0
+IsRuleExit p (Answered a) =
     (rule : Rule) × (line : ℕ) × (range : Option Range) × IsFirstRefusal p rule line range × (seen_answer a ≡ rule_refused p rule line range)
-IsRuleLeft p NoMemory = Unit {0}
+IsRuleExit p NoMemory = Unit {0}
 
--- a program isn't accepted: it is handed back with its refusal, or memory was short
-abbrev pub IsNotAccepted : CheckError → Left → Type 0
+-- a program isn't accepted: it is handed back with its refusal, or memory ran out
+abbrev pub IsNotAccepted : CheckError → Exit → Type 0
 IsNotAccepted (not_accepted.Refused p refusal) (Answered a) = seen_answer a ≡ rule_refused (program p) refusal.rule refusal.line refusal.range
 IsNotAccepted (not_accepted.OutOfMemory p) (Answered a) = ⊥
 IsNotAccepted error NoMemory = Unit {0}
 
--- the arrays have too many cells, or memory was short
-abbrev pub IsNotRun : RunError → Left → Type 0
+-- the arrays have too many cells, or memory ran out
+abbrev pub IsNotRun : RunError → Exit → Type 0
 IsNotRun (TooManyCells count) (Answered a) = seen_answer a ≡ too_many_cells count
 IsNotRun run_error.OutOfMemory (Answered a) = ⊥
 IsNotRun error NoMemory = Unit {0}
@@ -77,7 +77,7 @@ pub record IsCaused (told : Option (List Entry)) (Fault : Type 0) (answer : said
   pub put : answer.status ≡ 6 → ⊥
 
 -- the answer that stands, if memory wasn't short
-abbrev pub AnswersWith : (said.Answer → Type 0) → Result Answer Left → Type 0
+abbrev pub AnswersWith : (said.Answer → Type 0) → Result Answer Exit → Type 0
 AnswersWith P (Ok a) = P (seen_answer a)
 AnswersWith P (Err (Answered a)) = P (seen_answer a)
 AnswersWith P (Err NoMemory) = Unit {0}

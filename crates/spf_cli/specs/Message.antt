@@ -85,7 +85,7 @@ abbrev pub stats_line : ℕ → ℕ → ℕ → ℕ → List ℕ
 stats_line blocks hits misses blind =
     line (codes "blocks " ∷ decimal blocks ∷ codes " hits " ∷ decimal hits ∷ codes " misses " ∷ decimal misses ∷ codes " blind " ∷ decimal blind ∷ [])
 
--- numbers, each behind a space
+-- numbers, each after a space
 abbrev pub numbers : List ℤ → List ℕ
 numbers [] = []
 numbers (word ∷ words) = codes " " ++ (signed_decimal word ++ numbers words)

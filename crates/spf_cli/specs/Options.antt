@@ -2,7 +2,7 @@
 use Rattle.std.specs.Prelude.{ℕ, Bool, true, false, List, [], ◌∷◌, codes, Option, Some, None, if◌then◌else◌, bytes_eq}
 use Rattle.spf_cli.specs.Command.{Options}
 
--- whether words begin with this one, and the words behind it then
+-- whether words begin with this one, and the words after it then
 abbrev pub taken : List ℕ → List (List ℕ) → Bool × List (List ℕ)
 taken name [] = (false, [])
 taken name (word ∷ words) = if bytes_eq word name then (true, words) else (false, word ∷ words)

@@ -140,20 +140,20 @@ pub record IsGiven (answer : Answer) (status : ℕ) (out_before out_now err_befo
   pub err_took : Adds err_before err_now (concat answer.err)
   pub lines_put : Hands lines_before lines_now answer.err
 
--- each sink took the front of what an answer has for it, the error stream nothing before the output had all of its bytes
+-- each sink took a prefix of what an answer has for it, the error stream nothing before the output had all of its bytes
 pub record IsGivenInPart (answer : Answer) (out_before out_now err_before err_now : Option (List ℕ)) : Type 0 where
   pub out_took : AddsPrefix out_before out_now answer.out
   pub err_took : AddsPrefix err_before err_now (concat answer.err)
   pub lines_wait : Adds out_before out_now answer.out ⊎ (err_now ≡ err_before)
 
--- What was put is a prefix of the one whole answer; or memory was short, and nothing was put; or a fault of a file that was reached was met, and it is a prefix of the answer to that, with its status or that for a sink.
+-- What was put is a prefix of the one whole answer; or memory ran out, and nothing was put; or a fault of a file that was reached was met, and it is a prefix of the answer to that, with its status or that for a sink.
 abbrev pub IsAnsweredInPart : List (List ℕ) → List Entry → Type 0 → ℕ → Option (List ℕ) → Option (List ℕ) → Option (List ℕ) → Option (List ℕ) → Type 0
 IsAnsweredInPart words files FileFault status out_before out_now err_before err_now =
     ((answer : Answer) × IsOnly (Whole words files) answer × IsGivenInPart answer out_before out_now err_before err_now)
     ⊎ ((status ≡ 8) × (out_now ≡ out_before) × (err_now ≡ err_before))
     ⊎ (FileFault × ((status ≡ 5) ⊎ (status ≡ 6)) × ((answer : Answer) × IsFaultAnswer words files answer × IsGivenInPart answer out_before out_now err_before err_now))
 
--- What the program answered: the one whole answer, put on both sinks; or memory was short, or a fault of a file that was reached, or of a sink, was met.
+-- What the program answered: the one whole answer, put on both sinks; or memory ran out, or a fault of a file that was reached, or of a sink, was met.
 abbrev pub IsAnswered : List (List ℕ) → List Entry → Type 0 → Type 0 → ℕ → Option (List ℕ) → Option (List ℕ) → Option (List ℕ) → Option (List ℕ) → Option (List (List ℕ)) → Option (List (List ℕ)) → Type 0
 IsAnswered words files FileFault PutFault status out_before out_now err_before err_now lines_before lines_now =
     ((answer : Answer) × IsOnly (Whole words files) answer × IsGiven answer status out_before out_now err_before err_now lines_before lines_now)

@@ -15,7 +15,7 @@ ghost use Rattle.spf_cli.specs.Answer.{refused as refused_answer, accepted as ac
 ghost use Rattle.spf_cli.specs.Asked.{seen_command, seen_options};
 ghost use Rattle.spf_cli.specs.Status.{status_number};
 ghost use Rattle.spf_cli.specs.Whole.{IsOnly, Runs, RunsOn, IsInputFault, Whole, WholeOf, IsFaultOf, IsFaultAnswer, stats_of, is_built as is_built_program};
-ghost use Rattle.spf_cli.specs.Answering.{lines_of, seen_answer, IsFetchLeft, IsReadLeft, IsRuleLeft, IsNotAccepted, IsNotRun, IsWholeUnless, IsCaused, AnswersWith};
+ghost use Rattle.spf_cli.specs.Answering.{lines_of, seen_answer, IsFetchExit, IsReadExit, IsRuleExit, IsNotAccepted, IsNotRun, IsWholeUnless, IsCaused, AnswersWith};
 
 use crate::command::{Command, Options, read_words};
 use crate::message::{
@@ -54,21 +54,21 @@ pub(crate) struct Answer {
     pub messages: Vec<Vec<u8>>,
 }
 
-/// Why there is no more to do: the answer stands, or memory is short.
+/// Why there is no more to do: the answer stands, or memory runs out.
 #[derive(Drop)]
-pub(crate) enum Left {
+pub(crate) enum Exit {
     Answered(Answer),
     NoMemory,
 }
 
-impl From<AllocError> for Left {
+impl From<AllocError> for Exit {
     ghost use Rattle.std.specs.Prelude.{◌≡◌};
-    ghost use Rattle.spf_cli.specs.declared.answer.Left.TheVariants.{NoMemory};
+    ghost use Rattle.spf_cli.specs.declared.answer.Exit.TheVariants.{NoMemory};
 
     ghost from_gives = { λ _ left. left ≡ NoMemory };
 
     fn from(_: AllocError) -> Self {
-        Left::NoMemory
+        Exit::NoMemory
     }
 }
 
@@ -108,39 +108,39 @@ fn failed(alloc: Global, name: &str) -> Result<Answer, AllocError>
 }
 
 /// The content of a file.
-fn fetch<F: Files>(alloc: Global, files: &mut F, name: &str, limit: u64) -> Result<Vec<u8>, Left>
+fn fetch<F: Files>(alloc: Global, files: &mut F, name: &str, limit: u64) -> Result<Vec<u8>, Exit>
     ensures told { F.told files.new ≡ F.told files.old }
     ensures later { F.faults files.old ≤ F.faults files.new }
     ensures content { IfOk result (λ content. HasContent (F.told files.old) name.now content.items) }
     ensures within { IfOk result (λ content. length content.items ≤ limit) }
-    ensures left { IfErr result (IsFetchLeft (F.told files.old) name.now limit (Rose (F.faults files.old) (F.faults files.new))) }
+    ensures left { IfErr result (IsFetchExit (F.told files.old) name.now limit (Rose (F.faults files.old) (F.faults files.new))) }
 {
     match files.fetch(alloc, name, limit) {
         Ok(content) => Ok(content),
-        Err(FetchError::Missing) => Err(Left::Answered(failed(alloc, name)?)),
-        Err(FetchError::Failed) => Err(Left::Answered(failed(alloc, name)?)),
-        Err(FetchError::TooLong) => Err(Left::Answered(refused(
+        Err(FetchError::Missing) => Err(Exit::Answered(failed(alloc, name)?)),
+        Err(FetchError::Failed) => Err(Exit::Answered(failed(alloc, name)?)),
+        Err(FetchError::TooLong) => Err(Exit::Answered(refused(
             alloc,
             Status::OverLimit,
             long_line(alloc, name, limit)?,
         )?)),
-        Err(FetchError::OutOfMemory) => Err(Left::NoMemory),
+        Err(FetchError::OutOfMemory) => Err(Exit::NoMemory),
     }
 }
 
 /// The program that a text says.
-fn read(alloc: Global, text: &[u8]) -> Result<Program, Left>
+fn read(alloc: Global, text: &[u8]) -> Result<Program, Exit>
     ensures program { IfOk result (λ p. IsOnly (IsVerdict text.now) (Says (program_of p))) }
-    ensures left { IfErr result (IsReadLeft text.now) }
+    ensures left { IfErr result (IsReadExit text.now) }
 {
     match read_program(alloc, text) {
         Ok(program) => Ok(program),
-        Err(Unread::Refused(refusal)) => Err(Left::Answered(refused(
+        Err(Unread::Refused(refusal)) => Err(Exit::Answered(refused(
             alloc,
             Status::NoProgram,
             refusal_line(alloc, refusal)?,
         )?)),
-        Err(Unread::NoMemory) => Err(Left::NoMemory),
+        Err(Unread::NoMemory) => Err(Exit::NoMemory),
     }
 }
 
@@ -160,24 +160,24 @@ fn rule_refused(alloc: Global, program: &Program, refusal: Refusal) -> Result<An
 }
 
 /// What is left where a program isn't accepted.
-fn not_accepted(alloc: Global, error: CheckError) -> Left
+fn not_accepted(alloc: Global, error: CheckError) -> Exit
     ensures { IsNotAccepted error result }
 {
     match error {
         CheckError::Refused { program, refusal } => match rule_refused(alloc, &program, refusal) {
-            Ok(given) => Left::Answered(given),
-            Err(_) => Left::NoMemory,
+            Ok(given) => Exit::Answered(given),
+            Err(_) => Exit::NoMemory,
         },
-        CheckError::OutOfMemory { .. } => Left::NoMemory,
+        CheckError::OutOfMemory { .. } => Exit::NoMemory,
     }
 }
 
 /// Has the rules accept a program.
-fn accept(alloc: Global, program: Program) -> Result<Checked, Left>
+fn accept(alloc: Global, program: Program) -> Result<Checked, Exit>
     requires lawful { IsLawful (program_of program) }
     ensures same { IfOk result (λ checked. checked ≡ program) }
     ensures accepted { IfOk result (λ _. IsAccepted (program_of program)) }
-    ensures left { IfErr result (IsRuleLeft (program_of program)) }
+    ensures left { IfErr result (IsRuleExit (program_of program)) }
 {
     match check(alloc, program) {
         Ok(checked) => Ok(checked),
@@ -272,16 +272,16 @@ fn ran(
     }
 }
 
-/// The answer where the arrays have too many cells, or memory is short.
-fn not_run(alloc: Global, error: RunError) -> Left
+/// The answer where the arrays have too many cells, or memory runs out.
+fn not_run(alloc: Global, error: RunError) -> Exit
     ensures { IsNotRun error result }
 {
     match error {
         RunError::TooManyCells { count } => match too_many(alloc, count) {
-            Ok(given) => Left::Answered(given),
-            Err(_) => Left::NoMemory,
+            Ok(given) => Exit::Answered(given),
+            Err(_) => Exit::NoMemory,
         },
-        RunError::OutOfMemory => Left::NoMemory,
+        RunError::OutOfMemory => Exit::NoMemory,
     }
 }
 
@@ -314,7 +314,7 @@ fn run_instance(
 }
 
 /// The answer of a run.
-fn run(alloc: Global, options: Options, program: &Program, input: &[u8]) -> Result<Answer, Left>
+fn run(alloc: Global, options: Options, program: &Program, input: &[u8]) -> Result<Answer, Exit>
     requires lawful { IsLawful (program_of program.now) }
     requires built { is_built_program (seen_options options) (program_of program.now) ≡ true }
     ensures { AnswersWith (IsOnly (Runs (seen_options options) (program_of program.now) input.now)) result }
@@ -334,7 +334,7 @@ fn run_on<F: Files>(
     input: &str,
     options: Options,
     files: &mut F,
-) -> Result<Answer, Left>
+) -> Result<Answer, Exit>
     requires lawful { IsLawful (program_of program.now) }
     ensures whole { let options = seen_options options in let p = program_of program.now in
         AnswersWith (IsWholeUnless (RunsOn options input.now p) (IsInputFault options input.now p) (F.told files.old) (Rose (F.faults files.old) (F.faults files.new))) result }
@@ -356,7 +356,7 @@ fn run_files<F: Files>(
     input: &str,
     options: Options,
     files: &mut F,
-) -> Result<Answer, Left>
+) -> Result<Answer, Exit>
     ensures whole { let command = run_command program.now input.now (seen_options options) in
         AnswersWith (IsWholeUnless (WholeOf command) (IsFaultOf command) (F.told files.old) (Rose (F.faults files.old) (F.faults files.new))) result }
     ensures cause { AnswersWith (IsCaused (F.told files.old) (Rose (F.faults files.old) (F.faults files.new))) result }
@@ -372,7 +372,7 @@ fn run_files<F: Files>(
 }
 
 /// The answer of `check` over a file.
-fn check_file<F: Files>(alloc: Global, program: &str, files: &mut F) -> Result<Answer, Left>
+fn check_file<F: Files>(alloc: Global, program: &str, files: &mut F) -> Result<Answer, Exit>
     ensures whole { let command = check_command program.now in
         AnswersWith (IsWholeUnless (WholeOf command) (IsFaultOf command) (F.told files.old) (Rose (F.faults files.old) (F.faults files.new))) result }
     ensures cause { AnswersWith (IsCaused (F.told files.old) (Rose (F.faults files.old) (F.faults files.new))) result }
@@ -385,7 +385,7 @@ fn check_file<F: Files>(alloc: Global, program: &str, files: &mut F) -> Result<A
 }
 
 /// The answer of `explain` over a file.
-fn explain_file<F: Files>(alloc: Global, program: &str, files: &mut F) -> Result<Answer, Left>
+fn explain_file<F: Files>(alloc: Global, program: &str, files: &mut F) -> Result<Answer, Exit>
     ensures whole { let command = explain_command program.now in
         AnswersWith (IsWholeUnless (WholeOf command) (IsFaultOf command) (F.told files.old) (Rose (F.faults files.old) (F.faults files.new))) result }
     ensures cause { AnswersWith (IsCaused (F.told files.old) (Rose (F.faults files.old) (F.faults files.new))) result }
@@ -402,7 +402,7 @@ fn explain_file<F: Files>(alloc: Global, program: &str, files: &mut F) -> Result
 }
 
 /// The answer of `print` over a file.
-fn print_file<F: Files>(alloc: Global, program: &str, files: &mut F) -> Result<Answer, Left>
+fn print_file<F: Files>(alloc: Global, program: &str, files: &mut F) -> Result<Answer, Exit>
     ensures whole { let command = print_command program.now in
         AnswersWith (IsWholeUnless (WholeOf command) (IsFaultOf command) (F.told files.old) (Rose (F.faults files.old) (F.faults files.new))) result }
     ensures cause { AnswersWith (IsCaused (F.told files.old) (Rose (F.faults files.old) (F.faults files.new))) result }
@@ -418,7 +418,7 @@ fn print_file<F: Files>(alloc: Global, program: &str, files: &mut F) -> Result<A
 }
 
 /// The answer of a command.
-fn answer_command<F: Files>(alloc: Global, command: Command, files: &mut F) -> Result<Answer, Left>
+fn answer_command<F: Files>(alloc: Global, command: Command, files: &mut F) -> Result<Answer, Exit>
     ensures whole { AnswersWith (IsWholeUnless (WholeOf (seen_command command.entry)) (IsFaultOf (seen_command command.entry)) (F.told files.old) (Rose (F.faults files.old) (F.faults files.new))) result }
     ensures cause { AnswersWith (IsCaused (F.told files.old) (Rose (F.faults files.old) (F.faults files.new))) result }
     ensures later { F.faults files.old ≤ F.faults files.new }
@@ -450,7 +450,7 @@ pub(crate) fn answer_words<F: Files>(
     };
     match answer_command(alloc, command, files) {
         Ok(given) => Ok(given),
-        Err(Left::Answered(given)) => Ok(given),
-        Err(Left::NoMemory) => Err(AllocError),
+        Err(Exit::Answered(given)) => Ok(given),
+        Err(Exit::NoMemory) => Err(AllocError),
     }
 }

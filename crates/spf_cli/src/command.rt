@@ -43,7 +43,7 @@ fn is_file_name(word: &str) -> bool
     }
 }
 
-/// Whether the first word is this one, and the words behind it then.
+/// Whether the first word is this one, and the words after it then.
 fn take_word<'a>(words: &'a [String], name: &str) -> (bool, &'a [String])
     ensures flag { result.0 ≡ (taken name.now (map string_bytes words.now)).0 }
     ensures rest { map string_bytes result.1.now ≡ (taken name.now (map string_bytes words.now)).1 }
@@ -74,7 +74,7 @@ fn read_options(words: &[String]) -> Option<Options>
     }
 }
 
-/// The run that words behind `run` ask for.
+/// The run that words after `run` ask for.
 fn read_run(words: &[String]) -> Option<Command>
     ensures { MatchOption result
         ((command : Wish) → Asks (codes "run" ∷ map string_bytes words.now) command → ⊥)
@@ -108,7 +108,7 @@ fn read_name(words: &[String]) -> Option<&str>
     if is_file_name(name) { Some(name) } else { None }
 }
 
-/// The check that words behind `check` ask for.
+/// The check that words after `check` ask for.
 fn read_check(words: &[String]) -> Option<Command>
     ensures { MatchOption result
         ((command : Wish) → Asks (codes "check" ∷ map string_bytes words.now) command → ⊥)
@@ -118,7 +118,7 @@ fn read_check(words: &[String]) -> Option<Command>
     Some(Command::Check { program })
 }
 
-/// The explanation that words behind `explain` ask for.
+/// The explanation that words after `explain` ask for.
 fn read_explain(words: &[String]) -> Option<Command>
     ensures { MatchOption result
         ((command : Wish) → Asks (codes "explain" ∷ map string_bytes words.now) command → ⊥)
@@ -128,7 +128,7 @@ fn read_explain(words: &[String]) -> Option<Command>
     Some(Command::Explain { program })
 }
 
-/// The print that words behind `print` ask for.
+/// The print that words after `print` ask for.
 fn read_print(words: &[String]) -> Option<Command>
     ensures { MatchOption result
         ((command : Wish) → Asks (codes "print" ∷ map string_bytes words.now) command → ⊥)

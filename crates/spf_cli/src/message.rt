@@ -83,7 +83,7 @@ pub(crate) fn fault_line(alloc: Global, fault: TypeFault, line: u32) -> Result<S
     format!(in alloc; "line {line}: {name}\n")
 }
 
-/// Adds a range to a line, behind a space, where there is one.
+/// Adds a range to a line, after a space, where there is one.
 fn push_perhaps_range(
     alloc: Global,
     line: &mut Vec<u8>,
@@ -127,7 +127,7 @@ pub(crate) fn stats_line(
     format!(in alloc; "blocks {blocks} hits {hits} misses {misses} blind {blind}\n")
 }
 
-/// Adds a number to a line, behind a space.
+/// Adds a number to a line, after a space.
 fn push_number(alloc: Global, line: &mut Vec<u8>, word: i64) -> Result<(), AllocError>
     ensures { IfOk result (λ _. line.new.items ≡ line.old.items ++ (codes " " ++ signed_decimal word)) }
 {
@@ -135,7 +135,7 @@ fn push_number(alloc: Global, line: &mut Vec<u8>, word: i64) -> Result<(), Alloc
     line.extend_from_slice(text.as_bytes())
 }
 
-/// Adds numbers to a line, each behind a space.
+/// Adds numbers to a line, each after a space.
 fn push_numbers(alloc: Global, line: &mut Vec<u8>, words: &[i64]) -> Result<(), AllocError>
     ensures { IfOk result (λ _. line.new.items ≡ line.old.items ++ numbers words.now) }
 {

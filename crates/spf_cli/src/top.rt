@@ -73,10 +73,10 @@ fn put<S: Sink>(given: &Answer, out: &mut S, err: &mut S) -> Result<(), PutError
 /// Does all that the program does: reads the words of its command line, fetches the files that they
 /// name, and puts the answer.
 ///
-/// `words` are the words behind the program's name. The status is 0 where the command is done, 1 where
+/// `words` are the words after the program's name. The status is 0 where the command is done, 1 where
 /// the program trapped, 2 where the words aren't understood, 3 where the text has no lawful program, 4
 /// where the checker refuses the program or what runs it isn't built yet, 5 where a file can't be had, 6
-/// where a sink failed, 7 where a limit was passed, and 8 where memory was short.
+/// where a sink failed, 7 where a limit was passed, and 8 where memory ran out.
 pub fn spf_main<F: Files, S: Sink>(
     alloc: Global,
     words: &[String],
@@ -84,7 +84,7 @@ pub fn spf_main<F: Files, S: Sink>(
     out: &mut S,
     err: &mut S,
 ) -> u8
-    // Where the files are told, the whole answer is given, unless a fault was met or memory was short.
+    // Where the files are told, the whole answer is given, unless a fault was met or memory ran out.
     ensures answered { (told : List Entry) → F.told files.old ≡ Some told → IsAnswered (map string_bytes words.now) told
         (Rose (F.faults files.old) (F.faults files.new))
         (Rose (S.faults out.old) (S.faults out.new) ⊎ Rose (S.faults err.old) (S.faults err.new))

@@ -470,7 +470,10 @@ fn faults_end_the_run(rt: HostRuntime) -> Result<(), Fail> {
     let mut out = MemSink::make(failing, 1);
     let mut err = MemSink::make(Vec::new(alloc), 0);
     let got = spf_main(alloc, &words, &mut told, &mut out, &mut err);
-    assert_eq!(rt; (got, out.bytes(), err.bytes().len()), (6, b"A".as_slice(), 0));
+    assert_eq!(rt;
+        (got, out.bytes(), err.bytes().len()),
+        (6, b"A".as_slice(), 0)
+    );
 
     // A sink that fails at its second put has taken the first whole and 100 bytes of the second.
     let words = texts(alloc, &["run", "P", "I", "--plain"])?;

@@ -21,12 +21,12 @@ use Rattle.spf_chain.specs.Validation.{all_validated, results_of}
 use Rattle.spf_laws.specs.Chained.{chained}
 use Rattle.spf_guess.specs.Guess.{Guess, guess_of}
 use Rattle.spf_guess.specs.Statistics.{plus, statistics_with}
-use Rattle.spf_engine.specs.declared.blocks.Came.{Came}
+use Rattle.spf_engine.specs.declared.blocks.FoldReport.{FoldReport}
 use Rattle.spf_engine.specs.declared.blocks.Job.{Job}
 use Rattle.spf_engine.specs.FirstForm.{is_none, is_first_block, is_first_form}
-use Rattle.spf_engine.specs.Standing.{CameOut, counts, guesses_from}
-use Rattle.spf_engine.specs.Blocks.{entry_slots, job_answers, job_guess, fold_guesses, chain_guesses, paired, counts_of, real_values, settled_result, CameFrom}
-use Rattle.spf_engine.specs.Runs.{IsCameSo, LeadsOn}
+use Rattle.spf_engine.specs.Standing.{BlocksComeTo, counts, guesses_from}
+use Rattle.spf_engine.specs.Blocks.{entry_slots, job_answers, job_guess, fold_guesses, chain_guesses, paired, counts_of, real_values, settled_result, IsReportFrom}
+use Rattle.spf_engine.specs.Runs.{LeadsTo, LeadsOn}
 use Rattle.spf_engine.proofs.Constructs.{Laws, construct-settles, construct-ends-run}
 use Rattle.spf_engine.proofs.Counting.{guesses-length}
 use Rattle.spf_engine.proofs.Starting.{validated-count}
@@ -55,20 +55,20 @@ find p input s c form e =
 -- ---- what it came to
 
 pub leads : Laws → (p : Program) (input : List ℕ) (before after : Stand) (c : Construct) → FunctionsAreSilent p.functions → Found p input before c → (h : Header) → EndsAt p (header_means (environment_of p input) c) before after h → after.place ≡ before.place
-    → (came : Came) (values : List ℤ) → CameOut p input c h after (settled_result came.settled) values after.cells → came.stats ≡ counts p input c h after values
+    → (came : FoldReport) (values : List ℤ) → BlocksComeTo p input c h after (settled_result came.settled) values after.cells → came.stats ≡ counts p input c h after values
     → LeadsOn p input before after c came
 leads laws p input before after c silent f h ended place came values out stats counted goes =
-    subst (λ s. IsCameSo p input after c came.settled (plus counted s)) (sym stats) (go came.settled out)
+    subst (λ s. LeadsTo p input after c came.settled (plus counted s)) (sym stats) (go came.settled out)
   where
-    go : (r : Settled) → CameOut p input c h after (settled_result r) values after.cells → IsCameSo p input after c r (plus counted (counts p input c h after values))
+    go : (r : Settled) → BlocksComeTo p input c h after (settled_result r) values after.cells → LeadsTo p input after c r (plus counted (counts p input c h after values))
     go (Carried v) o = λ last s.
         construct-settles laws p input before after last counted c h v values goes f.first ended silent (f.fold.own goes.scope.visible)
-        (subst (CameOut p input c h after (Ok v) values) (sym s.cells) o)
+        (subst (BlocksComeTo p input c h after (Ok v) values) (sym s.cells) o)
         s.slots s.output (s.place ∙ ap (λ n. n + 1) place)
     go (Trapped t) o = construct-ends-run laws p input before after counted c h t values after.cells goes f.first ended silent (f.fold.own goes.scope.visible) o
 
 -- no blocks at all
-pub none-out : (p : Program) (input : List ℕ) (c : Construct) (h : Header) (s : Stand) → h.blocks ≡ 0 → CameOut p input c h s (Ok h.start) [] s.cells
+pub none-out : (p : Program) (input : List ℕ) (c : Construct) (h : Header) (s : Stand) → h.blocks ≡ 0 → BlocksComeTo p input c h s (Ok h.start) [] s.cells
 none-out p input c h s none = record {
   result = ap (λ n. (chained (environment_of p input) c (main_slots p s.frame) 0 n h.low h.start s.cells).result) none;
   values_are = ap (λ n. (chained (environment_of p input) c (main_slots p s.frame) 0 n h.low h.start s.cells).values) none;
@@ -89,8 +89,8 @@ guess-size job h some =
 abbrev pub IsEntry : Job → Stand → Type 0
 IsEntry job s = (s.frame ≡ job.entry.now) × (s.cells ≡ [])
 
-blocks-out : (job : Job) (s : Stand) (h : code_header.Header) → HasBodies (construct_seen job.construct) → IsEntry job s → 0 < h.blocks → (came : Came) → CameFrom job h came
-    → CameOut (program_of job.instance.now) job.instance.now.input (construct_seen job.construct) (seen_header h) s (settled_result came.settled) (values-of job h) s.cells
+blocks-out : (job : Job) (s : Stand) (h : code_header.Header) → HasBodies (construct_seen job.construct) → IsEntry job s → 0 < h.blocks → (came : FoldReport) → IsReportFrom job h came
+    → BlocksComeTo (program_of job.instance.now) job.instance.now.input (construct_seen job.construct) (seen_header h) s (settled_result came.settled) (values-of job h) s.cells
 unfolding values-of
 blocks-out job s h bodies (frame, none) some came from =
     let p = program_of job.instance.now in
@@ -105,7 +105,7 @@ blocks-out job s h bodies (frame, none) some came from =
       memory_is = (λ i. (chained g c (entry i) 0 h.blocks h.low h.start (none i)).memory) ∙ ap (λ n. (chained g c (entry_slots job) 0 n h.low h.start []).memory) (sym size) ∙ l.memory ∙ sym none;
     }
 
-blocks-count : (job : Job) (s : Stand) (h : code_header.Header) → IsEntry job s → 0 < h.blocks → (came : Came) → CameFrom job h came
+blocks-count : (job : Job) (s : Stand) (h : code_header.Header) → IsEntry job s → 0 < h.blocks → (came : FoldReport) → IsReportFrom job h came
     → came.stats ≡ counts (program_of job.instance.now) job.instance.now.input (construct_seen job.construct) (seen_header h) s (values-of job h)
 unfolding values-of
 blocks-count job s h (frame, none) some came from =
@@ -127,7 +127,7 @@ blocks-count job s h (frame, none) some came from =
 -- what the blocks of a job came to leads on
 pub blocks-lead : Laws → (job : Job) (before after : Stand) → FunctionsAreSilent (program_of job.instance.now).functions → Found (program_of job.instance.now) job.instance.now.input before (construct_seen job.construct)
     → (h : code_header.Header) → EndsAt (program_of job.instance.now) (header_means (environment_of (program_of job.instance.now) job.instance.now.input) (construct_seen job.construct)) before after (seen_header h) → after.place ≡ before.place
-    → IsEntry job after → 0 < h.blocks → (came : Came) → CameFrom job h came → LeadsOn (program_of job.instance.now) job.instance.now.input before after (construct_seen job.construct) came
+    → IsEntry job after → 0 < h.blocks → (came : FoldReport) → IsReportFrom job h came → LeadsOn (program_of job.instance.now) job.instance.now.input before after (construct_seen job.construct) came
 blocks-lead laws job before after silent f h ended place entry some came from =
     leads laws (program_of job.instance.now) job.instance.now.input before after (construct_seen job.construct) silent f (seen_header h) ended place came (values-of job h)
     (blocks-out job after h f.bodies entry some came from) (blocks-count job after h entry some came from)

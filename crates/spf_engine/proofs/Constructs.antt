@@ -28,7 +28,7 @@ use Rattle.spf_laws.proofs.Plainly.{Comes, comes-then, comes-trap}
 use Rattle.spf_guess.specs.declared.stats.Stats.{Stats}
 use Rattle.spf_guess.specs.Guess.{guess_of}
 use Rattle.spf_guess.specs.Statistics.{none, plus, statistics_with}
-use Rattle.spf_engine.specs.Standing.{IsAt, GoesOn, HasCome, CameOut, guesses_from, statistics_of, counts}
+use Rattle.spf_engine.specs.Standing.{IsAt, GoesOn, HasCome, BlocksComeTo, guesses_from, statistics_of, counts}
 use Rattle.spf_engine.proofs.Places.{goes-to}
 use Rattle.spf_engine.proofs.Fronts.{declared-after}
 use Rattle.spf_engine.proofs.Standing.{Follows, follows, follows-trap, traps-here, no-statistics, plus-none, plus-plus, outcome-of}
@@ -185,7 +185,7 @@ reached_as g c m h entered = record {
 
 -- it counts what its blocks count that were run from the slots of the run
 counts-alike : Laws → (p : Program) (input : List ℕ) (before after : Stand) (counted : Stats) (c : Construct) (h : Header) (e : Entered p input before after counted c h)
-    → FunctionsAreSilent p.functions → IsSelfContained e.goes.scope.visible c → (r : Result ℤ Trap) (values memory : List ℤ) → CameOut p input c h after r values memory
+    → FunctionsAreSilent p.functions → IsSelfContained e.goes.scope.visible c → (r : Result ℤ Trap) (values memory : List ℤ) → BlocksComeTo p input c h after r values memory
     → statistics_with (guesses_from p input c e.header.state.slots h.low (plain_memory (header_means (environment_of p input) c e.goes.moment.state) e.goes.moment.memory)) (reached_as (environment_of p input) c e.goes.moment h e.header.state).reals.values
     ≡ counts p input c h after values
 counts-alike laws p input before after counted c h e silent own r values memory out =
@@ -216,7 +216,7 @@ settles-trap visible entry carried t (Trapped u o) h = ap (λ w. Trapped w o) h.
 
 -- where its blocks gave a value, and the run goes on behind it with this value and their memory
 pub settles-so : Laws → (p : Program) (input : List ℕ) (before after last : Stand) (counted : Stats) (c : Construct) (h : Header) (e : Entered p input before after counted c h)
-    → FunctionsAreSilent p.functions → IsSelfContained e.goes.scope.visible c → (v : ℤ) (values : List ℤ) → CameOut p input c h after (Ok v) values last.cells
+    → FunctionsAreSilent p.functions → IsSelfContained e.goes.scope.visible c → (v : ℤ) (values : List ℤ) → BlocksComeTo p input c h after (Ok v) values last.cells
     → main_slots p last.frame ≡ slice_set (main_slots p after.frame) (carried_of c) v → last.output ≡ after.output → last.place ≡ before.place + 1
     → GoesOn p input last (plus counted (counts p input c h after values))
 settles-so laws p input before after last counted c h e silent own v values out slots output place =
@@ -267,7 +267,7 @@ settles-so laws p input before after last counted c h e silent own v values out 
 
 -- where one of its blocks trapped
 pub settles-to-trap : Laws → (p : Program) (input : List ℕ) (before after : Stand) (counted : Stats) (c : Construct) (h : Header) (e : Entered p input before after counted c h)
-    → FunctionsAreSilent p.functions → IsSelfContained e.goes.scope.visible c → (t : Trap) (values memory : List ℤ) → CameOut p input c h after (Err t) values memory
+    → FunctionsAreSilent p.functions → IsSelfContained e.goes.scope.visible c → (t : Trap) (values memory : List ℤ) → BlocksComeTo p input c h after (Err t) values memory
     → HasCome p input (Stopped t after.output) (plus counted (counts p input c h after values))
 settles-to-trap laws p input before after counted c h e silent own t values memory out =
     let g = environment_of p input in
@@ -300,7 +300,7 @@ settles-to-trap laws p input before after counted c h e silent own t values memo
 
 pub construct-settles : Laws → (p : Program) (input : List ℕ) (before after last : Stand) (counted : Stats) (c : Construct) (h : Header) (v : ℤ) (values : List ℤ)
     → (goes : GoesOn p input before counted) → construct_first (ahead p before) ≡ Some c → EndsAt p (header_means (environment_of p input) c) before after h
-    → FunctionsAreSilent p.functions → IsSelfContained goes.scope.visible c → CameOut p input c h after (Ok v) values last.cells
+    → FunctionsAreSilent p.functions → IsSelfContained goes.scope.visible c → BlocksComeTo p input c h after (Ok v) values last.cells
     → main_slots p last.frame ≡ slice_set (main_slots p after.frame) (carried_of c) v → last.output ≡ after.output → last.place ≡ before.place + 1
     → GoesOn p input last (plus counted (counts p input c h after values))
 unfolding enters
@@ -309,7 +309,7 @@ construct-settles laws p input before after last counted c h v values goes first
 
 pub construct-ends-run : Laws → (p : Program) (input : List ℕ) (before after : Stand) (counted : Stats) (c : Construct) (h : Header) (t : Trap) (values memory : List ℤ)
     → (goes : GoesOn p input before counted) → construct_first (ahead p before) ≡ Some c → EndsAt p (header_means (environment_of p input) c) before after h
-    → FunctionsAreSilent p.functions → IsSelfContained goes.scope.visible c → CameOut p input c h after (Err t) values memory
+    → FunctionsAreSilent p.functions → IsSelfContained goes.scope.visible c → BlocksComeTo p input c h after (Err t) values memory
     → HasCome p input (Stopped t after.output) (plus counted (counts p input c h after values))
 unfolding enters
 construct-ends-run laws p input before after counted c h t values memory goes first went silent own out =

@@ -26,7 +26,7 @@ use Rattle.spf_guess.specs.Guess.{Guess, guess_of}
 use Rattle.spf_guess.specs.Statistics.{Guessed, is_hit, how_many}
 use Rattle.spf_exec.specs.declared.pieces.Header as code_header
 use Rattle.spf_engine.specs.declared.blocks.Job.{Job}
-use Rattle.spf_engine.specs.declared.blocks.Came.{Came}
+use Rattle.spf_engine.specs.declared.blocks.FoldReport.{FoldReport}
 
 -- how a block run stops that ends so
 abbrev pub stop_of : Ending Carried → Stop
@@ -132,7 +132,7 @@ abbrev pub chain_guesses : List Guess → List (Option Carried)
 chain_guesses guesses = None ∷ map (λ (g : Guess). Some g.value) guesses
 
 -- what a fold came to by its job's answers and guesses
-pub record CameFrom (job : Job) (header : code_header.Header) (came : Came) : Type 0 where
+pub record IsReportFrom (job : Job) (header : code_header.Header) (came : FoldReport) : Type 0 where
   pub settled : came.settled ≡ all_settled (job_answers job header.low) header.start (chain_guesses (fold_guesses job header))
   pub stats : came.stats
       ≡ counts_of (length (all_validated (job_answers job header.low) header.start (chain_guesses (fold_guesses job header))))

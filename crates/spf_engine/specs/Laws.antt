@@ -15,7 +15,7 @@ use Rattle.spf_exec.specs.Pieces.{Stand, HasBegun, Advanced, EndsAt, TrapsAt, ah
 use Rattle.spf_laws.specs.Keeping.{IsSelfContained}
 use Rattle.spf_guess.specs.declared.stats.Stats.{Stats}
 use Rattle.spf_guess.specs.Statistics.{none, plus}
-use Rattle.spf_engine.specs.Standing.{GoesOn, HasCome, CameOut, counts}
+use Rattle.spf_engine.specs.Standing.{GoesOn, HasCome, BlocksComeTo, counts}
 
 -- a run that begins goes on as the plain run of its program, with nothing counted
 abbrev pub RunsBegin : Type 0
@@ -41,12 +41,12 @@ HeadersEndRuns =
     → TrapsAt p (header_means (environment_of p input) construct) before after trap
     → HasCome p input (Stopped trap after.output) counted
 
--- Where a construct's header is done, its blocks can be run on their own, and they came to a value: the run goes on behind it, with this value in the carried slot and the blocks' memory, and with what they count.
+-- Where a construct's header is done, its blocks can be run on their own, and they came to a value: the run goes on after it, with this value in the carried slot and the blocks' memory, and with what they count.
 abbrev pub ConstructsSettle : Type 0
 ConstructsSettle =
     (p : Program) (input : List ℕ) (before after last : Stand) (counted : Stats) (construct : Construct) (header : Header) (value : Carried) (values : List Carried)
     → (goes : GoesOn p input before counted) → construct_first (ahead p before) ≡ Some construct → EndsAt p (header_means (environment_of p input) construct) before after header
-    → FunctionsAreSilent p.functions → IsSelfContained goes.scope.visible construct → CameOut p input construct header after (Ok value) values last.cells
+    → FunctionsAreSilent p.functions → IsSelfContained goes.scope.visible construct → BlocksComeTo p input construct header after (Ok value) values last.cells
     → main_slots p last.frame ≡ with_carried (carried_of construct) value (main_slots p after.frame) → last.output ≡ after.output → last.place ≡ before.place + 1
     → GoesOn p input last (plus counted (counts p input construct header after values))
 
@@ -55,5 +55,5 @@ abbrev pub ConstructsEndRuns : Type 0
 ConstructsEndRuns =
     (p : Program) (input : List ℕ) (before after : Stand) (counted : Stats) (construct : Construct) (header : Header) (trap : Trap) (values : List Carried) (memory : List ℤ)
     → (goes : GoesOn p input before counted) → construct_first (ahead p before) ≡ Some construct → EndsAt p (header_means (environment_of p input) construct) before after header
-    → FunctionsAreSilent p.functions → IsSelfContained goes.scope.visible construct → CameOut p input construct header after (Err trap) values memory
+    → FunctionsAreSilent p.functions → IsSelfContained goes.scope.visible construct → BlocksComeTo p input construct header after (Err trap) values memory
     → HasCome p input (Stopped trap after.output) (plus counted (counts p input construct header after values))

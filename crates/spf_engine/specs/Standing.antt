@@ -51,8 +51,8 @@ pub record GoesOn (p : Program) (input : List ℕ) (s : Stand) (counted : Stats)
   pub statistics_are : plus counted (statistics_of p input (constructs_in (ahead p s)) (reached_from (environment_of p input) (ahead p s) moment))
       ≡ statistics p input
 
--- A construct's blocks, run one after another from where the run stands, come to this result, which is the value behind the last one or the first trap, begin at these values, and leave this memory.
-pub record CameOut (p : Program) (input : List ℕ) (c : Construct) (h : Header) (s : Stand) (r : Result Carried Trap) (values : List Carried) (memory : List ℤ) : Type 0 where
+-- A construct's blocks, run one after another from where the run stands, come to this result, which is the value after the last one or the first trap, begin at these values, and leave this memory.
+pub record BlocksComeTo (p : Program) (input : List ℕ) (c : Construct) (h : Header) (s : Stand) (r : Result Carried Trap) (values : List Carried) (memory : List ℤ) : Type 0 where
   pub result : (chained (environment_of p input) c (main_slots p s.frame) 0 h.blocks h.low h.start s.cells).result ≡ r
   pub values_are : (chained (environment_of p input) c (main_slots p s.frame) 0 h.blocks h.low h.start s.cells).values ≡ values
   pub memory_is : (chained (environment_of p input) c (main_slots p s.frame) 0 h.blocks h.low h.start s.cells).memory ≡ memory

@@ -16,7 +16,7 @@ ghost use Rattle.spf_chain.specs.declared.task.Validated.{Validated as SeenValid
 ghost use Rattle.spf_chain.specs.Validation.{IsNotCancelled, guesses_for, all_validated, all_settled};
 ghost use Rattle.spf_chain.specs.Chain.{IsOut, IsChainOf, HasEnded};
 ghost use Rattle.spf_guess.specs.Statistics.{statistics_with};
-ghost use Rattle.spf_engine.specs.Blocks.{guesses_after, paired, counts_of, AreAtMost, job_answers, job_guess, seen_guess, real_values, settled_result, IsFiledTo, IsUnderWay, AreOutFrom, IsSameFold, CameFrom};
+ghost use Rattle.spf_engine.specs.Blocks.{guesses_after, paired, counts_of, AreAtMost, job_answers, job_guess, seen_guess, real_values, settled_result, IsFiledTo, IsUnderWay, AreOutFrom, IsSameFold, IsReportFrom};
 
 use spf_ast::carried::is_same;
 use spf_ast::construct::TopConstruct;
@@ -220,15 +220,15 @@ fn count_blocks(history: &[Validated], guesses: &[Guess]) -> Stats
     stats
 }
 
-/// What the blocks of a fold came to: the value behind the last one or the first trap, and how good their guesses were.
+/// What the blocks of a fold came to: the value after the last one or the first trap, and how good their guesses were.
 #[derive(Clone, Copy)]
-pub(crate) struct Came {
+pub(crate) struct FoldReport {
     pub settled: Settled,
     pub stats: Stats,
 }
 
 /// Runs the blocks of a fold whose header is done, each from its guess, and again where the guess was wrong.
-pub(crate) fn run_blocks(alloc: Global, job: &Job, header: Header) -> Result<Came, AllocError>
+pub(crate) fn run_blocks(alloc: Global, job: &Job, header: Header) -> Result<FoldReport, AllocError>
     requires no_cells { cell_count_of (program_of job.now.instance.now) (length job.now.instance.now.input) ≡ 0 }
     requires entry { length job.now.entry.now ≡ frame_size (program_of job.now.instance.now) }
     requires construct { Contains (constructs_in (program_of job.now.instance.now).main) (construct_seen job.now.construct) }
@@ -237,7 +237,7 @@ pub(crate) fn run_blocks(alloc: Global, job: &Job, header: Header) -> Result<Cam
     requires some { 0 < header.blocks }
     requires few { header.blocks ≤ max_blocks }
     requires numbers { (header.low +ℤ pos header.blocks) ≤ℤ i64.MAX }
-    ensures came { IfOk result (λ r. CameFrom job.now header r) }
+    ensures came { IfOk result (λ r. IsReportFrom job.now header r) }
     ensures few { IfOk result (λ r. AreAtMost r.stats 4096) }
 {
     let mut frame = job.entry.copy(alloc)?;
@@ -245,7 +245,7 @@ pub(crate) fn run_blocks(alloc: Global, job: &Job, header: Header) -> Result<Cam
     let (mut chain, tasks) = Chain::start(alloc, header.start, header.low, guesses.as_slice())?;
     file_all(alloc, job, tasks, &mut chain, &mut frame);
     let stats = count_blocks(chain.history(), guesses.as_slice());
-    Ok(Came {
+    Ok(FoldReport {
         settled: chain.finish(),
         stats,
     })

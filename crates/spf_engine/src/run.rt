@@ -16,7 +16,7 @@ ghost use Rattle.spf_engine.specs.Standing.{HasCome};
 ghost use Rattle.spf_engine.specs.Blocks.{AreAtMost};
 ghost use Rattle.spf_engine.specs.Runs.{LeadsOn};
 
-use crate::blocks::{Came, Job, run_blocks};
+use crate::blocks::{FoldReport, Job, run_blocks};
 use spf_ast::construct::TopConstruct;
 use spf_ast::laws::{each_guess_has_one_answer, lawful_programs_are_quiet_and_small};
 use spf_ast::outcome::{Outcome, Trap};
@@ -42,7 +42,7 @@ fn run_construct(
     instance: &Instance,
     construct: TopConstruct,
     run: &mut Run,
-) -> Result<Came, AllocError>
+) -> Result<FoldReport, AllocError>
     requires first_form { is_first_program (program_of instance.now) ≡ true }
     requires functions { FunctionsAreSilent (program_of instance.now).functions }
     requires run { IsRunOf (program_of instance.now) (length instance.now.input) run.old }
@@ -58,14 +58,14 @@ fn run_construct(
     let header = match run.header(instance, construct) {
         Ok(header) => header,
         Err(trap) => {
-            return Ok(Came {
+            return Ok(FoldReport {
                 settled: Settled::Trapped(trap),
                 stats: Stats::none(),
             });
         }
     };
     if header.blocks == 0 {
-        return Ok(Came {
+        return Ok(FoldReport {
             settled: Settled::Carried(header.start),
             stats: Stats::none(),
         });

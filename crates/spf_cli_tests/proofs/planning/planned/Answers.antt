@@ -16,7 +16,7 @@ two-blocks (pair line head producer consumer) = omega (arith)
 pub plan-requires-clause-construct : goal.plan-requires-clause-construct
 plan-requires-clause-construct c =
     let own = construct c.in_ok-find_construct.field-0 in
-    let main = ap (λ m. slice_get (constructs_in (block m)) 0) (sym (c.deref.ensures.value ∙ ap (λ p. p.main.items) c.program-2.ensures)) in
+    let main = ap (λ m. slice_get (constructs_in (block m)) 0) (sym (c.deref.ensures.value ∙ ap (λ p. p.main.items) c.program-2.ensures.program)) in
     (own, main ∙ c.in_ok-find_construct.ensures, two-blocks own)
 
 -- what holds of the value of a result, where there is one
@@ -32,4 +32,4 @@ of-ok (Err why) x P e h = absurd (no x e)
 
 pub plan-requires-clause-layout : goal.plan-requires-clause-layout
 plan-requires-clause-layout c =
-    (0, of-ok c.layout.result c.in_ok-found.found (IsLayoutOf (program c.in_ok-checked.checked) 0) c.in_ok-found.ensures.value (rw c.program.ensures at c.layout.ensures.layout))
+    (0, of-ok c.layout.result c.in_ok-found.found (IsLayoutOf (program c.in_ok-checked.checked) 0) c.in_ok-found.ensures.value (rw c.program.ensures.program at c.layout.ensures.layout))

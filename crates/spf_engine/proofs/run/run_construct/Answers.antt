@@ -8,10 +8,10 @@ use Rattle.spf_exec.specs.Pieces.{seen_header}
 use Rattle.spf_guess.specs.declared.stats.Stats.{Stats}
 use Rattle.spf_guess.specs.Statistics.{plus}
 use Rattle.spf_chain.specs.declared.task.Settled.TheVariants.{Carried}
-use Rattle.spf_engine.specs.declared.blocks.Came.{Came}
+use Rattle.spf_engine.specs.declared.blocks.FoldReport.{FoldReport}
 use Rattle.spf_engine.specs.declared.blocks.Job.{Job}
-use Rattle.spf_engine.specs.Standing.{HasCome, CameOut}
-use Rattle.spf_engine.specs.Blocks.{CameFrom}
+use Rattle.spf_engine.specs.Standing.{HasCome, BlocksComeTo}
+use Rattle.spf_engine.specs.Blocks.{IsReportFrom}
 use Rattle.spf_engine.specs.Runs.{LeadsOn}
 use Rattle.spf_engine.proofs.Standing.{plus-none}
 use Rattle.spf_engine.proofs.Constructs.{Laws, header-traps-run}
@@ -40,9 +40,9 @@ returns-then-header-eq0-clause-came c =
     let h = seen_header c.in-Ok.header in
     let laws : Laws = record { see = c.each_form_sees_visible_slots_alone.ensures.parts; unshared = c.each_guess_has_one_answer.ensures.guesses; blocks = c.each_construct_is_its_block_runs.ensures.constructs; headers = c.each_construct_is_its_block_runs.ensures.headers } in
     let fits : FitsSigned w64 c.in-Ok.header.start = search rules in
-    let came : Came = record { settled = Carried (to_z w64 (of_z w64 c.in-Ok.header.start)); stats = c.none-then-header-eq0.result } in
+    let came : FoldReport = record { settled = Carried (to_z w64 (of_z w64 c.in-Ok.header.start)); stats = c.none-then-header-eq0.result } in
     leads laws p c.args.instance.now.input c.args.run.now c.header.new.self construct c.requires.functions f h c.in-Ok.ensures.header c.header.ensures.place came []
-    (subst (λ v. CameOut p c.args.instance.now.input construct h c.header.new.self (Ok v) [] c.header.new.self.cells) (sym (to_z-of_z w64 c.in-Ok.header.start fits)) (none-out p c.args.instance.now.input construct h c.header.new.self c.if-header-eq0.true))
+    (subst (λ v. BlocksComeTo p c.args.instance.now.input construct h c.header.new.self (Ok v) [] c.header.new.self.cells) (sym (to_z-of_z w64 c.in-Ok.header.start fits)) (none-out p c.args.instance.now.input construct h c.header.new.self c.if-header-eq0.true))
     c.none-then-header-eq0.ensures
 
 pub returns-clause-came : goal.returns-clause-came
@@ -54,7 +54,7 @@ returns-clause-came c =
     let job : Job = record { instance = c.args.instance; construct = c.args.construct; entry = c.frame.result } in
     let some : 0 < c.in-Ok.header.blocks = (let not_zero = c.if-header-eq0.false in omega (arith, not_zero)) in
     let none = no-cells-there p (length c.args.instance.now.input) c.header.new.self.cells c.requires.first_form c.header.ensures.run.cells in
-    over-ok (CameFrom job c.in-Ok.header) (LeadsOn p c.args.instance.now.input c.args.run.now c.header.new.self construct)
+    over-ok (IsReportFrom job c.in-Ok.header) (LeadsOn p c.args.instance.now.input c.args.run.now c.header.new.self construct)
     (λ came from. blocks-lead laws job c.args.run.now c.header.new.self c.requires.functions f c.in-Ok.header c.in-Ok.ensures.header c.header.ensures.place
     (sym c.frame.ensures, none) some came from)
     c.run_blocks.result c.run_blocks.ensures.came

@@ -10,7 +10,7 @@ use Rattle.spf_exec.specs.Pieces.{Advanced, IsSettled, ahead}
 use Rattle.spf_guess.specs.Statistics.{plus}
 use Rattle.spf_engine.specs.Standing.{GoesOn, HasCome}
 use Rattle.spf_engine.specs.Blocks.{AreAtMost}
-use Rattle.spf_engine.specs.Runs.{IsCameSo, AreFew}
+use Rattle.spf_engine.specs.Runs.{LeadsTo, AreFew}
 use Rattle.spf_engine.proofs.Standing.{begins, advances, advances-to-trap, finishes}
 use Rattle.spf_engine.proofs.Ending.{advance-counts, goes-past, few-none, few-advanced, few-within, few-past}
 use Rattle.spf_engine.proofs.run.run_instance.Goals as goal
@@ -110,7 +110,7 @@ loop-run-preserved c =
     let few = few-advanced p c.loop-run.run c.advance.new.self c.loop-run.stats a.at c.loop-run.invariant.few in
     let few_here : AreFew p s c.loop-run.stats = subst (λ (x : Block). AreAtMost c.loop-run.stats (4096 * (length (constructs_in p.main) - length (constructs_in x)))) (sym same) few in
     let lead = came.ensures.came c.loop-run.stats (advances p c.args.instance.now.input c.loop-run.run c.advance.new.self c.loop-run.stats c.loop-run.invariant.goes a.went a.at) in
-    let carried = subst (λ r. IsCameSo p c.args.instance.now.input s construct r (plus c.loop-run.stats came.came.stats)) c.in-Carried.is lead in
+    let carried = subst (λ r. LeadsTo p c.args.instance.now.input s construct r (plus c.loop-run.stats came.came.stats)) c.in-Carried.is lead in
     let fits : FitsSigned w64 c.in-Carried.value = search rules in
     let settled = subst (IsSettled p construct s last) (to_z-of_z w64 c.in-Carried.value fits) c.settle.ensures.settled in
     record {
@@ -127,7 +127,7 @@ ended c =
     let came = c.in_ok-came-in-AtConstruct in
     let a = subst (Advanced p c.args.instance.now.input c.loop-run.run c.advance.new.self) c.in-AtConstruct.is c.in_ok-advance.ensures.advanced in
     let lead = came.ensures.came c.loop-run.stats (advances p c.args.instance.now.input c.loop-run.run c.advance.new.self c.loop-run.stats c.loop-run.invariant.goes a.went a.at) in
-    subst (λ r. IsCameSo p c.args.instance.now.input s (construct_seen c.in-AtConstruct.construct) r (plus c.loop-run.stats came.came.stats)) c.in-Trapped-settled.is lead
+    subst (λ r. LeadsTo p c.args.instance.now.input s (construct_seen c.in-AtConstruct.construct) r (plus c.loop-run.stats came.came.stats)) c.in-Trapped-settled.is lead
 
 pub returns-in-Trapped-settled-clause-outcome : goal.returns-in-Trapped-settled-clause-outcome
 returns-in-Trapped-settled-clause-outcome c = c.trapped-in-Trapped-settled.ensures.outcome ∙ (ended c).outcome_is
