@@ -3,7 +3,6 @@
 
 pub mod cells;
 pub mod finish;
-pub mod key;
 pub mod lane;
 pub mod laws;
 mod make;

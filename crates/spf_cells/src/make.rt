@@ -11,13 +11,13 @@ ghost use Rattle.spf_cells.specs.Segments.{AreSegmentsOf, IsSearchable, first_wo
 ghost use Rattle.spf_cells.specs.Values.{IsWardenOf};
 
 use crate::cells::Cells;
-use crate::key::{GhostKey, ghost_key};
 use crate::lane::Lane;
 use crate::rule::HandOut;
 use crate::segment::{Segment, segments_of};
 use crate::view::Setting;
 use crate::warden::Warden;
 use atomic_table::Table;
+use spf_key::key::{GhostKey, ghost_key};
 use spf_region::span::{Plan, Span};
 use std::alloc::{AllocError, Global};
 

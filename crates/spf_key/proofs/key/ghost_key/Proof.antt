@@ -9,11 +9,11 @@ use denote.Struct.Struct.{Struct}
 use denote.Struct.Owning.{shape}
 use Rattle.atomic_table.proofs.Fields.{token_val}
 use Rattle.atomic_table.proofs.Walks.{proved, leaves}
-use Rattle.spf_cells.specs.contracts.key.GhostKey as key
-use Rattle.spf_cells.specs.contracts.key.ghost_key.{ended, clauses}
-use Rattle.spf_cells.specs.contracts.key.ghost_key.Key.{name as #self}
-use Rattle.spf_cells.proofs.key.ghost_key.Statement.{statement}
-use Rattle.spf_cells.proofs.key.ghost_key.Code as code
+use Rattle.spf_key.specs.contracts.key.GhostKey as key
+use Rattle.spf_key.specs.contracts.key.ghost_key.{ended, clauses}
+use Rattle.spf_key.specs.contracts.key.ghost_key.Key.{name as #self}
+use Rattle.spf_key.proofs.key.ghost_key.Statement.{statement}
+use Rattle.spf_key.proofs.key.ghost_key.Code as code
 
 module _ (U : RattleType) where
   abbrev Fields : RattleType
