@@ -19,7 +19,7 @@ differs : (x slot next : ℕ) → slot ≡ next → x < next → (x == slot) ≡
 differs x slot next e h = grind (arith, nat_tests)
 
 mutual
-  statement-new : (names : Names) (in_main : Bool) (scope : Scope) (s : Statement) → IsLawfulStatement names in_main scope s → (x n : ℕ) → x < n → n ≡ scope.next → statement_declares x s ≡ false
+  pub statement-new : (names : Names) (in_main : Bool) (scope : Scope) (s : Statement) → IsLawfulStatement names in_main scope s → (x n : ℕ) → x < n → n ≡ scope.next → statement_declares x s ≡ false
   statement-new names in_main scope (Let slot value) l x n h e = differs x slot scope.next l.1.0 (omega (arith, h, e))
   statement-new names in_main scope (Assign slot value) l x n h e = refl
   statement-new names in_main scope (Store array index value) l x n h e = refl

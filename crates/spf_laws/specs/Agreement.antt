@@ -1,13 +1,15 @@
 -- What programs see of the slots: from states that agree on the visible ones every form goes on alike.
-use Rattle.std.specs.Prelude.{◌≡◌, ℕ, Bool, true, List, length, Option, Some, ℤ}
+use Rattle.std.specs.Prelude.{◌≡◌, ℕ, Bool, true, false, List, length, Option, Some, ℤ, slice_get}
 use Rattle.spf_ast.specs.declared.syntax.Part.{Part}
 use Rattle.spf_ast.specs.Event.{Event}
 use Rattle.spf_ast.specs.Carried.{Carried}
-use Rattle.spf_ast.specs.Construct.{Construct, construct_of, part_means, header_means}
+use Rattle.spf_ast.specs.Construct.{Construct, construct_of, constructs_in, part_means, header_means}
 use Rattle.spf_ast.specs.Interaction.{Performed, Ended, Stopped, Misfit, perform, State, Ending, Value, Trapped, Meaning}
-use Rattle.spf_ast.specs.Syntax.{Expression, Condition, Statement, Block, Function}
+use Rattle.spf_ast.specs.Syntax.{Program, Expression, Condition, Statement, Block, Function}
 use Rattle.spf_ast.specs.Meaning.{Extent, environment_before, expression_means, condition_means, statement_means, block_means}
-use Rattle.spf_ast.specs.Lawful.{Names, Scope, Agree, IsLawfulExpression, IsLawfulCondition, IsLawfulStatement, IsLawfulBlock, scope_after, scope_at_end}
+use Rattle.spf_ast.specs.Slots.{part_declares}
+use Rattle.spf_ast.specs.BlockRun.{block_setup, part_asks}
+use Rattle.spf_ast.specs.Lawful.{IsLawful, Names, Scope, Agree, IsLawfulExpression, IsLawfulCondition, IsLawfulStatement, IsLawfulBlock, scope_after, scope_at_end}
 
 -- ---- states and what follows from them
 
@@ -84,3 +86,24 @@ HeadersSeeVisibleSlots =
     (names : Names) (scope : Scope) (line : ℕ) (s : Statement) (construct : Construct) → construct_of line s ≡ Some construct → IsLawfulStatement names true scope s
     → (input : List ℕ) (extents : List Extent) (functions : List Function) (place : ℕ)
     → Relates (LookAlike scope.visible) (LookAlike scope.visible) (header_means (environment_before input extents functions place) construct)
+
+-- ---- what a part declares itself
+
+-- two lists of slots are equally long, and agree on each slot that the part doesn't declare
+pub record AgreeOutside (construct : Construct) (part : Part) (one other : List ℤ) : Type 0 where
+  pub slot_count : length one ≡ length other
+  pub slots : (slot : ℕ) → part_declares construct part slot ≡ false → slice_get one slot ≡ slice_get other slot
+
+-- two states have the same output
+abbrev pub HaveOneOutput : Relation
+HaveOneOutput one other = one.output ≡ other.output
+
+-- what a part of a lawful program's top construct finds in the slots that it declares is nothing to it
+abbrev pub PartsDeclareAnew : Type 0
+PartsDeclareAnew =
+    (p : Program) (index : ℕ) (construct : Construct) → IsLawful p → slice_get (constructs_in p.main) index ≡ Some construct
+    → (part : Part) (input : List ℕ) (number : ℤ) (carried : Carried) (one other : List ℤ) → AgreeOutside construct part one other
+    → (shared : ℕ → Bool) (memory : List ℤ) (stop : Option ℕ) (events : List Event)
+    → GoAlike HaveOneOutput
+      (perform shared memory stop (part_asks p construct part (block_setup input one number carried)) events)
+      (perform shared memory stop (part_asks p construct part (block_setup input other number carried)) events)

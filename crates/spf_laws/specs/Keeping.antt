@@ -1,10 +1,10 @@
 -- Blocks that can be run on their own: they assign none of the slots that are declared outside them, and hold no `emit`.
-use Rattle.std.specs.Prelude.{◌≡◌, ◌<◌, ℕ, true, false, ◌==◌, List, Some}
+use Rattle.std.specs.Prelude.{◌≡◌, ◌<◌, ℕ, true, false, ◌==◌, List, length, Some, slice_get}
 use Rattle.std.specs.List.{Contains}
 use Rattle.spf_ast.specs.declared.syntax.Part.{Part}
-use Rattle.spf_ast.specs.Syntax.{Statement, Block}
-use Rattle.spf_ast.specs.Construct.{Construct, fold, pair, construct_of, statements_of}
-use Rattle.spf_ast.specs.Lawful.{Names, Scope, IsLawfulStatement}
+use Rattle.spf_ast.specs.Syntax.{Program, Statement, Block}
+use Rattle.spf_ast.specs.Construct.{Construct, fold, pair, construct_of, constructs_in, statements_of}
+use Rattle.spf_ast.specs.Lawful.{IsLawful, Names, names_at, Scope, IsLawfulStatement}
 use Rattle.spf_ast.specs.Silence.{BlockIsSilent, PartIsSilent}
 use Rattle.spf_ast.specs.Slots.{assigns, statement_assigns, assigns_outer}
 
@@ -33,3 +33,17 @@ ConstructsAreSelfContained =
     → construct_of line s ≡ Some construct → IsLawfulStatement names true scope s → AreDeclared scope
     → ((part : Part) → assigns_outer (statements_of construct part) ≡ false) → ((part : Part) → PartIsSilent construct part)
     → IsSelfContained scope.visible construct
+
+-- the construct is a lawful statement at a place of `main`, whose visible slots were declared before
+pub record StandsInMain (p : Program) (construct : Construct) : Type 0 where
+  pub scope : Scope
+  pub line : ℕ
+  pub statement : Statement
+  pub is : construct_of line statement ≡ Some construct
+  pub lawful : IsLawfulStatement (names_at p (length p.functions) p.slots) true scope statement
+  pub declared : AreDeclared scope
+
+-- so does each top construct of a lawful program
+abbrev pub ConstructsStandInMain : Type 0
+ConstructsStandInMain =
+    (p : Program) (index : ℕ) (construct : Construct) → IsLawful p → slice_get (constructs_in p.main) index ≡ Some construct → StandsInMain p construct

@@ -2,8 +2,8 @@
 #![tactic(auto)]
 
 ghost use Rattle.spf_laws.specs.Chained.{ConstructsAreTheirBlocks, HeadersTrap};
-ghost use Rattle.spf_laws.specs.Agreement.{ExpressionsSeeVisibleSlots, ConditionsSeeVisibleSlots, StatementsSeeVisibleSlots, BlocksSeeVisibleSlots, PartsSeeVisibleSlots, HeadersSeeVisibleSlots};
-ghost use Rattle.spf_laws.specs.Keeping.{ConstructsAreSelfContained};
+ghost use Rattle.spf_laws.specs.Agreement.{ExpressionsSeeVisibleSlots, ConditionsSeeVisibleSlots, StatementsSeeVisibleSlots, BlocksSeeVisibleSlots, PartsSeeVisibleSlots, HeadersSeeVisibleSlots, PartsDeclareAnew};
+ghost use Rattle.spf_laws.specs.Keeping.{ConstructsAreSelfContained, ConstructsStandInMain};
 
 use spf_ast::laws::silent_forms_leave_the_output;
 
@@ -16,6 +16,15 @@ pub fn each_form_sees_visible_slots_alone()
     ensures parts { PartsSeeVisibleSlots }
     ensures headers { HeadersSeeVisibleSlots }
 {}
+
+/// Each top construct of a lawful program stands at a place of `main` whose visible slots were declared before it. So its parts find
+/// their own slots undeclared: what was in them before makes no difference to what a part does.
+pub fn each_part_declares_its_slots_anew()
+    ensures places { ConstructsStandInMain }
+    ensures parts { PartsDeclareAnew }
+{
+    each_form_sees_visible_slots_alone();
+}
 
 /// A construct of `main` whose parts assign no slot from outside and emit nothing, as the rules demand, has blocks that can be run on their own.
 pub fn each_construct_is_self_contained()
