@@ -1,0 +1,5 @@
+pub mod Steps
+pub mod Runs
+pub mod Laws
+pub mod Prefixes
+pub mod Statements
