@@ -1,5 +1,6 @@
 //! A lane: the one seat that steps for its block.
-ghost use Rattle.std.specs.Prelude.{◌≡◌, ◌≢◌, ℕ, ◌+◌, ◌-◌, ◌^◌, ◌<◌, ◌↔◌, [], length, IsTrue, IfSome, IfNone, if◌then◌else◌};
+ghost use Rattle.std.specs.Prelude.{◌≡◌, ◌≢◌, ℕ, ◌+◌, ◌-◌, ◌^◌, ◌<◌, ◌↔◌, [], length, true, false, IsTrue, IfSome, IfNone, if◌then◌else◌};
+ghost use Rattle.spf_region.specs.Cells.{in_spans};
 ghost use Rattle.spf_cells.specs.Log.{IsLogOf, IsPossibleFlag};
 ghost use Rattle.spf_cells.specs.Spans.{cells_of, Covers};
 ghost use Rattle.spf_cells.specs.declared.view.LogEntry.TheVariants.{Load, Store, Turn};
@@ -86,8 +87,8 @@ impl Lane {
 
     /// The word of a cell, if the cell is in the lane's spans.
     fn word_of(&self, cell: u64) -> Option<usize>
-        ensures inside { IfSome result (λ word. Covers (spans_of self.now) cell × IsWordOf self.now cell word × (word < self.now.table.words)) }
-        ensures outside { IfNone result (¬ Covers (spans_of self.now) cell) }
+        ensures inside { IfSome result (λ word. (in_spans (spans_of self.now) cell ≡ true) × IsWordOf self.now cell word × (word < self.now.table.words)) }
+        ensures outside { IfNone result (in_spans (spans_of self.now) cell ≡ false) }
     {
         find_word(self.segments.as_slice(), cell)
     }
@@ -102,10 +103,10 @@ impl Lane {
     /// The lane's own content of a cell, whoever else steps, if the cell is in the lane's spans. The load is then logged.
     pub fn try_load(&mut self, cells: &Cells, cell: u64) -> Option<i64>
         requires own { self.old.table ≡ cells.now.table }
-        ensures inside { IfSome result (λ _. Covers (spans_of self.old) cell) }
+        ensures inside { IfSome result (λ _. in_spans (spans_of self.old) cell ≡ true) }
         ensures value { IfSome result (λ word. word ≡ content_at self.old cell) }
         ensures log { IfSome result (λ word. self.new ≡ logged self.old (Load cell word)) }
-        ensures outside { IfNone result ((¬ Covers (spans_of self.old) cell) × (self.new ≡ self.old)) }
+        ensures outside { IfNone result ((in_spans (spans_of self.old) cell ≡ false) × (self.new ≡ self.old)) }
     {
         match self.word_of(cell) {
             Some(word) => {
@@ -119,7 +120,7 @@ impl Lane {
     /// Stores a word to a cell, if the cell is in the lane's spans; whether it is. The store is then logged.
     pub fn try_store(&mut self, cells: &Cells, cell: u64, value: i64) -> bool
         requires own { self.old.table ≡ cells.now.table }
-        ensures inside { IsTrue result ↔ Covers (spans_of self.old) cell }
+        ensures inside { result ≡ in_spans (spans_of self.old) cell }
         ensures content { IsTrue result → content_at self.new cell ≡ value }
         ensures others { (c : ℕ) → c ≢ cell → content_at self.new c ≡ content_at self.old c }
         ensures log { self.new ≡ (if result then logged self.old (Store cell value) else self.old) }

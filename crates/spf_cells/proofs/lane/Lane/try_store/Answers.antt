@@ -3,6 +3,7 @@ use Rattle.std.proofs.lemmas.Int.{to_z-of_z}
 use Rattle.spf_cells.specs.declared.view.LogEntry.TheVariants.{Store}
 use Rattle.spf_cells.specs.Values.{LaneValue, logged, IsWordOf, content_at}
 use Rattle.spf_cells.specs.Lane.{lane_value}
+use Rattle.spf_cells.proofs.Covering.{spans-cover}
 use Rattle.spf_cells.proofs.LaneSteps.{own_inside, stored_here, stored_else, may_store, grows, grown, cell_here}
 use Rattle.spf_cells.proofs.lane.Lane.try_store.Goals as goal
 
@@ -28,7 +29,7 @@ returns-in-Some-clause-log c = let e = c.store.ensures in
 
 pub returns-in-Some-clause-content : goal.returns-in-Some-clause-content
 returns-in-Some-clause-content c = λ _. ap (λ (v : LaneValue). content_at v c.args.cell) (returns-in-Some-clause-log c)
-    ∙ stored_here c.args.self.now c.args.cell c.args.value (own_inside c.self.inside c.self.invariant c.args.self.now c.self.view_is c.args.cell c.in-Some.ensures.inside.0)
+    ∙ stored_here c.args.self.now c.args.cell c.args.value (own_inside c.self.inside c.self.invariant c.args.self.now c.self.view_is c.args.cell (spans-cover _ c.args.cell c.in-Some.ensures.inside.0))
 
 pub returns-in-Some-clause-others : goal.returns-in-Some-clause-others
 returns-in-Some-clause-others c = λ d other. ap (λ (v : LaneValue). content_at v d) (returns-in-Some-clause-log c) ∙ stored_else c.args.self.now c.args.cell d c.args.value other
