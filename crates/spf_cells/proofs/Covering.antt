@@ -1,5 +1,5 @@
 -- The cells of spans are those that are in them, and ascending plans have none twice.
-use Rattle.std.proofs.Common.{◌≡◌, ℕ, zero, suc, ◌+◌, ◌-◌, ◌<◌, ◌≤◌, true, List, [], ◌∷◌, ◌++◌, length, slice_get, Some, refl, sym, ap, ◌∙◌, arith, inl, inr, ⊎_elim}
+use Rattle.std.proofs.Common.{◌≡◌, ℕ, zero, suc, ◌+◌, ◌-◌, ◌<◌, ◌≤◌, Bool, true, false, List, [], ◌∷◌, ◌++◌, length, slice_get, Some, refl, sym, ap, ◌∙◌, arith, ◌⊎◌, inl, inr, ⊎_elim}
 use Rattle.std.specs.Prelude.{nat_le, nat_lt}
 use mathlib.Core.Option.{some, some-ne-none, some-injective}
 use lib.ListN.{get_elem?}
@@ -51,6 +51,17 @@ cover-spans (s ∷ spans) c h = ⊎_elim
     (λ (r : (k : ℕ) × (h.0 ≡ length (consecutive s.from (s.to - s.from)) + k) × (get_elem? (cells_of spans) k ≡ some c)).
     or-right (in_span s c) (in_spans spans c) (cover-spans spans c (r.0, r.2)))
     (at_append (consecutive s.from (s.to - s.from)) (cells_of spans) h.0 c h.1)
+
+either-way : (b : Bool) → (b ≡ true) ⊎ (b ≡ false)
+either-way true = inl refl
+either-way false = inr refl
+
+-- a cell that spans don't cover isn't in them
+pub outside : (spans : List Span) (c : ℕ) → (Covers spans c → ⊥) → in_spans spans c ≡ false
+outside spans c h = elim (either-way (in_spans spans c)) [
+  | inl is ↦ absurd (h (spans-cover spans c is))
+  | inr is ↦ is
+]
 
 -- ---- no cell twice
 

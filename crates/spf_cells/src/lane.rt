@@ -1,5 +1,6 @@
 //! A lane: the one seat that steps for its block.
-ghost use Rattle.std.specs.Prelude.{◌≡◌, ◌≢◌, ℕ, ◌+◌, ◌-◌, ◌^◌, ◌<◌, ◌↔◌, [], length, IsTrue};
+ghost use Rattle.std.specs.Prelude.{◌≡◌, ◌≢◌, ℕ, ◌+◌, ◌-◌, ◌^◌, ◌<◌, ◌↔◌, [], length, true, false, IsTrue, IfSome, IfNone, if◌then◌else◌};
+ghost use Rattle.spf_region.specs.Cells.{in_spans};
 ghost use Rattle.spf_cells.specs.Log.{IsLogOf, IsPossibleFlag};
 ghost use Rattle.spf_cells.specs.Spans.{cells_of, Covers};
 ghost use Rattle.spf_cells.specs.declared.view.LogEntry.TheVariants.{Load, Store, Turn};
@@ -84,20 +85,54 @@ impl Lane {
         let _block = &self.block;
     }
 
+    /// The word of a cell, if the cell is in the lane's spans.
+    fn word_of(&self, cell: u64) -> Option<usize>
+        ensures inside { IfSome result (λ word. (in_spans (spans_of self.now) cell ≡ true) × IsWordOf self.now cell word × (word < self.now.table.words)) }
+        ensures outside { IfNone result (in_spans (spans_of self.now) cell ≡ false) }
+    {
+        find_word(self.segments.as_slice(), cell)
+    }
+
     /// Whether the cell is in the lane's spans.
     pub fn has(&self, cell: u64) -> bool
         ensures { IsTrue result ↔ Covers (spans_of self.now) cell }
     {
-        find_word(self.segments.as_slice(), cell).is_some()
+        self.word_of(cell).is_some()
     }
 
-    /// The word of a cell.
-    fn word(&self, cell: u64) -> usize
-        requires { Covers (spans_of self.now) cell }
-        ensures word { IsWordOf self.now cell result }
-        ensures inside { result < self.now.table.words }
+    /// The lane's own content of a cell, whoever else steps, if the cell is in the lane's spans. The load is then logged.
+    pub fn try_load(&mut self, cells: &Cells, cell: u64) -> Option<i64>
+        requires own { self.old.table ≡ cells.now.table }
+        ensures inside { IfSome result (λ _. in_spans (spans_of self.old) cell ≡ true) }
+        ensures value { IfSome result (λ word. word ≡ content_at self.old cell) }
+        ensures log { IfSome result (λ word. self.new ≡ logged self.old (Load cell word)) }
+        ensures outside { IfNone result ((in_spans (spans_of self.old) cell ≡ false) × (self.new ≡ self.old)) }
     {
-        find_word(self.segments.as_slice(), cell).unwrap()
+        match self.word_of(cell) {
+            Some(word) => {
+                let shared = &cells.table.shared;
+                Some(shared.load::<Loaded>(&mut self.seat, word).cast_signed())
+            }
+            None => None,
+        }
+    }
+
+    /// Stores a word to a cell, if the cell is in the lane's spans; whether it is. The store is then logged.
+    pub fn try_store(&mut self, cells: &Cells, cell: u64, value: i64) -> bool
+        requires own { self.old.table ≡ cells.now.table }
+        ensures inside { result ≡ in_spans (spans_of self.old) cell }
+        ensures content { IsTrue result → content_at self.new cell ≡ value }
+        ensures others { (c : ℕ) → c ≢ cell → content_at self.new c ≡ content_at self.old c }
+        ensures log { self.new ≡ (if result then logged self.old (Store cell value) else self.old) }
+    {
+        match self.word_of(cell) {
+            Some(word) => {
+                let shared = &cells.table.shared;
+                shared.store::<Stored>(&mut self.seat, word, value.cast_unsigned());
+                true
+            }
+            None => false,
+        }
     }
 
     /// The lane's own content of a cell of its spans, whoever else steps. The load is logged.
@@ -107,9 +142,7 @@ impl Lane {
         ensures value { result ≡ content_at self.old cell }
         ensures log { self.new ≡ logged self.old (Load cell result) }
     {
-        let word = self.word(cell);
-        let shared = &cells.table.shared;
-        shared.load::<Loaded>(&mut self.seat, word).cast_signed()
+        self.try_load(cells, cell).unwrap()
     }
 
     /// Stores a word to a cell of the lane's spans. The store is logged.
@@ -120,9 +153,7 @@ impl Lane {
         ensures others { (c : ℕ) → c ≢ cell → content_at self.new c ≡ content_at self.old c }
         ensures log { self.new ≡ logged self.old (Store cell value) }
     {
-        let word = self.word(cell);
-        let shared = &cells.table.shared;
-        shared.store::<Stored>(&mut self.seat, word, value.cast_unsigned());
+        self.try_store(cells, cell, value);
     }
 
     /// The flag of the lane's block. The turn is logged.

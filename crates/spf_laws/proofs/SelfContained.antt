@@ -3,13 +3,13 @@ use Rattle.std.proofs.Common.{◌≡◌, ◌<◌, ◌+◌, ℕ, Bool, true, fals
 use Rattle.std.specs.Prelude.{◌==◌, not}
 use Rattle.std.proofs.lemmas.Bool.Decides.{Decides-eqb, nat_tests}
 use Rattle.spf_ast.specs.declared.syntax.Part.{Part}
-use Rattle.spf_ast.specs.declared.syntax.Part.TheVariants.{Body, Producer, Consumer}
+use Rattle.spf_ast.specs.declared.syntax.Part.TheVariants.{Body, Producer, Consumer, Predictor}
 use Rattle.spf_ast.specs.Syntax.{Statement, Let, Assign, Store, Fill, Emit, Fail, If, For, While, Do, Fold, Pair, Block, end, on_line}
-use Rattle.spf_ast.specs.Construct.{statements_of}
+use Rattle.spf_ast.specs.Construct.{Construct, fold, pair, statements_of}
 use Rattle.spf_ast.specs.Lawful.{Names, Scope, behind, showing_fixed, in_body, IsLawfulStatement, IsLawfulBlock, declared_in, scope_after}
 use Rattle.spf_ast.specs.Silence.{PartIsSilent}
-use Rattle.spf_ast.specs.Slots.{assigns, statement_assigns, declares, statement_declares, assigns_outer}
-use Rattle.spf_laws.specs.Keeping.{BlockSpares, IsSelfContained, AreDeclared, ConstructsAreSelfContained}
+use Rattle.spf_ast.specs.Slots.{assigns, statement_assigns, declares, statement_declares, assigns_outer, part_declares}
+use Rattle.spf_laws.specs.Keeping.{BlockSpares, IsSelfContained, AreDeclared, ConstructsAreSelfContained, PartsAssignWhatTheyDeclare}
 use Rattle.spf_lemmas.proofs.Bools.{neither, either_fails}
 use Rattle.spf_laws.proofs.Chains.{is-statement}
 
@@ -82,15 +82,30 @@ mutual
       let n = neither (statement_assigns other first) _ e in
       either_fails (statement_assigns one first) (assigns one rest) (statement-fewer one other i first n.0) (block-fewer one other i rest n.1)
 
--- a block that assigns no outer slot spares the slots that were declared before it
-spares : (names : Names) (in_main : Bool) (outer scope : Scope) (b : Block) → IsLawfulBlock names in_main scope b → AreDeclared outer → ((x : ℕ) → x < outer.next → x < scope.next) → assigns_outer b ≡ false → BlockSpares outer.visible b
-spares names in_main outer scope b l d more e slot c = block-fewer (λ other. other == slot) (λ other. not (declares other b)) outside b e
+-- a block that assigns no outer slot spares each slot that it doesn't declare
+spares-undeclared : (b : Block) → assigns_outer b ≡ false → (slot : ℕ) → declares slot b ≡ false → assigns (λ other. other == slot) b ≡ false
+spares-undeclared b e slot undeclared = block-fewer (λ other. other == slot) (λ other. not (declares other b)) outside b e
   where
-    undeclared : declares slot b ≡ false
-    undeclared = block-new names in_main scope b l slot scope.next (more slot (d slot c)) refl
-
     outside : (k : ℕ) → (k == slot) ≡ true → not (declares k b) ≡ true
     outside k same = ap (λ x. not (declares x b)) ((Decides-eqb k slot).0 same) ∙ ap not undeclared
+
+-- so it spares those that were declared before it
+spares : (names : Names) (in_main : Bool) (outer scope : Scope) (b : Block) → IsLawfulBlock names in_main scope b → AreDeclared outer → ((x : ℕ) → x < outer.next → x < scope.next) → assigns_outer b ≡ false → BlockSpares outer.visible b
+spares names in_main outer scope b l d more e slot c = spares-undeclared b e slot (block-new names in_main scope b l slot scope.next (more slot (d slot c)) refl)
+
+-- what a part doesn't declare isn't declared in its statements
+undeclared : (construct : Construct) (part : Part) (slot : ℕ) → part_declares construct part slot ≡ false → declares slot (statements_of construct part) ≡ false
+undeclared (fold line head body) Body slot d = (neither (slot == head.block) _ (neither (slot == head.carried) _ d).1).1
+undeclared (fold line head body) Producer slot d = refl
+undeclared (fold line head body) Consumer slot d = refl
+undeclared (fold line head body) Predictor slot d = refl
+undeclared (pair line head producer consumer) Body slot d = refl
+undeclared (pair line head producer consumer) Producer slot d = d
+undeclared (pair line head producer consumer) Consumer slot d = (neither (slot == head.carried) _ d).1
+undeclared (pair line head producer consumer) Predictor slot d = refl
+
+pub own-assigned : PartsAssignWhatTheyDeclare
+own-assigned construct part outer slot d = spares-undeclared (statements_of construct part) outer slot (undeclared construct part slot d)
 
 pub self-contained : ConstructsAreSelfContained
 self-contained names scope line s c is l d outer silent =

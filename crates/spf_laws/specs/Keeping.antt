@@ -6,7 +6,7 @@ use Rattle.spf_ast.specs.Syntax.{Program, Statement, Block}
 use Rattle.spf_ast.specs.Construct.{Construct, fold, pair, construct_of, constructs_in, statements_of}
 use Rattle.spf_ast.specs.Lawful.{IsLawful, Names, names_at, Scope, IsLawfulStatement}
 use Rattle.spf_ast.specs.Silence.{BlockIsSilent, PartIsSilent}
-use Rattle.spf_ast.specs.Slots.{assigns, statement_assigns, assigns_outer}
+use Rattle.spf_ast.specs.Slots.{assigns, statement_assigns, assigns_outer, part_declares, part_assigns}
 
 -- a statement assigns none of these slots
 abbrev pub StatementSpares : List ℕ → Statement → Type 0
@@ -47,3 +47,9 @@ pub record StandsInMain (p : Program) (construct : Construct) : Type 0 where
 abbrev pub ConstructsStandInMain : Type 0
 ConstructsStandInMain =
     (p : Program) (index : ℕ) (construct : Construct) → IsLawful p → slice_get (constructs_in p.main) index ≡ Some construct → StandsInMain p construct
+
+-- a part that assigns no slot that is declared outside of its statements assigns none that it doesn't declare
+abbrev pub PartsAssignWhatTheyDeclare : Type 0
+PartsAssignWhatTheyDeclare =
+    (construct : Construct) (part : Part) → assigns_outer (statements_of construct part) ≡ false
+    → (slot : ℕ) → part_declares construct part slot ≡ false → part_assigns construct part slot ≡ false

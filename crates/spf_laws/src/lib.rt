@@ -3,7 +3,7 @@
 
 ghost use Rattle.spf_laws.specs.Chained.{ConstructsAreTheirBlocks, HeadersTrap};
 ghost use Rattle.spf_laws.specs.Agreement.{ExpressionsSeeVisibleSlots, ConditionsSeeVisibleSlots, StatementsSeeVisibleSlots, BlocksSeeVisibleSlots, PartsSeeVisibleSlots, HeadersSeeVisibleSlots, PartsDeclareAnew};
-ghost use Rattle.spf_laws.specs.Keeping.{ConstructsAreSelfContained, ConstructsStandInMain};
+ghost use Rattle.spf_laws.specs.Keeping.{ConstructsAreSelfContained, ConstructsStandInMain, PartsAssignWhatTheyDeclare};
 
 use spf_ast::laws::silent_forms_leave_the_output;
 
@@ -29,6 +29,11 @@ pub fn each_part_declares_its_slots_anew()
 /// A construct of `main` whose parts assign no slot from outside and emit nothing, as the rules demand, has blocks that can be run on their own.
 pub fn each_construct_is_self_contained()
     ensures { ConstructsAreSelfContained }
+{}
+
+/// A part that assigns no slot from outside, as the rules demand, leaves each slot alone that it doesn't declare.
+pub fn each_part_assigns_what_it_declares()
+    ensures { PartsAssignWhatTheyDeclare }
 {}
 
 /// What a construct of `main` means is what its block runs come to, one after another, each at the value that the one before it gave: its value or its trap, the memory, and its real values. A construct whose header traps ends with that trap.

@@ -1,40 +1,15 @@
-use Rattle.std.proofs.Common.{◌≡◌, ap, sym, ◌∙◌, arith, subst, to_z, of_z, w64}
-use Rattle.std.proofs.lemmas.Int.{to_z-of_z}
-use Rattle.spf_cells.specs.declared.view.LogEntry.TheVariants.{Load}
-use Rattle.spf_cells.specs.Log.{content}
-use Rattle.spf_cells.specs.Rule.{cell_of_word, log_of}
-use Rattle.spf_cells.specs.Values.{LaneValue, logged, IsWordOf, content_at}
-use Rattle.spf_cells.specs.Lane.{setting_of, lane_value}
-use Rattle.spf_cells.proofs.LaneSteps.{may_load, grows, grown, cell_here}
+use Rattle.std.proofs.Common.{◌≡◌, ℕ, ℤ, false, List, Option, Some, None, IfNone, refl}
+use Rattle.std.specs.Option.{IsSome}
+use Rattle.spf_region.specs.declared.span.Span.{Span}
+use Rattle.spf_region.specs.Cells.{in_spans}
+use Rattle.spf_cells.specs.Spans.{Covers}
+use Rattle.spf_cells.specs.Values.{spans_of}
+use Rattle.spf_cells.proofs.Covering.{cover-spans}
 use Rattle.spf_cells.proofs.lane.Lane.load.Goals as goal
 
-word_in : (c : goal.After-load-arg-1) → IsWordOf (lane_value c.self.inside) c.args.cell c.word-word.result
-word_in c = subst (λ (v : LaneValue). IsWordOf v c.args.cell c.word-word.result) (sym c.self.view_is) c.word-word.ensures.word
+loads : (spans : List Span) (c : ℕ) (o : Option ℤ) (Same : Type 0) → Covers spans c → IfNone o ((in_spans spans c ≡ false) × Same) → IsSome o
+loads spans c (Some word) Same there not = refl
+loads spans c None Same there not = absurd (let t = cover-spans spans c there in let f = not.0 in cc)
 
-pub load-requires : goal.load-requires
-load-requires c =
-    let same : c.self.inside.seat.table_id ≡ c.cells.inside.table.shared.table_id = ap (λ v. v.table) c.self.view_is ∙ (c.requires.own ∙ sym (ap (λ v. v.table) c.cells.view_is)) in
-    let e = ap (λ z. z.words) same in
-    let t = ap (λ v. v.table.words) c.self.view_is in
-    let w = word_in c in
-    let inside = c.word-word.ensures.inside in
-    (same, omega arith, may_load c.self.inside c.self.invariant _ _ c.word-word.result w.0 c.args.cell w.1 w.2)
-
--- the event as the step names it, and as the contract does
-event_is : (c : goal.After-cast_signed) → Load (cell_of_word (setting_of c.self.inside) c.word-word.result) (to_z w64 c.load.result) ≡ Load c.args.cell (to_z w64 (of_z w64 c.cast_signed.result))
-event_is c = let w : IsWordOf (lane_value c.self.inside) c.args.cell c.word-word.result = subst (λ (v : LaneValue). IsWordOf v c.args.cell c.word-word.result) (sym c.self.view_is) c.word-word.ensures.word in
-    λ t. Load (cell_here c.self.inside c.word-word.result c.args.cell w t) ((sym c.cast_signed.ensures ∙ sym (to_z-of_z w64 c.cast_signed.result record { sfits = c.cast_signed.type_inv })) t)
-
-pub invariant_of-self : goal.invariant_of-self
-invariant_of-self c = let e = c.load.ensures in
-    grows c.self.inside c.self.invariant _ c.load.new.seat e.0 e.2.0 e.2.1 tt
-
-pub returns-clause-value : goal.returns-clause-value
-returns-clause-value c = let e = c.load.ensures in
-    let w : IsWordOf (lane_value c.self.inside) c.args.cell c.word-word.result = subst (λ (v : LaneValue). IsWordOf v c.args.cell c.word-word.result) (sym c.self.view_is) c.word-word.ensures.word in
-    to_z-of_z w64 c.cast_signed.result record { sfits = c.cast_signed.type_inv } ∙ (c.cast_signed.ensures ∙ (e.2.1
-    ∙ (ap (content (setting_of c.self.inside) (log_of c.self.inside.seat.me.0.role)) (cell_here c.self.inside c.word-word.result c.args.cell w) ∙ ap (λ (v : LaneValue). content_at v c.args.cell) c.self.view_is)))
-
-pub returns-clause-log : goal.returns-clause-log
-returns-clause-log c = let e = c.load.ensures in
-    grown c.self.inside c.self.invariant _ c.load.new.seat e.0 e.2.0 ∙ (λ t. logged (c.self.view_is t) (event_is c t))
+pub unwrap-requires : goal.unwrap-requires
+unwrap-requires c = loads (spans_of c.args.self.now) c.args.cell c.try_load.result (c.try_load.new.self ≡ c.args.self.now) c.requires.inside c.try_load.ensures.outside

@@ -1,33 +1,17 @@
-use Rattle.std.proofs.Common.{◌≡◌, ap, sym, ◌∙◌, arith, subst, to_z, of_z, w64}
+use Rattle.std.proofs.Common.{◌≡◌, true, ap, ◌∙◌, to_z, of_z, w64}
 use Rattle.std.proofs.lemmas.Int.{to_z-of_z}
+use Rattle.std.specs.Prelude.{if◌then◌else◌}
 use Rattle.spf_cells.specs.declared.view.LogEntry.TheVariants.{Store}
-use Rattle.spf_cells.specs.Values.{LaneValue, logged, IsWordOf, content_at}
-use Rattle.spf_cells.specs.Lane.{lane_value}
-use Rattle.spf_cells.proofs.LaneSteps.{own_inside, stored_here, stored_else, may_store, grows, grown, cell_here}
+use Rattle.spf_cells.specs.Values.{spans_of, logged}
+use Rattle.spf_cells.proofs.Covering.{cover-spans}
 use Rattle.spf_cells.proofs.lane.Lane.store.Goals as goal
 
-pub store-requires : goal.store-requires
-store-requires c =
-    let same : c.self.inside.seat.table_id ≡ c.cells.inside.table.shared.table_id = ap (λ v. v.table) c.self.view_is ∙ (c.requires.own ∙ sym (ap (λ v. v.table) c.cells.view_is)) in
-    let e = ap (λ z. z.words) same in
-    let t = ap (λ v. v.table.words) c.self.view_is in
-    let w : IsWordOf (lane_value c.self.inside) c.args.cell c.word-word.result = subst (λ (v : LaneValue). IsWordOf v c.args.cell c.word-word.result) (sym c.self.view_is) c.word-word.ensures.word in
-    let inside = c.word-word.ensures.inside in
-    (same, omega arith, may_store c.self.inside c.self.invariant _ _ c.word-word.result w.0 c.args.cell _ w.1 w.2)
-
-pub invariant_of-self : goal.invariant_of-self
-invariant_of-self c = let e = c.store.ensures in
-    grows c.self.inside c.self.invariant _ c.store.new.seat e.0 e.2 tt tt
-
-pub returns-clause-log : goal.returns-clause-log
-returns-clause-log c = let e = c.store.ensures in
-    let w : IsWordOf (lane_value c.self.inside) c.args.cell c.word-word.result = subst (λ (v : LaneValue). IsWordOf v c.args.cell c.word-word.result) (sym c.self.view_is) c.word-word.ensures.word in
-    let back : to_z w64 (of_z w64 c.args.value) ≡ c.args.value = to_z-of_z w64 c.args.value c.ranges.value in
-    let word : to_z w64 c.cast_unsigned.result ≡ c.args.value = ap (to_z w64) (c.cast_unsigned.ensures ∙ ap (of_z w64) back) ∙ back in
-    grown c.self.inside c.self.invariant _ c.store.new.seat e.0 e.2 ∙ (λ t. logged (c.self.view_is t) (Store (cell_here c.self.inside c.word-word.result c.args.cell w t) (word t)))
+stored : (c : goal.After-try_store) → c.try_store.result ≡ true
+stored c = c.try_store.ensures.inside ∙ cover-spans (spans_of c.args.self.now) c.args.cell c.requires.inside
 
 pub returns-clause-content : goal.returns-clause-content
-returns-clause-content c = ap (λ (v : LaneValue). content_at v c.args.cell) (returns-clause-log c) ∙ stored_here c.args.self.now c.args.cell c.args.value (own_inside c.self.inside c.self.invariant c.args.self.now c.self.view_is c.args.cell c.requires.inside)
+returns-clause-content c = c.try_store.ensures.content (stored c) ∙ to_z-of_z w64 c.args.value c.ranges.value
 
-pub returns-clause-others : goal.returns-clause-others
-returns-clause-others c = λ d other. ap (λ (v : LaneValue). content_at v d) (returns-clause-log c) ∙ stored_else c.args.self.now c.args.cell d c.args.value other
+pub returns-clause-log : goal.returns-clause-log
+returns-clause-log c = c.try_store.ensures.log ∙ ap (λ b. if b then logged c.args.self.now (Store c.args.cell (to_z w64 (of_z w64 c.args.value))) else c.args.self.now) (stored c)
+    ∙ ap (λ v. logged c.args.self.now (Store c.args.cell v)) (to_z-of_z w64 c.args.value c.ranges.value)
