@@ -14,10 +14,10 @@ use Rattle.spf_layout.specs.Frame.{main_slots}
 use Rattle.spf_layout.specs.Instance.{program_of}
 use Rattle.spf_exec.specs.declared.pieces.Header as code_header
 use Rattle.spf_exec.specs.Pieces.{Stand, EndsAt, seen_header, ahead}
-use Rattle.spf_chain.specs.declared.task.Settled.{Settled}
-use Rattle.spf_chain.specs.declared.task.Settled.TheVariants.{Carried, Trapped}
-use Rattle.spf_chain.specs.declared.task.Validated.{Validated}
-use Rattle.spf_chain.specs.Validation.{all_validated, results_of}
+use Rattle.spf_task_chain.specs.declared.task.Settled.{Settled}
+use Rattle.spf_task_chain.specs.declared.task.Settled.TheVariants.{Carried, Trapped}
+use Rattle.spf_task_chain.specs.declared.task.Validated.{Validated}
+use Rattle.spf_task_chain.specs.Validation.{all_validated, results_of}
 use Rattle.spf_laws.specs.Chained.{chained}
 use Rattle.spf_guess.specs.Guess.{Guess, guess_of}
 use Rattle.spf_guess.specs.Statistics.{plus, statistics_with}

@@ -1,8 +1,8 @@
 -- Guesses one after another, and counts of validated blocks.
 use Rattle.std.proofs.Common.{◌≡◌, ℕ, zero, suc, ◌+◌, ◌<◌, ◌≤◌, Bool, true, false, List, [], ◌∷◌, ◌++◌, length, map, drop, get_or, ℤ, refl, ap, ◌∙◌, arith}
 use Rattle.std.specs.Prelude.{if◌then◌else◌}
-use Rattle.spf_chain.specs.declared.task.Guess as code_guess
-use Rattle.spf_chain.specs.declared.task.Validated.{Validated}
+use Rattle.spf_task_chain.specs.declared.task.Guess as code_guess
+use Rattle.spf_task_chain.specs.declared.task.Validated.{Validated}
 use Rattle.spf_guess.specs.Guess.{Guess}
 use Rattle.spf_guess.specs.Statistics.{guessed_from}
 use Rattle.spf_engine.specs.Blocks.{seen_guess, real_values, guesses_after, paired}

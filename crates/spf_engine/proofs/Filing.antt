@@ -5,16 +5,16 @@ use Rattle.std.proofs.Math.Decide.{dec_le}
 use native.Mathlib.Decide.{ℕ_discrete}
 use Rattle.std.proofs.lemmas.List.{length-set, length-append}
 use Rattle.spf_layout.specs.declared.stop.Stop.{Stop}
-use Rattle.spf_chain.specs.declared.place.Place.{Place}
-use Rattle.spf_chain.specs.declared.place.Place.TheVariants.{Out, Home}
-use Rattle.spf_chain.specs.declared.task.Filed.{Filed}
-use Rattle.spf_chain.specs.declared.task.Filed.TheVariants.{Rerun, Waiting, Ended}
-use Rattle.spf_chain.specs.declared.task.Settled.{Settled}
-use Rattle.spf_chain.specs.declared.task.Settled.TheVariants.{Carried, Trapped}
-use Rattle.spf_chain.specs.declared.task.Task.{Task}
-use Rattle.spf_chain.specs.declared.task.Validated.{Validated}
-use Rattle.spf_chain.specs.Validation.{Results, validated_from, settled_from}
-use Rattle.spf_chain.specs.Chain.{ChainValue, IsOut, came_home, sent_out, after, known_in, results_in, history, front, NeedsRerun, IsBlockOut, HasTrapped, IsAwaited, WaitsFor, HasEnded}
+use Rattle.spf_task_chain.specs.declared.place.Place.{Place}
+use Rattle.spf_task_chain.specs.declared.place.Place.TheVariants.{Out, Home}
+use Rattle.spf_task_chain.specs.declared.task.Filed.{Filed}
+use Rattle.spf_task_chain.specs.declared.task.Filed.TheVariants.{Rerun, Waiting, Ended}
+use Rattle.spf_task_chain.specs.declared.task.Settled.{Settled}
+use Rattle.spf_task_chain.specs.declared.task.Settled.TheVariants.{Carried, Trapped}
+use Rattle.spf_task_chain.specs.declared.task.Task.{Task}
+use Rattle.spf_task_chain.specs.declared.task.Validated.{Validated}
+use Rattle.spf_task_chain.specs.Validation.{Results, validated_from, settled_from}
+use Rattle.spf_task_chain.specs.Chain.{ChainValue, IsOut, came_home, sent_out, after, known_in, results_in, history, front, NeedsRerun, IsBlockOut, HasTrapped, IsAwaited, WaitsFor, HasEnded}
 use Rattle.spf_engine.specs.Blocks.{IsHome, IsFiledTo, IsUnderWay, IsSameFold, AreOutFrom}
 
 -- ---- places that are set

@@ -10,9 +10,9 @@ use Rattle.spf_ast.specs.Plain.{plain_answer, plain_memory}
 use Rattle.spf_ast.specs.Program.{environment_of}
 use Rattle.spf_ast.specs.BlockRun.{part_asks, block_setup}
 use Rattle.spf_ast.specs.Construct.{Construct, part_of}
-use Rattle.spf_chain.specs.declared.task.Settled.{Settled}
-use Rattle.spf_chain.specs.declared.task.Validated.{Validated}
-use Rattle.spf_chain.specs.Validation.{Answers, result_of, results_of, validated_then, validated_from, settled_then, settled_from, all_validated, all_settled}
+use Rattle.spf_task_chain.specs.declared.task.Settled.{Settled}
+use Rattle.spf_task_chain.specs.declared.task.Validated.{Validated}
+use Rattle.spf_task_chain.specs.Validation.{Answers, result_of, results_of, validated_then, validated_from, settled_then, settled_from, all_validated, all_settled}
 use Rattle.spf_laws.specs.Chained.{Chained, block_asks, chained, chained_on}
 use Rattle.spf_guess.specs.Guess.{Guess}
 use Rattle.spf_guess.specs.Statistics.{statistics_with}

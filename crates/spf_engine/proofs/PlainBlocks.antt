@@ -7,7 +7,7 @@ use Rattle.spf_layout.specs.declared.stop.Stop.{Stop}
 use Rattle.spf_layout.specs.declared.stop.Stop.TheVariants as stop
 use Rattle.spf_exec.specs.BlockRuns.{stop_result}
 use Rattle.spf_exec.specs.PlainMemory.{IsPlainOutcome}
-use Rattle.spf_chain.specs.Validation.{IsNotCancelled}
+use Rattle.spf_task_chain.specs.Validation.{IsNotCancelled}
 use Rattle.spf_engine.specs.Blocks.{stop_of}
 
 -- the stop of a block run on a memory of its own is that of its plain ending

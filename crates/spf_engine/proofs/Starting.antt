@@ -3,13 +3,13 @@ use Rattle.std.proofs.Common.{◌≡◌, inl, ℕ, zero, suc, ◌+◌, ◌≤◌
 use Rattle.std.specs.Prelude.{Option, Some, None, slice_get}
 use Rattle.std.proofs.lemmas.List.{length-map}
 use Rattle.spf_layout.specs.declared.stop.Stop.{Stop}
-use Rattle.spf_chain.specs.declared.place.Place.TheVariants.{Out, Home}
-use Rattle.spf_chain.specs.declared.task.Guess as code_guess
-use Rattle.spf_chain.specs.declared.task.Settled.{Settled}
-use Rattle.spf_chain.specs.declared.task.Settled.TheVariants.{Carried, Trapped}
-use Rattle.spf_chain.specs.declared.task.Task.{Task}
-use Rattle.spf_chain.specs.Validation.{Results, guesses_for, first_value, validated_from}
-use Rattle.spf_chain.specs.Chain.{ChainValue, new_chain, first_tasks, IsOut}
+use Rattle.spf_task_chain.specs.declared.place.Place.TheVariants.{Out, Home}
+use Rattle.spf_task_chain.specs.declared.task.Guess as code_guess
+use Rattle.spf_task_chain.specs.declared.task.Settled.{Settled}
+use Rattle.spf_task_chain.specs.declared.task.Settled.TheVariants.{Carried, Trapped}
+use Rattle.spf_task_chain.specs.declared.task.Task.{Task}
+use Rattle.spf_task_chain.specs.Validation.{Results, guesses_for, first_value, validated_from}
+use Rattle.spf_task_chain.specs.Chain.{ChainValue, new_chain, first_tasks, IsOut}
 use Rattle.spf_guess.specs.Guess.{Guess}
 use Rattle.spf_engine.specs.Blocks.{seen_guess, guesses_after, chain_guesses, IsFiledTo, AreOutFrom}
 use Rattle.spf_engine.proofs.Counting.{guesses-length}

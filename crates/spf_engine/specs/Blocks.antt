@@ -13,14 +13,14 @@ use Rattle.spf_layout.specs.declared.stop.Stop.{Stop}
 use Rattle.spf_layout.specs.declared.stop.Stop.TheVariants as stop
 use Rattle.spf_layout.specs.Frame.{main_slots}
 use Rattle.spf_layout.specs.Instance.{program_of}
-use Rattle.spf_chain.specs.declared.task.Guess as code_guess
-use Rattle.spf_chain.specs.declared.task.Settled.{Settled}
-use Rattle.spf_chain.specs.declared.task.Settled.TheVariants as settled
-use Rattle.spf_chain.specs.declared.task.Task.{Task}
-use Rattle.spf_chain.specs.declared.task.Validated.{Validated}
-use Rattle.spf_chain.specs.declared.place.Place.TheVariants.{Home}
-use Rattle.spf_chain.specs.Validation.{Answers, all_validated, all_settled}
-use Rattle.spf_chain.specs.Chain.{ChainValue, IsOut, IsBlockOut, HasEnded, HasTrapped, front}
+use Rattle.spf_task_chain.specs.declared.task.Guess as code_guess
+use Rattle.spf_task_chain.specs.declared.task.Settled.{Settled}
+use Rattle.spf_task_chain.specs.declared.task.Settled.TheVariants as settled
+use Rattle.spf_task_chain.specs.declared.task.Task.{Task}
+use Rattle.spf_task_chain.specs.declared.task.Validated.{Validated}
+use Rattle.spf_task_chain.specs.declared.place.Place.TheVariants.{Home}
+use Rattle.spf_task_chain.specs.Validation.{Answers, all_validated, all_settled}
+use Rattle.spf_task_chain.specs.Chain.{ChainValue, IsOut, IsBlockOut, HasEnded, HasTrapped, front}
 use Rattle.spf_guess.specs.declared.stats.Stats.{Stats}
 use Rattle.spf_guess.specs.Guess.{Guess, guess_of}
 use Rattle.spf_guess.specs.Statistics.{Guessed, is_hit, how_many}

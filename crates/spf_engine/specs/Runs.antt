@@ -4,8 +4,8 @@ use Rattle.spf_ast.specs.Syntax.{Program}
 use Rattle.spf_ast.specs.Program.{Stopped}
 use Rattle.spf_ast.specs.Construct.{Construct, constructs_in}
 use Rattle.spf_exec.specs.Pieces.{Stand, IsSettled, ahead}
-use Rattle.spf_chain.specs.declared.task.Settled.{Settled}
-use Rattle.spf_chain.specs.declared.task.Settled.TheVariants.{Carried, Trapped}
+use Rattle.spf_task_chain.specs.declared.task.Settled.{Settled}
+use Rattle.spf_task_chain.specs.declared.task.Settled.TheVariants.{Carried, Trapped}
 use Rattle.spf_guess.specs.declared.stats.Stats.{Stats}
 use Rattle.spf_guess.specs.Statistics.{plus}
 use Rattle.spf_engine.specs.declared.blocks.FoldReport.{FoldReport}

@@ -105,5 +105,5 @@ PartsDeclareAnew =
     → (part : Part) (input : List ℕ) (number : ℤ) (carried : Carried) (one other : List ℤ) → AgreeOutside construct part one other
     → (shared : ℕ → Bool) (memory : List ℤ) (stop : Option ℕ) (events : List Event)
     → GoAlike HaveOneOutput
-      (perform shared memory stop (part_asks p construct part (block_setup input one number carried)) events)
-      (perform shared memory stop (part_asks p construct part (block_setup input other number carried)) events)
+    (perform shared memory stop (part_asks p construct part (block_setup input one number carried)) events)
+    (perform shared memory stop (part_asks p construct part (block_setup input other number carried)) events)

@@ -1,3 +1,12 @@
 pub mod Within
+pub mod Merging
+pub mod Joined
 pub mod Trees
 pub mod Kept
+pub mod Blocks
+pub mod Chain
+pub mod Answered
+pub mod Prefixes
+pub mod Runs
+pub mod Existing
+pub mod Statements

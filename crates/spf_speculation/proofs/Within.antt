@@ -68,13 +68,6 @@ agree-back cells m n h = record { size = sym h.size; words = λ c own. sym (h.wo
 
 -- ---- lists
 
--- the same stores keep memories in agreement
-pub agree-after : (cells : ℕ → Bool) (es : List Event) (m n : List ℤ) → AgreeOn cells m n → AgreeOn cells (after es m) (after es n)
-agree-after cells [] m n h = h
-agree-after cells (Load c w ∷ es) m n h = agree-after cells es m n h
-agree-after cells (Store c w ∷ es) m n h = agree-after cells es (slice_set m c w) (slice_set n c w) (agree-set cells m n c w h)
-agree-after cells (Turn k ∷ es) m n h = agree-after cells es m n h
-
 -- what is consistent with one memory is with the other
 pub within-consistent : (cells : ℕ → Bool) (es : List Event) (m n : List ℤ) → AreWithin cells es → AgreeOn cells m n → IsConsistent es m → IsConsistent es n
 within-consistent cells [] m n h k is = tt
@@ -99,14 +92,20 @@ outside-after cells (Store d w ∷ es) m c h out =
 outside-after cells (Turn n ∷ es) m c h out = outside-after cells es m c h out
 
 -- a list, and then another
-pub consistent-first : (es fs : List Event) (m : List ℤ) → IsConsistent (es ++ fs) m → IsConsistent es m
-consistent-first [] fs m h = tt
-consistent-first (Load c w ∷ es) fs m h = (h.0, consistent-first es fs m h.1)
-consistent-first (Store c w ∷ es) fs m h = consistent-first es fs (slice_set m c w) h
-consistent-first (Turn n ∷ es) fs m h = consistent-first es fs m h
-
 pub consistent-second : (es fs : List Event) (m : List ℤ) → IsConsistent (es ++ fs) m → IsConsistent fs (after es m)
 consistent-second [] fs m h = h
 consistent-second (Load c w ∷ es) fs m h = consistent-second es fs m h.1
 consistent-second (Store c w ∷ es) fs m h = consistent-second es fs (slice_set m c w) h
 consistent-second (Turn n ∷ es) fs m h = consistent-second es fs m h
+
+pub consistent-both : (es fs : List Event) (m : List ℤ) → IsConsistent es m → IsConsistent fs (after es m) → IsConsistent (es ++ fs) m
+consistent-both [] fs m h k = k
+consistent-both (Load c w ∷ es) fs m h k = (h.0, consistent-both es fs m h.1 k)
+consistent-both (Store c w ∷ es) fs m h k = consistent-both es fs (slice_set m c w) h k
+consistent-both (Turn n ∷ es) fs m h k = consistent-both es fs m h k
+
+pub after-both : (es fs : List Event) (m : List ℤ) → after (es ++ fs) m ≡ after fs (after es m)
+after-both [] fs m = refl
+after-both (Load c w ∷ es) fs m = after-both es fs m
+after-both (Store c w ∷ es) fs m = after-both es fs (slice_set m c w)
+after-both (Turn n ∷ es) fs m = after-both es fs m

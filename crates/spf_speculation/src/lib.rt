@@ -1,7 +1,13 @@
 //! Speculative runs of top constructs, and that they mean the plain run. Each law is the contract of a function that does nothing.
 #![tactic(auto)]
 
-ghost use Rattle.spf_speculation.specs.Laws.{BlockRunsAreAttempts, UnstoppedAttemptsAreWhole};
+ghost use Rattle.spf_speculation.specs.Laws.{BlockRunsAreAttempts, UnstoppedAttemptsAreWhole, RealLogsArePlainRuns, AttemptsAnswerAsOnTheEntry, PlainRunsAnswerAsOnTheEntry, RealLogsContinueThePlainRun, SpeculativeRunsMeanThePlainRun, LogsMeanThePlainRun, PlainRunsAreAnswered, EveryMergingIsASpeculativeRun, JoinedLogsAreMerged, EachGuessHasARun};
+ghost use Rattle.spf_speculation.specs.Prefixes.{PrefixesBegin, PrefixesGrow, PrefixesEnd, PrefixesComplete, PrefixesHaveRealValues, PrefixesDependOnEarlierLogs};
+ghost use Rattle.spf_speculation.specs.Statements.{SpeculativeRunsMeanTheirStatement};
+
+use spf_ast::laws::each_form_has_one_plain_run;
+use spf_laws::each_construct_is_its_block_runs;
+use spf_rollback::blocks_overwrite;
 
 /// A run of a block whose loads outside the block's spans give the entry's words leaves an attempt in the block's log; one that no
 /// turn stops leaves a whole one.
@@ -9,3 +15,59 @@ pub fn block_runs_are_attempts()
     ensures runs { BlockRunsAreAttempts }
     ensures unstopped { UnstoppedAttemptsAreWhole }
 {}
+
+/// The log of a block at its real value has the answer of the block's plain run, and leaves the same words in the block's cells,
+/// whatever a wrong attempt left there. The answer of each whole attempt, at a wrong value too, is that of a run on the entry's
+/// memory. So each log at a real value continues the plain run by one block.
+pub fn real_logs_are_plain_runs()
+    ensures blocks { RealLogsArePlainRuns }
+    ensures attempts { AttemptsAnswerAsOnTheEntry }
+    ensures plain { PlainRunsAnswerAsOnTheEntry }
+    ensures on { RealLogsContinueThePlainRun }
+{
+    each_form_has_one_plain_run();
+    blocks_overwrite();
+}
+
+/// In whatever order the steps of the blocks come, the real values and the result are those of the plain run, and where no block
+/// traps so is the memory. It is enough that each block's log is consistent alone. So a speculative run means what the construct's
+/// statement means in the plain run of `main`.
+pub fn speculative_runs_mean_the_plain_run()
+    ensures runs { SpeculativeRunsMeanThePlainRun }
+    ensures logs { LogsMeanThePlainRun }
+    ensures answers { PlainRunsAreAnswered }
+    ensures statements { SpeculativeRunsMeanTheirStatement }
+{
+    each_form_has_one_plain_run();
+    blocks_overwrite();
+    each_construct_is_its_block_runs();
+}
+
+/// Where each block's log is consistent alone, every merging of the logs that keeps the order of each log is a speculative run.
+pub fn every_merging_is_a_speculative_run()
+    ensures { EveryMergingIsASpeculativeRun }
+{}
+
+/// Blocks are validated one by one. At first the validated prefix has no block; where the log of the next block at its real value
+/// has a value as its answer, the prefix grows by this block; where it has a trap, the run ends there. After each prefix the plain
+/// run stands at the same value, whatever the logs of the other blocks are.
+pub fn prefixes_grow()
+    ensures begin { PrefixesBegin }
+    ensures grow { PrefixesGrow }
+    ensures end { PrefixesEnd }
+    ensures complete { PrefixesComplete }
+    ensures real { PrefixesHaveRealValues }
+    ensures earlier { PrefixesDependOnEarlierLogs }
+{
+    each_form_has_one_plain_run();
+    blocks_overwrite();
+}
+
+/// Logs that are joined block by block are a merging of them, and whatever the guesses, there is a speculative run.
+pub fn speculative_runs_exist()
+    ensures joined { JoinedLogsAreMerged }
+    ensures runs { EachGuessHasARun }
+{
+    each_form_has_one_plain_run();
+    blocks_overwrite();
+}

@@ -1,7 +1,7 @@
 use Rattle.std.proofs.Common.{◌≡◌, add-one, List, [], ◌∷◌, not, map, length, drop, sym, refl, ap, ◌∙◌, arith}
 use Rattle.std.proofs.lemmas.List.{length-map}
 use Rattle.spf_guess.specs.Statistics.{is_hit, how_many}
-use Rattle.spf_chain.specs.declared.task.Validated.{Validated}
+use Rattle.spf_task_chain.specs.declared.task.Validated.{Validated}
 use Rattle.spf_engine.specs.Blocks.{seen_guess, real_values, paired, counts_of}
 use Rattle.spf_engine.proofs.Counting.{pair-step, paired-none, paired-nothing, add-step, add-none, at-most-more}
 use Rattle.spf_engine.proofs.blocks.count_blocks.Goals as goal

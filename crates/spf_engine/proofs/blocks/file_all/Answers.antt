@@ -1,7 +1,7 @@
 use Rattle.std.proofs.Common.{◌≡◌, inr, ◌+◌, List, [], ◌∷◌, ◌++◌, length, sym, ap, ◌∙◌, subst, arith, append_assoc}
 use Rattle.std.proofs.lemmas.List.{append-nil}
-use Rattle.spf_chain.specs.declared.task.Task.{Task}
-use Rattle.spf_chain.specs.Chain.{IsChainOf}
+use Rattle.spf_task_chain.specs.declared.task.Task.{Task}
+use Rattle.spf_task_chain.specs.Chain.{IsChainOf}
 use Rattle.spf_engine.specs.Blocks.{IsFiledTo, job_answers}
 use Rattle.spf_engine.proofs.Filing.{next-is, all-filed, same-on, one-more, begun-way, no-rest}
 use Rattle.spf_engine.proofs.blocks.file_all.Goals as goal

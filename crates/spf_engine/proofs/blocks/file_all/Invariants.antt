@@ -1,5 +1,5 @@
 use Rattle.std.proofs.Common.{◌≡◌, ◌⊎◌, ◌++◌, length}
-use Rattle.spf_chain.specs.Chain.{IsChainOf}
+use Rattle.spf_task_chain.specs.Chain.{IsChainOf}
 use Rattle.spf_engine.specs.Blocks.{job_answers, IsFiledTo, IsUnderWay, AreOutFrom, IsSameFold}
 use Rattle.spf_engine.proofs.blocks.file_all.Given as goal
 

@@ -1,5 +1,5 @@
 use Rattle.std.proofs.Common.{◌≡◌, inl, inr, ◌+◌, pos, ◌+ℤ◌, refl, sym, ap, ◌∙◌, subst, arith}
-use Rattle.spf_chain.specs.Chain.{ChainValue, history, came_home, after, IsOut}
+use Rattle.spf_task_chain.specs.Chain.{ChainValue, history, came_home, after, IsOut}
 use Rattle.spf_engine.specs.Blocks.{job_answers, IsFiledTo}
 use Rattle.spf_engine.proofs.Filing.{coming, waits, ends, IsAgain, again, IsFurther, further-second, rerun-here, front-further, trapped-then}
 use Rattle.spf_engine.proofs.blocks.file_task.Goals as goal

@@ -1,7 +1,7 @@
 use Rattle.std.proofs.Common.{◌≡◌, ◌+◌, ◌-◌, length, map, drop, sym, ap, ◌∙◌, subst, arith, rules, w64, FitsSigned, to_z, of_z}
 use Rattle.std.proofs.lemmas.Int.{to_z-of_z}
-use Rattle.spf_chain.specs.Validation.{guesses_for, all_validated, all_settled, results_of}
-use Rattle.spf_chain.specs.Chain.{ChainValue}
+use Rattle.spf_task_chain.specs.Validation.{guesses_for, all_validated, all_settled, results_of}
+use Rattle.spf_task_chain.specs.Chain.{ChainValue}
 use Rattle.spf_engine.specs.Blocks.{seen_guess, job_answers, fold_guesses, chain_guesses, counts_of, paired, real_values, IsFiledTo}
 use Rattle.spf_engine.proofs.Starting.{guess-count, same-guesses, for-count, place-count, task-count, are-out, filed-none, validated-count}
 use Rattle.spf_engine.proofs.blocks.run_blocks.Goals as goal

@@ -7,7 +7,7 @@ use Rattle.spf_layout.specs.Instance.{program_of}
 use Rattle.spf_exec.specs.Pieces.{seen_header}
 use Rattle.spf_guess.specs.declared.stats.Stats.{Stats}
 use Rattle.spf_guess.specs.Statistics.{plus}
-use Rattle.spf_chain.specs.declared.task.Settled.TheVariants.{Carried}
+use Rattle.spf_task_chain.specs.declared.task.Settled.TheVariants.{Carried}
 use Rattle.spf_engine.specs.declared.blocks.FoldReport.{FoldReport}
 use Rattle.spf_engine.specs.declared.blocks.Job.{Job}
 use Rattle.spf_engine.specs.Standing.{HasCome, BlocksComeTo}
