@@ -69,7 +69,7 @@ impl Ticket {
     }
 
     /// The ticket of the block's second attempt, at its real value. All else stays.
-    pub fn again(self, real: Carried) -> Ticket
+    pub fn again(mut self, real: Carried) -> Ticket
         requires first { self.attempt ≡ 1 }
         ensures block { result.block ≡ self.block }
         ensures number { result.number ≡ self.number }
@@ -78,22 +78,9 @@ impl Ticket {
         ensures lane { result.lane ≡ self.lane }
         ensures frame { result.frame ≡ self.frame }
     {
-        let Ticket {
-            block,
-            number,
-            attempt: _,
-            carried: _,
-            lane,
-            frame,
-        } = self;
-        Ticket {
-            block,
-            number,
-            attempt: 2,
-            carried: real,
-            lane,
-            frame,
-        }
+        self.attempt = 2;
+        self.carried = real;
+        self
     }
 
     /// The block's lane.
@@ -101,14 +88,6 @@ impl Ticket {
         ensures lane { result ≡ self.lane }
         ensures block { result.block ≡ self.block }
     {
-        let Ticket {
-            block: _,
-            number: _,
-            attempt: _,
-            carried: _,
-            lane,
-            frame: _,
-        } = self;
-        lane
+        self.lane
     }
 }
