@@ -185,22 +185,24 @@ agree-on construct part one other third h k = record {
 -- ---- fresh and lawful
 
 -- a ticket after its run is that of the same block
-pub still-at : (e : Entry) (c : CellsValue) (before after : Ticket) → IsTicketAt e c before → IsSameTicket e before after → IsTicketAt e c after
-still-at e c before after at same = record {
+pub still-at : (e : Entry) (c : CellsValue) (p : Program) (k : Construct) (before after : Ticket) → p ≡ e.program → k ≡ e.construct → IsTicketAt e c before → IsSameTicket p k before after → IsTicketAt e c after
+still-at e c p k before after program same_construct at same = record {
   low = subst (λ n. n < e.header.blocks) (sym same.block) at.low;
   number = same.number ∙ at.number ∙ ap (number_of e) (sym same.block);
   lane = (same.lane.0 ∙ at.lane.0, same.lane.1 ∙ at.lane.1);
   frame = same.size ∙ at.frame;
   slots = subst (λ n. AgreeOutside e.construct (part_of e.construct n) (main_slots e.program after.frame) e.slots) (sym same.block)
-      (agree-on e.construct (part_of e.construct before.block) (main_slots e.program after.frame) (main_slots e.program before.frame) e.slots same.slots at.slots);
+      (agree-on e.construct (part_of e.construct before.block) (main_slots e.program after.frame) (main_slots e.program before.frame) e.slots
+      (subst (λ (x : Program × Construct). AgreeOutside x.1 (part_of x.1 before.block) (main_slots x.0 after.frame) (main_slots x.0 before.frame)) (λ i. (program i, same_construct i)) same.slots) at.slots);
 }
 
-pub fresh-ran : (e : Entry) (guess : ℕ → Carried) (c : CellsValue) (t : Ticket) (r : Report) → IsFresh e guess c t → Ran e t r → IsLawfulReport e guess c r
-fresh-ran e guess c t r h ran = record {
-  at = still-at e c t r.ticket h.at ran.same;
+pub fresh-ran : (e : Entry) (guess : ℕ → Carried) (c : CellsValue) (p : Program) (k : Construct) (t : Ticket) (r : Report) → p ≡ e.program → k ≡ e.construct
+    → IsSameTicket p k t r.ticket → IsFresh e guess c t → Ran e t r → IsLawfulReport e guess c r
+fresh-ran e guess c p k t r program same_construct same h ran = record {
+  at = still-at e c p k t r.ticket program same_construct h.at same;
   before = events t.lane.log;
   log = ran.log;
-  ready = subst (λ (x : (ℕ × ℕ) × Carried). IsReady e guess x.0.0 x.0.1 x.1 (events t.lane.log)) (λ i. ((sym ran.same.block i, sym ran.same.attempt i), sym ran.same.carried i)) h.ready;
+  ready = subst (λ (x : (ℕ × ℕ) × Carried). IsReady e guess x.0.0 x.0.1 x.1 (events t.lane.log)) (λ i. ((sym same.block i, sym same.attempt i), sym same.carried i)) h.ready;
   grown = ran.grown;
-  stopped = subst (λ (x : (ℕ × ℕ) × Carried). EndsAs (attempted e x.0.0 x.1 x.0.1 ran.log) r.stop) (λ i. ((sym ran.same.block i, sym ran.same.attempt i), sym ran.same.carried i)) ran.stopped;
+  stopped = subst (λ (x : (ℕ × ℕ) × Carried). EndsAs (attempted e x.0.0 x.1 x.0.1 ran.log) r.stop) (λ i. ((sym same.block i, sym same.attempt i), sym same.carried i)) ran.stopped;
 }

@@ -3,7 +3,8 @@ use Rattle.std.specs.Prelude.{◌≡◌, ◌≢◌, ℕ, ◌<◌, List, [], ◌+
 use Rattle.spf_ast.specs.Carried.{Carried}
 use Rattle.spf_ast.specs.Event.{Event}
 use Rattle.spf_ast.specs.Interaction.{Performed, Ended, Stopped, State, Ending, Value, Trapped}
-use Rattle.spf_ast.specs.Construct.{part_of}
+use Rattle.spf_ast.specs.Syntax.{Program}
+use Rattle.spf_ast.specs.Construct.{Construct, part_of}
 use Rattle.spf_ast.specs.ConstructView.{construct}
 use Rattle.spf_laws.specs.Agreement.{AgreeOutside}
 use Rattle.spf_layout.specs.declared.stop.Stop.{Stop}
@@ -44,18 +45,17 @@ EndsAs came (stop.Trapped trap) = came ≡ Ended (Trapped trap []) []
 EndsAs came (stop.Cancelled seen) = came ≡ Stopped seen []
 
 -- the same ticket, but for its lane's log, and for the frame's slots that the block's part declares and those of calls
-pub record IsSameTicket (e : Entry) (before after : Ticket) : Type 0 where
+pub record IsSameTicket (p : Program) (k : Construct) (before after : Ticket) : Type 0 where
   pub block : after.block ≡ before.block
   pub number : after.number ≡ before.number
   pub attempt : after.attempt ≡ before.attempt
   pub carried : after.carried ≡ before.carried
   pub lane : IsSameLane before.lane after.lane
   pub size : length after.frame ≡ length before.frame
-  pub slots : AgreeOutside e.construct (part_of e.construct before.block) (main_slots e.program after.frame) (main_slots e.program before.frame)
+  pub slots : AgreeOutside k (part_of k before.block) (main_slots p after.frame) (main_slots p before.frame)
 
 -- The ticket made its attempt, of its block, at its carried value and with its number: its lane's log went on with the attempt's log, and the report's stop is what the attempt came to.
 pub record Ran (e : Entry) (t : Ticket) (r : Report) : Type 0 where
-  pub same : IsSameTicket e t r.ticket
   pub log : List Event
   pub grown : events r.ticket.lane.log ≡ events t.lane.log ++ log
   pub stopped : EndsAs (attempted e t.block t.carried t.attempt log) r.stop

@@ -13,7 +13,7 @@ ghost use Rattle.spf_layout.specs.Instance.{program_of};
 ghost use Rattle.spf_cells.specs.Log.{IsLogOf};
 ghost use Rattle.spf_entry.specs.Entry.{Entry, IsEntry};
 ghost use Rattle.spf_entry.specs.Sites.{AreMadeFor};
-ghost use Rattle.spf_ticket.specs.Tickets.{IsJobOf, IsTicketAt, Ran, IsFresh, IsLawfulReport};
+ghost use Rattle.spf_ticket.specs.Tickets.{IsJobOf, IsTicketAt, IsSameTicket, Ran, IsFresh, IsLawfulReport};
 
 use crate::memory::LaneMemory;
 use crate::ticket::{Report, Ticket};
@@ -48,8 +48,9 @@ impl Ticket {
     /// Makes the attempt: runs the ticket's block once at its carried value, and calls the gate before it and after it. A cell of
     /// the lane's spans goes through the lane, any other cell has its word of the entry, and each turn polls the block's flag once.
     ///
-    /// For every entry that the job is of: the lane's log grows by the attempt's log, and the stop is what the attempt came to. Where
-    /// the ticket is fresh, the report is lawful. This takes no memory.
+    /// The report's ticket is this one, but for its lane's log and for what the part left in its own slots of the frame. For every
+    /// entry that the job is of: the lane's log grows by the attempt's log, and the stop is what the attempt came to; and where the
+    /// ticket is fresh, the report is lawful. This takes no memory.
     pub fn run<G: Gate>(self, cells: &Cells, job: &Job, gate: &G) -> Report
         requires own { self.lane.table ≡ cells.now.table }
         requires lawful { IsLawful (program_of job.now.instance.now) }
@@ -58,6 +59,7 @@ impl Ticket {
         requires frame { length self.frame ≡ frame_size (program_of job.now.instance.now) }
         requires silent { PartIsSilent (construct_seen job.now.construct) (part_of (construct_seen job.now.construct) self.block) }
         requires outer { assigns_outer (statements_of (construct_seen job.now.construct) (part_of (construct_seen job.now.construct) self.block)) ≡ false }
+        ensures same { IsSameTicket (program_of job.now.instance.now) (construct_seen job.now.construct) self result.ticket }
         ensures ran { (e : Entry) → IsEntry e → AreMadeFor e cells.now.setting → IsJobOf e job.now
             → IsTicketAt e cells.now self → Ran e self result }
         ensures lawful { (e : Entry) (guess : ℕ → CarriedValue) → IsEntry e → AreMadeFor e cells.now.setting → IsJobOf e job.now
