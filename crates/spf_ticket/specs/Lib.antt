@@ -1,0 +1,3 @@
+pub mod InLane
+pub mod LaneLaws
+pub mod Tickets

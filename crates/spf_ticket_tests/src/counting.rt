@@ -1,0 +1,109 @@
+//! Attempts of a block that only makes turns, on one thread.
+ghost use Rattle.std.specs.Prelude.{◌≡◌, [], ◌∷◌, pos, IfOk, replicate};
+ghost use Rattle.spf_ast.specs.Carried.{Carried as CarriedValue};
+ghost use Rattle.spf_ast.specs.View.{program as seen_program};
+ghost use Rattle.spf_ast.specs.ConstructView.{construct as construct_seen};
+ghost use Rattle.spf_layout.specs.Instance.{program_of};
+ghost use Rattle.spf_layout.specs.declared.stop.Stop.TheVariants as stop;
+ghost use Rattle.spf_cells.specs.Log.{events};
+ghost use Rattle.spf_cells.specs.Made.{spans_in, new_warden, new_lane};
+ghost use Rattle.spf_ticket.specs.Tickets.{IsSameTicket};
+ghost use Rattle.spf_ticket_tests.specs.Counting.{counting, counting_fold, counting_setting, no_cells, five_turns};
+
+use spf_ast::construct::find_construct;
+use spf_ast::syntax::{Expr, Fold, Name, Predict, Program, Stmt, StmtKind};
+use spf_cells::cells::Cells;
+use spf_cells::lane::Lane;
+use spf_cells::warden::Warden;
+use spf_edge::Open;
+use spf_exec::frame::Frame;
+use spf_layout::instance::Instance;
+use spf_layout::stop::Stop;
+use spf_region::span::Plan;
+use spf_rollback::the_rules_set_free;
+use spf_ticket::run::Job;
+use spf_ticket::ticket::{Report, Ticket};
+use std::alloc::{AllocError, Global};
+use std::test::Fail;
+
+fn name(alloc: Global, byte: u8) -> Result<Name, AllocError>
+    ensures { IfOk result (λ n. n.bytes.items ≡ byte ∷ []) }
+{
+    let mut bytes = Vec::new(alloc);
+    bytes.push(byte)?;
+    Ok(Name { bytes })
+}
+
+/// specfold s = 1 for k in 0..2 predict 5 { for i in 0..s { } next 1; } emit s;
+fn counting(alloc: Global) -> Result<Program, AllocError>
+    ensures { IfOk result (λ p. seen_program p ≡ counting) }
+{
+    let mut body = Vec::new(alloc);
+    body.push(Stmt {
+        line: 1,
+        kind: StmtKind::For(2, Expr::Number(0), Expr::Local(0), Vec::new(alloc)),
+    })?;
+    let fold = Fold {
+        carried: 0,
+        start: Expr::Number(1),
+        block: 1,
+        low: Expr::Number(0),
+        high: Expr::Number(2),
+        predict: Predict::Expr(Expr::Number(5)),
+        body,
+        next: Expr::Number(1),
+        next_line: 1,
+    };
+    let mut main = Vec::new(alloc);
+    main.push(Stmt {
+        line: 1,
+        kind: StmtKind::Fold(Box::new(alloc, fold)?),
+    })?;
+    main.push(Stmt {
+        line: 1,
+        kind: StmtKind::Emit(Expr::Local(0)),
+    })?;
+    let mut slots = Vec::new(alloc);
+    slots.push(name(alloc, b's')?)?;
+    slots.push(name(alloc, b'k')?)?;
+    slots.push(name(alloc, b'i')?)?;
+    Ok(Program {
+        arrays: Vec::new(alloc),
+        functions: Vec::new(alloc),
+        slots,
+        main,
+    })
+}
+
+/// Cells of two blocks that have none, with the lane of block 1, which may be raised.
+fn lane_of_block_one(alloc: Global) -> Result<(Cells, Warden, Lane), AllocError>
+    ensures setting { IfOk result (λ r. r.0.setting ≡ counting_setting) }
+    ensures warden { IfOk result (λ r. r.1 ≡ new_warden r.0 2) }
+    ensures lane { IfOk result (λ r. r.2 ≡ new_lane r.0 1) }
+{
+    let mut blocks = Vec::new(alloc);
+    blocks.push(Vec::new(alloc))?;
+    blocks.push(Vec::new(alloc))?;
+    let plan = Plan { blocks };
+    let (cells, warden, mut lanes) = Cells::make(alloc, &[], &plan)?;
+    let lane = lanes.pop().unwrap();
+    Ok((cells, warden, lane))
+}
+
+/// The first attempt of block 1, at the guess 5. One that ends has made five turns, none of which polled a raised flag.
+fn first_attempt(cells: &Cells, job: &Job, lane: Lane, frame: Frame) -> Report
+    requires program { program_of job.now.instance.now ≡ counting }
+    requires input { job.now.instance.now.input ≡ [] }
+    requires construct { construct_seen job.now.construct ≡ counting_fold }
+    requires entry { job.now.entry.now ≡ [] }
+    requires setting { cells.now.setting ≡ counting_setting }
+    requires lane { lane ≡ new_lane cells.now 1 }
+    requires frame { frame ≡ replicate 3 (pos 0) }
+    ensures turns { (value : CarriedValue) → result.stop ≡ stop.Ended value → events result.ticket.lane.log ≡ five_turns }
+    ensures attempt { result.ticket.attempt ≡ 1 }
+    ensures table { result.ticket.lane.table ≡ cells.now.table }
+    ensures block { result.ticket.block ≡ 1 }
+{
+    the_rules_set_free();
+    Ticket::make(1, 1, 5, lane, frame).run(cells, job, &Open)
+}
