@@ -4,6 +4,7 @@ pub mod Joined
 pub mod Trees
 pub mod Kept
 pub mod Blocks
+pub mod Guesses
 pub mod Chain
 pub mod Answered
 pub mod Prefixes
