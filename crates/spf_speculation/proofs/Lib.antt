@@ -11,3 +11,4 @@ pub mod Prefixes
 pub mod Runs
 pub mod Existing
 pub mod Statements
+pub mod Example
