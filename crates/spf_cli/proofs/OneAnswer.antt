@@ -11,7 +11,7 @@ use Rattle.spf_cli.specs.Command.{Command, Run, Check, Explain, Print, Options, 
 use Rattle.spf_cli.specs.Options.{options_in}
 use Rattle.spf_cli.specs.Reading.{Verdict, Says, Refuses, IsVerdict}
 use Rattle.spf_cli.specs.Whole.{Wanted, Is, Either, Fetched, Read, CheckedBy, Runs, RunsOn, WholeOf, Whole, IsOnly, is_built, max_program, max_input}
-use Rattle.spf_cli.specs.Laws.{IsRefused, IsJudged, program_of, HasJudgedProgram}
+use Rattle.spf_cli.specs.Laws.{RuleLaws, IsRefused, IsJudged, program_of, HasJudgedProgram}
 use Rattle.spf_cli.proofs.Steps.{only_this, read_says, read_refuses, checked_accepted, checked_refused, explained_so}
 use Rattle.spf_cli.proofs.Words.{options_are}
 
@@ -139,11 +139,11 @@ read_one : (text : List ℕ) (next : Program → Wanted) (v : Verdict) → IsOnl
 read_one text next (Says p) only f = let one = f p refl in (one.0, read_says text p next one.0 only one.1)
 read_one text next (Refuses refusal) only f = (text_refused refusal, read_refuses text refusal next only)
 
-checked_one : (p : Program) (next : Wanted) → IsAccepted p ⊎ IsRefused p → HasOne next → HasOne (CheckedBy p next)
-checked_one p next ruled one =
+checked_one : RuleLaws → (p : Program) (next : Wanted) → IsAccepted p ⊎ IsRefused p → HasOne next → HasOne (CheckedBy p next)
+checked_one laws p next ruled one =
     elim ruled [
-      | inl accepted ↦ (one.0, checked_accepted p next one.0 accepted one.1)
-      | inr r ↦ (rule_refused p r.0 r.1 r.2, checked_refused p next r.0 r.1 r.2 r.3)
+      | inl accepted ↦ (one.0, checked_accepted laws p next one.0 accepted one.1)
+      | inr r ↦ (rule_refused p r.0 r.1 r.2, checked_refused laws p next r.0 r.1 r.2 r.3)
     ]
 
 runs_one : (options : Options) (p : Program) (input : List ℕ) → HasOne (Runs options p input)
@@ -153,26 +153,26 @@ runs_on_one : (options : Options) (input : List ℕ) (p : Program) (files : List
 runs_on_one options input p files =
     either_one _ _ (is_built options p) (fetched_one input max_input (lookup files input) (λ content. Runs options p content) (λ content e l. runs_one options p content)) (this_one _)
 
-command_one : (command : Command) (files : List Entry) → ((text : List ℕ) → lookup files (program_of command) ≡ Some text → length text ≤ max_program → IsJudged text) → HasOne (WholeOf command files)
-command_one (Run program input options) files judged =
+command_one : RuleLaws → (command : Command) (files : List Entry) → ((text : List ℕ) → lookup files (program_of command) ≡ Some text → length text ≤ max_program → IsJudged text) → HasOne (WholeOf command files)
+command_one laws (Run program input options) files judged =
     fetched_one program max_program (lookup files program) _ (λ text e l. let j = judged text e l in
     read_one text _ j.verdict j.one (λ p is.
-    either_one _ _ options.plain (runs_on_one options input p files) (checked_one p _ (j.ruled p is) (runs_on_one options input p files))))
-command_one (Check program) files judged =
+    either_one _ _ options.plain (runs_on_one options input p files) (checked_one laws p _ (j.ruled p is) (runs_on_one options input p files))))
+command_one laws (Check program) files judged =
     fetched_one program max_program (lookup files program) _ (λ text e l. let j = judged text e l in
-    read_one text _ j.verdict j.one (λ p is. checked_one p _ (j.ruled p is) (this_one _)))
-command_one (Explain program) files judged =
+    read_one text _ j.verdict j.one (λ p is. checked_one laws p _ (j.ruled p is) (this_one _)))
+command_one laws (Explain program) files judged =
     fetched_one program max_program (lookup files program) _ (λ text e l. let j = judged text e l in
-    read_one text _ j.verdict j.one (λ p is. let x = j.explained p is in (explained x.0, explained_so p x.0 (explained x.0) x.1 refl)))
-command_one (Print program) files judged =
+    read_one text _ j.verdict j.one (λ p is. let x = j.explained p is in (explained x.0, explained_so laws p x.0 (explained x.0) x.1 refl)))
+command_one laws (Print program) files judged =
     fetched_one program max_program (lookup files program) _ (λ text e l. let j = judged text e l in
     read_one text _ j.verdict j.one (λ p is. this_one _))
 
 -- each list of words has one answer
-pub one_answer : (words : List (List ℕ)) (files : List Entry) → HasJudgedProgram words files → (answer : Answer) × IsOnly (Whole words files) answer
-one_answer words files judged =
+pub one_answer : RuleLaws → (words : List (List ℕ)) (files : List Entry) → HasJudgedProgram words files → (answer : Answer) × IsOnly (Whole words files) answer
+one_answer laws words files judged =
     elim (one_or_none words) [
-      | inl c ↦ (let one = command_one c.0 files (λ text e l. judged c.0 c.1.is text e l) in (one.0, record { is = inl (c.0, c.1.is, one.1.is); only = λ b x. for_command c.0 c.1 one.0 one.1 b x }))
+      | inl c ↦ (let one = command_one laws c.0 files (λ text e l. judged c.0 c.1.is text e l) in (one.0, record { is = inl (c.0, c.1.is, one.1.is); only = λ b x. for_command c.0 c.1 one.0 one.1 b x }))
       | inr none ↦ (not_understood, record { is = inr (none, refl); only = λ b x. for_none none b x })
     ]
   where

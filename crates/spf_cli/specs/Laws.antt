@@ -6,10 +6,17 @@ use Rattle.spf_region.specs.declared.range.Range.{Range}
 use Rattle.spf_check.specs.declared.rule.Rule.{Rule}
 use Rattle.spf_check.specs.Accepting.{IsAccepted, IsFirstRefusal}
 use Rattle.spf_check.specs.Explaining.{Explains}
+use Rattle.spf_check.specs.Laws.{FirstRefusalsAreTheSame, RefusedAreNotAccepted, ExplanationsAreTheSame}
 use Rattle.spf_cli.specs.Answer.{Answer}
 use Rattle.spf_cli.specs.Command.{Command, Run, Check, Explain, Print, Asks}
 use Rattle.spf_cli.specs.Reading.{Verdict, Says, IsVerdict}
 use Rattle.spf_cli.specs.Whole.{Whole, IsOnly, max_program}
+
+-- what is said of a program is one thing, by the laws on refusals and explanations
+pub record RuleLaws : Type 0 where
+  pub one : FirstRefusalsAreTheSame
+  pub refused : RefusedAreNotAccepted
+  pub explanation : ExplanationsAreTheSame
 
 -- each list of words asks for one command, or for none
 abbrev pub EachAsksForOneOrNone : Type 0

@@ -5,4 +5,4 @@ pub returns-clause-commands : goal.returns-clause-commands
 returns-clause-commands c = one_or_none
 
 pub returns-clause-answers : goal.returns-clause-answers
-returns-clause-answers c = one_answer
+returns-clause-answers c = one_answer c.rules_say_one_thing.ensures
