@@ -1,5 +1,5 @@
 -- What is surely written behind a form has a list in normal form, where what is surely written before it has one.
-use Rattle.std.proofs.Common.{◌≡◌, ℕ, zero, suc, ◌+◌, Bool, true, false, List, [], ◌∷◌, length, Option, Some, None, ℤ, pos, ◌-ℤ◌, ◌+ℤ◌, refl}
+use Rattle.std.proofs.Common.{ℕ, zero, suc, Bool, true, false, List, [], ◌∷◌, length, Option, Some, None, ℤ, pos, ◌-ℤ◌, ◌+ℤ◌, refl}
 use Rattle.std.specs.Prelude.{if◌then◌else◌, ◌==◌, ◌&&◌, int_lt, slice_get}
 use Rattle.std.specs.Ordering.{int_eq}
 use Rattle.spf_ast.specs.declared.syntax.Part.{Part}
@@ -15,7 +15,7 @@ use Rattle.spf_region.specs.declared.range.Range.TheVariants.{Affine}
 use Rattle.spf_region.specs.Bounds.{is_small}
 use Rattle.spf_region.specs.Ranges.{Offsets, joined}
 use Rattle.spf_region.specs.Laws.{IsListed, SetsStayListed, ListsHaveNormalForms}
-use Rattle.spf_effects.specs.Found.{Found, Finds, finds_nothing, ◌then◌, perhaps, either, reads_element, may_write_whole, writes_element, may_write_between, surely_writes_between, writes_range, Sweep, sweep_joined, sweeps_joined, swept, has_no_turn, turns, nowhere}
+use Rattle.spf_effects.specs.Found.{Found, Finds, finds_nothing, ◌then◌, perhaps, either, reads_element, writes_element, may_write_between, surely_writes_between, writes_range, Sweep, sweep_joined, sweeps_joined, swept, has_no_turn, turns, nowhere}
 use Rattle.spf_effects.specs.Forms.{Entered, Setting, expression_bound, argument_bounds, bounds_behind, bounds_at_end, bounds_in_turn, sweeps, expression_finds, arguments_find, condition_finds, statement_finds, block_finds, block_then}
 use Rattle.spf_effects.specs.Parts.{setting_in, own_bounds, entered, call_before, main_setting, outside, within_fold, guess_finds, part_finds, part_effects}
 use Rattle.spf_effects.specs.Laws.{HasLists}
@@ -67,7 +67,7 @@ module _ (laws : SetsStayListed) where
 
   fill_listed : (array : ℕ) (low high : Bound) → StaysListed (writes_range array low high)
   fill_listed array (Known f l h) (Known g m i) =
-      if_stays (int_eq f g) (followed {may_write_between array f l i} (record { written = λ w l. l }) (between_listed array f l h m i)) (record { written = λ w l. l })
+      if_stays (int_eq f g) (followed {f = may_write_between array f l i} (record { written = λ w l. l }) (between_listed array f l h m i)) (record { written = λ w l. l })
   fill_listed array (Known f l h) Unknown = record { written = λ w l. l }
   fill_listed array Unknown high = record { written = λ w l. l }
 
@@ -136,7 +136,9 @@ module _ (laws : SetsStayListed) where
       statement_listed slots (Do f given) = followed (arguments_listed slots given) (calls.finds f (argument_bounds g slots given))
       statement_listed slots (Fold head body) =
           followed (expression_listed slots head.start) (followed (expression_listed slots head.low) (followed (expression_listed slots head.high)
-          (turned (expression_bound g slots head.low) (expression_bound g slots head.high) [] _)))
+          (turned (expression_bound g slots head.low) (expression_bound g slots head.high) []
+          (let inner = bounds_in_turn g slots head.block head.low head.high in
+          block_finds g inner body then expression_finds g (bounds_at_end g inner body) head.next))))
       statement_listed slots (Pair head producer consumer) =
           followed (block_listed slots producer) (followed (expression_listed (bounds_at_end g slots producer) head.give) (block_listed slots consumer))
 
