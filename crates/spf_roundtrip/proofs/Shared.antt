@@ -1,5 +1,5 @@
 -- The limits bind all that read the same tokens alike, and no tokens are left that neither are those of a program nor go wrong.
-use Rattle.std.proofs.Common.{◌≡◌, ℕ, zero, suc, ◌+◌, ◌<◌, ◌≤◌, true, false, inl, inr, refl, List, [], ◌∷◌, ◌++◌, length, Some, ℤ, pos, sym, ap, ◌∙◌, subst, append_assoc, length-append, arith}
+use Rattle.std.proofs.Common.{◌≡◌, ℕ, zero, suc, ◌+◌, ◌<◌, ◌≤◌, true, false, inl, inr, refl, List, [], ◌∷◌, ◌++◌, length, Some, sym, ap, ◌∙◌, subst, append_assoc, length-append, arith}
 use Rattle.std.proofs.lemmas.List.{append-nil}
 use Rattle.std.specs.Prelude.{IsTrue}
 use Rattle.spf_text.specs.declared.token.Sign.TheVariants as sign
@@ -9,7 +9,7 @@ use Rattle.spf_grammar.specs.Lexemes.{Lexeme}
 use Rattle.spf_grammar.specs.Parts.{Part, token, opens, operator, name, number, count, many, lined, expression, level, further, compared, operand, arguments, next_argument, form, block, otherwise, guess, size, array, parameters, next_parameter, function, program, statement, Value, Rule, give, part, either}
 use Rattle.spf_grammar.specs.Rules.{rule, expression_rule, level_rule, further_rule, compared_rule, operand_rule, arguments_rule, next_argument_rule, form_rule, block_rule, otherwise_rule, guess_rule, size_rule, array_rule, parameters_rule, next_parameter_rule, function_rule, program_rule, many_rule}
 use Rattle.spf_grammar.specs.Reading.{reads, says, Reads}
-use Rattle.spf_grammar.specs.Texts.{IsFront, CannotGoOn, IsUnexpected, IsTooDeep}
+use Rattle.spf_grammar.specs.Texts.{IsFront, IsUnexpected, IsTooDeep}
 use Rattle.spf_grammar.proofs.Derivations.{raise}
 use Rattle.spf_parse.specs.Answers.{Stops}
 use Rattle.spf_parse.proofs.Beginnings.{begins, begins_is, may_is, stops_all}
@@ -101,12 +101,12 @@ bound_rule depth free held n parts (part p r) q (l ∷ c) m k a b us vs h d e s 
     f = parts p q.0 (l ∷ c) m k d.0 e.0 d.1 e.1 h d.2 e.2 (precedes_is depth free n p (r d.0) (q.1 d.0) d.1 a us d.3 s) (precedes_is depth held n p (r e.0) (q.1 e.0) e.1 b vs e.3 t)
 
     on : BoundRule depth free held n (r d.0) → Went m k d.0 e.0 d.1 e.1 → reads (says depth (length m)) (part p r) (l ∷ c ++ m) a us × Went m k a b us vs
-    on further (together c' eu ev ex) =
+    on later (together c' eu ev ex) =
         let d' : reads (says depth free) (r d.0) (c' ++ m) a us = subst (λ ts. reads (says depth free) (r d.0) ts a us) eu d.3 in
         let e' : reads (says depth held) (r d.0) (c' ++ k) b vs = subst (λ ts. reads (says depth held) (r d.0) ts b vs) ev (subst (λ x. reads (says depth held) (r x) e.1 b vs) (sym ex) e.3) in
-        let g = further c' m k a b us vs h d' e' s t in
+        let g = later c' m k a b us vs h d' e' s t in
         ((d.0, d.1, f.0, subst (λ ts. reads (says depth (length m)) (r d.0) ts a us) (sym eu) g.0), g.1)
-    on further (beyond past) = (
+    on later (beyond past) = (
       (d.0, d.1, f.0, loosens_rule depth free (length m) (loosens depth free (length m)) (r d.0) d.1 a us past d.3),
       beyond (omega (arith, past, shrinks_rule depth free (shrinks depth free) (r d.0) d.1 a us d.3)),
     )
