@@ -10,13 +10,15 @@ use Rattle.spf_ast.specs.Program.{environment_of, extents_of, start_of, zeros_of
 use Rattle.spf_ast.specs.Construct.{Moment, Construct, constructs_in, reached_from}
 use Rattle.spf_ast.specs.Pieces.{before_construct, from_construct, rest_from}
 use Rattle.spf_ast.specs.Lawful.{Scope, names_at, nothing_declared, IsLawful, IsLawfulBlock, scope_at_end}
-use Rattle.spf_exec.specs.Pieces.{Stand, HasBegun, EndsAt, TrapsAt, moment_of, ahead}
+use Rattle.spf_exec.specs.declared.pieces.Pause.{Pause}
+use Rattle.spf_exec.specs.Pieces.{Stand, HasBegun, Advanced, EndsAt, TrapsAt, moment_of, ahead}
 use Rattle.spf_ast.specs.Laws.{PartsHaveOneUnsharedAnswer}
 use Rattle.spf_laws.specs.Agreement.{Relation, LookAlike, EndAlike, BlocksSeeVisibleSlots, PartsSeeVisibleSlots, HeadersSeeVisibleSlots}
 use Rattle.spf_laws.specs.Chained.{ConstructsAreTheirBlocks, HeadersTrap}
 use Rattle.spf_laws.proofs.Plainly.{Comes}
 use Rattle.spf_guess.specs.declared.stats.Stats.{Stats}
 use Rattle.spf_guess.specs.Statistics.{none, plus}
+use Rattle.spf_engine.specs.Laws.{IsPausedSo, RunsAdvance}
 use Rattle.spf_engine.specs.Standing.{IsAt, GoesOn, HasCome, statistics_of}
 use Rattle.spf_engine.proofs.Tallies.{without-hosts}
 use Rattle.spf_engine.proofs.Performing.{Sees, form-ends-alike}
@@ -199,3 +201,9 @@ advances-to-trap laws p input before after counted t h trapped =
     let comes = follows-trap (block-follows laws p input h.scope front parts.front) h.moment (moment_of p before).state before.cells h.alike h.memory t after.output trapped in
     let whole = front-traps g (ahead p before) h.moment t after.output _ comes in
     traps-here p input before counted h t after.output _ whole.comes whole.reached
+
+-- ---- by the law on advances
+
+-- where a run paused, by what the pause is
+pub paused-so : RunsAdvance → (p : Program) (input : List ℕ) (before after : Stand) (counted : Stats) {one other : Pause} → one ≡ other → GoesOn p input before counted → Advanced p input before after one → IsPausedSo p input after counted other
+paused-so advance p input before after counted {one} e goes a = subst (IsPausedSo p input after counted) e (advance p input before after counted one goes a)
