@@ -1,14 +1,15 @@
 //! Attempts of a block that only makes turns, on one thread.
 ghost use Rattle.std.specs.Prelude.{◌≡◌, [], ◌∷◌, ◌++◌, length, pos, IfOk, replicate};
 ghost use Rattle.spf_ast.specs.Carried.{Carried as CarriedValue};
-ghost use Rattle.spf_ast.specs.View.{program as seen_program};
+ghost use Rattle.spf_ast.specs.Syntax.{Fold as fold_form};
+ghost use Rattle.spf_ast.specs.View.{program as seen_program, block as block_of, statement as statement_of};
 ghost use Rattle.spf_ast.specs.ConstructView.{construct as construct_seen};
 ghost use Rattle.spf_layout.specs.Instance.{program_of};
 ghost use Rattle.spf_layout.specs.declared.stop.Stop.TheVariants as stop;
 ghost use Rattle.spf_cells.specs.Log.{events};
 ghost use Rattle.spf_cells.specs.Made.{spans_in, new_warden, new_lane};
 ghost use Rattle.spf_ticket.specs.Tickets.{IsSameTicket, IsTicketAt};
-ghost use Rattle.spf_ticket_tests.specs.Turns.{counting, counting_fold, counting_entry, counting_setting, no_cells, five_turns};
+ghost use Rattle.spf_ticket_tests.specs.Turns.{counting, counting_head, counting_body, counting_fold as fold_of_counting, counting_entry, counting_setting, no_cells, five_turns};
 
 use spf_ast::construct::find_construct;
 use spf_ast::syntax::{Expr, Fold, Name, Predict, Program, Stmt, StmtKind};
@@ -34,18 +35,22 @@ fn name(alloc: Global, byte: u8) -> Result<Name, AllocError>
     Ok(Name { bytes })
 }
 
-/// specfold s = 1 for k in 0..2 predict 5 { for i in 0..s { } next 1; } emit s;
-fn counting(alloc: Global) -> Result<Program, AllocError>
-    ensures arrays { IfOk result (λ p. (seen_program p).arrays ≡ []) }
-    ensures functions { IfOk result (λ p. (seen_program p).functions ≡ []) }
-    ensures slots { IfOk result (λ p. (seen_program p).slots ≡ counting.slots) }
-    ensures main { IfOk result (λ p. (seen_program p).main ≡ counting.main) }
+/// for i in 0..s { }
+fn loop_to_carried(alloc: Global) -> Result<Vec<Stmt>, AllocError>
+    ensures { IfOk result (λ v. block_of v.items ≡ counting_body) }
 {
     let mut body = Vec::new(alloc);
     body.push(Stmt {
         line: 1,
         kind: StmtKind::For(2, Expr::Number(0), Expr::Local(0), Vec::new(alloc)),
     })?;
+    Ok(body)
+}
+
+/// specfold s = 1 for k in 0..2 predict 5 { for i in 0..s { } next 1; }
+fn counting_fold(alloc: Global) -> Result<StmtKind, AllocError>
+    ensures { IfOk result (λ kind. statement_of kind ≡ fold_form counting_head counting_body) }
+{
     let fold = Fold {
         carried: 0,
         start: Expr::Number(1),
@@ -53,14 +58,24 @@ fn counting(alloc: Global) -> Result<Program, AllocError>
         low: Expr::Number(0),
         high: Expr::Number(2),
         predict: Predict::Expr(Expr::Number(5)),
-        body,
+        body: loop_to_carried(alloc)?,
         next: Expr::Number(1),
         next_line: 1,
     };
+    Ok(StmtKind::Fold(Box::new(alloc, fold)?))
+}
+
+/// The fold, and then `emit s;`.
+fn counting(alloc: Global) -> Result<Program, AllocError>
+    ensures arrays { IfOk result (λ p. (seen_program p).arrays ≡ []) }
+    ensures functions { IfOk result (λ p. (seen_program p).functions ≡ []) }
+    ensures slots { IfOk result (λ p. (seen_program p).slots ≡ counting.slots) }
+    ensures main { IfOk result (λ p. (seen_program p).main ≡ counting.main) }
+{
     let mut main = Vec::new(alloc);
     main.push(Stmt {
         line: 1,
-        kind: StmtKind::Fold(Box::new(alloc, fold)?),
+        kind: counting_fold(alloc)?,
     })?;
     main.push(Stmt {
         line: 1,
@@ -97,13 +112,13 @@ fn lane_of_block_one(alloc: Global) -> Result<(Cells, Warden, Lane), AllocError>
 fn attempt(cells: &Cells, job: &Job, ticket: Ticket) -> Report
     requires program { program_of job.now.instance.now ≡ counting }
     requires input { job.now.instance.now.input ≡ [] }
-    requires construct { construct_seen job.now.construct ≡ counting_fold }
+    requires construct { construct_seen job.now.construct ≡ fold_of_counting }
     requires entry { job.now.entry.now ≡ [] }
     requires setting { cells.now.setting ≡ counting_setting }
     requires table { ticket.lane.table ≡ cells.now.table }
     requires block { ticket.block ≡ 1 }
     requires frame { length ticket.frame ≡ 3 }
-    ensures same { IsSameTicket counting counting_fold ticket result.ticket }
+    ensures same { IsSameTicket counting fold_of_counting ticket result.ticket }
     ensures turns { (value : CarriedValue) → IsTicketAt counting_entry cells.now ticket → ticket.attempt ≡ 1 → ticket.carried ≡ pos 5
         → result.stop ≡ stop.Ended value → events result.ticket.lane.log ≡ events ticket.lane.log ++ five_turns }
 {
@@ -115,7 +130,7 @@ fn attempt(cells: &Cells, job: &Job, ticket: Ticket) -> Report
 fn first_attempt(cells: &Cells, job: &Job, lane: Lane, frame: Frame) -> Report
     requires program { program_of job.now.instance.now ≡ counting }
     requires input { job.now.instance.now.input ≡ [] }
-    requires construct { construct_seen job.now.construct ≡ counting_fold }
+    requires construct { construct_seen job.now.construct ≡ fold_of_counting }
     requires entry { job.now.entry.now ≡ [] }
     requires setting { cells.now.setting ≡ counting_setting }
     requires lane { lane ≡ new_lane cells.now 1 }
