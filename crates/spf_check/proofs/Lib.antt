@@ -6,3 +6,4 @@ pub mod Unique
 pub mod Explained
 pub mod Arrays
 pub mod Planning
+pub mod Judging

@@ -70,7 +70,7 @@ all-kept p k h = record {
 }
 
 -- what a search from the first rule on comes to
-abbrev Lowest : Program → Construct → Option (Rule × Option Range) → Type 0
+abbrev pub Lowest : Program → Construct → Option (Rule × Option Range) → Type 0
 Lowest p k o = MatchOption o (KeepsTheRules p k) (λ broken. IsLowestBroken p k broken.0 broken.1)
 
 -- one rule, where those below it are kept

@@ -8,3 +8,4 @@ pub mod Explaining
 pub mod Explained
 pub mod Plans
 pub mod Writing
+pub mod Laws

@@ -1,18 +1,21 @@
-//! What holds of refusals. Each law is the contract of a function that does nothing.
-ghost use Rattle.std.specs.Prelude.{◌≡◌, ℕ, List, Option};
-ghost use Rattle.spf_ast.specs.Syntax.{Program};
-ghost use Rattle.spf_region.specs.declared.range.Range.{Range};
-ghost use Rattle.spf_check.specs.declared.rule.Rule.{Rule};
-ghost use Rattle.spf_check.specs.Accepting.{IsFirstRefusal};
-ghost use Rattle.spf_check.specs.Explaining.{Explains};
+//! What holds of refusals and explanations. Each law is the contract of a function that does nothing.
+ghost use Rattle.spf_check.specs.Laws.{AreAcceptedOrRefused, FirstRefusalsAreTheSame, RefusedAreNotAccepted, AreExplained, ExplanationsAreTheSame};
 
-/// A program has at most one first refusal.
+use spf_effects::laws::each_part_has_effects_in_lists;
+
+/// Each program is accepted or has a first refusal, and not both; and it has no more than one.
 pub fn one_first_refusal()
-    ensures { (p : Program) (rule other : Rule) (line other_line : ℕ) (range other_range : Option Range) → IsFirstRefusal p rule line range → IsFirstRefusal p other other_line other_range
-        → (rule ≡ other) × (line ≡ other_line) × (range ≡ other_range) }
-{}
+    ensures some { AreAcceptedOrRefused }
+    ensures one { FirstRefusalsAreTheSame }
+    ensures refused { RefusedAreNotAccepted }
+{
+    each_part_has_effects_in_lists();
+}
 
-/// A program has at most one explanation.
+/// Each program has exactly one explanation.
 pub fn one_explanation()
-    ensures { (p : Program) (one other : List ℕ) → Explains p one → Explains p other → one ≡ other }
-{}
+    ensures some { AreExplained }
+    ensures one { ExplanationsAreTheSame }
+{
+    each_part_has_effects_in_lists();
+}

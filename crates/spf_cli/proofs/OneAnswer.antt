@@ -1,18 +1,16 @@
--- Each list of words has one answer.
+-- A list of words has at most one answer, and none is left without one.
 use Rattle.std.proofs.lemmas.Slice.Eq.{bytes_eq-Decides}
 use Rattle.std.specs.Prelude.{bytes_eq, Option, Some, None}
 use Rattle.std.proofs.Common.{◌≡◌, ◌⊎◌, ◌≤◌, ℕ, Bool, true, false, List, [], ◌∷◌, length, codes, refl, sym, ap, ◌∙◌, subst, inl, inr, nat_le, arith, if◌then◌else◌}
 use Rattle.spf_ast.specs.Syntax.{Program}
 use Rattle.spf_ast.specs.Program.{cell_count_of, max_cells}
 use Rattle.spf_edge.specs.Entries.{Entry, lookup}
-use Rattle.spf_check.specs.Accepting.{IsAccepted}
 use Rattle.spf_cli.specs.Answer.{Answer, not_understood, text_refused, rule_refused, explained, file_failed, file_too_long}
 use Rattle.spf_cli.specs.Command.{Command, Run, Check, Explain, Print, Options, Asks, IsFileName, HasFileNames, words_of}
 use Rattle.spf_cli.specs.Options.{options_in}
 use Rattle.spf_cli.specs.Reading.{Verdict, Says, Refuses, IsVerdict}
-use Rattle.spf_cli.specs.Whole.{Wanted, Is, Either, Fetched, Read, CheckedBy, Runs, RunsOn, WholeOf, Whole, IsOnly, is_built, max_program, max_input}
-use Rattle.spf_cli.specs.Laws.{IsRefused, IsJudged, program_of, HasJudgedProgram}
-use Rattle.spf_cli.proofs.Steps.{only_this, read_says, read_refuses, checked_accepted, checked_refused, explained_so}
+use Rattle.spf_cli.specs.Whole.{Wanted, Is, Either, Fetched, Judged, Read, CheckedBy, Explained, Runs, RunsOn, WholeOf, Whole, IsOnly, is_built, max_program, max_input}
+use Rattle.spf_cli.specs.Laws.{RuleLaws, VerdictsAreTheSame, NoTextIsLeftUnjudged}
 use Rattle.spf_cli.proofs.Words.{options_are}
 
 -- ---- words
@@ -111,79 +109,146 @@ one_or_none words = by_command (command_in words) refl
     by_command None e = inr (λ d a. let is = asked_is words d a in absurd (cc))
     by_command (Some command) e = by_words command e (words_eq words (words_of command)) refl
 
--- ---- answers
+-- ---- at most one answer
 
--- there is one answer
+-- this is so of one answer at most
+abbrev AtMostOne : Wanted → Type 0
+AtMostOne P = (a b : Answer) → P a → P b → a ≡ b
+
+same_said : (said : Answer) → AtMostOne (Is said)
+same_said said a b e f = e ∙ sym f
+
+same_either : (A B : Wanted) (b : Bool) → AtMostOne A → AtMostOne B → AtMostOne (Either b A B)
+same_either A B true f g = f
+same_either A B false f g = g
+
+same_fetched : (name : List ℕ) (limit : ℕ) (held : Option (List ℕ)) (next : List ℕ → Wanted) → ((content : List ℕ) → AtMostOne (next content)) → AtMostOne (Fetched name limit held next)
+same_fetched name limit None next f = same_said (file_failed name)
+same_fetched name limit (Some content) next f = same_either (next content) (Is (file_too_long name limit)) (nat_le (length content) limit) (f content) (same_said (file_too_long name limit))
+
+same_judged : (v : Verdict) (next : Program → Wanted) → ((p : Program) → AtMostOne (next p)) → AtMostOne (Judged v next)
+same_judged (Says p) next f = f p
+same_judged (Refuses refusal) next f = same_said (text_refused refusal)
+
+same_read : VerdictsAreTheSame → (text : List ℕ) (next : Program → Wanted) → ((p : Program) → AtMostOne (next p)) → AtMostOne (Read text next)
+same_read one text next f a b x y = same_judged x.0 next f a b x.2 (subst (λ v. Judged v next b) (one text y.0 x.0 y.1 x.1) y.2)
+
+same_checked : RuleLaws → (p : Program) (next : Wanted) → AtMostOne next → AtMostOne (CheckedBy p next)
+same_checked laws p next f a b (inl x) (inl y) = f a b x.1 y.1
+same_checked laws p next f a b (inl x) (inr y) = absurd (laws.refused p y.0 y.1 y.2 y.3 x.0)
+same_checked laws p next f a b (inr x) (inl y) = absurd (laws.refused p x.0 x.1 x.2 x.3 y.0)
+same_checked laws p next f a b (inr x) (inr y) =
+    let same = laws.one p x.0 y.0 x.1 y.1 x.2 y.2 x.3 y.3 in
+    x.4 ∙ (λ i. rule_refused p (same.0 i) (same.1 i) (same.2 i)) ∙ sym y.4
+
+same_explained : RuleLaws → (p : Program) → AtMostOne (Explained p)
+same_explained laws p a b x y = x.2 ∙ ap explained (laws.explanation p x.0 y.0 x.1 y.1) ∙ sym y.2
+
+same_runs_on : (options : Options) (input : List ℕ) (p : Program) (files : List Entry) → AtMostOne (RunsOn options input p files)
+same_runs_on options input p files =
+    same_either _ _ (is_built options p)
+    (same_fetched input max_input (lookup files input) (λ content. Runs options p content) (λ content. same_either _ _ (nat_le (cell_count_of p (length content)) max_cells) (same_said _) (same_said _)))
+    (same_said _)
+
+command_same : RuleLaws → VerdictsAreTheSame → (command : Command) (files : List Entry) → AtMostOne (WholeOf command files)
+command_same laws one (Run program input options) files =
+    same_fetched program max_program (lookup files program) _ (λ text. same_read one text _ (λ p.
+    same_either _ _ options.plain (same_runs_on options input p files) (same_checked laws p _ (same_runs_on options input p files))))
+command_same laws one (Check program) files =
+    same_fetched program max_program (lookup files program) _ (λ text. same_read one text _ (λ p. same_checked laws p _ (same_said _)))
+command_same laws one (Explain program) files =
+    same_fetched program max_program (lookup files program) _ (λ text. same_read one text _ (λ p. same_explained laws p))
+command_same laws one (Print program) files =
+    same_fetched program max_program (lookup files program) _ (λ text. same_read one text _ (λ p. same_said _))
+
+-- a list of words has at most one answer
+pub answers_same : RuleLaws → VerdictsAreTheSame → (words : List (List ℕ)) (files : List Entry) → AtMostOne (Whole words files)
+answers_same laws one words files a b x y = by_command (one_or_none words) x y
+  where
+    by_command : ((command : Command) × IsOnly (Asks words) command) ⊎ ((command : Command) → Asks words command → ⊥) → Whole words files a → Whole words files b → a ≡ b
+    by_command (inl c) (inl x) (inl y) =
+        command_same laws one c.0 files a b (subst (λ k. WholeOf k files a) (c.1.only x.0 x.1) x.2) (subst (λ k. WholeOf k files b) (c.1.only y.0 y.1) y.2)
+    by_command (inl c) (inl x) (inr y) = absurd (y.0 c.0 c.1.is)
+    by_command (inl c) (inr x) y = absurd (x.0 c.0 c.1.is)
+    by_command (inr none) (inl x) y = absurd (none x.0 x.1)
+    by_command (inr none) (inr x) (inl y) = absurd (none y.0 y.1)
+    by_command (inr none) (inr x) (inr y) = x.1 ∙ sym y.1
+
+-- ---- some answer
+
+-- there is an answer
 abbrev HasOne : Wanted → Type 0
-HasOne P = (answer : Answer) × IsOnly P answer
+HasOne P = (answer : Answer) × P answer
 
-this_one : (said : Answer) → HasOne (Is said)
-this_one said = (said, only_this said)
+-- there is a verdict on a text
+abbrev HasVerdict : List ℕ → Type 0
+HasVerdict text = (v : Verdict) × IsVerdict text v
 
-either_one : (A B : Wanted) (b : Bool) → HasOne A → HasOne B → HasOne (Either b A B)
-either_one A B true a b = a
-either_one A B false a b = b
+some_either : (A B : Wanted) (b : Bool) → HasOne A → HasOne B → HasOne (Either b A B)
+some_either A B true a b = a
+some_either A B false a b = b
 
-fetched_one : (name : List ℕ) (limit : ℕ) (held : Option (List ℕ)) (next : List ℕ → Wanted) → ((content : List ℕ) → held ≡ Some content → length content ≤ limit → HasOne (next content)) → HasOne (Fetched name limit held next)
-fetched_one name limit None next f = this_one (file_failed name)
-fetched_one name limit (Some content) next f = by_test (nat_le (length content) limit) (λ e. f content refl (within (length content) limit e))
+some_fetched : (name : List ℕ) (limit : ℕ) (held : Option (List ℕ)) (next : List ℕ → Wanted) → ((content : List ℕ) → held ≡ Some content → HasOne (next content)) → HasOne (Fetched name limit held next)
+some_fetched name limit None next f = (file_failed name, refl)
+some_fetched name limit (Some content) next f = some_either (next content) (Is (file_too_long name limit)) (nat_le (length content) limit) (f content refl) (file_too_long name limit, refl)
+
+some_read : (text : List ℕ) (next : Program → Wanted) → HasVerdict text → ((p : Program) → HasOne (next p)) → HasOne (Read text next)
+some_read text next v f = let judged = by_verdict v.0 in (judged.0, (v.0, v.1, judged.1))
   where
-    within : (a b : ℕ) → nat_le a b ≡ true → a ≤ b
-    within a b e = grind (arith, e)
+    by_verdict : (w : Verdict) → HasOne (Judged w next)
+    by_verdict (Says p) = f p
+    by_verdict (Refuses refusal) = (text_refused refusal, refl)
 
-    by_test : (t : Bool) → (t ≡ true → HasOne (next content)) → HasOne (Either t (next content) (Is (file_too_long name limit)))
-    by_test true h = h refl
-    by_test false h = this_one (file_too_long name limit)
-
-read_one : (text : List ℕ) (next : Program → Wanted) (v : Verdict) → IsOnly (IsVerdict text) v → ((p : Program) → v ≡ Says p → HasOne (next p)) → HasOne (Read text next)
-read_one text next (Says p) only f = let one = f p refl in (one.0, read_says text p next one.0 only one.1)
-read_one text next (Refuses refusal) only f = (text_refused refusal, read_refuses text refusal next only)
-
-checked_one : (p : Program) (next : Wanted) → IsAccepted p ⊎ IsRefused p → HasOne next → HasOne (CheckedBy p next)
-checked_one p next ruled one =
-    elim ruled [
-      | inl accepted ↦ (one.0, checked_accepted p next one.0 accepted one.1)
-      | inr r ↦ (rule_refused p r.0 r.1 r.2, checked_refused p next r.0 r.1 r.2 r.3)
+some_checked : RuleLaws → (p : Program) (next : Wanted) → HasOne next → HasOne (CheckedBy p next)
+some_checked laws p next one =
+    elim (laws.some p) [
+      | inl accepted ↦ (one.0, inl (accepted, one.1))
+      | inr r ↦ (rule_refused p r.0 r.1 r.2, inr (r.0, r.1, r.2, r.3, refl))
     ]
 
-runs_one : (options : Options) (p : Program) (input : List ℕ) → HasOne (Runs options p input)
-runs_one options p input = either_one _ _ (nat_le (cell_count_of p (length input)) max_cells) (this_one _) (this_one _)
+some_explained : RuleLaws → (p : Program) → HasOne (Explained p)
+some_explained laws p = let x = laws.explained p in (explained x.0, (x.0, x.1, refl))
 
-runs_on_one : (options : Options) (input : List ℕ) (p : Program) (files : List Entry) → HasOne (RunsOn options input p files)
-runs_on_one options input p files =
-    either_one _ _ (is_built options p) (fetched_one input max_input (lookup files input) (λ content. Runs options p content) (λ content e l. runs_one options p content)) (this_one _)
+some_run : (options : Options) (input : List ℕ) (p : Program) (files : List Entry) → HasOne (RunsOn options input p files)
+some_run options input p files =
+    some_either _ _ (is_built options p)
+    (some_fetched input max_input (lookup files input) (λ content. Runs options p content) (λ content e. some_either _ _ (nat_le (cell_count_of p (length content)) max_cells) (_, refl) (_, refl)))
+    (_, refl)
 
-command_one : (command : Command) (files : List Entry) → ((text : List ℕ) → lookup files (program_of command) ≡ Some text → length text ≤ max_program → IsJudged text) → HasOne (WholeOf command files)
-command_one (Run program input options) files judged =
-    fetched_one program max_program (lookup files program) _ (λ text e l. let j = judged text e l in
-    read_one text _ j.verdict j.one (λ p is.
-    either_one _ _ options.plain (runs_on_one options input p files) (checked_one p _ (j.ruled p is) (runs_on_one options input p files))))
-command_one (Check program) files judged =
-    fetched_one program max_program (lookup files program) _ (λ text e l. let j = judged text e l in
-    read_one text _ j.verdict j.one (λ p is. checked_one p _ (j.ruled p is) (this_one _)))
-command_one (Explain program) files judged =
-    fetched_one program max_program (lookup files program) _ (λ text e l. let j = judged text e l in
-    read_one text _ j.verdict j.one (λ p is. let x = j.explained p is in (explained x.0, explained_so p x.0 (explained x.0) x.1 refl)))
-command_one (Print program) files judged =
-    fetched_one program max_program (lookup files program) _ (λ text e l. let j = judged text e l in
-    read_one text _ j.verdict j.one (λ p is. this_one _))
+-- the file of a command's program
+abbrev program_of : Command → List ℕ
+program_of (Run program input options) = program
+program_of (Check program) = program
+program_of (Explain program) = program
+program_of (Print program) = program
 
--- each list of words has one answer
-pub one_answer : (words : List (List ℕ)) (files : List Entry) → HasJudgedProgram words files → (answer : Answer) × IsOnly (Whole words files) answer
-one_answer words files judged =
+some_command : RuleLaws → (command : Command) (files : List Entry) → ((text : List ℕ) → lookup files (program_of command) ≡ Some text → HasVerdict text) → HasOne (WholeOf command files)
+some_command laws (Run program input options) files judged =
+    some_fetched program max_program (lookup files program) _ (λ text e. some_read text _ (judged text e) (λ p.
+    some_either _ _ options.plain (some_run options input p files) (some_checked laws p _ (some_run options input p files))))
+some_command laws (Check program) files judged =
+    some_fetched program max_program (lookup files program) _ (λ text e. some_read text _ (judged text e) (λ p. some_checked laws p _ (_, refl)))
+some_command laws (Explain program) files judged =
+    some_fetched program max_program (lookup files program) _ (λ text e. some_read text _ (judged text e) (λ p. some_explained laws p))
+some_command laws (Print program) files judged =
+    some_fetched program max_program (lookup files program) _ (λ text e. some_read text _ (judged text e) (λ p. (_, refl)))
+
+-- no list of words is left without an answer
+pub none_unanswered : RuleLaws → NoTextIsLeftUnjudged → (words : List (List ℕ)) (files : List Entry) → ((answer : Answer) → Whole words files answer → ⊥) → ⊥
+none_unanswered laws left words files never =
     elim (one_or_none words) [
-      | inl c ↦ (let one = command_one c.0 files (λ text e l. judged c.0 c.1.is text e l) in (one.0, record { is = inl (c.0, c.1.is, one.1.is); only = λ b x. for_command c.0 c.1 one.0 one.1 b x }))
-      | inr none ↦ (not_understood, record { is = inr (none, refl); only = λ b x. for_none none b x })
+      | inl c ↦ by_file c.0 (lookup files (program_of c.0)) refl (λ a w. never a (inl (c.0, c.1.is, w)))
+      | inr none ↦ never not_understood (inr (none, refl))
     ]
   where
-    for_command : (command : Command) → IsOnly (Asks words) command → (a : Answer) → IsOnly (WholeOf command files) a → (b : Answer) → Whole words files b → b ≡ a
-    for_command command asks a w b x = elim x [
-      | inl y ↦ w.only b (subst (λ c. WholeOf c files b) (asks.only y.0 y.1) y.2)
-      | inr z ↦ absurd (z.0 command asks.is)
-    ]
+    same_text : (text other : List ℕ) → Some text ≡ Some other → text ≡ other
+    same_text text other e = cc
 
-    for_none : ((command : Command) → Asks words command → ⊥) → (b : Answer) → Whole words files b → b ≡ not_understood
-    for_none none b x = elim x [
-      | inl y ↦ absurd (none y.0 y.1)
-      | inr z ↦ z.1
-    ]
+    by_file : (command : Command) (held : Option (List ℕ)) → lookup files (program_of command) ≡ held → ((answer : Answer) → WholeOf command files answer → ⊥) → ⊥
+    by_file command None e unanswered =
+        let one = some_command laws command files (λ text is. let none : None ≡ Some text = sym e ∙ is in absurd (cc)) in
+        unanswered one.0 one.1
+    by_file command (Some text) e unanswered =
+        left text (λ v h.
+        let one = some_command laws command files (λ other is. subst HasVerdict (same_text text other (sym e ∙ is)) (v, h)) in
+        unanswered one.0 one.1)

@@ -11,10 +11,7 @@ use Rattle.spf_check.specs.declared.rule.CheckError.{CheckError}
 use Rattle.spf_check.specs.declared.rule.CheckError.TheVariants as check_error
 use Rattle.spf_check.specs.Accepting.{IsAccepted, IsFirstRefusal}
 use Rattle.spf_check.specs.Checking.{IsChecked}
-use Rattle.spf_check.proofs.Examining.{refused-not-accepted}
 use Rattle.spf_check.specs.Explaining.{Explains}
-use Rattle.spf_check.proofs.Unique.{one-first-refusal}
-use Rattle.spf_check.proofs.Explained.{one-explanation}
 use Rattle.spf_ast.specs.Program.{cell_count_of, max_cells, outcome, Outcome, Done, Stopped}
 use Rattle.spf_layout.specs.RunErrors.{counted}
 use Rattle.spf_edge.specs.Entries.{Entry, lookup, HasContent, IsMissing, IsLongerThan}
@@ -29,6 +26,7 @@ use Rattle.spf_cli.specs.Message.{failed_line}
 use Rattle.spf_cli.specs.Command.{Command, Run, Options, Asks}
 use Rattle.spf_cli.specs.Reading.{Says, Refuses, IsVerdict, Refusal}
 use Rattle.spf_cli.specs.Status.{put_status}
+use Rattle.spf_cli.specs.Laws.{RuleLaws}
 use Rattle.spf_guess.specs.declared.stats.Stats.{Stats}
 use Rattle.spf_cli.specs.Whole.{Wanted, Either, Fetched, Judged, Read, CheckedBy, Explained, Runs, RunsOn, MayRun, IsInputFault, stats_of, is_built, WholeOf, Whole, IsOnly, IsFaultOf, IsFaultAnswer, IsGiven, IsGivenInPart, IsAnswered, IsAnsweredInPart, max_program, max_input}
 use Rattle.spf_cli.specs.declared.answer.Answer as made
@@ -124,24 +122,24 @@ answers_with P Q (Err NoMemory) h f = tt
 -- ---- the rules
 
 -- a program that is accepted
-pub checked_accepted : (p : Program) (next : Wanted) (a : Answer) → IsAccepted p → IsOnly next a → IsOnly (CheckedBy p next) a
-checked_accepted p next a accepted h = record { is = inl (accepted, h.is); only = λ b x. other b x }
+pub checked_accepted : RuleLaws → (p : Program) (next : Wanted) (a : Answer) → IsAccepted p → IsOnly next a → IsOnly (CheckedBy p next) a
+checked_accepted laws p next a accepted h = record { is = inl (accepted, h.is); only = λ b x. other b x }
   where
     other : (b : Answer) → CheckedBy p next b → b ≡ a
     other b x = elim x [
       | inl y ↦ h.only b y.1
-      | inr z ↦ absurd (refused-not-accepted p z.0 z.1 z.2 z.3 accepted)
+      | inr z ↦ absurd (laws.refused p z.0 z.1 z.2 z.3 accepted)
     ]
 
 -- a program that is refused
-pub checked_refused : (p : Program) (next : Wanted) (rule : Rule) (line : ℕ) (range : Option Range) → IsFirstRefusal p rule line range → IsOnly (CheckedBy p next) (rule_refused p rule line range)
-checked_refused p next rule line range r = record { is = inr (rule, line, range, r, refl); only = λ b x. other b x }
+pub checked_refused : RuleLaws → (p : Program) (next : Wanted) (rule : Rule) (line : ℕ) (range : Option Range) → IsFirstRefusal p rule line range → IsOnly (CheckedBy p next) (rule_refused p rule line range)
+checked_refused laws p next rule line range r = record { is = inr (rule, line, range, r, refl); only = λ b x. other b x }
   where
     other : (b : Answer) → CheckedBy p next b → b ≡ rule_refused p rule line range
     other b x = elim x [
-      | inl y ↦ absurd (refused-not-accepted p rule line range r y.0)
+      | inl y ↦ absurd (laws.refused p rule line range r y.0)
       | inr z ↦
-          let same = one-first-refusal p z.0 rule z.1 line z.2 range z.3 r in
+          let same = laws.one p z.0 rule z.1 line z.2 range z.3 r in
           z.4 ∙ (λ i. rule_refused p (same.0 i) (same.1 i) (same.2 i))
     ]
 
@@ -154,19 +152,19 @@ refusal_left p checked (check_error.OutOfMemory back) (Answered a) e c n = absur
 refusal_left p checked error NoMemory e c n = tt
 
 -- the rules refuse the program
-pub rule_left : (Faulty : List Entry → Wanted) (next : List Entry → Program → Wanted) (tail : List Entry → Wanted) (told : Option (List Entry)) (program text : List ℕ) (p : Program) (Fault : Type 0) (left : Exit) → HasContent told program text → length text ≤ max_program → IsOnly (IsVerdict text) (Says p) → ((files : List Entry) (a : Answer) → IsOnly (CheckedBy p (tail files)) a → IsOnly (next files p) a) → IsRuleExit p left → AnswersWith (IsWholeUnless (λ files. Fetched program max_program (lookup files program) (λ t. Read t (next files))) Faulty told Fault) (Err left)
-rule_left Faulty next tail told program text p Fault (Answered a) t l v goes h = λ files is.
+pub rule_left : RuleLaws → (Faulty : List Entry → Wanted) (next : List Entry → Program → Wanted) (tail : List Entry → Wanted) (told : Option (List Entry)) (program text : List ℕ) (p : Program) (Fault : Type 0) (left : Exit) → HasContent told program text → length text ≤ max_program → IsOnly (IsVerdict text) (Says p) → ((files : List Entry) (a : Answer) → IsOnly (CheckedBy p (tail files)) a → IsOnly (next files p) a) → IsRuleExit p left → AnswersWith (IsWholeUnless (λ files. Fetched program max_program (lookup files program) (λ t. Read t (next files))) Faulty told Fault) (Err left)
+rule_left laws Faulty next tail told program text p Fault (Answered a) t l v goes h = λ files is.
     inl (with_text (λ fs x. Read x (next fs)) told files program text (seen_answer a) is t l
     (read_says text p (next files) (seen_answer a) v
     (goes files (seen_answer a)
-    (at_same (IsOnly (CheckedBy p (tail files))) (seen_answer a) (rule_refused p h.0 h.1 h.2) h.4 (checked_refused p (tail files) h.0 h.1 h.2 h.3)))))
-rule_left Faulty next tail told program text p Fault NoMemory t l v goes h = tt
+    (at_same (IsOnly (CheckedBy p (tail files))) (seen_answer a) (rule_refused p h.0 h.1 h.2) h.4 (checked_refused laws p (tail files) h.0 h.1 h.2 h.3)))))
+rule_left laws Faulty next tail told program text p Fault NoMemory t l v goes h = tt
 
 -- a program that is explained
-pub explained_so : (p : Program) (text : List ℕ) (a : Answer) → Explains p text → a ≡ explained text → IsOnly (Explained p) a
-explained_so p text a x e = record {
+pub explained_so : RuleLaws → (p : Program) (text : List ℕ) (a : Answer) → Explains p text → a ≡ explained text → IsOnly (Explained p) a
+explained_so laws p text a x e = record {
   is = (text, x, e);
-  only = λ b y. y.2 ∙ ap explained (one-explanation p y.0 text y.1 x) ∙ sym e;
+  only = λ b y. y.2 ∙ ap explained (laws.explanation p y.0 text y.1 x) ∙ sym e;
 }
 
 -- ---- runs
@@ -176,29 +174,29 @@ abbrev pub behind_text : List ℕ → Options → List Entry → Program → Wan
 behind_text input options files p = Either options.plain (RunsOn options input p files) (CheckedBy p (RunsOn options input p files))
 
 -- a program that may be run is answered as its run is
-passed : (input : List ℕ) (options : Options) (files : List Entry) (p : Program) (a : Answer) → MayRun options p → IsOnly (RunsOn options input p files) a → IsOnly (behind_text input options files p) a
-passed input options files p a may h = by_plain options.plain may
+passed : RuleLaws → (input : List ℕ) (options : Options) (files : List Entry) (p : Program) (a : Answer) → MayRun options p → IsOnly (RunsOn options input p files) a → IsOnly (behind_text input options files p) a
+passed laws input options files p a may h = by_plain options.plain may
   where
     by_plain : (plain : Bool) → (plain ≡ true) ⊎ IsAccepted p → IsOnly (Either plain (RunsOn options input p files) (CheckedBy p (RunsOn options input p files))) a
     by_plain true m = h
     by_plain false m = elim m [
       | inl e ↦ absurd (cc)
-      | inr accepted ↦ checked_accepted p (RunsOn options input p files) a accepted h
+      | inr accepted ↦ checked_accepted laws p (RunsOn options input p files) a accepted h
     ]
 
-pub run_passed : (told : Option (List Entry)) (program input text : List ℕ) (options : Options) (p : Program) (Fault Later : Type 0) (r : Result made.Answer Exit) → HasContent told program text → length text ≤ max_program → IsOnly (IsVerdict text) (Says p) → MayRun options p → (Fault → Later) → AnswersWith (IsWholeUnless (RunsOn options input p) (IsInputFault options input p) told Fault) r → AnswersWith (IsWholeUnless (WholeOf (Run program input options)) (IsFaultOf (Run program input options)) told Later) r
-run_passed told program input text options p Fault Later r t l v may f h =
+pub run_passed : RuleLaws → (told : Option (List Entry)) (program input text : List ℕ) (options : Options) (p : Program) (Fault Later : Type 0) (r : Result made.Answer Exit) → HasContent told program text → length text ≤ max_program → IsOnly (IsVerdict text) (Says p) → MayRun options p → (Fault → Later) → AnswersWith (IsWholeUnless (RunsOn options input p) (IsInputFault options input p) told Fault) r → AnswersWith (IsWholeUnless (WholeOf (Run program input options)) (IsFaultOf (Run program input options)) told Later) r
+run_passed laws told program input text options p Fault Later r t l v may f h =
     answers_with (IsWholeUnless (WholeOf (Run program input options)) (IsFaultOf (Run program input options)) told Later) (IsWholeUnless (RunsOn options input p) (IsInputFault options input p) told Fault) r h (λ a w files is.
     elim (w files is) [
       | inl o ↦ inl (with_text (λ fs x. Read x (behind_text input options fs)) told files program text a is t l
-          (read_says text p (behind_text input options files) a v (passed input options files p a may o)))
+          (read_says text p (behind_text input options files) a v (passed laws input options files p a may o)))
       | inr x ↦ inr (f x.0, (input, inr (refl, (text, content_of told files program text is t, l, (p, v.is, may, x.1.0))), x.1.1))
     ])
 
 -- the rules refuse the program of a run
-pub run_refused : (told : Option (List Entry)) (program input text : List ℕ) (options : Options) (p : Program) (Fault : Type 0) (left : Exit) → HasContent told program text → length text ≤ max_program → IsOnly (IsVerdict text) (Says p) → options.plain ≡ false → IsRuleExit p left → AnswersWith (IsWholeUnless (WholeOf (Run program input options)) (IsFaultOf (Run program input options)) told Fault) (Err left)
-run_refused told program input text options p Fault left t l v plain h =
-    rule_left (IsFaultOf (Run program input options)) (behind_text input options) (RunsOn options input p) told program text p Fault left t l v
+pub run_refused : RuleLaws → (told : Option (List Entry)) (program input text : List ℕ) (options : Options) (p : Program) (Fault : Type 0) (left : Exit) → HasContent told program text → length text ≤ max_program → IsOnly (IsVerdict text) (Says p) → options.plain ≡ false → IsRuleExit p left → AnswersWith (IsWholeUnless (WholeOf (Run program input options)) (IsFaultOf (Run program input options)) told Fault) (Err left)
+run_refused laws told program input text options p Fault left t l v plain h =
+    rule_left laws (IsFaultOf (Run program input options)) (behind_text input options) (RunsOn options input p) told program text p Fault left t l v
     (λ files a o. either_second (RunsOn options input p files) (CheckedBy p (RunsOn options input p files)) options.plain a plain o) h
 
 -- what runs the program so isn't built

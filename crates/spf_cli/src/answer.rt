@@ -18,6 +18,7 @@ ghost use Rattle.spf_cli.specs.Whole.{IsOnly, Runs, RunsOn, IsInputFault, Whole,
 ghost use Rattle.spf_cli.specs.Answering.{lines_of, seen_answer, IsFetchExit, IsReadExit, IsRuleExit, IsNotAccepted, IsNotRun, IsWholeUnless, IsCaused, AnswersWith};
 
 use crate::command::{Command, Options, read_words};
+use crate::laws::rules_say_one_thing;
 use crate::message::{
     array_line, failed_line, long_line, rule_line, stats_line, too_many_line, trap_line,
 };
@@ -362,6 +363,7 @@ fn run_files<F: Files>(
     ensures cause { AnswersWith (IsCaused (F.told files.old) (Rose (F.faults files.old) (F.faults files.new))) result }
     ensures later { F.faults files.old ≤ F.faults files.new }
 {
+    rules_say_one_thing();
     let text = fetch(alloc, files, program, MAX_PROGRAM)?;
     let parsed = read(alloc, &text)?;
     if options.plain {
@@ -378,6 +380,7 @@ fn check_file<F: Files>(alloc: Global, program: &str, files: &mut F) -> Result<A
     ensures cause { AnswersWith (IsCaused (F.told files.old) (Rose (F.faults files.old) (F.faults files.new))) result }
     ensures later { F.faults files.old ≤ F.faults files.new }
 {
+    rules_say_one_thing();
     let text = fetch(alloc, files, program, MAX_PROGRAM)?;
     let parsed = read(alloc, &text)?;
     accept(alloc, parsed)?;
@@ -391,6 +394,7 @@ fn explain_file<F: Files>(alloc: Global, program: &str, files: &mut F) -> Result
     ensures cause { AnswersWith (IsCaused (F.told files.old) (Rose (F.faults files.old) (F.faults files.new))) result }
     ensures later { F.faults files.old ≤ F.faults files.new }
 {
+    rules_say_one_thing();
     let text = fetch(alloc, files, program, MAX_PROGRAM)?;
     let parsed = read(alloc, &text)?;
     let explanation = explain(alloc, &parsed)?;

@@ -1,8 +1,39 @@
 //! Laws about the answers of the program. Each is the contract of a function that does nothing.
-ghost use Rattle.spf_cli.specs.Laws.{EachAsksForOneOrNone, EachHasOneAnswer};
+ghost use Rattle.spf_cli.specs.Laws.{RuleLaws, VerdictsAreTheSame, NoTextIsLeftUnjudged, EachAsksForOneOrNone, NoneHasTwoAnswers, NoneIsLeftUnanswered};
 
-/// Each list of words asks for one command or for none. It has exactly one answer over any files in which the text of its program, if it is reached, is judged: has one verdict, is accepted or first refused if it says a program, and has an explanation then.
+use spf_check::laws::{one_explanation, one_first_refusal};
+use spf_parse::laws::{texts_say_writable_programs, tokens_go_wrong_once};
+use spf_roundtrip::laws::tokens_are_of_one_program;
+use spf_text::laws::{each_text_has_tokens_or_one_fault, texts_determine_their_tokens};
+use spf_types::laws::each_raw_program_resolves_or_is_refused;
+
+/// One thing is said of each program: it is accepted or has one first refusal, and it has one explanation.
+pub(crate) fn rules_say_one_thing()
+    ensures { RuleLaws }
+{
+    one_first_refusal();
+    one_explanation();
+}
+
+/// A text has at most one verdict, the program that it says or why it has none; and no text is left without one.
+pub fn each_text_has_one_verdict()
+    ensures one { VerdictsAreTheSame }
+    ensures left { NoTextIsLeftUnjudged }
+{
+    texts_determine_their_tokens();
+    each_text_has_tokens_or_one_fault();
+    tokens_are_of_one_program();
+    tokens_go_wrong_once();
+    texts_say_writable_programs();
+    each_raw_program_resolves_or_is_refused();
+}
+
+/// Each list of words asks for one command or for none. It has at most one answer over any files, and none is left without an answer.
 pub fn each_list_of_words_has_one_answer()
     ensures commands { EachAsksForOneOrNone }
-    ensures answers { EachHasOneAnswer }
-{}
+    ensures one { NoneHasTwoAnswers }
+    ensures left { NoneIsLeftUnanswered }
+{
+    rules_say_one_thing();
+    each_text_has_one_verdict();
+}

@@ -323,6 +323,32 @@ fn all_programs_are_run_plainly(rt: HostRuntime) -> Result<(), Fail> {
 }
 
 #[test]
+fn arrays_have_as_many_cells_as_the_limit_and_no_more(rt: HostRuntime) -> Result<(), Fail> {
+    let alloc = rt.alloc();
+    let rows: [(&str, u8, &[u8], &str); 2] = [
+        (
+            "array a[4194000]; array b[304]; main { b[303] = 7; emit a[4193999] + b[303]; }",
+            0,
+            &[7],
+            "",
+        ),
+        (
+            "array a[4194000]; array b[305]; main { b[303] = 7; emit a[4193999] + b[303]; }",
+            7,
+            &[],
+            "cells 4194305 over 4194304\n",
+        ),
+    ];
+    for (program, status, output, message) in rows {
+        let given = answer(alloc, &["run", "P", "I", "--plain"], program)?;
+        assert_eq!(rt; given.status, status, "of {program}");
+        assert_eq!(rt; given.out.bytes(), output, "of {program}");
+        assert_eq!(rt; given.err.bytes(), message.as_bytes(), "of {program}");
+    }
+    Ok(())
+}
+
+#[test]
 fn refused_texts_have_their_places(rt: HostRuntime) -> Result<(), Fail> {
     let alloc = rt.alloc();
     let rows: [(&str, &str); 12] = [

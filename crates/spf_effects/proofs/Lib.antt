@@ -13,3 +13,4 @@ pub mod Results
 pub mod Walked
 pub mod Assigns
 pub mod Gathering
+pub mod Listed

@@ -8,3 +8,4 @@ pub mod Settings
 pub mod Sweeping
 pub mod Effects
 pub mod Gathered
+pub mod Laws

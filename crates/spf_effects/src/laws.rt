@@ -5,7 +5,10 @@ ghost use Rattle.spf_region.specs.declared.range.Range.TheVariants.{Affine};
 ghost use Rattle.spf_region.specs.Ranges.{joined, offsets_of, wholes_of, in_both, whole_in_both};
 ghost use Rattle.spf_effects.specs.Extends.{Extends, Lists};
 ghost use Rattle.spf_effects.specs.Found.{nowhere, Finds, ◌then◌, either};
+ghost use Rattle.spf_effects.specs.Laws.{EffectsHaveLists};
 ghost use Rattle.spf_effects.specs.Examples.{filled_block, short_loop, swept_block, called_write, branches};
+
+use spf_region::laws::each_list_has_a_normal_form;
 
 /// A body that fills its two elements and then stores into one of them covers what it may write.
 pub fn fill_covers()
@@ -51,3 +54,10 @@ pub fn sequence()
 pub fn choice()
     ensures { (f g : Finds) (old one two : Lists) (copy common : List Range) → offsets_of copy ≡ offsets_of old.written → wholes_of copy ≡ wholes_of old.written → Extends f old one → Extends g (record { uncovered = one.uncovered; may = one.may; written = copy }) two → offsets_of common ≡ in_both (offsets_of one.written) (offsets_of two.written) → wholes_of common ≡ whole_in_both (wholes_of one.written) (wholes_of two.written) → Extends (either f g) old (record { uncovered = two.uncovered; may = two.may; written = common }) }
 {}
+
+/// The effects of each part of each construct have lists in normal form.
+pub fn each_part_has_effects_in_lists()
+    ensures { EffectsHaveLists }
+{
+    each_list_has_a_normal_form();
+}

@@ -27,7 +27,8 @@ use Rattle.spf_engine.specs.FirstForm.{is_none, is_first_block, is_first_form}
 use Rattle.spf_engine.specs.Standing.{BlocksComeTo, counts, guesses_from}
 use Rattle.spf_engine.specs.Blocks.{entry_slots, job_answers, job_guess, fold_guesses, chain_guesses, paired, counts_of, real_values, settled_result, IsReportFrom}
 use Rattle.spf_engine.specs.Runs.{LeadsTo, LeadsOn}
-use Rattle.spf_engine.proofs.Constructs.{Laws, construct-settles, construct-ends-run}
+use Rattle.spf_engine.proofs.Standing.{Laws}
+use Rattle.spf_engine.proofs.Constructs.{construct-settles, construct-ends-run}
 use Rattle.spf_engine.proofs.Counting.{guesses-length}
 use Rattle.spf_engine.proofs.Starting.{validated-count}
 use Rattle.spf_engine.proofs.FirstFolds.{IsFirstFold, first-next, stands-in-main}

@@ -20,10 +20,8 @@ use Rattle.spf_layout.specs.Frame.{main_slots}
 use Rattle.spf_exec.specs.Pieces.{Stand, EndsAt, TrapsAt, moment_of, ahead}
 use Rattle.spf_laws.specs.Agreement.{Relation, LookAlike, EndAlike, GoAlike, PartsSeeVisibleSlots}
 use Rattle.spf_laws.specs.Keeping.{IsSelfContained}
-use Rattle.spf_laws.specs.Chained.{chained, IsSettledAs, IsItsBlocks, ConstructsAreTheirBlocks, HeadersTrap}
-use Rattle.spf_laws.proofs.Forms.{calls-see}
-use Rattle.spf_laws.proofs.Parts.{header-sees}
-use Rattle.spf_laws.proofs.Chains.{is-statement, header-traps}
+use Rattle.spf_laws.specs.Chained.{chained, IsSettledAs, IsItsBlocks}
+use Rattle.spf_laws.proofs.Chains.{is-statement}
 use Rattle.spf_laws.proofs.Plainly.{Comes, comes-then, comes-trap}
 use Rattle.spf_guess.specs.declared.stats.Stats.{Stats}
 use Rattle.spf_guess.specs.Guess.{guess_of}
@@ -31,7 +29,8 @@ use Rattle.spf_guess.specs.Statistics.{none, plus, statistics_with}
 use Rattle.spf_engine.specs.Standing.{IsAt, GoesOn, HasCome, BlocksComeTo, guesses_from, statistics_of, counts}
 use Rattle.spf_engine.proofs.Places.{goes-to}
 use Rattle.spf_engine.proofs.Fronts.{declared-after}
-use Rattle.spf_engine.proofs.Standing.{Follows, follows, follows-trap, traps-here, no-statistics, plus-none, plus-plus, outcome-of}
+use Rattle.spf_engine.proofs.Performing.{Sees}
+use Rattle.spf_engine.proofs.Standing.{Laws, Follows, follows, follows-trap, traps-here, no-statistics, plus-none, plus-plus, outcome-of}
 
 -- ---- the construct that stands next
 
@@ -90,14 +89,6 @@ same-guesses see unshared p input scope line s c is l one other h m k =
     (record { slots = one.slots; output = [] }) (record { slots = other.slots; output = [] })
     (record { agree = record { slots = h.agree.slots; output = refl }; slot_count = h.slot_count }) no_cell m None es)
 
--- ---- the laws that are used
-
-pub record Laws : Type 0 where
-  pub see : PartsSeeVisibleSlots
-  pub unshared : PartsHaveOneUnsharedAnswer
-  pub blocks : ConstructsAreTheirBlocks
-  pub headers : HeadersTrap
-
 -- ---- entering a construct
 
 -- the header of the construct that stands next was done
@@ -111,13 +102,19 @@ first-lawful : (p : Program) (input : List ℕ) (s : Stand) (counted : Stats) (h
     → IsLawfulBlock (names_at p (length p.functions) p.slots) true h.scope (on_line b.line b.statement b.rest)
 first-lawful p input s counted h c b = subst (IsLawfulBlock (names_at p (length p.functions) p.slots) true h.scope) b.is h.lawful
 
-enters : (p : Program) (input : List ℕ) (before after : Stand) (counted : Stats) (c : Construct) (h : Header) → GoesOn p input before counted → construct_first (ahead p before) ≡ Some c
+-- its header sees visible slots alone
+header-sees : Laws → (p : Program) (input : List ℕ) (scope : Scope) (line : ℕ) (s : Statement) (c : Construct) → construct_of line s ≡ Some c → IsLawfulStatement (names_at p (length p.functions) p.slots) true scope s
+    → Sees (LookAlike scope.visible) (LookAlike scope.visible) (header_means (environment_of p input) c)
+header-sees laws p input scope line s c is l =
+    record { relates = laws.headers_see (names_at p (length p.functions) p.slots) scope line s c is l input (extents_of p (length input)) p.functions (length p.functions) }
+
+enters : Laws → (p : Program) (input : List ℕ) (before after : Stand) (counted : Stats) (c : Construct) (h : Header) → GoesOn p input before counted → construct_first (ahead p before) ≡ Some c
     → EndsAt p (header_means (environment_of p input) c) before after h → Entered p input before after counted c h
-enters p input before after counted c h goes first went =
+enters laws p input before after counted c h goes first went =
     let b = stands-before (ahead p before) c first in
     let g = environment_of p input in
     let l = first-lawful p input before counted goes c b in
-    let sees = header-sees g (calls-see input (extents_of p (length input)) p.functions (length p.functions)) (names_at p (length p.functions) p.slots) goes.scope b.line b.statement c b.construct l.0 in
+    let sees = header-sees laws p input goes.scope b.line b.statement c b.construct l.0 in
     record {
       goes = goes;
       stands = b;
@@ -140,15 +137,16 @@ reaches-not g line s rest c m t o is e f =
     ∙ ap (λ d. unless_trapped d (λ state. reached_from g rest (moment_after (statement_means g line s) m state))) f
 
 -- its header trapped
-pub header-traps-run : (p : Program) (input : List ℕ) (before after : Stand) (counted : Stats) (c : Construct) (t : Trap) → GoesOn p input before counted → construct_first (ahead p before) ≡ Some c
+pub header-traps-run : Laws → (p : Program) (input : List ℕ) (before after : Stand) (counted : Stats) (c : Construct) (t : Trap) → GoesOn p input before counted → construct_first (ahead p before) ≡ Some c
     → TrapsAt p (header_means (environment_of p input) c) before after t → HasCome p input (Stopped t after.output) counted
-header-traps-run p input before after counted c t goes first trapped =
+header-traps-run laws p input before after counted c t goes first trapped =
     let b = stands-before (ahead p before) c first in
     let g = environment_of p input in
     let l = first-lawful p input before counted goes c b in
-    let sees = header-sees g (calls-see input (extents_of p (length input)) p.functions (length p.functions)) (names_at p (length p.functions) p.slots) goes.scope b.line b.statement c b.construct l.0 in
+    let sees = header-sees laws p input goes.scope b.line b.statement c b.construct l.0 in
     let header = follows-trap sees goes.moment (moment_of p before).state before.cells goes.alike goes.memory t after.output trapped in
-    let statement = header-traps g b.line b.statement c b.construct goes.moment t after.output header.answer in
+    let ended = laws.headers g b.line b.statement c b.construct goes.moment t after.output header.answer in
+    let statement : Comes (statement_means g b.line b.statement) goes.moment.state goes.moment.memory (Trapped t after.output) (plain_memory (header_means g c goes.moment.state) goes.moment.memory) = record { answer = ended.0; memory = ended.1 } in
     traps-here p input before counted goes t after.output _
     (subst (λ all. Comes (block_means g all) goes.moment.state goes.moment.memory (Trapped t after.output) (plain_memory (header_means g c goes.moment.state) goes.moment.memory)) (sym b.is) (comes-trap (λ u. block_means g b.rest) statement))
     (ap (λ all. reached_from g all goes.moment) b.is ∙ reaches-not g b.line b.statement b.rest c goes.moment t after.output b.construct header.answer statement.answer)
@@ -194,7 +192,7 @@ counts-alike laws p input before after counted c h e silent own r values memory 
     let x = plain_memory (header_means g c e.goes.moment.state) e.goes.moment.memory in
     let lawful = (first-lawful p input before counted e.goes c e.stands).0 in
     let guess : (n : ℕ) → guesses_from p input c e.header.state.slots h.low x n ≡ guesses_from p input c (main_slots p after.frame) h.low after.cells n
-    = λ n. ap guess_of (same-guesses laws.see laws.unshared p input e.goes.scope e.stands.line e.stands.statement c e.stands.construct lawful e.header.state (moment_of p after).state e.header.alike x (h.low +ℤ pos n))
+    = λ n. ap guess_of (same-guesses laws.parts_see laws.unshared p input e.goes.scope e.stands.line e.stands.statement c e.stands.construct lawful e.header.state (moment_of p after).state e.header.alike x (h.low +ℤ pos n))
     ∙ ap (λ y. guess_of (predicts p input c (main_slots p after.frame) y (h.low +ℤ pos n))) e.header.comes.memory in
     (λ i. statistics_with (λ n. guess n i) (reached_as g c e.goes.moment h e.header.state).reals.values)
     ∙ ap (statistics_with (guesses_from p input c (main_slots p after.frame) h.low after.cells))
@@ -305,7 +303,7 @@ pub construct-settles : Laws → (p : Program) (input : List ℕ) (before after 
     → GoesOn p input last (plus counted (counts p input c h after values))
 unfolding enters
 construct-settles laws p input before after last counted c h v values goes first went silent own out slots output place =
-    settles-so laws p input before after last counted c h (enters p input before after counted c h goes first went) silent own v values out slots output place
+    settles-so laws p input before after last counted c h (enters laws p input before after counted c h goes first went) silent own v values out slots output place
 
 pub construct-ends-run : Laws → (p : Program) (input : List ℕ) (before after : Stand) (counted : Stats) (c : Construct) (h : Header) (t : Trap) (values memory : List ℤ)
     → (goes : GoesOn p input before counted) → construct_first (ahead p before) ≡ Some c → EndsAt p (header_means (environment_of p input) c) before after h
@@ -313,4 +311,4 @@ pub construct-ends-run : Laws → (p : Program) (input : List ℕ) (before after
     → HasCome p input (Stopped t after.output) (plus counted (counts p input c h after values))
 unfolding enters
 construct-ends-run laws p input before after counted c h t values memory goes first went silent own out =
-    settles-to-trap laws p input before after counted c h (enters p input before after counted c h goes first went) silent own t values memory out
+    settles-to-trap laws p input before after counted c h (enters laws p input before after counted c h goes first went) silent own t values memory out

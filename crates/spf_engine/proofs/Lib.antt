@@ -1,5 +1,6 @@
 pub mod Tallies
 pub mod Fronts
+pub mod Performing
 pub mod Places
 pub mod Standing
 pub mod Constructs

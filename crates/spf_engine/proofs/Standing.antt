@@ -10,17 +10,30 @@ use Rattle.spf_ast.specs.Program.{environment_of, extents_of, start_of, zeros_of
 use Rattle.spf_ast.specs.Construct.{Moment, Construct, constructs_in, reached_from}
 use Rattle.spf_ast.specs.Pieces.{before_construct, from_construct, rest_from}
 use Rattle.spf_ast.specs.Lawful.{Scope, names_at, nothing_declared, IsLawful, IsLawfulBlock, scope_at_end}
-use Rattle.spf_exec.specs.Pieces.{Stand, HasBegun, EndsAt, TrapsAt, moment_of, ahead}
-use Rattle.spf_laws.specs.Agreement.{Relation, LookAlike, EndAlike}
-use Rattle.spf_laws.proofs.Primitives.{Sees}
-use Rattle.spf_laws.proofs.Forms.{calls-see, block-sees}
-use Rattle.spf_laws.proofs.Plainly.{Comes, answers-alike, memories-alike}
+use Rattle.spf_exec.specs.declared.pieces.Pause.{Pause}
+use Rattle.spf_exec.specs.Pieces.{Stand, HasBegun, Advanced, EndsAt, TrapsAt, moment_of, ahead}
+use Rattle.spf_ast.specs.Laws.{PartsHaveOneUnsharedAnswer}
+use Rattle.spf_laws.specs.Agreement.{Relation, LookAlike, EndAlike, BlocksSeeVisibleSlots, PartsSeeVisibleSlots, HeadersSeeVisibleSlots}
+use Rattle.spf_laws.specs.Chained.{ConstructsAreTheirBlocks, HeadersTrap}
+use Rattle.spf_laws.proofs.Plainly.{Comes}
 use Rattle.spf_guess.specs.declared.stats.Stats.{Stats}
 use Rattle.spf_guess.specs.Statistics.{none, plus}
+use Rattle.spf_engine.specs.Laws.{IsPausedSo, RunsAdvance}
 use Rattle.spf_engine.specs.Standing.{IsAt, GoesOn, HasCome, statistics_of}
 use Rattle.spf_engine.proofs.Tallies.{without-hosts}
+use Rattle.spf_engine.proofs.Performing.{Sees, form-ends-alike}
 use Rattle.spf_engine.proofs.Places.{goes-to, whole-again}
 use Rattle.spf_engine.proofs.Fronts.{front-goes, front-traps, front-constructs, split-lawfully, declared-at-end}
+
+-- ---- the laws that are used
+
+pub record Laws : Type 0 where
+  pub blocks_see : BlocksSeeVisibleSlots
+  pub parts_see : PartsSeeVisibleSlots
+  pub headers_see : HeadersSeeVisibleSlots
+  pub unshared : PartsHaveOneUnsharedAnswer
+  pub blocks : ConstructsAreTheirBlocks
+  pub headers : HeadersTrap
 
 -- ---- forms from two states
 
@@ -34,10 +47,10 @@ pub follows : {A : Type 0} {Before After : Relation} {form : Meaning A} → Sees
     → (a : A) (after : State) → plain_answer (form s) cells ≡ Value a after → Follows After form m a after (plain_memory (form s) cells)
 follows {A} {Before} {After} {form} sees m s cells h same a after e =
     go (plain_answer (form m.state) m.memory) refl
-    (subst (EndAlike After (plain_answer (form m.state) m.memory)) (ap (plain_answer (form s)) same ∙ e) (answers-alike After (form m.state) (form s) (sees.alike m.state s h) m.memory))
+    (subst (EndAlike After (plain_answer (form m.state) m.memory)) (ap (plain_answer (form s)) same ∙ e) (form-ends-alike sees m.state s h m.memory).answers)
   where
     memory : plain_memory (form m.state) m.memory ≡ plain_memory (form s) cells
-    memory = memories-alike After (form m.state) (form s) (sees.alike m.state s h) m.memory ∙ ap (plain_memory (form s)) same
+    memory = (form-ends-alike sees m.state s h m.memory).memories ∙ ap (plain_memory (form s)) same
 
     go : (d : Ending A) → plain_answer (form m.state) m.memory ≡ d → EndAlike After d (Value a after) → Follows After form m a after (plain_memory (form s) cells)
     go (Value b t) p k = record { state = t; comes = record { answer = p ∙ ap (λ x. Value x t) k.0; memory = memory }; alike = k.1 }
@@ -48,10 +61,10 @@ pub follows-trap : {A : Type 0} {Before After : Relation} {form : Meaning A} →
     → (t : Trap) (o : List ℕ) → plain_answer (form s) cells ≡ Trapped t o → Comes form m.state m.memory (Trapped t o) (plain_memory (form s) cells)
 follows-trap {A} {Before} {After} {form} sees m s cells h same t o e =
     go (plain_answer (form m.state) m.memory) refl
-    (subst (EndAlike After (plain_answer (form m.state) m.memory)) (ap (plain_answer (form s)) same ∙ e) (answers-alike After (form m.state) (form s) (sees.alike m.state s h) m.memory))
+    (subst (EndAlike After (plain_answer (form m.state) m.memory)) (ap (plain_answer (form s)) same ∙ e) (form-ends-alike sees m.state s h m.memory).answers)
   where
     memory : plain_memory (form m.state) m.memory ≡ plain_memory (form s) cells
-    memory = memories-alike After (form m.state) (form s) (sees.alike m.state s h) m.memory ∙ ap (plain_memory (form s)) same
+    memory = (form-ends-alike sees m.state s h m.memory).memories ∙ ap (plain_memory (form s)) same
 
     go : (d : Ending A) → plain_answer (form m.state) m.memory ≡ d → EndAlike After d (Trapped t o) → Comes form m.state m.memory (Trapped t o) (plain_memory (form s) cells)
     go (Value b q) p k = elim k [ ]
@@ -144,20 +157,20 @@ traps-here p input s counted h t o x c r =
 -- ---- statements before a construct
 
 -- all forms of `main` see visible slots alone
-block-follows : (p : Program) (input : List ℕ) (scope : Scope) (b : Block) → IsLawfulBlock (names_at p (length p.functions) p.slots) true scope b → Sees (LookAlike scope.visible) (LookAlike (scope_at_end scope b).visible) (block_means (environment_of p input) b)
-block-follows p input scope b l =
-    block-sees (environment_of p input) (calls-see input (extents_of p (length input)) p.functions (length p.functions)) (names_at p (length p.functions) p.slots) true scope b l
+block-follows : Laws → (p : Program) (input : List ℕ) (scope : Scope) (b : Block) → IsLawfulBlock (names_at p (length p.functions) p.slots) true scope b → Sees (LookAlike scope.visible) (LookAlike (scope_at_end scope b).visible) (block_means (environment_of p input) b)
+block-follows laws p input scope b l =
+    record { relates = laws.blocks_see (names_at p (length p.functions) p.slots) true scope b l input (extents_of p (length input)) p.functions (length p.functions) }
 
 -- the run went over them
-pub advances : (p : Program) (input : List ℕ) (before after : Stand) (counted : Stats) → GoesOn p input before counted
+pub advances : Laws → (p : Program) (input : List ℕ) (before after : Stand) (counted : Stats) → GoesOn p input before counted
     → EndsAt p (block_means (environment_of p input) (before_construct (ahead p before))) before after tt → ahead p after ≡ from_construct (ahead p before)
     → GoesOn p input after counted
-advances p input before after counted h went at =
+advances laws p input before after counted h went at =
     let g = environment_of p input in
     let names = names_at p (length p.functions) p.slots in
     let front = before_construct (ahead p before) in
     let parts = split-lawfully names h.scope (ahead p before) h.lawful in
-    let f = follows (block-follows p input h.scope front parts.front) h.moment (moment_of p before).state before.cells h.alike h.memory tt (moment_of p after).state went.answer in
+    let f = follows (block-follows laws p input h.scope front parts.front) h.moment (moment_of p before).state before.cells h.alike h.memory tt (moment_of p after).state went.answer in
     let goes = front-goes g (ahead p before) h.moment f.state (plain_memory (block_means g front (moment_of p before).state) before.cells) f.comes in
     let m : Moment = record { state = f.state; memory = plain_memory (block_means g front (moment_of p before).state) before.cells } in
     record {
@@ -179,12 +192,18 @@ advances p input before after counted h went at =
     }
 
 -- one of them trapped
-pub advances-to-trap : (p : Program) (input : List ℕ) (before after : Stand) (counted : Stats) (t : Trap) → GoesOn p input before counted
+pub advances-to-trap : Laws → (p : Program) (input : List ℕ) (before after : Stand) (counted : Stats) (t : Trap) → GoesOn p input before counted
     → TrapsAt p (block_means (environment_of p input) (before_construct (ahead p before))) before after t → HasCome p input (Stopped t after.output) counted
-advances-to-trap p input before after counted t h trapped =
+advances-to-trap laws p input before after counted t h trapped =
     let g = environment_of p input in
     let front = before_construct (ahead p before) in
     let parts = split-lawfully (names_at p (length p.functions) p.slots) h.scope (ahead p before) h.lawful in
-    let comes = follows-trap (block-follows p input h.scope front parts.front) h.moment (moment_of p before).state before.cells h.alike h.memory t after.output trapped in
+    let comes = follows-trap (block-follows laws p input h.scope front parts.front) h.moment (moment_of p before).state before.cells h.alike h.memory t after.output trapped in
     let whole = front-traps g (ahead p before) h.moment t after.output _ comes in
     traps-here p input before counted h t after.output _ whole.comes whole.reached
+
+-- ---- by the law on advances
+
+-- where a run paused, by what the pause is
+pub paused-so : RunsAdvance → (p : Program) (input : List ℕ) (before after : Stand) (counted : Stats) {one other : Pause} → one ≡ other → GoesOn p input before counted → Advanced p input before after one → IsPausedSo p input after counted other
+paused-so advance p input before after counted {one} e goes a = subst (IsPausedSo p input after counted) e (advance p input before after counted one goes a)

@@ -17,6 +17,7 @@ ghost use Rattle.spf_engine.specs.Blocks.{AreAtMost};
 ghost use Rattle.spf_engine.specs.Runs.{LeadsOn};
 
 use crate::blocks::{FoldReport, Job, run_blocks};
+use crate::laws::runs_in_pieces_go_on;
 use spf_ast::construct::TopConstruct;
 use spf_ast::laws::{each_guess_has_one_answer, lawful_programs_are_quiet_and_small};
 use spf_ast::outcome::{Outcome, Trap};
@@ -115,6 +116,7 @@ pub fn run_instance(alloc: Global, instance: &Instance) -> Result<RunReport, All
     ensures statistics { IfOk result (λ r. r.stats ≡ statistics_of_run (program_of instance.now) instance.now.input) }
 {
     lawful_programs_are_quiet_and_small();
+    runs_in_pieces_go_on();
     let mut run = Run::start(alloc, instance)?;
     let mut stats = Stats::none();
     loop {

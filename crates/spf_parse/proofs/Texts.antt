@@ -1,5 +1,5 @@
 -- What is answered about a text.
-use Rattle.std.proofs.Common.{◌≡◌, ℕ, ◌+◌, ◌-◌, ◌≤◌, Bool, true, false, List, [], ◌∷◌, ◌++◌, length, drop, refl, sym, ◌∙◌, ap, subst, append_assoc, length-append, arith}
+use Rattle.std.proofs.Common.{◌≡◌, ℕ, ◌+◌, ◌-◌, ◌≤◌, Bool, true, false, List, [], ◌∷◌, ◌++◌, length, drop, refl, sym, ◌∙◌, ap, subst, append_assoc, length-append, arith, inl, inr}
 use Rattle.std.proofs.lemmas.List.{append-nil, drop_at}
 use Rattle.spf_ast.specs.RawSyntax.{RawProgram}
 use Rattle.spf_grammar.specs.Lexemes.{Lexeme}
@@ -9,6 +9,7 @@ use Rattle.spf_grammar.specs.Reading.{Reads}
 use Rattle.spf_grammar.specs.Texts.{IsFront, place, CannotGoOn, IsUnexpected, IsTooDeep}
 use Rattle.spf_grammar.specs.Derivations.{Says, Reading}
 use Rattle.spf_parse.specs.Answers.{ahead, Leads, Faults}
+use Rattle.spf_parse.specs.Laws.{GoWrongOnce}
 use Rattle.spf_grammar.proofs.Derivations.{from_all, to_all, loosened}
 
 to_reading : (free : ℕ) (ts : List Lexeme) (p : RawProgram) → Reads free ts p → Reading free (all program) ts p []
@@ -155,3 +156,12 @@ deep_once a b u v = compare (splits u.read (u.next ∷ u.rest) v.read (v.next �
     compare (same p q) = u.at_is ∙ ap (λ t. t.from) (head_of u.next v.next u.rest v.rest q) ∙ sym v.at_is
     compare (longer x m p q) = absurd (v.forbidden (front_less 1 0 (v.read ++ v.next ∷ []) (m ++ u.next ∷ []) (omega (arith, length-append m (u.next ∷ [])))
         (subst (IsFront 1) (ap (λ l. l ++ u.next ∷ []) (p ∙ one_more v.read x m ∙ ap (λ y. (v.read ++ y ∷ []) ++ m) (sym (head_of v.next x v.rest (m ++ u.next ∷ u.rest) q))) ∙ append_assoc (v.read ++ v.next ∷ []) m (u.next ∷ [])) u.allowed)))
+
+-- all together
+pub go_wrong_once : (ts : List Lexeme) (end : ℕ) → GoWrongOnce ts end
+go_wrong_once ts end = record {
+  unexpected = λ a b u v. unexpected_once {ts = ts} end a b u v;
+  too_deep = λ a b u v. deep_once {ts = ts} a b u v;
+  not_both = λ a b u v. unexpected_not_deep {ts = ts} end a b u v;
+  not_read = λ p r at h. elim h [ inl u ↦ whole_not_unexpected {ts = ts} {p = p} r end at u | inr u ↦ whole_not_too_deep {ts = ts} {p = p} r at u ];
+}

@@ -4,6 +4,7 @@
 mod expression;
 mod fault;
 mod function;
+pub mod laws;
 mod lexemes;
 mod program;
 mod statement;

@@ -5,11 +5,17 @@ ghost use Rattle.spf_region.specs.declared.range.Range.TheVariants.{Affine};
 ghost use Rattle.spf_region.specs.Ranges.{IsNormal, Offsets, offsets_of, wholes_of, covers, has_array, first_unseparated, first_meeting, separate, disjoint};
 ghost use Rattle.spf_region.specs.Cells.{Extent, AreAscending, in_spans};
 ghost use Rattle.spf_region.specs.declared.span.Span.{Span};
-ghost use Rattle.spf_region.specs.Laws.{HasEntry, AreSeparate, AreDisjoint, LieApart, IsCellAt};
+ghost use Rattle.spf_region.specs.Laws.{HasEntry, AreSeparate, AreDisjoint, LieApart, IsCellAt, ListsHaveNormalForms, SetsStayListed};
 
 /// A set of offsets and whole arrays has one list in normal form.
 pub fn one_normal_form()
     ensures { (xs ys : List Range) → IsNormal xs → IsNormal ys → offsets_of xs ≡ offsets_of ys → wholes_of xs ≡ wholes_of ys → xs ≡ ys }
+{}
+
+/// Each list of ranges has a normal form, with the same offsets and whole arrays; and sets of offsets that are made by adding ranges and by taking what two have in common have a list in normal form.
+pub fn each_list_has_a_normal_form()
+    ensures lists { ListsHaveNormalForms }
+    ensures sets { SetsStayListed }
 {}
 
 /// A set covers the range of offsets from `l` to `h` exactly where it has each offset between.

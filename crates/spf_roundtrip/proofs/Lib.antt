@@ -9,6 +9,7 @@ pub mod Programs
 pub mod Writable
 pub mod Clear
 pub mod Once
+pub mod Shared
 pub mod ReadBack
 pub mod Lines
 pub mod Determined

@@ -18,7 +18,7 @@ use Rattle.spf_parse.proofs.Follows.{until}
 use Rattle.spf_roundtrip.proofs.Clear.{fuel, is_used, level_of, IsClosed, Ends, Closes, Precedes, IsClear, operand_clear, expression_clear, arguments_clear, next_argument_clear, form_clear, block_clear, otherwise_clear, guess_clear, size_clear, array_clear, parameters_clear, next_parameter_clear, function_clear, program_clear, statements_clear, arrays_clear, functions_clear, further_clear, compared_clear, level_clear}
 
 -- what a rule says by derivations of one depth, as by any
-reading : (depth free : ℕ) {A : Type 0} (r : Rule A) (ts : List Lexeme) (a : A) (us : List Lexeme) → reads (says depth free) r ts a us → Reading free r ts a us
+pub reading : (depth free : ℕ) {A : Type 0} (r : Rule A) (ts : List Lexeme) (a : A) (us : List Lexeme) → reads (says depth free) r ts a us → Reading free r ts a us
 reading depth free r ts a us d = reads_map {R = says depth free} {S = Says free} (λ q ts x us e. (depth, e)) r ts a us d
 
 -- ---- what ends a part
@@ -28,7 +28,7 @@ closed_is depth free (part (token k) r) c [] a us d = elim d.2 [ ]
 closed_is depth free (part (token k) r) c (t ∷ ts) a us d = d.2.0.0 ∙ c
 closed_is depth free r c ts a us d = elim c [ ]
 
-precedes_is : (depth free n : ℕ) (p : Part) {A : Type 0} (r : Rule A) → Precedes p n r → (ts : List Lexeme) (a : A) (us : List Lexeme) → reads (says depth free) r ts a us → Stops n us → Ends p ts
+pub precedes_is : (depth free n : ℕ) (p : Part) {A : Type 0} (r : Rule A) → Precedes p n r → (ts : List Lexeme) (a : A) (us : List Lexeme) → reads (says depth free) r ts a us → Stops n us → Ends p ts
 precedes_is depth free n (many (next_argument k)) r c ts a us d s = closed_is depth free r c ts a us d
 precedes_is depth free n (many next_parameter) r c ts a us d s = closed_is depth free r c ts a us d
 precedes_is depth free n p r c ts a us d s = until (level_of p) n free r c ts a us (reading depth free r ts a us d) s
@@ -55,19 +55,19 @@ once_rule depth free n parts (either r q) c ts a b us vs (inr d) (inl e) s t = a
     (may_is (begins fuel) free n (begins_is fuel free) q ts a us (reading depth free q ts a us d) s))
 once_rule depth free n parts (either r q) c ts a b us vs (inr d) (inr e) s t = once_rule depth free n parts q c.2 ts a b us vs d e s t
 
-sign_is : (k : TokenKind) (s t : Sign) → k ≡ kind.Sign s → k ≡ kind.Sign t → s ≡ t
+pub sign_is : (k : TokenKind) (s t : Sign) → k ≡ kind.Sign s → k ≡ kind.Sign t → s ≡ t
 sign_is k s t e f = cc
 
-number_is : (k : TokenKind) (m n : ℤ) → k ≡ kind.Number m → k ≡ kind.Number n → m ≡ n
+pub number_is : (k : TokenKind) (m n : ℤ) → k ≡ kind.Number m → k ≡ kind.Number n → m ≡ n
 number_is k m n e f = cc
 
-count_is : (k : TokenKind) (m n : ℕ) → k ≡ kind.Number (pos m) → k ≡ kind.Number (pos n) → m ≡ n
+pub count_is : (k : TokenKind) (m n : ℕ) → k ≡ kind.Number (pos m) → k ≡ kind.Number (pos n) → m ≡ n
 count_is k m n e f = cc
 
 -- ---- lists with commas, up to a closing parenthesis
 
 -- where a closing parenthesis comes next, no comma does
-no_comma : (t : Lexeme) → t.kind ≡ kind.Sign sign.CloseParen → t.kind ≡ kind.Sign sign.Comma → ⊥
+pub no_comma : (t : Lexeme) → t.kind ≡ kind.Sign sign.CloseParen → t.kind ≡ kind.Sign sign.Comma → ⊥
 no_comma t e f = cc
 
 -- a comma, or a closing parenthesis, ends an expression
@@ -79,18 +79,18 @@ stops_comma : (t : Lexeme) → t.kind ≡ kind.Sign sign.Comma → 10 < reach t.
 stops_comma t e = subst (λ k. 10 < reach k) (sym e) (omega arith)
 
 -- a part that begins with a comma
-abbrev BeginsWithComma : ℕ → Part → Type 0
+abbrev pub BeginsWithComma : ℕ → Part → Type 0
 BeginsWithComma free p = (depth : ℕ) (ts : List Lexeme) (x : Value p) (us : List Lexeme) → says depth free p ts x us → (t : Lexeme) × (rest : List Lexeme) × (ts ≡ t ∷ rest) × (t.kind ≡ kind.Sign sign.Comma)
 
 comma_first : (depth free : ℕ) (ts : List Lexeme) (line : ℕ) (us : List Lexeme) → says depth free (token (kind.Sign sign.Comma)) ts line us → (t : Lexeme) × (rest : List Lexeme) × (ts ≡ t ∷ rest) × (t.kind ≡ kind.Sign sign.Comma)
 comma_first depth free [] line us d = elim d [ ]
 comma_first depth free (t ∷ ts) line us d = (t, ts, (λ j. t ∷ ts), d.0.0)
 
-argument_comma : (free n : ℕ) → BeginsWithComma free (next_argument n)
+pub argument_comma : (free n : ℕ) → BeginsWithComma free (next_argument n)
 argument_comma free n zero ts x us d = elim d [ ]
 argument_comma free n (suc depth) ts x us d = comma_first depth free ts d.0 d.1 d.2
 
-parameter_comma : (free : ℕ) → BeginsWithComma free next_parameter
+pub parameter_comma : (free : ℕ) → BeginsWithComma free next_parameter
 parameter_comma free zero ts x us d = elim d [ ]
 parameter_comma free (suc depth) ts x us d = comma_first depth free ts d.0 d.1 d.2
 
@@ -98,7 +98,7 @@ not_empty : (ts us rest : List Lexeme) (t : Lexeme) → ts ≡ t ∷ rest → t.
 not_empty ts us rest t e comma same c = no_comma t (subst IsClosed (same ∙ e) c) comma
 
 -- what is before a list of such parts ends there
-list_stops : (depth free : ℕ) (p : Part) → BeginsWithComma free p → (ts : List Lexeme) (xs : List (Value p)) (us : List Lexeme) → says depth free (many p) ts xs us → IsClosed us → Stops 10 ts
+pub list_stops : (depth free : ℕ) (p : Part) → BeginsWithComma free p → (ts : List Lexeme) (xs : List (Value p)) (us : List Lexeme) → says depth free (many p) ts xs us → IsClosed us → Stops 10 ts
 list_stops zero free p comma ts xs us d c = elim d [ ]
 list_stops (suc depth) free p comma ts xs us (inl d) c = subst (Stops 10) d.1 (stops_closed us c)
 list_stops (suc depth) free p comma ts xs us (inr d) c = let k = comma depth ts d.0 d.1 d.2 in subst (Stops 10) (sym k.2) (stops_comma k.0 k.3)

@@ -9,7 +9,7 @@ use Rattle.spf_ast.specs.Spelling.{spelled, IsWritable}
 use Rattle.spf_ast.specs.Canonical.{canonical_text}
 use Rattle.spf_grammar.specs.Lexemes.{Lexeme, lexemes_of}
 use Rattle.spf_grammar.specs.Reading.{Reads}
-use Rattle.spf_grammar.specs.Texts.{IsProgramOf}
+use Rattle.spf_grammar.specs.Texts.{IsProgramOf, IsUnexpected, IsTooDeep}
 use Rattle.spf_types.specs.Contract.{IsResolved}
 use Rattle.spf_roundtrip.specs.Lines.{AreSameButForLines}
 
@@ -82,6 +82,11 @@ TextsSayTheirPrograms = (p : Program) → IsScoped p → SaysButForLines (text_o
 -- tokens are those of one program at most: the grammar is unambiguous, lines included
 abbrev pub TokensAreOfOneProgram : Type 0
 TokensAreOfOneProgram = (free : ℕ) (tokens : List Lexeme) (p q : RawProgram) → Reads free tokens p → Reads free tokens q → p ≡ q
+
+-- no tokens are left that neither are those of a program nor go wrong at a place
+abbrev pub NoTokensAreLeft : Type 0
+NoTokensAreLeft =
+    (tokens : List Lexeme) (end : ℕ) → ((p : RawProgram) → Reads 0 tokens p → ⊥) → ((at : ℕ) → IsUnexpected tokens end at → ⊥) → ((at : ℕ) → IsTooDeep tokens at → ⊥) → ⊥
 
 -- what a text says as the spelling of a scoped program, it says of that one alone
 abbrev pub ReadingsDetermineTheirPrograms : Type 0

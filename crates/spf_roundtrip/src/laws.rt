@@ -1,6 +1,9 @@
 // Laws about canonical texts.
 
-ghost use Rattle.spf_roundtrip.specs.Laws.{CanonicalTextsReadBack, ScopedProgramsAreWritable, TextsSayTheirPrograms, TokensAreOfOneProgram, ReadingsDetermineTheirPrograms, TextsDetermineTheirPrograms, TextsAreReadAsTheirPrograms};
+ghost use Rattle.spf_roundtrip.specs.Laws.{CanonicalTextsReadBack, ScopedProgramsAreWritable, TextsSayTheirPrograms, TokensAreOfOneProgram, NoTokensAreLeft, ReadingsDetermineTheirPrograms, TextsDetermineTheirPrograms, TextsAreReadAsTheirPrograms};
+
+use spf_text::laws::texts_determine_their_tokens;
+use spf_types::laws::spellings_resolve_to_their_programs;
 
 /// The grammar reads the canonical text of a raw program as that program again, lines apart.
 ///
@@ -16,9 +19,10 @@ pub fn printed_programs_read_back()
     ensures text { TextsSayTheirPrograms }
 {}
 
-/// No tokens can be read as two programs.
+/// No tokens can be read as two programs, and none are left that neither are those of a program nor go wrong at a place.
 pub fn tokens_are_of_one_program()
-    ensures { TokensAreOfOneProgram }
+    ensures one { TokensAreOfOneProgram }
+    ensures left { NoTokensAreLeft }
 {}
 
 /// The text of a lawful program determines it, lines apart: what reads as its spelling reads as that of no other, `print` writes the same text of no two, and where `parse` and `resolve` take the text they give this program.
@@ -26,4 +30,7 @@ pub fn texts_determine_their_programs()
     ensures readings { ReadingsDetermineTheirPrograms }
     ensures texts { TextsDetermineTheirPrograms }
     ensures reader { TextsAreReadAsTheirPrograms }
-{}
+{
+    texts_determine_their_tokens();
+    spellings_resolve_to_their_programs();
+}

@@ -4,9 +4,11 @@ pub mod Joined
 pub mod Trees
 pub mod Kept
 pub mod Blocks
+pub mod Guesses
 pub mod Chain
 pub mod Answered
 pub mod Prefixes
 pub mod Runs
 pub mod Existing
 pub mod Statements
+pub mod Example

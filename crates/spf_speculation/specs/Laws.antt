@@ -1,12 +1,12 @@
 -- The laws of speculative runs.
-use Rattle.std.specs.Prelude.{◌≡◌, ◌⊎◌, ◌<◌, ℕ, zero, suc, true, false, List, [], ◌∷◌, ◌++◌, length, Some, Result, Ok, Err, ℤ}
+use Rattle.std.specs.Prelude.{◌≡◌, ◌≢◌, ◌⊎◌, ◌<◌, ℕ, zero, suc, true, false, List, [], ◌∷◌, ◌++◌, length, slice_get, Option, Some, Result, Ok, Err, ℤ}
 use Rattle.spf_ast.specs.declared.outcome.Trap.{Trap}
 use Rattle.spf_ast.specs.Carried.{Carried}
 use Rattle.spf_ast.specs.Event.{Event, after, word_at, IsConsistent}
 use Rattle.spf_ast.specs.Interaction.{State, Performed, HasReadAll, Ending, Value, Trapped, perform, every_cell}
 use Rattle.spf_ast.specs.Plain.{plain_answer, plain_memory}
 use Rattle.spf_rollback.specs.Overwriting.{AgreeOnUnwritten}
-use Rattle.spf_entry.specs.Entry.{Entry, IsEntry, own, asks_at, plain_blocks}
+use Rattle.spf_entry.specs.Entry.{Entry, IsEntry, own, asks_at, plain_blocks, begins_at}
 use Rattle.spf_entry.specs.Attempts.{attempted, IsAttempt, IsWhole, on_cells, OthersAreOf, TurnsAreBelow}
 use Rattle.spf_speculation.specs.Steps.{Step, events_of, Merges, joined}
 use Rattle.spf_speculation.specs.Runs.{IsRealLog, LogsComeTo, IsSpeculativeRun}
@@ -90,6 +90,21 @@ RealLogsContinueThePlainRun =
     → ContinuesAt e logs n v answer memory
 
 -- ---- whole runs
+
+-- a block's log begins with an attempt from its guess, and ends with it unless the block has a real value that is another one
+pub record BeginsAtItsGuess (e : Entry) (guess : ℕ → Carried) (real : Option Carried) (n : ℕ) (log : List Event) : Type 0 where
+  pub first : List Event
+  pub rest : List Event
+  pub split : log ≡ first ++ rest
+  pub attempt : IsAttempt e n (begins_at e guess n) 1 first
+  pub again : (rest ≡ []) ⊎ ((v : Carried) × (real ≡ Some v) × (begins_at e guess n ≢ v))
+
+-- each block is first attempted at its guess, and again only where the guess was wrong
+abbrev pub BlocksAreFirstAttemptedAtTheirGuess : Type 0
+BlocksAreFirstAttemptedAtTheirGuess =
+    (e : Entry) (guess : ℕ → Carried) (logs : ℕ → List Event) (values : List Carried) (result : Result Carried Trap)
+    → LogsComeTo e guess logs 0 e.header.start values result
+    → (n : ℕ) → n < e.header.blocks → BeginsAtItsGuess e guess (slice_get values n) n (logs n)
 
 -- the real values and the result are those of the plain run; where no block traps, so is this memory
 pub record IsThePlainRun (e : Entry) (values : List Carried) (result : Result Carried Trap) (memory : List ℤ) : Type 0 where

@@ -1,7 +1,7 @@
 //! Speculative runs of top constructs, and that they mean the plain run. Each law is the contract of a function that does nothing.
 #![tactic(auto)]
 
-ghost use Rattle.spf_speculation.specs.Laws.{BlockRunsAreAttempts, UnstoppedAttemptsAreWhole, RealLogsArePlainRuns, AttemptsAnswerAsOnTheEntry, PlainRunsAnswerAsOnTheEntry, RealLogsContinueThePlainRun, SpeculativeRunsMeanThePlainRun, LogsMeanThePlainRun, PlainRunsAreAnswered, EveryMergingIsASpeculativeRun, JoinedLogsAreMerged, EachGuessHasARun};
+ghost use Rattle.spf_speculation.specs.Laws.{BlockRunsAreAttempts, UnstoppedAttemptsAreWhole, RealLogsArePlainRuns, AttemptsAnswerAsOnTheEntry, PlainRunsAnswerAsOnTheEntry, RealLogsContinueThePlainRun, BlocksAreFirstAttemptedAtTheirGuess, SpeculativeRunsMeanThePlainRun, LogsMeanThePlainRun, PlainRunsAreAnswered, EveryMergingIsASpeculativeRun, JoinedLogsAreMerged, EachGuessHasARun};
 ghost use Rattle.spf_speculation.specs.Prefixes.{PrefixesBegin, PrefixesGrow, PrefixesEnd, PrefixesComplete, PrefixesHaveRealValues, PrefixesDependOnEarlierLogs};
 ghost use Rattle.spf_speculation.specs.Statements.{SpeculativeRunsMeanTheirStatement};
 
@@ -28,6 +28,11 @@ pub fn real_logs_are_plain_runs()
     each_form_has_one_plain_run();
     blocks_overwrite();
 }
+
+/// In a speculative run each block is first attempted at its guess, and again only where the guess was wrong.
+pub fn blocks_are_first_attempted_at_their_guess()
+    ensures { BlocksAreFirstAttemptedAtTheirGuess }
+{}
 
 /// In whatever order the steps of the blocks come, the real values and the result are those of the plain run, and where no block
 /// traps so is the memory. It is enough that each block's log is consistent alone. So a speculative run means what the construct's

@@ -4,3 +4,4 @@ pub mod Pieces
 pub mod Scanned
 pub mod Spellings
 pub mod Verdicts
+pub mod Whole

@@ -15,7 +15,7 @@ Begins-from_run First Rest also (b ∷ bytes) zero some first run = absurd (run.
 Begins-from_run First Rest also (b ∷ bytes) (suc n) some first run = (first, All-tail Rest b (take n bytes) run.run)
 
 -- where a run of bytes other than 0A ends, the line does
-line_ends : (rest : List ℕ) → EndsBefore (λ b. b ≡ 10 → ⊥) rest → EndsLine rest
+pub line_ends : (rest : List ℕ) → EndsBefore (λ b. b ≡ 10 → ⊥) rest → EndsLine rest
 line_ends [] h = tt
 line_ends (b ∷ rest) h = grind (arith, h)
 

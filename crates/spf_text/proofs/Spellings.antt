@@ -12,27 +12,27 @@ use Rattle.spf_text.specs.Tokens.{IsLetter, IsWordByte, Begins, word_spelling, s
 -- ---- each spelling belongs to one
 
 -- the first of these whose spelling this is
-abbrev spelled_so : {A : Type 0} → (A → List ℕ) → A → List A → List ℕ → A
+abbrev pub spelled_so : {A : Type 0} → (A → List ℕ) → A → List A → List ℕ → A
 spelled_so spelling d [] xs = d
 spelled_so spelling d (w ∷ ws) xs = cond (bytes_eq (spelling w) xs) w (spelled_so spelling d ws xs)
 
 -- all reserved words
-abbrev words : List Keyword
+abbrev pub words : List Keyword
 words =
     word.Array ∷ word.Fn ∷ word.Main ∷ word.Let ∷ word.Fill ∷ word.Emit ∷ word.Fail ∷ word.If ∷ word.Else ∷ word.For ∷ word.In ∷ word.While ∷ word.Max ∷ word.Specfold ∷ word.Spec ∷ word.Predict ∷ word.Host ∷ word.Give ∷ word.Next ∷ word.Return ∷ word.Len ∷ word.Input ∷ word.Break ∷ word.Version ∷ []
 
 -- all signs
-abbrev signs : List Sign
+abbrev pub signs : List Sign
 signs =
     sign.Plus ∷ sign.Minus ∷ sign.Star ∷ sign.Slash ∷ sign.Percent ∷ sign.And ∷ sign.Or ∷ sign.Xor ∷ sign.ShiftLeft ∷ sign.ShiftRight ∷ sign.Equal ∷ sign.NotEqual ∷ sign.Less ∷ sign.LessEqual ∷ sign.Greater ∷ sign.GreaterEqual ∷ sign.AndAnd ∷ sign.OrOr ∷ sign.Not ∷ sign.Assign ∷ sign.OpenParen ∷ sign.CloseParen ∷ sign.OpenBracket ∷ sign.CloseBracket ∷ sign.OpenBrace ∷ sign.CloseBrace ∷ sign.Comma ∷ sign.Semicolon ∷ sign.DotDot ∷ []
 
 -- a reserved word is found by its spelling
-word_again : (w : Keyword) → spelled_so word_spelling word.Array words (word_spelling w) ≡ w
+pub word_again : (w : Keyword) → spelled_so word_spelling word.Array words (word_spelling w) ≡ w
 word_again word.Array = refl
 word_again _ = refl
 
 -- a sign is found by its spelling
-sign_again : (s : Sign) → spelled_so sign_spelling sign.Plus signs (sign_spelling s) ≡ s
+pub sign_again : (s : Sign) → spelled_so sign_spelling sign.Plus signs (sign_spelling s) ≡ s
 sign_again sign.Plus = refl
 sign_again _ = refl
 

@@ -8,6 +8,7 @@ use Rattle.spf_text.specs.declared.scanner.ScanError.{ScanError}
 use Rattle.spf_text.specs.declared.scanner.ScanError.TheVariants as error
 use Rattle.spf_text.specs.Tokens.{IsDigit, EndsBefore, Begins, BeginsNothing, BeginsTooLarge, AreTokensOf, AreInOrder, IsFaultyAt, Piece, Blank, Comment, Lexeme, bytes_of, IsPiece, IsCut, tokens_at, IsSpelledIn, Spells, number_from, max_number}
 use Rattle.spf_text.specs.Refusals.{IsRefusedWith}
+use Rattle.spf_text.specs.Laws.{HasOneFault}
 use Rattle.spf_text.proofs.Cuts.{Begins-unique, BeginsPiece, first_byte, class_of, class_digit, class-BeginsPiece, NoPiece, NoPiece-nil, cut_unique}
 
 -- ---- no piece begins at a fault
@@ -109,6 +110,17 @@ not_both (b ∷ rest) n t = not_both_at t.0 t.1 t.3 t.2
 -- a text has one fault only
 one_fault : (text : List ℕ) (at to : ℕ) → IsFaultyAt BeginsNothing text at → IsFaultyAt BeginsTooLarge text to → ⊥
 one_fault text at to f g = not_both g.rest (subst BeginsNothing (same_rest BeginsNothing BeginsTooLarge text at to nothing_fault large_fault f g) f.fault) g.fault
+
+pub one_fault_alone : (text : List ℕ) → HasOneFault text
+one_fault_alone text = record {
+  bad_byte = λ at to f g. same_place BeginsNothing BeginsNothing text at to nothing_fault nothing_fault f g;
+  too_large = λ at to f g. same_place BeginsTooLarge BeginsTooLarge text at to large_fault large_fault f g;
+  not_both = λ at to f g. one_fault text at to f g;
+  no_tokens = λ at h ts t. elim h [
+    | inl f ↦ fault_without_tokens BeginsNothing text at ts nothing_fault f t
+    | inr f ↦ fault_without_tokens BeginsTooLarge text at ts large_fault f t
+  ];
+}
 
 -- ---- tokens stand in order
 

@@ -2,3 +2,4 @@ pub mod Fronts
 pub mod Refusals
 pub mod Runs
 pub mod Tokens
+pub mod Laws

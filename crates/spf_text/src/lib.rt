@@ -3,6 +3,7 @@
 
 mod bytes;
 mod front;
+pub mod laws;
 mod scanner;
 mod signs;
 pub mod token;

@@ -5,6 +5,14 @@ use Rattle.std.specs.List.{All}
 use Rattle.spf_lemmas.proofs.Members.{none-in, first-or-later, cases}
 use Rattle.spf_ast.specs.declared.syntax.Part.{Part}
 use Rattle.spf_ast.specs.declared.syntax.Part.TheVariants.{Body, Producer, Consumer, Predictor}
+use Rattle.spf_ast.specs.declared.syntax.Expr as e
+use Rattle.spf_ast.specs.declared.syntax.Stmt.{Stmt}
+use Rattle.spf_ast.specs.declared.syntax.StmtKind as s
+use Rattle.spf_ast.specs.declared.syntax.Fold as code_fold
+use Rattle.spf_ast.specs.declared.syntax.Fold.{out-Fold}
+use Rattle.spf_ast.specs.Syntax.{Number, Local, For, Fold, end, on_line}
+use Rattle.spf_ast.specs.View.{block, statement, fold_head}
+use Rattle.spf_ast.proofs.Views.{statement-for, statement-fold}
 use Rattle.spf_ast.specs.Carried.{Carried}
 use Rattle.spf_ast.specs.Event.{Event, Load, Store, Turn}
 use Rattle.spf_ast.specs.Interaction.{Interaction, Answer, AskTurn, Performed, Ended, Stopped, Misfit, Ending, Value, State, perform}
@@ -22,7 +30,7 @@ use Rattle.spf_entry.specs.Entry.{IsEntry, own}
 use Rattle.spf_entry.specs.Attempts.{attempted}
 use Rattle.spf_entry.specs.Sites.{AreMadeFor}
 use Rattle.spf_ticket.specs.Tickets.{EndsAs}
-use Rattle.spf_ticket_tests.specs.Turns.{counting, counting_fold, counting_setting, counting_entry, no_cells, five_turns}
+use Rattle.spf_ticket_tests.specs.Turns.{counting, counting_head, counting_body, counting_fold, counting_setting, counting_entry, no_cells, five_turns}
 
 -- ---- the program is lawful
 
@@ -168,3 +176,11 @@ turned shared memory (suc n) value v state (Turn (suc seen) ∷ rest) h =
 
 pub five : (log : List Event) (v : Carried) → EndsAs (attempted counting_entry 1 (pos 5) 1 log) (stop.Ended v) → log ≡ five_turns
 five log v h = turned (own counting_entry 1) [] 5 (pos 1) v (record { slots = pos 5 ∷ pos 1 ∷ pos 4 ∷ []; output = [] }) log h
+
+-- ---- the program's statements in the code
+
+pub looped : (statements : List Stmt) (body : Vec Stmt Global) → statements ≡ record { line = 1; kind = s.For 2 (e.Number (pos 0)) (e.Local 0) body } ∷ [] → body.items ≡ [] → block statements ≡ counting_body
+looped statements body is empty = ap block is ∙ ap (λ form. on_line 1 form end) (statement-for 2 (e.Number (pos 0)) (e.Local 0) body ∙ ap (λ b. For 2 (Number (pos 0)) (Local 0) (block b)) empty)
+
+pub folded : (fold : Box code_fold.Fold Global) → fold_head fold.value ≡ counting_head → block (out-Fold fold.value).body.items ≡ counting_body → statement (s.Fold fold) ≡ Fold counting_head counting_body
+folded fold head body = statement-fold fold ∙ (λ t. Fold (head t) (body t))

@@ -1,5 +1,5 @@
 -- The answer for a whole program.
-use Rattle.std.proofs.Common.{◌≡◌, ◌⊎◌, ℕ, [], inl, inr, List, ◌++◌, Option, Some, None, Result, Ok, Err, refl, sym, ap, ◌∙◌, subst}
+use Rattle.std.proofs.Common.{◌≡◌, ◌⊎◌, ℕ, [], ◌∷◌, inl, inr, List, ◌++◌, Option, Some, None, Result, Ok, Err, refl, sym, ap, ◌∙◌, subst}
 use Rattle.std.specs.Prelude.{IfOk, IsOkUnless}
 use Rattle.spf_ast.specs.declared.syntax.Program as code_program
 use Rattle.spf_ast.specs.Syntax.{Program}
@@ -55,6 +55,29 @@ refused_of_first raw w what line h = elim (first_in (faults raw) (limits_passed 
   | inl k ↦ inl k
   | inr k ↦ inr (record { program = resolved raw; spelling = (program_ok raw k.0 w).1; scoped = (program_ok raw k.0 w).0; passed = k.1 })
 ]
+
+-- ---- what a raw program comes to, on its faults alone
+
+pub resolves_or_refused : (raw : RawProgram) → IsWritable raw → ((p : Program) × IsResolved raw p) ⊎ ((what : TypeFault) × (line : ℕ) × IsRefused raw what line)
+resolves_or_refused raw w = go (all_faults raw) refl
+  where
+    go : (fs : List Fault) → all_faults raw ≡ fs → ((p : Program) × IsResolved raw p) ⊎ ((what : TypeFault) × (line : ℕ) × IsRefused raw what line)
+    go [] h = let n = append_none (faults raw) (limits_passed raw.main_line (resolved raw)) h in inl (resolved raw, resolved_is raw n.0 n.1 w)
+    go (f ∷ fs) h = inr (f.what, f.line, refused_of_first raw w f.what f.line (ap first h))
+
+pub one_program : (raw : RawProgram) (p q : Program) → IsResolved raw p → IsResolved raw q → p ≡ q
+one_program raw p q j k = resolved_only raw p j.spelling j.lawful.scoped ∙ sym (resolved_only raw q k.spelling k.lawful.scoped)
+
+same_fault : (f g : Fault) → Some f ≡ Some g → f ≡ g
+same_fault f g e = cc
+
+pub one_fault : (raw : RawProgram) (what other : TypeFault) (line at : ℕ) → IsRefused raw what line → IsRefused raw other at → (what ≡ other) × (line ≡ at)
+one_fault raw what other line at j k =
+    let same = same_fault (record { what = what; line = line }) (record { what = other; line = at }) (sym (first_of_refused raw what line j) ∙ first_of_refused raw other at k) in
+    (ap (λ (f : Fault). f.what) same, ap (λ (f : Fault). f.line) same)
+
+pub not_both : (raw : RawProgram) (p : Program) (what : TypeFault) (line : ℕ) → IsResolved raw p → IsRefused raw what line → ⊥
+not_both raw p what line j k = let e = sym (ap first (none_of_lawful raw p j)) ∙ first_of_refused raw what line k in absurd (cc)
 
 abbrev what_of : Option Fault → TypeError
 what_of (Some f) = Refused f.what f.line

@@ -25,7 +25,7 @@ returns-in_err-accept-clause-whole g c =
     let p = program c.in_ok-parsed.parsed in
     let v = rw c.deref.ensures.value at c.in_ok-parsed.ensures.program in
     rw (q.1, q.2)
-    (rule_left (IsFaultOf (Check c.args.program.now)) (λ files p. CheckedBy p (Is accepted)) (λ files. Is accepted) told c.args.program.now c.in_ok-text.text.items p Fault _ c.in_ok-text.ensures.content c.in_ok-text.ensures.within v (λ files a h. h) c.in_err-accept.ensures.left)
+    (rule_left c.rules_say_one_thing.ensures (IsFaultOf (Check c.args.program.now)) (λ files p. CheckedBy p (Is accepted)) (λ files. Is accepted) told c.args.program.now c.in_ok-text.text.items p Fault _ c.in_ok-text.ensures.content c.in_ok-text.ensures.within v (λ files a h. h) c.in_err-accept.ensures.left)
 
 pub returns-clause-whole : goal.returns-clause-whole
 returns-clause-whole g c files is =
@@ -34,4 +34,4 @@ returns-clause-whole g c files is =
     let made : seen_answer c.in_ok-accepted.field-0 ≡ accepted = c.in_ok-accepted.ensures {u = tt} in
     inl (with_text (λ fs t. Read t (λ p. CheckedBy p (Is accepted))) (g.F.Files.told c.args.files.now) files c.args.program.now c.in_ok-text.text.items _ is c.in_ok-text.ensures.content c.in_ok-text.ensures.within
     (read_says c.in_ok-text.text.items p (λ p. CheckedBy p (Is accepted)) _ v
-    (checked_accepted p (Is accepted) _ c.in_ok-accept.ensures.accepted (at_same (IsOnly (Is accepted)) _ accepted made (only_this accepted)))))
+    (checked_accepted c.rules_say_one_thing.ensures p (Is accepted) _ c.in_ok-accept.ensures.accepted (at_same (IsOnly (Is accepted)) _ accepted made (only_this accepted)))))

@@ -25,4 +25,4 @@ returns-clause-whole g c files is =
     let text = c.in_ok-explanation.explanation.items in
     let made : seen_answer (record { status = Done; output = c.in_ok-explanation.explanation; messages = c.new.result }) ≡ explained text = search rules in
     inl (with_text (λ fs t. Read t (λ p. Explained p)) (g.F.Files.told c.args.files.now) files c.args.program.now c.in_ok-text.text.items _ is c.in_ok-text.ensures.content c.in_ok-text.ensures.within
-    (read_says c.in_ok-text.text.items p (λ p. Explained p) _ v (explained_so p text _ (c.in_ok-explanation.ensures {u = tt}) made)))
+    (read_says c.in_ok-text.text.items p (λ p. Explained p) _ v (explained_so c.rules_say_one_thing.ensures p text _ (c.in_ok-explanation.ensures {u = tt}) made)))

@@ -27,7 +27,7 @@ returns-then-options-clause-whole g c =
     let p = program c.in_ok-parsed.parsed in
     let v = rw c.deref.ensures.value at c.in_ok-parsed.ensures.program in
     let said = rw c.fetch.ensures.told at c.run_on.ensures.whole in
-    run_passed told c.args.program.now c.args.input.now c.in_ok-text.text.items options p (Rose between after) (Rose before after) c.run_on.result c.in_ok-text.ensures.content c.in_ok-text.ensures.within v (inl c.if-options.true) (rose_since before between after c.fetch.ensures.later) said
+    run_passed c.rules_say_one_thing.ensures told c.args.program.now c.args.input.now c.in_ok-text.text.items options p (Rose between after) (Rose before after) c.run_on.result c.in_ok-text.ensures.content c.in_ok-text.ensures.within v (inl c.if-options.true) (rose_since before between after c.fetch.ensures.later) said
 
 pub returns-in_err-checked-clause-whole : goal.returns-in_err-checked-clause-whole
 returns-in_err-checked-clause-whole g c =
@@ -38,7 +38,7 @@ returns-in_err-checked-clause-whole g c =
     let p = program c.in_ok-parsed.parsed in
     let v = rw c.deref.ensures.value at c.in_ok-parsed.ensures.program in
     rw (q.1, q.2)
-    (run_refused told c.args.program.now c.args.input.now c.in_ok-text.text.items options p Fault _ c.in_ok-text.ensures.content c.in_ok-text.ensures.within v c.if-options.false c.in_err-checked.ensures.left)
+    (run_refused c.rules_say_one_thing.ensures told c.args.program.now c.args.input.now c.in_ok-text.text.items options p Fault _ c.in_ok-text.ensures.content c.in_ok-text.ensures.within v c.if-options.false c.in_err-checked.ensures.left)
 
 pub returns-clause-whole : goal.returns-clause-whole
 returns-clause-whole g c =
@@ -51,4 +51,4 @@ returns-clause-whole g c =
     let v = rw c.deref.ensures.value at c.in_ok-parsed.ensures.program in
     let same : c.program.result.now ≡ c.in_ok-parsed.parsed = search rules in
     let said = rw (c.fetch.ensures.told, same) at c.run_on-2.ensures.whole in
-    run_passed told c.args.program.now c.args.input.now c.in_ok-text.text.items options p (Rose between after) (Rose before after) c.run_on-2.result c.in_ok-text.ensures.content c.in_ok-text.ensures.within v (inr c.in_ok-checked.ensures.accepted) (rose_since before between after c.fetch.ensures.later) said
+    run_passed c.rules_say_one_thing.ensures told c.args.program.now c.args.input.now c.in_ok-text.text.items options p (Rose between after) (Rose before after) c.run_on-2.result c.in_ok-text.ensures.content c.in_ok-text.ensures.within v (inr c.in_ok-checked.ensures.accepted) (rose_since before between after c.fetch.ensures.later) said

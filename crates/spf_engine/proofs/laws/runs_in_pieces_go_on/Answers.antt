@@ -1,27 +1,30 @@
 use Rattle.spf_exec.specs.declared.pieces.Pause.TheVariants as pause
 use Rattle.spf_engine.specs.Laws.{RunsAdvance}
-use Rattle.spf_engine.proofs.Standing.{begins, advances, advances-to-trap, finishes}
+use Rattle.spf_engine.proofs.Standing.{Laws, begins, advances, advances-to-trap, finishes}
 use Rattle.spf_engine.proofs.Constructs.{header-traps-run, construct-settles, construct-ends-run}
 use Rattle.spf_engine.proofs.laws.runs_in_pieces_go_on.Goals as goal
 
-pub returns-clause-begin : goal.returns-clause-begin
-returns-clause-begin c p input s lawful begun = begins p input s lawful begun
+advance : Laws → RunsAdvance
+advance laws p input before after counted (pause.AtConstruct number construct) goes a = advances laws p input before after counted goes a.went a.at
+advance laws p input before after counted pause.Finished goes a = finishes p input after counted (advances laws p input before after counted goes a.went a.at) a.none
+advance laws p input before after counted (pause.Trapped trap) goes a = advances-to-trap laws p input before after counted trap goes a
 
-advance : RunsAdvance
-advance p input before after counted (pause.AtConstruct number construct) goes a = advances p input before after counted goes a.went a.at
-advance p input before after counted pause.Finished goes a = finishes p input after counted (advances p input before after counted goes a.went a.at) a.none
-advance p input before after counted (pause.Trapped trap) goes a = advances-to-trap p input before after counted trap goes a
-
-pub returns-clause-advance : goal.returns-clause-advance
-returns-clause-advance c = advance
-
-pub returns-clause-headers : goal.returns-clause-headers
-returns-clause-headers c p input before after counted construct trap goes first trapped = header-traps-run p input before after counted construct trap goes first trapped
-
-pub returns-clause-settle : goal.returns-clause-settle
-returns-clause-settle c =
-    construct-settles (record { see = c.each_form_sees_visible_slots_alone.ensures.parts; unshared = c.each_guess_has_one_answer.ensures.guesses; blocks = c.each_construct_is_its_block_runs.ensures.constructs; headers = c.each_construct_is_its_block_runs.ensures.headers })
-
-pub returns-clause-blocks : goal.returns-clause-blocks
-returns-clause-blocks c =
-    construct-ends-run (record { see = c.each_form_sees_visible_slots_alone.ensures.parts; unshared = c.each_guess_has_one_answer.ensures.guesses; blocks = c.each_construct_is_its_block_runs.ensures.constructs; headers = c.each_construct_is_its_block_runs.ensures.headers })
+pub returns : goal.returns
+returns c =
+    let see = c.each_form_sees_visible_slots_alone.ensures in
+    let own = c.each_construct_is_its_block_runs.ensures in
+    let laws : Laws = record {
+      blocks_see = see.blocks;
+      parts_see = see.parts;
+      headers_see = see.headers;
+      unshared = c.each_guess_has_one_answer.ensures.guesses;
+      blocks = own.constructs;
+      headers = own.headers;
+    } in
+    record {
+      begin = begins;
+      advance = advance laws;
+      headers = header-traps-run laws;
+      settle = construct-settles laws;
+      blocks = construct-ends-run laws;
+    }

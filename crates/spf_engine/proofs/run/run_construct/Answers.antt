@@ -13,16 +13,24 @@ use Rattle.spf_engine.specs.declared.blocks.Job.{Job}
 use Rattle.spf_engine.specs.Standing.{HasCome, BlocksComeTo}
 use Rattle.spf_engine.specs.Blocks.{IsReportFrom}
 use Rattle.spf_engine.specs.Runs.{LeadsOn}
-use Rattle.spf_engine.proofs.Standing.{plus-none}
-use Rattle.spf_engine.proofs.Constructs.{Laws, header-traps-run}
+use Rattle.spf_engine.proofs.Standing.{Laws, plus-none}
+use Rattle.spf_engine.proofs.Constructs.{header-traps-run}
 use Rattle.spf_engine.proofs.Coming.{find, leads, none-out, blocks-lead, no-cells-there, over-ok}
 use Rattle.spf_engine.proofs.run.run_construct.Goals as goal
 
 pub returns-in-Err-clause-came : goal.returns-in-Err-clause-came
 returns-in-Err-clause-came c counted goes =
     let p = program_of c.args.instance.now in
+    let laws : Laws = record {
+      blocks_see = c.each_form_sees_visible_slots_alone.ensures.blocks;
+      parts_see = c.each_form_sees_visible_slots_alone.ensures.parts;
+      headers_see = c.each_form_sees_visible_slots_alone.ensures.headers;
+      unshared = c.each_guess_has_one_answer.ensures.guesses;
+      blocks = c.each_construct_is_its_block_runs.ensures.constructs;
+      headers = c.each_construct_is_its_block_runs.ensures.headers;
+    } in
     subst (λ (s : Stats). HasCome p c.args.instance.now.input (Stopped c.in-Err.trap c.header.new.self.output) s) (sym (ap (plus counted) c.none.ensures ∙ plus-none counted))
-    (header-traps-run p c.args.instance.now.input c.args.run.now c.header.new.self counted (construct_seen c.args.construct) c.in-Err.trap goes c.requires.construct c.in-Err.ensures.header)
+    (header-traps-run laws p c.args.instance.now.input c.args.run.now c.header.new.self counted (construct_seen c.args.construct) c.in-Err.trap goes c.requires.construct c.in-Err.ensures.header)
 
 pub run_blocks-requires-clause-construct : goal.run_blocks-requires-clause-construct
 run_blocks-requires-clause-construct c =
@@ -38,7 +46,14 @@ returns-then-header-eq0-clause-came c =
     let construct = construct_seen c.args.construct in
     let f = find p c.args.instance.now.input c.args.run.now construct c.requires.first_form c.requires.construct in
     let h = seen_header c.in-Ok.header in
-    let laws : Laws = record { see = c.each_form_sees_visible_slots_alone.ensures.parts; unshared = c.each_guess_has_one_answer.ensures.guesses; blocks = c.each_construct_is_its_block_runs.ensures.constructs; headers = c.each_construct_is_its_block_runs.ensures.headers } in
+    let laws : Laws = record {
+      blocks_see = c.each_form_sees_visible_slots_alone.ensures.blocks;
+      parts_see = c.each_form_sees_visible_slots_alone.ensures.parts;
+      headers_see = c.each_form_sees_visible_slots_alone.ensures.headers;
+      unshared = c.each_guess_has_one_answer.ensures.guesses;
+      blocks = c.each_construct_is_its_block_runs.ensures.constructs;
+      headers = c.each_construct_is_its_block_runs.ensures.headers;
+    } in
     let fits : FitsSigned w64 c.in-Ok.header.start = search rules in
     let came : FoldReport = record { settled = Carried (to_z w64 (of_z w64 c.in-Ok.header.start)); stats = c.none-then-header-eq0.result } in
     leads laws p c.args.instance.now.input c.args.run.now c.header.new.self construct c.requires.functions f h c.in-Ok.ensures.header c.header.ensures.place came []
@@ -50,7 +65,14 @@ returns-clause-came c =
     let p = program_of c.args.instance.now in
     let construct = construct_seen c.args.construct in
     let f = find p c.args.instance.now.input c.args.run.now construct c.requires.first_form c.requires.construct in
-    let laws : Laws = record { see = c.each_form_sees_visible_slots_alone.ensures.parts; unshared = c.each_guess_has_one_answer.ensures.guesses; blocks = c.each_construct_is_its_block_runs.ensures.constructs; headers = c.each_construct_is_its_block_runs.ensures.headers } in
+    let laws : Laws = record {
+      blocks_see = c.each_form_sees_visible_slots_alone.ensures.blocks;
+      parts_see = c.each_form_sees_visible_slots_alone.ensures.parts;
+      headers_see = c.each_form_sees_visible_slots_alone.ensures.headers;
+      unshared = c.each_guess_has_one_answer.ensures.guesses;
+      blocks = c.each_construct_is_its_block_runs.ensures.constructs;
+      headers = c.each_construct_is_its_block_runs.ensures.headers;
+    } in
     let job : Job = record { instance = c.args.instance; construct = c.args.construct; entry = c.frame.result } in
     let some : 0 < c.in-Ok.header.blocks = (let not_zero = c.if-header-eq0.false in omega (arith, not_zero)) in
     let none = no-cells-there p (length c.args.instance.now.input) c.header.new.self.cells c.requires.first_form c.header.ensures.run.cells in

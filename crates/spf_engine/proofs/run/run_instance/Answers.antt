@@ -11,7 +11,7 @@ use Rattle.spf_guess.specs.Statistics.{plus}
 use Rattle.spf_engine.specs.Standing.{GoesOn, HasCome}
 use Rattle.spf_engine.specs.Blocks.{AreAtMost}
 use Rattle.spf_engine.specs.Runs.{LeadsTo, AreFew}
-use Rattle.spf_engine.proofs.Standing.{begins, advances, advances-to-trap, finishes}
+use Rattle.spf_engine.proofs.Standing.{paused-so}
 use Rattle.spf_engine.proofs.Ending.{advance-counts, goes-past, few-none, few-advanced, few-within, few-past}
 use Rattle.spf_engine.proofs.run.run_instance.Goals as goal
 
@@ -20,7 +20,7 @@ loop-run-init c =
     let p = program_of c.args.instance.now in
     record {
       run = c.in_ok-run.ensures.run;
-      goes = subst (GoesOn p c.args.instance.now.input c.in_ok-run.run') (sym c.none-stats.ensures) (begins p c.args.instance.now.input c.in_ok-run.run' c.requires.lawful c.in_ok-run.ensures.begins);
+      goes = subst (GoesOn p c.args.instance.now.input c.in_ok-run.run') (sym c.none-stats.ensures) (c.runs_in_pieces_go_on.ensures.begin p c.args.instance.now.input c.in_ok-run.run' c.requires.lawful c.in_ok-run.ensures.begins);
       few = subst (λ s. AreFew p c.in_ok-run.run' s) (sym c.none-stats.ensures) (few-none _);
     }
 
@@ -30,28 +30,26 @@ advance-requires-clause-few_constructs c = c.lawful_programs_are_quiet_and_small
 pub returns-in-Finished-clause-outcome : goal.returns-in-Finished-clause-outcome
 returns-in-Finished-clause-outcome c =
     let p = program_of c.args.instance.now in
-    let a = subst (Advanced p c.args.instance.now.input c.loop-run.run c.advance.new.self) c.in-Finished.is c.in_ok-advance.ensures.advanced in
-    let h = finishes p c.args.instance.now.input c.advance.new.self c.loop-run.stats (advances p c.args.instance.now.input c.loop-run.run c.advance.new.self c.loop-run.stats c.loop-run.invariant.goes a.went a.at) a.none in
+    let h = paused-so c.runs_in_pieces_go_on.ensures.advance p c.args.instance.now.input c.loop-run.run c.advance.new.self c.loop-run.stats c.in-Finished.is c.loop-run.invariant.goes c.in_ok-advance.ensures.advanced in
     c.finished.ensures.outcome ∙ h.outcome_is
 
 pub returns-in-Finished-clause-statistics : goal.returns-in-Finished-clause-statistics
 returns-in-Finished-clause-statistics c =
     let p = program_of c.args.instance.now in
-    let a = subst (Advanced p c.args.instance.now.input c.loop-run.run c.advance.new.self) c.in-Finished.is c.in_ok-advance.ensures.advanced in
-    let h = finishes p c.args.instance.now.input c.advance.new.self c.loop-run.stats (advances p c.args.instance.now.input c.loop-run.run c.advance.new.self c.loop-run.stats c.loop-run.invariant.goes a.went a.at) a.none in
+    let h = paused-so c.runs_in_pieces_go_on.ensures.advance p c.args.instance.now.input c.loop-run.run c.advance.new.self c.loop-run.stats c.in-Finished.is c.loop-run.invariant.goes c.in_ok-advance.ensures.advanced in
     c.finished.ensures.stats ∙ h.statistics_are
 
 pub returns-in-Trapped-clause-outcome : goal.returns-in-Trapped-clause-outcome
 returns-in-Trapped-clause-outcome c =
     let p = program_of c.args.instance.now in
-    let a = subst (Advanced p c.args.instance.now.input c.loop-run.run c.advance.new.self) c.in-Trapped.is c.in_ok-advance.ensures.advanced in
-    c.trapped.ensures.outcome ∙ (advances-to-trap p c.args.instance.now.input c.loop-run.run c.advance.new.self c.loop-run.stats c.in-Trapped.trap c.loop-run.invariant.goes a).outcome_is
+    let h = paused-so c.runs_in_pieces_go_on.ensures.advance p c.args.instance.now.input c.loop-run.run c.advance.new.self c.loop-run.stats c.in-Trapped.is c.loop-run.invariant.goes c.in_ok-advance.ensures.advanced in
+    c.trapped.ensures.outcome ∙ h.outcome_is
 
 pub returns-in-Trapped-clause-statistics : goal.returns-in-Trapped-clause-statistics
 returns-in-Trapped-clause-statistics c =
     let p = program_of c.args.instance.now in
-    let a = subst (Advanced p c.args.instance.now.input c.loop-run.run c.advance.new.self) c.in-Trapped.is c.in_ok-advance.ensures.advanced in
-    c.trapped.ensures.stats ∙ (advances-to-trap p c.args.instance.now.input c.loop-run.run c.advance.new.self c.loop-run.stats c.in-Trapped.trap c.loop-run.invariant.goes a).statistics_are
+    let h = paused-so c.runs_in_pieces_go_on.ensures.advance p c.args.instance.now.input c.loop-run.run c.advance.new.self c.loop-run.stats c.in-Trapped.is c.loop-run.invariant.goes c.in_ok-advance.ensures.advanced in
+    c.trapped.ensures.stats ∙ h.statistics_are
 
 pub plus-stats-requires-clause-blocks : goal.plus-stats-requires-clause-blocks
 plus-stats-requires-clause-blocks c =
@@ -109,7 +107,7 @@ loop-run-preserved c =
     let past = goes-past p s last construct (ap construct_first same ∙ a.construct) c.settle.ensures.settled.place in
     let few = few-advanced p c.loop-run.run c.advance.new.self c.loop-run.stats a.at c.loop-run.invariant.few in
     let few_here : AreFew p s c.loop-run.stats = subst (λ (x : Block). AreAtMost c.loop-run.stats (4096 * (length (constructs_in p.main) - length (constructs_in x)))) (sym same) few in
-    let lead = came.ensures.came c.loop-run.stats (advances p c.args.instance.now.input c.loop-run.run c.advance.new.self c.loop-run.stats c.loop-run.invariant.goes a.went a.at) in
+    let lead = came.ensures.came c.loop-run.stats (paused-so c.runs_in_pieces_go_on.ensures.advance p c.args.instance.now.input c.loop-run.run c.advance.new.self c.loop-run.stats c.in-AtConstruct.is c.loop-run.invariant.goes c.in_ok-advance.ensures.advanced) in
     let carried = subst (λ r. LeadsTo p c.args.instance.now.input s construct r (plus c.loop-run.stats came.came.stats)) c.in-Carried.is lead in
     let fits : FitsSigned w64 c.in-Carried.value = search rules in
     let settled = subst (IsSettled p construct s last) (to_z-of_z w64 c.in-Carried.value fits) c.settle.ensures.settled in
@@ -125,8 +123,7 @@ ended c =
     let p = program_of c.args.instance.now in
     let s = c.run_construct.new.run in
     let came = c.in_ok-came-in-AtConstruct in
-    let a = subst (Advanced p c.args.instance.now.input c.loop-run.run c.advance.new.self) c.in-AtConstruct.is c.in_ok-advance.ensures.advanced in
-    let lead = came.ensures.came c.loop-run.stats (advances p c.args.instance.now.input c.loop-run.run c.advance.new.self c.loop-run.stats c.loop-run.invariant.goes a.went a.at) in
+    let lead = came.ensures.came c.loop-run.stats (paused-so c.runs_in_pieces_go_on.ensures.advance p c.args.instance.now.input c.loop-run.run c.advance.new.self c.loop-run.stats c.in-AtConstruct.is c.loop-run.invariant.goes c.in_ok-advance.ensures.advanced) in
     subst (λ r. LeadsTo p c.args.instance.now.input s (construct_seen c.in-AtConstruct.construct) r (plus c.loop-run.stats came.came.stats)) c.in-Trapped-settled.is lead
 
 pub returns-in-Trapped-settled-clause-outcome : goal.returns-in-Trapped-settled-clause-outcome

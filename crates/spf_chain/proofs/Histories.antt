@@ -1,0 +1,72 @@
+-- What stands in a history.
+use Rattle.std.proofs.Common.{◌≡◌, ℕ, ◌-◌, zero, suc, List, [], ◌∷◌, ◌++◌, take, refl, sym, ap, ◌∙◌, subst, inl, inr, Some, ℤ, arith, slice_get}
+use Rattle.std.specs.Prelude.{map}
+use Rattle.std.proofs.lemmas.Option.{slice_get_within}
+use Rattle.std.proofs.lemmas.List.{append-nil}
+use Rattle.spf_chain.specs.declared.validated.Settled.{Settled}
+use Rattle.spf_chain.specs.declared.validated.Settled.TheVariants as settled
+use Rattle.spf_chain.specs.declared.validated.Validated.{Validated}
+use Rattle.spf_entry.specs.Entry.{plain_blocks}
+use Rattle.spf_chain.specs.declared.chain.Chain.TheInside.{Inside}
+use Rattle.spf_entry.specs.Sites.{entry_at, guess_at}
+use Rattle.spf_chain.specs.Homes.{log_in}
+use Rattle.spf_chain.specs.Standing.{reals, StandsAt}
+use Rattle.spf_chain.specs.Chains.{ChainValue, next_block}
+use Rattle.spf_chain.specs.Kept.{chain_value, IsKept}
+use Rattle.spf_chain.specs.Histories.{IsHistory, AreExclusive}
+use Rattle.spf_chain.proofs.Keeping.{both-at}
+use Rattle.spf_chain.proofs.Raising.{not-both-settled}
+
+map-get : (xs : List Validated) (n : ℕ) (b : Validated) → slice_get xs n ≡ Some b → slice_get (map (λ (x : Validated). x.real) xs) n ≡ Some b.real
+map-get [] n b at = absurd cc
+map-get (x ∷ xs) zero b at = let e : x ≡ b = cc in ap (λ (z : Validated). Some z.real) e
+map-get (x ∷ xs) (suc n) b at = map-get xs n b at
+
+first-get : (xs ys : List ℤ) (n : ℕ) (v : ℤ) → slice_get xs n ≡ Some v → slice_get (xs ++ ys) n ≡ Some v
+first-get [] ys n v at = absurd cc
+first-get (x ∷ xs) ys zero v at = at
+first-get (x ∷ xs) ys (suc n) v at = first-get xs ys n v at
+
+take-get : (k : ℕ) (xs : List Validated) (n : ℕ) (b : Validated) → slice_get (take k xs) n ≡ Some b → slice_get xs n ≡ Some b
+take-get zero xs n b at = absurd cc
+take-get (suc k) [] n b at = absurd cc
+take-get (suc k) (x ∷ xs) zero b at = at
+take-get (suc k) (x ∷ xs) (suc n) b at = take-get k xs n b at
+
+-- the real values of the validated blocks are the first ones of the plain run
+plain-first : (a : Inside) (h : IsKept a) (s : Settled) → a.validation.settled ≡ s → (later : List ℤ) × ((plain_blocks (entry_at a.site.value)).values ≡ reals a.validation.count a.validation.blocks.items ++ later)
+plain-first a h (settled.Carried v) is =
+    let e = entry_at a.site.value in
+    let vs = reals a.validation.count a.validation.blocks.items in
+    let f = subst (StandsAt e (guess_at a.site.value) (log_in a.homes.items) a.validation.count vs) is h.stands.stands in
+    (_, (f.prefix.rest (a.site.value.blocks - a.validation.count) (omega (arith, h.within, h.stands.blocks))).all_values)
+plain-first a h (settled.Trapped t) is =
+    let e = entry_at a.site.value in
+    let vs = reals a.validation.count a.validation.blocks.items in
+    let f = subst (StandsAt e (guess_at a.site.value) (log_in a.homes.items) a.validation.count vs) is h.stands.stands in
+    ([], f.ends.plain_values ∙ sym (append-nil vs))
+
+history-inside : (a : Inside) → IsKept a → IsHistory (chain_value a)
+history-inside a h n b at =
+    let l = h.listed n b (take-get a.validation.count a.validation.blocks.items n b at) in
+    let p = plain-first a h a.validation.settled refl in record {
+      block = l.block;
+      guess = l.guess;
+      real_value = ap (λ xs. slice_get xs n) p.1 ∙ first-get (reals a.validation.count a.validation.blocks.items) p.0 n b.real (map-get (take a.validation.count a.validation.blocks.items) n b at);
+    }
+
+pub history-is : (a : Inside) (v : ChainValue) → IsKept a → chain_value a ≡ v → IsHistory v
+history-is a v h is = subst IsHistory is (history-inside a h)
+
+pub exclusive : (a : Inside) (v : ChainValue) → IsKept a → chain_value a ≡ v → AreExclusive v
+exclusive a v h is = subst AreExclusive is record {
+  rerun_or_waiting = λ w r b needs waits. elim waits.awaited [
+    | inl next ↦ both-at a.homes.items b r waits.out (ap (slice_get a.homes.items) next ∙ needs.home)
+    | inr t ↦ not-both-settled a.validation.settled w t.0.trap needs.real_value t.0.trapped
+  ];
+  rerun_or_ended = λ w r needs ended. elim ended.done [
+    | inl all ↦ let low = slice_get_within a.homes.items (next_block (chain_value a)) (Some r) needs.home in omega (arith, low, all, h.stands.blocks)
+    | inr t ↦ not-both-settled a.validation.settled w t.trap needs.real_value t.trapped
+  ];
+  waiting_or_ended = λ b waits ended. ended.home b waits.out;
+}

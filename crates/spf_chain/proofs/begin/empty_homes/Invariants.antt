@@ -1,0 +1,7 @@
+use Rattle.std.proofs.Common.{◌≡◌, None}
+use Rattle.std.specs.Prelude.{replicate}
+use Rattle.spf_chain.proofs.begin.empty_homes.Given as goal
+
+-- so many places so far
+abbrev pub invariant-loop : goal.invariant-loop
+invariant-loop l = l.homes.items ≡ replicate l.counter None

@@ -1,0 +1,36 @@
+use Rattle.std.proofs.Common.{◌≡◌, ◌∙◌, ◌<◌, arith, sym, ap, length, refl, Some, None, slice_get, [], ◌∷◌, ◌++◌, List, take}
+use Rattle.std.proofs.lemmas.List.{length-set}
+use Rattle.std.proofs.lemmas.Option.{slice_get_read}
+use Rattle.spf_cells.specs.Values.{LaneValue}
+use Rattle.spf_chain.proofs.Lists.{set_other}
+use Rattle.spf_chain.specs.Finishing.{lanes_in}
+use Rattle.spf_chain.proofs.Finishing.{lanes-more, lanes-none, take-one}
+use Rattle.spf_chain.proofs.finish.lanes_of.Goals as goal
+
+pub loop-place-preserved-in-None : goal.loop-place-preserved-in-None
+loop-place-preserved-in-None c =
+    let i = c.loop-place.place in
+    let inv = c.loop-place.invariant in
+    let low : i < length c.loop-place.homes.items = omega (arith, c.loop-place-test.true, c.len-place-end.ensures, c.args.homes.ok.0, inv.size) in
+    let at : slice_get c.args.homes.items i ≡ Some None =
+    sym (inv.rest i (omega arith)) ∙ slice_get_read c.loop-place.homes.items (length c.loop-place.homes.items) i c.index_mut.result.now refl low c.index_mut.ensures.value ∙ ap (λ x. Some x) (sym c.take.ensures.value ∙ c.in-None.is) in
+    record {
+      lanes = inv.lanes ∙ sym (ap lanes_in (take-one c.args.homes.items i None at) ∙ lanes-none (take i c.args.homes.items));
+      size = length-set c.loop-place.homes.items i c.take.new.self ∙ inv.size;
+      rest = λ n above. set_other c.loop-place.homes.items i n c.take.new.self (λ e. absurd (omega (arith, e, above))) ∙ inv.rest n (omega (arith, above));
+    }
+
+pub loop-place-preserved : goal.loop-place-preserved
+loop-place-preserved c =
+    let i = c.loop-place.place in
+    let inv = c.loop-place.invariant in
+    let r = c.in-Some.report in
+    let low : i < length c.loop-place.homes.items = omega (arith, c.loop-place-test.true, c.len-place-end.ensures, c.args.homes.ok.0, inv.size) in
+    let at : slice_get c.args.homes.items i ≡ Some (Some r) =
+    sym (inv.rest i (omega arith)) ∙ slice_get_read c.loop-place.homes.items (length c.loop-place.homes.items) i c.index_mut.result.now refl low c.index_mut.ensures.value ∙ ap (λ x. Some x) (sym c.take.ensures.value ∙ c.in-Some.is) in
+    record {
+      lanes = c.in_ok-push-in-Some.ensures.items ∙ ap (λ (l : LaneValue). c.loop-place.lanes.items ++ l ∷ []) c.into_lane.ensures.lane ∙ ap (λ (l : List LaneValue). l ++ r.ticket.lane ∷ []) inv.lanes
+          ∙ sym (ap lanes_in (take-one c.args.homes.items i (Some r) at) ∙ lanes-more (take i c.args.homes.items) r);
+      size = length-set c.loop-place.homes.items i c.take.new.self ∙ inv.size;
+      rest = λ n above. set_other c.loop-place.homes.items i n c.take.new.self (λ e. absurd (omega (arith, e, above))) ∙ inv.rest n (omega (arith, above));
+    }

@@ -1,0 +1,24 @@
+-- What stands in a history, and that at most one answer is right.
+use Rattle.std.specs.Prelude.{◌≡◌, ℕ, Some, slice_get}
+use Rattle.spf_ast.specs.Carried.{Carried}
+use Rattle.spf_entry.specs.Entry.{plain_blocks}
+use Rattle.spf_entry.specs.Sites.{entry_at, guess_given}
+use Rattle.spf_ticket.specs.declared.ticket.Report.{Report}
+use Rattle.spf_chain.specs.declared.validated.Validated.{Validated}
+use Rattle.spf_chain.specs.Chains.{ChainValue, NeedsRerun, WaitsFor, HasEnded}
+
+-- block n is validated with the guess that was given for it, at its real value in the plain run
+pub record IsValidated (c : ChainValue) (n : ℕ) (b : Validated) : Type 0 where
+  pub block : b.block ≡ n
+  pub guess : b.guess ≡ guess_given c.site n
+  pub real_value : slice_get (plain_blocks (entry_at c.site)).values n ≡ Some b.real
+
+-- the history has the blocks from 0 on, each once and in order
+abbrev pub IsHistory : ChainValue → Type 0
+IsHistory c = (n : ℕ) (b : Validated) → slice_get c.history n ≡ Some b → IsValidated c n b
+
+-- no two of these are so: a rerun is needed, a block is waited for, the chain has ended
+pub record AreExclusive (c : ChainValue) : Type 0 where
+  pub rerun_or_waiting : (v : Carried) (r : Report) (b : ℕ) → NeedsRerun c v r → WaitsFor c b → ⊥
+  pub rerun_or_ended : (v : Carried) (r : Report) → NeedsRerun c v r → HasEnded c → ⊥
+  pub waiting_or_ended : (b : ℕ) → WaitsFor c b → HasEnded c → ⊥

@@ -1,0 +1,9 @@
+pub mod Sites
+pub mod Homes
+pub mod Standing
+pub mod Chains
+pub mod Kept
+pub mod Finishing
+pub mod Beginning
+pub mod Histories
+pub mod Mispredicted

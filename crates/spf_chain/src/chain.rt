@@ -1,0 +1,51 @@
+//! The chain: what is home, and how far the blocks are validated.
+use spf_entry::site::Site;
+use crate::validation::Validation;
+use spf_key::key::GhostKey;
+use spf_cells::warden::Warden;
+use crate::validated::Validated;
+use spf_ticket::ticket::{Report, Ticket};
+use std::marker::Model;
+
+/// What is to be done after a report was filed.
+#[derive(Drop)]
+pub enum Filed {
+    /// The next block was run at a wrong guess: it is to be run again, by this ticket.
+    Rerun(Ticket),
+    /// The ticket of this block is awaited.
+    Waiting { block: u64 },
+    /// All tickets are home, and no block is left to be validated.
+    Ended,
+}
+
+/// The validation chain of one construct.
+///
+/// Contracts see of it the site, the warden, the reports that are home, whether the next block's second attempt is out, and how far
+/// the blocks are validated.
+#[derive(Drop)]
+pub struct Chain {
+    pub(crate) site: GhostKey<Site>,
+    pub(crate) warden: Warden,
+    // the report of each block that is home
+    pub(crate) homes: Vec<Option<Report>>,
+    // whether the next block is out with its second attempt
+    pub(crate) again: bool,
+    pub(crate) validation: Validation,
+}
+
+impl Model for Chain {
+    ghost use Rattle.std.specs.Coded.{codes};
+    ghost use Rattle.spf_entry.specs.contracts.site.Site as site_row;
+    ghost use Rattle.spf_ticket.specs.contracts.ticket.Report as report_row;
+    ghost use Rattle.spf_chain.specs.Chains.{ChainValue};
+
+    ghost coded = { Prim.hlevel (codes, site_row.the_row.coded, report_row.the_row.coded) };
+
+    ghost Value = { ChainValue };
+
+    ghost use Rattle.spf_chain.specs.Kept.{chain_value, IsKept};
+
+    ghost view = { chain_value };
+
+    ghost invariant = { IsKept };
+}

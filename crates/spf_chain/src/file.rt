@@ -1,0 +1,216 @@
+//! Reports are filed.
+ghost use Rattle.std.specs.Prelude.{◌≡◌, ◌≢◌, ◌<◌, ◌≤◌, ◌==◌, ◌↔◌, IsTrue, if◌then◌else◌, ℕ, ℤ, false, length, slice_get, Some, None, MatchOption};
+ghost use Rattle.spf_chain.specs.declared.validated.Settled.TheVariants.{Carried as Gave, Trapped};
+ghost use Rattle.spf_ast.specs.Carried.{Carried as CarriedValue};
+ghost use Rattle.std.specs.List.{Contains};
+ghost use Rattle.spf_cells.specs.Values.{IsWardenOf};
+ghost use Rattle.spf_ticket.specs.Tickets.{IsLawfulReport};
+ghost use Rattle.spf_entry.specs.Sites.{entry_at, guess_at};
+ghost use Rattle.spf_chain.specs.Homes.{known_in};
+ghost use Rattle.spf_chain.specs.Chains.{HasRaised, Raises, IsToRaise, IsFiled, cells_of, next_block, IsOut, came_home, Validates, IsAnswer, HasTrapped};
+
+use crate::chain::{Chain, Filed};
+use spf_cells::cells::Cells;
+use spf_cells::warden::Warden;
+use crate::validated::Settled;
+use spf_ast::carried::{Carried, is_same};
+use spf_lane_runs::lanes_make_speculative_runs;
+use spf_speculation::{block_runs_are_attempts, prefixes_grow};
+use spf_ticket::ticket::Report;
+
+// Whether no report is at a place.
+fn is_out(homes: &[Option<Report>], place: usize) -> bool
+    requires { place < length homes.now }
+    ensures { IsTrue result ↔ (slice_get homes.now place ≡ Some None) }
+{
+    match &homes[place] {
+        Some(_) => false,
+        None => true,
+    }
+}
+
+// The lowest place where no report is.
+fn lowest_out(homes: &[Option<Report>]) -> Option<u64>
+    ensures { MatchOption result ((n : ℕ) → slice_get homes.now n ≢ Some None) (λ b. (slice_get homes.now b ≡ Some None) × ((n : ℕ) → n < b → slice_get homes.now n ≢ Some None)) }
+{
+    for block in 0..homes.len() {
+        if is_out(homes, block) {
+            return Some(block as u64);
+        }
+    }
+    None
+}
+
+// Whether the second attempt is out still, when a report of a block came home.
+fn still_again(again: bool, block: usize, next_block: usize) -> bool
+    ensures { result ≡ (if block == next_block then false else again) }
+{
+    if block == next_block { false } else { again }
+}
+
+impl Chain {
+    // A report comes home. The place is free, since the report has its block's only lane.
+    fn come_home(&mut self, cells: &Cells, report: Report)
+        requires own { cells.now ≡ cells_of self.old }
+        requires lawful { IsLawfulReport (entry_at self.old.site) (guess_at self.old.site) cells.now report }
+        ensures state { self.new ≡ came_home self.old report }
+        ensures free { IsOut self.old report.ticket.block }
+    {
+        prefixes_grow();
+        let block = report.ticket.block() as usize;
+        report.ticket.log_facts();
+        match self.homes[block].take() {
+            Some(other) => {
+                other.ticket.log_facts();
+                self.warden.take(cells, other.ticket.into_lane());
+                self.warden.take(cells, report.ticket.into_lane());
+                unreachable!()
+            }
+            None => {
+                self.homes[block] = Some(report);
+                self.again = still_again(self.again, block, self.validation.count);
+            }
+        }
+    }
+
+    // Blocks are validated.
+    fn validate(&mut self)
+        ensures { Validates self.old self.new }
+    {
+        self.validation.advance(&self.homes);
+    }
+
+    // What is to be done where the next block's real value is known.
+    fn answer_next(&mut self, real: Carried) -> Filed
+        requires carried { self.old.settled ≡ Gave real }
+        requires done { known_in real (slice_get self.old.homes (next_block self.old)) ≡ None }
+        ensures { IsAnswer self.old result self.new }
+    {
+        prefixes_grow();
+        block_runs_are_attempts();
+        lanes_make_speculative_runs();
+        let next_block = self.validation.count;
+        if next_block == self.homes.len() {
+            return Filed::Ended;
+        }
+        if is_out(&self.homes, next_block) {
+            return Filed::Waiting {
+                block: next_block as u64,
+            };
+        }
+        match self.homes[next_block].take() {
+            Some(report) => {
+                self.again = true;
+                Filed::Rerun(report.ticket.again(real))
+            }
+            None => unreachable!(),
+        }
+    }
+
+    // What is to be done after a trap.
+    fn answer_trapped(&self) -> Filed
+        requires { HasTrapped self.now }
+        ensures { IsAnswer self.now result self.now }
+    {
+        match lowest_out(&self.homes) {
+            Some(block) => Filed::Waiting { block },
+            None => Filed::Ended,
+        }
+    }
+}
+
+// Raises the flags of all places from this one on where no report is.
+fn raise_out(warden: &mut Warden, cells: &Cells, homes: &[Option<Report>], from: usize)
+    requires own { IsWardenOf cells.now warden.old }
+    requires inside { length homes.now ≤ length warden.old.setting.plan }
+    requires flags { length homes.now ≤ length warden.old.view.flags }
+    requires raisable { (n : ℕ) → from ≤ n → n < length homes.now → Contains warden.old.setting.raisable n }
+    ensures { HasRaised (λ n. (from ≤ n) × (slice_get homes.now n ≡ Some None)) warden.old warden.new }
+{
+    for block in from..homes.len() {
+        if !is_out(homes, block) {
+            continue;
+        }
+        warden.raise(cells, block as u64, 1);
+    }
+}
+
+impl Chain {
+    // What is to be done.
+    fn answer(&mut self) -> Filed
+        requires done { (v : CarriedValue) → self.old.settled ≡ Gave v → known_in v (slice_get self.old.homes (next_block self.old)) ≡ None }
+        ensures { IsAnswer self.old result self.new }
+    {
+        match self.validation.settled {
+            Settled::Carried(real) => self.answer_next(real),
+            Settled::Trapped(_) => self.answer_trapped(),
+        }
+    }
+}
+
+impl Chain {
+    // Whether the next block's flag is to be raised, where its real value is known.
+    fn is_next_mispredicted(&self, real: Carried) -> bool
+        requires { self.now.settled ≡ Gave real }
+        ensures { IsTrue result ↔ IsToRaise self.now (next_block self.now) }
+    {
+        let next_block = self.validation.count;
+        if next_block == self.homes.len() {
+            return false;
+        }
+        if self.again {
+            return false;
+        }
+        if !is_out(&self.homes, next_block) {
+            return false;
+        }
+        !is_same(self.validation.blocks[next_block].real, real)
+    }
+
+    // Raises the next block's flag where that is to be done.
+    fn raise_next(&mut self, cells: &Cells, real: Carried)
+        requires own { cells.now ≡ cells_of self.old }
+        requires carried { self.old.settled ≡ Gave real }
+        ensures { Raises self.old self.new }
+    {
+        prefixes_grow();
+        if !self.is_next_mispredicted(real) {
+            return;
+        }
+        self.warden.raise(cells, self.validation.count as u64, 1);
+    }
+
+    // Raises the flags of all blocks that are out, after a trap.
+    fn raise_rest(&mut self, cells: &Cells)
+        requires own { cells.now ≡ cells_of self.old }
+        requires trapped { HasTrapped self.old }
+        ensures { Raises self.old self.new }
+    {
+        raise_out(&mut self.warden, cells, &self.homes, self.validation.count);
+    }
+
+    // Raises the flags that are to be raised.
+    fn raise(&mut self, cells: &Cells)
+        requires own { cells.now ≡ cells_of self.old }
+        ensures { Raises self.old self.new }
+    {
+        match self.validation.settled {
+            Settled::Carried(real) => self.raise_next(cells, real),
+            Settled::Trapped(_) => self.raise_rest(cells),
+        }
+    }
+
+    /// Files a report: its ticket comes home, the next blocks that are home and were run at their real values are validated, and the
+    /// flags of attempts that can't be of use are raised. Says what is to be done next. Takes no memory.
+    pub fn file(&mut self, cells: &Cells, report: Report) -> Filed
+        requires own { cells.now ≡ cells_of self.old }
+        requires lawful { IsLawfulReport (entry_at self.old.site) (guess_at self.old.site) cells.now report }
+        ensures filed { IsFiled self.old report result self.new }
+        ensures free { IsOut self.old report.ticket.block }
+    {
+        self.come_home(cells, report);
+        self.validate();
+        self.raise(cells);
+        self.answer()
+    }
+}

@@ -1,0 +1,23 @@
+//! The validated blocks.
+ghost use Rattle.std.specs.Prelude.{◌≡◌};
+ghost use Rattle.spf_chain.specs.Histories.{IsHistory, AreExclusive};
+
+use crate::chain::Chain;
+use crate::validated::Validated;
+
+impl Chain {
+    /// The validated blocks, from block 0 on.
+    pub fn history(&self) -> &[Validated]
+        ensures history { result.now ≡ self.now.history }
+        ensures validated { IsHistory self.now }
+    {
+        &self.validation.blocks[..self.validation.count]
+    }
+
+    /// At most one answer is right of a chain.
+    pub fn answers_are_exact(&self)
+        ensures { AreExclusive self.now }
+    {
+        let _ = &self.again;
+    }
+}
