@@ -5,9 +5,12 @@ use Rattle.std.specs.List.{All}
 use Rattle.spf_lemmas.proofs.Members.{none-in, first-or-later, cases}
 use Rattle.spf_ast.specs.declared.syntax.Part.{Part}
 use Rattle.spf_ast.specs.declared.syntax.Part.TheVariants.{Body, Producer, Consumer, Predictor}
-use Rattle.spf_ast.specs.declared.syntax.Expr as e
+use Rattle.std.specs.declared.vec.Vec.{Vec}
+use Rattle.std.specs.declared.boxed.Box.{Box}
+use Rattle.std.specs.declared.alloc.Global.{Global}
+use Rattle.spf_ast.specs.declared.syntax.Expr.TheVariants as e
 use Rattle.spf_ast.specs.declared.syntax.Stmt.{Stmt}
-use Rattle.spf_ast.specs.declared.syntax.StmtKind as s
+use Rattle.spf_ast.specs.declared.syntax.StmtKind.TheVariants as s
 use Rattle.spf_ast.specs.declared.syntax.Fold as code_fold
 use Rattle.spf_ast.specs.declared.syntax.Fold.{out-Fold}
 use Rattle.spf_ast.specs.Syntax.{Number, Local, For, Fold, end, on_line}
