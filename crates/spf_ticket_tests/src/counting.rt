@@ -66,7 +66,7 @@ fn counting_fold(alloc: Global) -> Result<StmtKind, AllocError>
 }
 
 /// The fold, and then `emit s;`.
-fn counting(alloc: Global) -> Result<Program, AllocError>
+pub(crate) fn counting(alloc: Global) -> Result<Program, AllocError>
     ensures arrays { IfOk result (λ p. (seen_program p).arrays ≡ []) }
     ensures functions { IfOk result (λ p. (seen_program p).functions ≡ []) }
     ensures slots { IfOk result (λ p. (seen_program p).slots ≡ counting.slots) }
@@ -94,7 +94,7 @@ fn counting(alloc: Global) -> Result<Program, AllocError>
 }
 
 /// Cells of two blocks that have none, with the lane of block 1, which may be raised.
-fn lane_of_block_one(alloc: Global) -> Result<(Cells, Warden, Lane), AllocError>
+pub(crate) fn lane_of_block_one(alloc: Global) -> Result<(Cells, Warden, Lane), AllocError>
     ensures setting { IfOk result (λ r. r.0.setting ≡ counting_setting) }
     ensures warden { IfOk result (λ r. r.1 ≡ new_warden r.0 2) }
     ensures lane { IfOk result (λ r. r.2 ≡ new_lane r.0 1) }
@@ -109,7 +109,7 @@ fn lane_of_block_one(alloc: Global) -> Result<(Cells, Warden, Lane), AllocError>
 }
 
 /// An attempt of block 1. A first one, at the guess 5, that ends has made five turns, none of which polled a raised flag.
-fn attempt(cells: &Cells, job: &Job, ticket: Ticket) -> Report
+pub(crate) fn attempt(cells: &Cells, job: &Job, ticket: Ticket) -> Report
     requires program { program_of job.now.instance.now ≡ counting }
     requires input { job.now.instance.now.input ≡ [] }
     requires construct { construct_seen job.now.construct ≡ fold_of_counting }

@@ -1,5 +1,7 @@
 //! Tests of attempts, on one thread and on several. They are a crate of their own, since a crate with tests is proved twice.
 #![tactic(auto)]
 
-#[cfg(test)]
+// TEMP
 mod counting;
+// TEMP
+mod threads;

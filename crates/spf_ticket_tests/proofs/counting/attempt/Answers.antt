@@ -1,4 +1,4 @@
-use Rattle.std.proofs.Common.{◌≡◌, ◌++◌, ℕ, sym, ap, ◌∙◌, subst}
+use Rattle.std.proofs.Common.{◌++◌, ℕ, sym, ap, ◌∙◌, subst}
 use Rattle.spf_ast.specs.Carried.{Carried}
 use Rattle.spf_ast.specs.Lawful.{IsLawful}
 use Rattle.spf_layout.specs.declared.stop.Stop.{Stop}

@@ -1,5 +1,4 @@
 use Rattle.std.proofs.Common.{ap, ◌∙◌}
-use Rattle.spf_ast.specs.Syntax.{FoldHead}
 use Rattle.spf_ast.specs.View.{expression, predictor, block}
 use Rattle.spf_ast.specs.declared.syntax.Fold.{out-Fold, out-roll-Fold}
 use Rattle.spf_ticket_tests.proofs.Turns.{folded}
