@@ -4,7 +4,6 @@ ghost use Rattle.std.specs.List.{Contains};
 ghost use Rattle.spf_ast.specs.ConstructView.{construct as construct_seen};
 ghost use Rattle.spf_layout.specs.Instance.{program_of};
 ghost use Rattle.spf_cells.specs.Values.{IsWardenOf};
-ghost use Rattle.spf_ticket.specs.Tickets.{IsSameTicket};
 ghost use Rattle.spf_ticket_tests.specs.Turns.{counting, counting_fold as fold_of_counting, counting_setting};
 
 use crate::counting::{attempt, counting, lane_of_block_one};
@@ -15,7 +14,7 @@ use spf_exec::frame::Frame;
 use spf_layout::instance::Instance;
 use spf_layout::stop::Stop;
 use spf_ticket::run::Job;
-use spf_ticket::ticket::{Report, Ticket};
+use spf_ticket::ticket::Ticket;
 use std::alloc::{AllocError, Global};
 use std::test::Fail;
 use std::thread::{Threads, join};
@@ -23,14 +22,8 @@ use std::thread::{Threads, join};
 /// So many turns that no attempt makes them to the end: some minutes.
 const LONG: i64 = 100_000_000_000;
 
-/// An attempt of block 1 in a thread of its own, while the warden raises the block's flag in another one.
-fn raised_meanwhile<R: Threads + Sync>(
-    rt: &R,
-    cells: &Cells,
-    job: &Job,
-    warden: &mut Warden,
-    ticket: Ticket,
-) -> Report
+/// Both attempts of block 1, the second one at 1: how they ended.
+fn attempt_twice(cells: &Cells, job: &Job, ticket: Ticket) -> (Stop, Stop)
     requires program { program_of job.now.instance.now ≡ counting }
     requires input { job.now.instance.now.input ≡ [] }
     requires construct { construct_seen job.now.construct ≡ fold_of_counting }
@@ -38,18 +31,41 @@ fn raised_meanwhile<R: Threads + Sync>(
     requires setting { cells.now.setting ≡ counting_setting }
     requires table { ticket.lane.table ≡ cells.now.table }
     requires block { ticket.block ≡ 1 }
+    requires attempt { ticket.attempt ≡ 1 }
+    requires frame { length ticket.frame ≡ 3 }
+{
+    let first = attempt(cells, job, ticket);
+    let second = attempt(cells, job, first.ticket.again(1));
+    (first.stop, second.stop)
+}
+
+/// Both attempts of block 1 in a thread of their own, while the warden raises the block's flag in another one.
+fn raised_meanwhile<R: Threads + Sync>(
+    rt: &R,
+    cells: &Cells,
+    job: &Job,
+    warden: &mut Warden,
+    ticket: Ticket,
+) -> (Stop, Stop)
+    requires program { program_of job.now.instance.now ≡ counting }
+    requires input { job.now.instance.now.input ≡ [] }
+    requires construct { construct_seen job.now.construct ≡ fold_of_counting }
+    requires entry { job.now.entry.now ≡ [] }
+    requires setting { cells.now.setting ≡ counting_setting }
+    requires table { ticket.lane.table ≡ cells.now.table }
+    requires block { ticket.block ≡ 1 }
+    requires attempt { ticket.attempt ≡ 1 }
     requires frame { length ticket.frame ≡ 3 }
     requires own { IsWardenOf cells.now warden.old }
     requires inside { 1 < length warden.old.setting.plan }
     requires raisable { Contains warden.old.setting.raisable 1 }
-    ensures same { IsSameTicket counting fold_of_counting ticket result.ticket }
 {
-    let (report, ()) = join(
+    let (stops, ()) = join(
         rt,
-        || attempt(cells, job, ticket),
+        || attempt_twice(cells, job, ticket),
         || warden.raise(cells, 1, 1),
     );
-    report
+    stops
 }
 
 /// A first attempt of block 1 that would take minutes and is raised meanwhile, and then the second one, at 1: how they ended.
@@ -72,9 +88,13 @@ fn both_attempts<R: Threads + Sync>(
     let frame = Frame::make(alloc, &instance)?;
     let (cells, mut warden, lane) = lane_of_block_one(alloc)?;
     let ticket = Ticket::make(1, 1, LONG, lane, frame);
-    let first = raised_meanwhile(rt, &cells, &job, &mut warden, ticket);
-    let second = attempt(&cells, &job, first.ticket.again(1));
-    Ok(Some((first.stop, second.stop)))
+    Ok(Some(raised_meanwhile(
+        rt,
+        &cells,
+        &job,
+        &mut warden,
+        ticket,
+    )))
 }
 
 #[test]
