@@ -1,7 +1,6 @@
 -- The counting program is lawful, its fold is rollback free, and what an attempt of its block 1 logs that ends.
-use Rattle.std.proofs.Common.{◌≡◌, ◌⊎◌, inl, inr, ℕ, zero, suc, ◌<◌, ◌≤◌, Bool, true, false, List, [], ◌∷◌, ◌++◌, length, Some, ℤ, pos, refl, sym, ap, ◌∙◌, subst, arith, rules, Contains, get_or}
+use Rattle.std.proofs.Common.{◌≡◌, inl, inr, ℕ, zero, suc, ◌<◌, ◌≤◌, Bool, true, false, List, [], ◌∷◌, length, Some, ℤ, pos, refl, sym, ap, ◌∙◌, arith, Contains, get_or}
 use Rattle.std.specs.Prelude.{slice_get, if◌then◌else◌, nat_le, replicate}
-use Rattle.std.specs.List.{All}
 use Rattle.spf_lemmas.proofs.Members.{none-in, first-or-later, cases}
 use Rattle.spf_ast.specs.declared.syntax.Part.{Part}
 use Rattle.spf_ast.specs.declared.syntax.Part.TheVariants.{Body, Producer, Consumer, Predictor}
@@ -18,16 +17,13 @@ use Rattle.spf_ast.specs.View.{block, statement, fold_head}
 use Rattle.spf_ast.proofs.Views.{statement-for, statement-fold}
 use Rattle.spf_ast.specs.Carried.{Carried}
 use Rattle.spf_ast.specs.Event.{Event, Load, Store, Turn}
-use Rattle.spf_ast.specs.Interaction.{Interaction, Answer, AskTurn, Performed, Ended, Stopped, Misfit, Ending, Value, State, perform}
-use Rattle.spf_ast.specs.Lawful.{IsLawful, IsLetter, IsWordByte, IsWord, IsName, reserved_words}
-use Rattle.spf_region.specs.declared.range.Range.{Range}
+use Rattle.spf_ast.specs.Interaction.{Interaction, Answer, AskTurn, Ended, Stopped, Misfit, Ending, Value, State, perform}
+use Rattle.spf_ast.specs.Lawful.{IsLawful, IsName, reserved_words}
 use Rattle.spf_region.specs.declared.span.Span.{Span}
 use Rattle.spf_region.specs.Cells.{in_spans}
-use Rattle.spf_region.specs.Ranges.{offsets_of, wholes_of}
 use Rattle.spf_effects.specs.Parts.{part_effects}
 use Rattle.spf_rollback.specs.Rules.{KeepsTheRules, IsBlockPart, HasArray}
 use Rattle.spf_rollback.specs.Freedom.{TheRulesSetFree}
-use Rattle.spf_layout.specs.declared.stop.Stop.{Stop}
 use Rattle.spf_layout.specs.declared.stop.Stop.TheVariants as stop
 use Rattle.spf_entry.specs.Entry.{IsEntry, own}
 use Rattle.spf_entry.specs.Attempts.{attempted}
@@ -85,7 +81,9 @@ counting_lawful = record {
     slots_are_names = names;
     main = (
       (
-        (grind arith, grind arith), (grind arith, grind arith), (grind arith, grind arith),
+        (grind arith, grind arith),
+        (grind arith, grind arith),
+        (grind arith, grind arith),
         (refl, (none-in (115 ∷ []), λ k d h e. absurd (omega (arith, h)))),
         (refl, (none-in (107 ∷ []), first-name)),
         (grind arith, grind arith),

@@ -1,7 +1,7 @@
 //! Tests of attempts, on one thread and on several. They are a crate of their own, since a crate with tests is proved twice.
 #![tactic(auto)]
 
-// TEMP
+#[cfg(test)]
 mod counting;
-// TEMP
+#[cfg(test)]
 mod threads;

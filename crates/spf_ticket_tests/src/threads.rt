@@ -88,13 +88,7 @@ fn both_attempts<R: Threads + Sync>(
     let frame = Frame::make(alloc, &instance)?;
     let (cells, mut warden, lane) = lane_of_block_one(alloc)?;
     let ticket = Ticket::make(1, 1, LONG, lane, frame);
-    Ok(Some(raised_meanwhile(
-        rt,
-        &cells,
-        &job,
-        &mut warden,
-        ticket,
-    )))
+    Ok(Some(raised_meanwhile(rt, &cells, &job, &mut warden, ticket)))
 }
 
 #[test]
