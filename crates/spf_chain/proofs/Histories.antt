@@ -1,5 +1,5 @@
 -- What stands in a history.
-use Rattle.std.proofs.Common.{◌≡◌, ℕ, ◌-◌, zero, suc, List, [], ◌∷◌, ◌++◌, take, refl, sym, ap, ◌∙◌, subst, inl, inr, Some, ℤ, arith, slice_get}
+use Rattle.std.proofs.Common.{◌≡◌, ◌<◌, ◌≤◌, ℕ, ◌-◌, zero, suc, List, [], ◌∷◌, ◌++◌, take, refl, sym, ap, ◌∙◌, subst, inl, inr, Some, ℤ, arith, slice_get}
 use Rattle.std.specs.Prelude.{map}
 use Rattle.std.proofs.lemmas.Option.{slice_get_within}
 use Rattle.std.proofs.lemmas.List.{append-nil}
@@ -11,10 +11,12 @@ use Rattle.spf_chain.specs.declared.chain.Chain.TheInside.{Inside}
 use Rattle.spf_entry.specs.Sites.{entry_at, guess_at}
 use Rattle.spf_chain.specs.Homes.{log_in}
 use Rattle.spf_chain.specs.Standing.{reals, StandsAt}
-use Rattle.spf_chain.specs.Chains.{ChainValue, next_block}
+use Rattle.spf_chain.specs.Chains.{ChainValue, next_block, IsOut, WaitsFor, IsAnswer, IsExact}
+use Rattle.spf_chain.specs.declared.chain.Filed.{Filed}
+use Rattle.spf_chain.specs.declared.chain.Filed.TheVariants.{Rerun, Waiting, Ended}
 use Rattle.spf_chain.specs.Kept.{chain_value, IsKept}
 use Rattle.spf_chain.specs.Histories.{IsHistory, AreExclusive}
-use Rattle.spf_chain.proofs.Keeping.{both-at}
+use Rattle.spf_chain.proofs.Keeping.{both-at, out-above, next-is}
 use Rattle.spf_chain.proofs.Raising.{not-both-settled}
 
 map-get : (xs : List Validated) (n : ℕ) (b : Validated) → slice_get xs n ≡ Some b → slice_get (map (λ (x : Validated). x.real) xs) n ≡ Some b.real
@@ -58,6 +60,23 @@ history-inside a h n b at =
 pub history-is : (a : Inside) (v : ChainValue) → IsKept a → chain_value a ≡ v → IsHistory v
 history-is a v h is = subst IsHistory is (history-inside a h)
 
+-- of blocks that are out, none is before the next one
+out-from : (a : Inside) → IsKept a → (n : ℕ) → IsOut (chain_value a) n → next_block (chain_value a) ≤ n
+out-from a h n out =
+    let above = out-above (entry_at a.site.value) (guess_at a.site.value) a.homes.items a.validation n h.stands out in
+    omega (arith, above, next-is a (chain_value a) h refl)
+
+not-before : (b d : ℕ) → (d < b → ⊥) → (b < d → ⊥) → b ≡ d
+not-before b d h k = grind (arith, h, k)
+
+next-lowest : (a : Inside) → IsKept a → (b d : ℕ) → IsOut (chain_value a) d → b ≡ next_block (chain_value a) → d < b → ⊥
+next-lowest a h b d out is low = let above = out-from a h d out in omega (arith, above, is, low)
+
+same-waiting : (a : Inside) → IsKept a → (b d : ℕ) → WaitsFor (chain_value a) b → WaitsFor (chain_value a) d → b ≡ d
+same-waiting a h b d one other = not-before b d
+    (λ low. elim one.awaited [ inl next ↦ next-lowest a h b d other.out next low | inr t ↦ t.1 d low other.out ])
+    (λ low. elim other.awaited [ inl next ↦ next-lowest a h d b one.out next low | inr t ↦ t.1 b low one.out ])
+
 pub exclusive : (a : Inside) (v : ChainValue) → IsKept a → chain_value a ≡ v → AreExclusive v
 exclusive a v h is = subst AreExclusive is record {
   rerun_or_waiting = λ w r b needs waits. elim waits.awaited [
@@ -69,4 +88,24 @@ exclusive a v h is = subst AreExclusive is record {
     | inr t ↦ not-both-settled a.validation.settled w t.trap needs.real_value t.trapped
   ];
   waiting_or_ended = λ b waits ended. ended.home b waits.out;
+  one_waiting = λ b d one other. same-waiting a h b d one other;
+}
+
+-- ---- answers are exact
+
+pub exact-of : (c d : ChainValue) (answer : Filed) → AreExclusive c → IsAnswer c answer d → IsExact c answer
+exact-of c d (Rerun t) ex is = record {
+  rerun = (λ u. (is.0, is.1, is.2), λ u. (t, refl));
+  waiting = λ block. (λ e. absurd cc, λ waits. absurd (ex.rerun_or_waiting is.0 is.1 block is.2 waits));
+  ended = (λ e. absurd cc, λ ended. absurd (ex.rerun_or_ended is.0 is.1 is.2 ended));
+}
+exact-of c d (Waiting b) ex is = record {
+  rerun = (λ u. absurd (let e = u.1 in cc), λ needs. absurd (ex.rerun_or_waiting needs.0 needs.1 b needs.2 is.0));
+  waiting = λ block. (λ e. let same : b ≡ block = cc in subst (WaitsFor c) same is.0, λ waits. ap (λ x. Waiting x) (ex.one_waiting b block is.0 waits));
+  ended = (λ e. absurd cc, λ ended. absurd (ex.waiting_or_ended b is.0 ended));
+}
+exact-of c d Ended ex is = record {
+  rerun = (λ u. absurd (let e = u.1 in cc), λ needs. absurd (ex.rerun_or_ended needs.0 needs.1 needs.2 is.0));
+  waiting = λ block. (λ e. absurd cc, λ waits. absurd (ex.waiting_or_ended block waits is.0));
+  ended = (λ e. is.0, λ ended. refl);
 }

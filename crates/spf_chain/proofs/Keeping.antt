@@ -33,7 +33,6 @@ use Rattle.spf_ticket.specs.declared.ticket.Ticket.{Ticket}
 use Rattle.spf_cells.specs.declared.view.TakenLane.{TakenLane}
 use Rattle.spf_cells.specs.Rule.{HasNoBlockTwice}
 use Rattle.spf_chain.specs.declared.chain.Chain.TheInside.{Inside}
-use Rattle.spf_chain.specs.Sites.{IsGround}
 use Rattle.spf_chain.specs.Chains.{ChainValue, cells_of, next_block, HasTrapped, HasEnded, WaitsFor}
 use Rattle.spf_chain.specs.Kept.{chain_value, cells_inside, IsKept}
 use Rattle.spf_entry.specs.Sites.{entry_at, guess_at, AreMadeFor, RaisesMispredicted}

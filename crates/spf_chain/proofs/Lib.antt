@@ -6,3 +6,5 @@ pub mod Finishing
 pub mod Beginning
 pub mod Histories
 pub mod Mispredicted
+pub mod Tickets
+pub mod Starting

@@ -8,7 +8,7 @@ use Rattle.spf_cells.specs.declared.view.Setting.{Setting}
 use Rattle.spf_entry.specs.declared.site.Site.{Site}
 use Rattle.spf_entry.specs.Sites.{entry_at, guess_at, RaisesMispredicted}
 use Rattle.spf_chain.specs.Mispredicted.{is_other, mispredicted_at, those_below, mispredicted_blocks}
-use Rattle.spf_ast.specs.Carried.{Carried, same_carried}
+use Rattle.spf_ast.specs.Carried.{same_carried}
 use Rattle.spf_chain.proofs.Lists.{some-same, less-or-same, true-or-false, not-both}
 
 none-in : (n : ℕ) → Contains [] n → ⊥

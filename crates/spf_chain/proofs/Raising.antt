@@ -93,6 +93,7 @@ kept-with a w h table setting taken size =
       ground = subst (IsGround a.site.value) (sym same) h.ground;
       flags = subst (λ n. length a.homes.items ≤ n) (sym size) h.flags;
       none_taken = taken ∙ h.none_taken;
+      room = h.room;
       size = h.size;
       within = h.within;
       homes = subst (λ k. AreHomes (entry_at a.site.value) (guess_at a.site.value) k a.homes.items) (sym same) h.homes;

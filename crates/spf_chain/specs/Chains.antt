@@ -1,5 +1,5 @@
 -- What contracts see of a chain.
-use Rattle.std.specs.Prelude.{◌≡◌, ◌≢◌, ◌⊎◌, ℕ, ◌<◌, Bool, true, false, ◌==◌, if◌then◌else◌, List, ◌++◌, length, slice_get, slice_index, slice_set, max, Option, Some, None}
+use Rattle.std.specs.Prelude.{◌≡◌, ◌≢◌, ◌⊎◌, ◌↔◌, ℕ, ◌<◌, Bool, true, false, ◌==◌, if◌then◌else◌, List, ◌++◌, length, slice_get, slice_index, slice_set, max, Option, Some, None}
 use Rattle.spf_ast.specs.declared.outcome.Trap.{Trap}
 use Rattle.spf_cells.specs.Values.{CellsValue, WardenValue}
 use Rattle.spf_chain.specs.declared.validated.Settled.{Settled}
@@ -128,10 +128,17 @@ IsAnswer c (Rerun t) d = (real : carried.Carried) × (r : Report) × NeedsRerun 
 IsAnswer c (Waiting block) d = WaitsFor c block × (d ≡ c)
 IsAnswer c Ended d = HasEnded c × (d ≡ c)
 
--- A report was filed: it came home, blocks were validated, flags were raised, and then this was the answer.
+-- each answer comes exactly where its cause holds of the chain
+pub record IsExact (c : ChainValue) (answer : Filed) : Type 0 where
+  pub rerun : ((t : Ticket) × (answer ≡ Rerun t)) ↔ ((real : carried.Carried) × (r : Report) × NeedsRerun c real r)
+  pub waiting : (block : ℕ) → (answer ≡ Waiting block) ↔ WaitsFor c block
+  pub ended : (answer ≡ Ended) ↔ HasEnded c
+
+-- A report was filed: it came home, blocks were validated, flags were raised, and then this was the answer, exactly where its cause held.
 pub record IsFiled (before : ChainValue) (r : Report) (answer : Filed) (after : ChainValue) : Type 0 where
   pub validated : ChainValue
   pub validates : Validates (came_home before r) validated
   pub raised : ChainValue
   pub raises : Raises validated raised
   pub answers : IsAnswer raised answer after
+  pub exact : IsExact raised answer

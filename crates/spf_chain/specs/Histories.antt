@@ -17,8 +17,9 @@ pub record IsValidated (c : ChainValue) (n : ℕ) (b : Validated) : Type 0 where
 abbrev pub IsHistory : ChainValue → Type 0
 IsHistory c = (n : ℕ) (b : Validated) → slice_get c.history n ≡ Some b → IsValidated c n b
 
--- no two of these are so: a rerun is needed, a block is waited for, the chain has ended
+-- no two of these are so: a rerun is needed, a block is waited for, the chain has ended; and one block is waited for at most
 pub record AreExclusive (c : ChainValue) : Type 0 where
   pub rerun_or_waiting : (v : Carried) (r : Report) (b : ℕ) → NeedsRerun c v r → WaitsFor c b → ⊥
   pub rerun_or_ended : (v : Carried) (r : Report) → NeedsRerun c v r → HasEnded c → ⊥
   pub waiting_or_ended : (b : ℕ) → WaitsFor c b → HasEnded c → ⊥
+  pub one_waiting : (b d : ℕ) → WaitsFor c b → WaitsFor c d → b ≡ d

@@ -39,6 +39,7 @@ pub record IsKept (a : Inside) : Type 0 where
   pub ground : IsGround a.site.value (cells_inside a)
   pub flags : length a.homes.items ≤ length a.warden.view.flags
   pub none_taken : a.warden.view.taken ≡ []
+  pub room : (a.room.items ≡ []) × (length a.homes.items ≤ a.room.cap)
   pub size : length a.validation.blocks.items ≡ length a.homes.items
   pub within : a.validation.count ≤ length a.homes.items
   pub homes : AreHomes (entry_at a.site.value) (guess_at a.site.value) (cells_inside a) a.homes.items

@@ -5,16 +5,16 @@ ghost use Rattle.spf_cells.specs.Made.{spans_in, setting, new_warden, new_lanes}
 ghost use Rattle.spf_entry.specs.Sites.{entry_at, guess_at, RaisesMispredicted};
 ghost use Rattle.spf_chain.specs.Mispredicted.{mispredicted_blocks};
 
-use spf_entry::site::Site;
 use spf_cells::cells::Cells;
-use spf_key::key::GhostKey;
 use spf_cells::lane::Lane;
 use spf_cells::warden::Warden;
+use spf_entry::site::Site;
+use spf_key::key::GhostKey;
 use spf_region::span::Plan;
 use std::alloc::{AllocError, Global};
 
 /// Makes cells of which the mispredicted blocks of the site may be raised. Which they are no code tells: the site stands in its key alone.
-pub fn cells_for(
+pub(crate) fn cells_for(
     alloc: Global,
     site: &GhostKey<Site>,
     entry: &[i64],

@@ -1,9 +1,10 @@
 //! The chain: what is home, and how far the blocks are validated.
-use spf_entry::site::Site;
-use crate::validation::Validation;
-use spf_key::key::GhostKey;
-use spf_cells::warden::Warden;
 use crate::validated::Validated;
+use crate::validation::Validation;
+use spf_cells::lane::Lane;
+use spf_cells::warden::Warden;
+use spf_entry::site::Site;
+use spf_key::key::GhostKey;
 use spf_ticket::ticket::{Report, Ticket};
 use std::marker::Model;
 
@@ -28,6 +29,8 @@ pub struct Chain {
     pub(crate) warden: Warden,
     // the report of each block that is home
     pub(crate) homes: Vec<Option<Report>>,
+    // room for the lanes, which is taken when the chain starts
+    pub(crate) room: Vec<Lane>,
     // whether the next block is out with its second attempt
     pub(crate) again: bool,
     pub(crate) validation: Validation,

@@ -7,13 +7,13 @@ ghost use Rattle.spf_cells.specs.Values.{IsWardenOf};
 ghost use Rattle.spf_ticket.specs.Tickets.{IsLawfulReport};
 ghost use Rattle.spf_entry.specs.Sites.{entry_at, guess_at};
 ghost use Rattle.spf_chain.specs.Homes.{known_in};
-ghost use Rattle.spf_chain.specs.Chains.{HasRaised, Raises, IsToRaise, IsFiled, cells_of, next_block, IsOut, came_home, Validates, IsAnswer, HasTrapped};
+ghost use Rattle.spf_chain.specs.Chains.{HasRaised, Raises, IsToRaise, IsFiled, cells_of, next_block, IsOut, came_home, Validates, IsAnswer, IsExact, HasTrapped};
 
 use crate::chain::{Chain, Filed};
-use spf_cells::cells::Cells;
-use spf_cells::warden::Warden;
 use crate::validated::Settled;
 use spf_ast::carried::{Carried, is_same};
+use spf_cells::cells::Cells;
+use spf_cells::warden::Warden;
 use spf_lane_runs::lanes_make_speculative_runs;
 use spf_speculation::{block_runs_are_attempts, prefixes_grow};
 use spf_ticket::ticket::Report;
@@ -139,8 +139,10 @@ impl Chain {
     // What is to be done.
     fn answer(&mut self) -> Filed
         requires done { (v : CarriedValue) → self.old.settled ≡ Gave v → known_in v (slice_get self.old.homes (next_block self.old)) ≡ None }
-        ensures { IsAnswer self.old result self.new }
+        ensures answer { IsAnswer self.old result self.new }
+        ensures exact { IsExact self.old result }
     {
+        self.answers_are_exact();
         match self.validation.settled {
             Settled::Carried(real) => self.answer_next(real),
             Settled::Trapped(_) => self.answer_trapped(),

@@ -1,49 +1,44 @@
 //! What a chain comes to.
-ghost use Rattle.std.specs.Prelude.{◌≡◌, length, IfOk};
+ghost use Rattle.std.specs.Prelude.{◌≡◌, ◌≤◌, [], length};
 ghost use Rattle.spf_chain.specs.Chains.{HasEnded, cells_of};
 ghost use Rattle.spf_chain.specs.Finishing.{lanes_in, IsFinished};
 
 use crate::chain::Chain;
+use crate::validated::Settled;
 use spf_cells::cells::Cells;
 use spf_cells::finish::Trace;
 use spf_cells::lane::Lane;
-use crate::validated::Settled;
 use spf_lane_runs::lanes_make_speculative_runs;
 use spf_speculation::prefixes_grow;
 use spf_ticket::ticket::Report;
-use std::alloc::{AllocError, Global};
 
-// The lanes of the reports that are home.
-fn lanes_of(alloc: Global, mut homes: Vec<Option<Report>>) -> Result<Vec<Lane>, AllocError>
-    ensures { IfOk result (λ lanes. lanes.items ≡ lanes_in homes.items) }
+/// Puts the lanes of the reports that are home into the room for them.
+fn lanes_of(room: Vec<Lane>, mut homes: Vec<Option<Report>>) -> Vec<Lane>
+    requires empty { room.items ≡ [] }
+    requires enough { length homes.items ≤ room.cap }
+    ensures { result.items ≡ lanes_in homes.items }
 {
-    let mut lanes = Vec::with_capacity(alloc, homes.len())?;
+    let mut lanes = room;
     for place in 0..homes.len() {
         match homes[place].take() {
-            Some(report) => lanes.push(report.ticket.into_lane())?,
+            Some(report) => match lanes.push(report.ticket.into_lane()) {
+                Ok(()) => continue,
+                Err(_) => unreachable!(),
+            },
             None => continue,
         }
     }
-    Ok(lanes)
+    lanes
 }
 
 impl Chain {
-    /// What the blocks came to: the value behind the last one, or the trap of the last validated one. `into` takes the lanes'
-    /// contents, and the trace has their logs.
-    ///
-    /// # Errors
-    ///
-    /// Where the allocator refuses memory.
-    pub fn finish(
-        self,
-        alloc: Global,
-        cells: Cells,
-        into: &mut [i64],
-    ) -> Result<(Settled, Trace), AllocError>
+    /// What the blocks came to: the value after the last one, or the trap of the last validated one. `into`, which is as long as the
+    /// memory at the entry, takes the lanes' contents, and the trace has their logs. It takes no memory.
+    pub fn finish(self, cells: Cells, into: &mut [i64]) -> (Settled, Trace)
         requires ended { HasEnded self }
         requires own { cells ≡ cells_of self }
         requires size { length into.old ≡ length self.site.memory }
-        ensures { IfOk result (λ r. IsFinished self r.0 r.1 into.old into.new) }
+        ensures { IsFinished self result.0 result.1 into.old into.new }
     {
         prefixes_grow();
         lanes_make_speculative_runs();
@@ -51,12 +46,13 @@ impl Chain {
             site: _,
             warden,
             homes,
+            room,
             again: _,
             validation,
         } = self;
         let settled = validation.settled;
-        let lanes = lanes_of(alloc, homes)?;
+        let lanes = lanes_of(room, homes);
         let trace = cells.finish(warden, lanes, into);
-        Ok((settled, trace))
+        (settled, trace)
     }
 }

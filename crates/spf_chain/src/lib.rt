@@ -1,12 +1,12 @@
 //! The validation chain of a construct over shared cells: tickets come home with their reports, and the blocks are validated in order.
 #![tactic(auto)]
 
-pub mod begin;
-pub mod cells;
+mod cells;
 pub mod chain;
 pub mod file;
 pub mod finish;
 pub mod history;
 mod place;
+pub mod start;
 pub mod validated;
 mod validation;

@@ -1,4 +1,5 @@
-use Rattle.std.proofs.Common.{◌≡◌, ◌∙◌, ◌<◌, arith, sym, ap, length, refl, Some, None, slice_get, [], ◌∷◌, ◌++◌, List, take}
+use Rattle.std.specs.Prelude.{if◌then◌else◌, is_ok}
+use Rattle.std.proofs.Common.{Bool, ◌≡◌, ◌∙◌, ◌<◌, arith, sym, ap, length, refl, Some, None, slice_get, [], ◌∷◌, ◌++◌, List, take}
 use Rattle.std.proofs.lemmas.List.{length-set}
 use Rattle.std.proofs.lemmas.Option.{slice_get_read}
 use Rattle.spf_cells.specs.Values.{LaneValue}
@@ -7,8 +8,8 @@ use Rattle.spf_chain.specs.Finishing.{lanes_in}
 use Rattle.spf_chain.proofs.Finishing.{lanes-more, lanes-none, take-one}
 use Rattle.spf_chain.proofs.finish.lanes_of.Goals as goal
 
-pub loop-place-preserved-in-None : goal.loop-place-preserved-in-None
-loop-place-preserved-in-None c =
+pub loop-place-preserved : goal.loop-place-preserved
+loop-place-preserved c =
     let i = c.loop-place.place in
     let inv = c.loop-place.invariant in
     let low : i < length c.loop-place.homes.items = omega (arith, c.loop-place-test.true, c.len-place-end.ensures, c.args.homes.ok.0, inv.size) in
@@ -16,12 +17,14 @@ loop-place-preserved-in-None c =
     sym (inv.rest i (omega arith)) ∙ slice_get_read c.loop-place.homes.items (length c.loop-place.homes.items) i c.index_mut.result.now refl low c.index_mut.ensures.value ∙ ap (λ x. Some x) (sym c.take.ensures.value ∙ c.in-None.is) in
     record {
       lanes = inv.lanes ∙ sym (ap lanes_in (take-one c.args.homes.items i None at) ∙ lanes-none (take i c.args.homes.items));
+      room = inv.room;
+      few = (let f = inv.few in omega (arith, f));
       size = length-set c.loop-place.homes.items i c.take.new.self ∙ inv.size;
       rest = λ n above. set_other c.loop-place.homes.items i n c.take.new.self (λ e. absurd (omega (arith, e, above))) ∙ inv.rest n (omega (arith, above));
     }
 
-pub loop-place-preserved : goal.loop-place-preserved
-loop-place-preserved c =
+pub loop-place-preserved-in-Ok : goal.loop-place-preserved-in-Ok
+loop-place-preserved-in-Ok c =
     let i = c.loop-place.place in
     let inv = c.loop-place.invariant in
     let r = c.in-Some.report in
@@ -29,8 +32,10 @@ loop-place-preserved c =
     let at : slice_get c.args.homes.items i ≡ Some (Some r) =
     sym (inv.rest i (omega arith)) ∙ slice_get_read c.loop-place.homes.items (length c.loop-place.homes.items) i c.index_mut.result.now refl low c.index_mut.ensures.value ∙ ap (λ x. Some x) (sym c.take.ensures.value ∙ c.in-Some.is) in
     record {
-      lanes = c.in_ok-push-in-Some.ensures.items ∙ ap (λ (l : LaneValue). c.loop-place.lanes.items ++ l ∷ []) c.into_lane.ensures.lane ∙ ap (λ (l : List LaneValue). l ++ r.ticket.lane ∷ []) inv.lanes
+      lanes = c.push.ensures.items ∙ ap (λ (x : Bool). if x then c.loop-place.lanes.items ++ c.into_lane.result ∷ [] else c.loop-place.lanes.items) (ap is_ok c.in-Ok.is) ∙ ap (λ (l : LaneValue). c.loop-place.lanes.items ++ l ∷ []) c.into_lane.ensures.lane ∙ ap (λ (l : List LaneValue). l ++ r.ticket.lane ∷ []) inv.lanes
           ∙ sym (ap lanes_in (take-one c.args.homes.items i (Some r) at) ∙ lanes-more (take i c.args.homes.items) r);
+      room = (let r = inv.room in let k = c.push.ensures.capacity in omega (arith, r, k));
+      few = (let f = inv.few in let k = c.push.ensures.upper_bound in omega (arith, f, k));
       size = length-set c.loop-place.homes.items i c.take.new.self ∙ inv.size;
       rest = λ n above. set_other c.loop-place.homes.items i n c.take.new.self (λ e. absurd (omega (arith, e, above))) ∙ inv.rest n (omega (arith, above));
     }

@@ -6,6 +6,8 @@ use Rattle.spf_chain.proofs.finish.lanes_of.Given as goal
 abbrev pub invariant-loop-place : goal.invariant-loop-place
 invariant-loop-place l = record {
   lanes : l.lanes.items ≡ lanes_in (take l.place l.initial.homes.items);
+  room : length l.initial.homes.items ≤ l.lanes.cap;
+  few : l.lanes.len ≤ l.place;
   size : length l.homes.items ≡ length l.initial.homes.items;
   rest : (n : ℕ) → l.place ≤ n → slice_get l.homes.items n ≡ slice_get l.initial.homes.items n;
 }

@@ -17,9 +17,9 @@ use Rattle.spf_chain.proofs.Beginning.{listed-first, none-home, length-unvalidat
 use Rattle.spf_chain.proofs.chain.Chain.begin.Goals as goal
 
 pub invariant_of-result : goal.invariant_of-result
-invariant_of-result g c =
-    let s : Site = c.key_of_site-site.result.value in
-    let b : IsBegin s c.args.warden c.args.start c.args.guesses.now = subst (λ (x : Site). IsBegin x c.args.warden c.args.start c.args.guesses.now) (sym c.key_of_site-site.ensures) c.requires in
+invariant_of-result c =
+    let s : Site = c.args.site.value in
+    let b : IsBegin s c.args.warden c.args.start c.args.guesses.now = c.requires in
     let word : to_z w64 (of_z w64 c.args.start) ≡ c.args.start = to_z-of_z w64 c.args.start c.ranges.start in
     let blocks : c.in_ok-blocks.blocks.items ≡ unvalidated 0 (to_z w64 (of_z w64 c.args.start)) (guesses_for c.args.guesses.now) = c.in_ok-blocks.ensures in
     let many : length c.in_ok-blocks.blocks.items ≡ s.blocks =
@@ -30,6 +30,7 @@ invariant_of-result g c =
       ground = b.ground;
       flags = subst (λ n. n ≤ length c.args.warden.view.flags) (sym size) b.flags;
       none_taken = b.none_taken;
+      room = (c.in_ok-room.ensures.items, subst (λ n. n ≤ c.in_ok-room.room.cap) (c.len-2.ensures ∙ c.in_ok-blocks.blocks.ok.0 ∙ many ∙ sym size) c.in_ok-room.ensures.capacity);
       size = many ∙ sym size;
       within = omega arith;
       homes = λ n r at. absurd (none-home s.blocks n r (ap (λ l. slice_get l n) (sym homes) ∙ at));
@@ -44,11 +45,11 @@ invariant_of-result g c =
     }
 
 pub returns : goal.returns
-returns g c =
+returns c =
     let b = c.requires in
     let word : to_z w64 (of_z w64 c.args.start) ≡ c.args.start = to_z-of_z w64 c.args.start c.ranges.start in
-    let many : length c.in_ok-blocks.blocks.items ≡ g.site.blocks =
+    let many : length c.in_ok-blocks.blocks.items ≡ c.args.site.value.blocks =
     ap length c.in_ok-blocks.ensures ∙ length-unvalidated 0 (to_z w64 (of_z w64 c.args.start)) (guesses_for c.args.guesses.now) ∙ length-guesses c.args.guesses.now ∙ b.count in
-    let homes : c.in_ok-homes.homes.items ≡ replicate g.site.blocks None = c.in_ok-homes.ensures ∙ ap (λ n. replicate n None) (c.len.ensures ∙ c.in_ok-blocks.blocks.ok.0 ∙ many) in
+    let homes : c.in_ok-homes.homes.items ≡ replicate c.args.site.value.blocks None = c.in_ok-homes.ensures ∙ ap (λ n. replicate n None) (c.len.ensures ∙ c.in_ok-blocks.blocks.ok.0 ∙ many) in
     let value : Site → List (Option Report) → ℤ → ChainValue = λ s hs v. record { site = s; warden = c.args.warden; homes = hs; again = false; history = []; settled = Carried v } in
-    λ t. value (c.key_of_site-site.ensures t) (homes t) ((word ∙ b.same_start) t)
+    λ t. value c.args.site.value (homes t) ((word ∙ b.same_start) t)

@@ -65,6 +65,7 @@ invariant_of-self c =
       ground = h.ground;
       flags = subst (λ m. m ≤ length a.warden.view.flags) (sym size) h.flags;
       none_taken = h.none_taken;
+      room = (h.room.0, subst (λ m. m ≤ a.room.cap) (sym size) h.room.1);
       size = h.size ∙ sym size;
       within = subst (λ m. a.validation.count ≤ m) (sym size) h.within;
       homes = subst (AreHomes e g (cells_inside a)) (sym same) (homes-set e g (cells_inside a) a.homes.items n c.args.report h.homes home);

@@ -8,5 +8,6 @@ returns-clause-filed c = record {
   validates = subst (λ (x : ChainValue). Validates x c.validate.new.self) c.come_home.ensures.state c.validate.ensures;
   raised = c.raise.new.self;
   raises = c.raise.ensures;
-  answers = c.answer.ensures;
+  answers = c.answer.ensures.answer;
+  exact = c.answer.ensures.exact;
 }

@@ -45,12 +45,12 @@ finish-trace-requires-clause-lanes c =
     let a = c.self.inside in
     let lf = lanes-for a c.self.invariant (all-home a c.args.self c.self.view_is c.requires.ended) in
     let mine : cells_inside a ≡ c.args.cells = ap cells_of c.self.view_is ∙ sym c.requires.own in
-    subst (λ k. AreAllLanes k c.in_ok-lanes.lanes.items) mine (subst (AreAllLanes (cells_inside a)) (sym c.in_ok-lanes.ensures) lf.all)
+    subst (λ k. AreAllLanes k c.lanes_of-lanes.result.items) mine (subst (AreAllLanes (cells_inside a)) (sym c.lanes_of-lanes.ensures) lf.all)
 
 pub returns : goal.returns
 returns c =
     let a = c.self.inside in
     let mine : cells_inside a ≡ c.args.cells = ap cells_of c.self.view_is ∙ sym c.requires.own in
     finished c.prefixes_grow.ensures.complete c.lanes_make_speculative_runs.ensures.merging c.lanes_make_speculative_runs.ensures.memory
-    a c.args.self c.in_ok-lanes.lanes.items c.finish-trace.result c.args.into.now c.finish-trace.new.into c.self.invariant c.self.view_is c.requires.ended c.in_ok-lanes.ensures
-    (subst (λ k. IsFinish k c.in_ok-lanes.lanes.items c.finish-trace.result c.args.into.now c.finish-trace.new.into) (sym mine) c.finish-trace.ensures)
+    a c.args.self c.lanes_of-lanes.result.items c.finish-trace.result c.args.into.now c.finish-trace.new.into c.self.invariant c.self.view_is c.requires.ended c.lanes_of-lanes.ensures
+    (subst (λ k. IsFinish k c.lanes_of-lanes.result.items c.finish-trace.result c.args.into.now c.finish-trace.new.into) (sym mine) c.finish-trace.ensures)

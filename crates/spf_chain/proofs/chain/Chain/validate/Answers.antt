@@ -24,6 +24,7 @@ invariant_of-self c =
       ground = h.ground;
       flags = h.flags;
       none_taken = h.none_taken;
+      room = h.room;
       size = c.advance.ensures.size ∙ ap length homes;
       within = subst (λ l. x.count ≤ length l) homes c.advance.ensures.within;
       homes = h.homes;

@@ -2,7 +2,7 @@ use Rattle.std.proofs.Common.{◌≡◌, ◌∙◌, arith, false, get_or, pos, l
 use Rattle.std.proofs.lemmas.Int.{to_z-of_z}
 use Rattle.spf_chain.specs.declared.validated.Guess.{Guess}
 use Rattle.spf_chain.proofs.Beginning.{one_block}
-use Rattle.spf_chain.proofs.begin.blocks_of.Goals as goal
+use Rattle.spf_chain.proofs.start.blocks_of.Goals as goal
 
 pub loop-guess-preserved : goal.loop-guess-preserved
 loop-guess-preserved c =

@@ -1,7 +1,7 @@
 use Rattle.std.proofs.Common.{◌∙◌, ap, None, arith, ◌++◌, ◌∷◌, []}
 use Rattle.std.specs.Prelude.{replicate}
 use Rattle.spf_chain.proofs.Beginning.{replicate-more}
-use Rattle.spf_chain.proofs.begin.empty_homes.Goals as goal
+use Rattle.spf_chain.proofs.start.empty_homes.Goals as goal
 
 pub loop-init : goal.loop-init
 loop-init c = c.in_ok-homes.ensures.items
