@@ -1,14 +1,15 @@
 //! Attempts of a block that only makes turns, on one thread.
-ghost use Rattle.std.specs.Prelude.{◌≡◌, [], ◌∷◌, pos, IfOk, replicate};
+ghost use Rattle.std.specs.Prelude.{◌≡◌, [], ◌∷◌, ◌++◌, length, pos, IfOk, replicate};
 ghost use Rattle.spf_ast.specs.Carried.{Carried as CarriedValue};
-ghost use Rattle.spf_ast.specs.View.{program as seen_program};
+ghost use Rattle.spf_ast.specs.Syntax.{Fold as fold_form};
+ghost use Rattle.spf_ast.specs.View.{program as seen_program, block as block_of, statement as statement_of};
 ghost use Rattle.spf_ast.specs.ConstructView.{construct as construct_seen};
 ghost use Rattle.spf_layout.specs.Instance.{program_of};
 ghost use Rattle.spf_layout.specs.declared.stop.Stop.TheVariants as stop;
 ghost use Rattle.spf_cells.specs.Log.{events};
 ghost use Rattle.spf_cells.specs.Made.{spans_in, new_warden, new_lane};
-ghost use Rattle.spf_ticket.specs.Tickets.{IsSameTicket};
-ghost use Rattle.spf_ticket_tests.specs.Counting.{counting, counting_fold, counting_setting, no_cells, five_turns};
+ghost use Rattle.spf_ticket.specs.Tickets.{IsSameTicket, IsTicketAt};
+ghost use Rattle.spf_ticket_tests.specs.Turns.{counting, counting_head, counting_body, counting_fold as fold_of_counting, counting_entry, counting_setting, no_cells, five_turns};
 
 use spf_ast::construct::find_construct;
 use spf_ast::syntax::{Expr, Fold, Name, Predict, Program, Stmt, StmtKind};
@@ -34,15 +35,22 @@ fn name(alloc: Global, byte: u8) -> Result<Name, AllocError>
     Ok(Name { bytes })
 }
 
-/// specfold s = 1 for k in 0..2 predict 5 { for i in 0..s { } next 1; } emit s;
-fn counting(alloc: Global) -> Result<Program, AllocError>
-    ensures { IfOk result (λ p. seen_program p ≡ counting) }
+/// for i in 0..s { }
+fn loop_to_carried(alloc: Global) -> Result<Vec<Stmt>, AllocError>
+    ensures { IfOk result (λ v. block_of v.items ≡ counting_body) }
 {
     let mut body = Vec::new(alloc);
     body.push(Stmt {
         line: 1,
         kind: StmtKind::For(2, Expr::Number(0), Expr::Local(0), Vec::new(alloc)),
     })?;
+    Ok(body)
+}
+
+/// specfold s = 1 for k in 0..2 predict 5 { for i in 0..s { } next 1; }
+fn counting_fold(alloc: Global) -> Result<StmtKind, AllocError>
+    ensures { IfOk result (λ kind. statement_of kind ≡ fold_form counting_head counting_body) }
+{
     let fold = Fold {
         carried: 0,
         start: Expr::Number(1),
@@ -50,14 +58,24 @@ fn counting(alloc: Global) -> Result<Program, AllocError>
         low: Expr::Number(0),
         high: Expr::Number(2),
         predict: Predict::Expr(Expr::Number(5)),
-        body,
+        body: loop_to_carried(alloc)?,
         next: Expr::Number(1),
         next_line: 1,
     };
+    Ok(StmtKind::Fold(Box::new(alloc, fold)?))
+}
+
+/// The fold, and then `emit s;`.
+pub(crate) fn counting(alloc: Global) -> Result<Program, AllocError>
+    ensures arrays { IfOk result (λ p. (seen_program p).arrays ≡ []) }
+    ensures functions { IfOk result (λ p. (seen_program p).functions ≡ []) }
+    ensures slots { IfOk result (λ p. (seen_program p).slots ≡ counting.slots) }
+    ensures main { IfOk result (λ p. (seen_program p).main ≡ counting.main) }
+{
     let mut main = Vec::new(alloc);
     main.push(Stmt {
         line: 1,
-        kind: StmtKind::Fold(Box::new(alloc, fold)?),
+        kind: counting_fold(alloc)?,
     })?;
     main.push(Stmt {
         line: 1,
@@ -76,7 +94,7 @@ fn counting(alloc: Global) -> Result<Program, AllocError>
 }
 
 /// Cells of two blocks that have none, with the lane of block 1, which may be raised.
-fn lane_of_block_one(alloc: Global) -> Result<(Cells, Warden, Lane), AllocError>
+pub(crate) fn lane_of_block_one(alloc: Global) -> Result<(Cells, Warden, Lane), AllocError>
     ensures setting { IfOk result (λ r. r.0.setting ≡ counting_setting) }
     ensures warden { IfOk result (λ r. r.1 ≡ new_warden r.0 2) }
     ensures lane { IfOk result (λ r. r.2 ≡ new_lane r.0 1) }
@@ -90,20 +108,76 @@ fn lane_of_block_one(alloc: Global) -> Result<(Cells, Warden, Lane), AllocError>
     Ok((cells, warden, lane))
 }
 
-/// The first attempt of block 1, at the guess 5. One that ends has made five turns, none of which polled a raised flag.
+/// An attempt of block 1. A first one, at the guess 5, that ends has made five turns, none of which polled a raised flag.
+pub(crate) fn attempt(cells: &Cells, job: &Job, ticket: Ticket) -> Report
+    requires program { program_of job.now.instance.now ≡ counting }
+    requires input { job.now.instance.now.input ≡ [] }
+    requires construct { construct_seen job.now.construct ≡ fold_of_counting }
+    requires entry { job.now.entry.now ≡ [] }
+    requires setting { cells.now.setting ≡ counting_setting }
+    requires table { ticket.lane.table ≡ cells.now.table }
+    requires block { ticket.block ≡ 1 }
+    requires frame { length ticket.frame ≡ 3 }
+    ensures same { IsSameTicket counting fold_of_counting ticket result.ticket }
+    ensures turns { (value : CarriedValue) → IsTicketAt counting_entry cells.now ticket → ticket.attempt ≡ 1 → ticket.carried ≡ pos 5
+        → result.stop ≡ stop.Ended value → events result.ticket.lane.log ≡ events ticket.lane.log ++ five_turns }
+{
+    the_rules_set_free();
+    ticket.run(cells, job, &Open)
+}
+
+/// The first attempt of block 1, at the guess 5.
 fn first_attempt(cells: &Cells, job: &Job, lane: Lane, frame: Frame) -> Report
     requires program { program_of job.now.instance.now ≡ counting }
     requires input { job.now.instance.now.input ≡ [] }
-    requires construct { construct_seen job.now.construct ≡ counting_fold }
+    requires construct { construct_seen job.now.construct ≡ fold_of_counting }
     requires entry { job.now.entry.now ≡ [] }
     requires setting { cells.now.setting ≡ counting_setting }
     requires lane { lane ≡ new_lane cells.now 1 }
     requires frame { frame ≡ replicate 3 (pos 0) }
     ensures turns { (value : CarriedValue) → result.stop ≡ stop.Ended value → events result.ticket.lane.log ≡ five_turns }
     ensures attempt { result.ticket.attempt ≡ 1 }
-    ensures table { result.ticket.lane.table ≡ cells.now.table }
     ensures block { result.ticket.block ≡ 1 }
+    ensures table { result.ticket.lane.table ≡ cells.now.table }
+    ensures frame { length result.ticket.frame ≡ 3 }
 {
-    the_rules_set_free();
-    Ticket::make(1, 1, 5, lane, frame).run(cells, job, &Open)
+    attempt(cells, job, Ticket::make(1, 1, 5, lane, frame))
+}
+
+/// Both attempts of block 1, the second one at 1, where the first one was raised or not: how they ended.
+fn both_attempts(alloc: Global, raised: bool) -> Result<Option<(Stop, Stop)>, AllocError> {
+    let program = counting(alloc)?;
+    let Ok(instance) = Instance::make(alloc, &program, &[]) else {
+        return Ok(None);
+    };
+    let Some(construct) = find_construct(&program.main, 0) else {
+        return Ok(None);
+    };
+    let job = Job {
+        instance: &instance,
+        construct,
+        entry: &[],
+    };
+    let frame = Frame::make(alloc, &instance)?;
+    let (cells, mut warden, lane) = lane_of_block_one(alloc)?;
+    if raised {
+        warden.raise(&cells, 1, 1);
+    }
+    let first = first_attempt(&cells, &job, lane, frame);
+    let second = attempt(&cells, &job, first.ticket.again(1));
+    Ok(Some((first.stop, second.stop)))
+}
+
+#[test]
+fn an_attempt_that_is_not_raised_makes_all_its_turns(rt: HostRuntime) -> Result<(), Fail> {
+    let stops = both_attempts(rt.alloc(), false)?;
+    assert!(rt; stops == Some((Stop::Ended(1), Stop::Ended(1))));
+    Ok(())
+}
+
+#[test]
+fn a_flag_of_one_stops_a_first_attempt_alone(rt: HostRuntime) -> Result<(), Fail> {
+    let stops = both_attempts(rt.alloc(), true)?;
+    assert!(rt; stops == Some((Stop::Cancelled { seen: 1 }, Stop::Ended(1))));
+    Ok(())
 }

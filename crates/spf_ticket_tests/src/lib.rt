@@ -3,3 +3,5 @@
 
 #[cfg(test)]
 mod counting;
+#[cfg(test)]
+mod threads;

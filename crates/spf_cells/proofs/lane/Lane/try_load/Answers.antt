@@ -8,7 +8,6 @@ use Rattle.spf_cells.specs.Lane.{setting_of, lane_value}
 use Rattle.spf_cells.proofs.LaneSteps.{may_load, grows, grown, cell_here}
 use Rattle.spf_cells.proofs.lane.Lane.try_load.Goals as goal
 
-
 pub load-requires : goal.load-requires
 load-requires c =
     let same : c.self.inside.seat.table_id ≡ c.cells.inside.table.shared.table_id = ap (λ v. v.table) c.self.view_is ∙ (c.requires.own ∙ sym (ap (λ v. v.table) c.cells.view_is)) in

@@ -1,5 +1,5 @@
 -- A program whose blocks only make turns, with the cells and the entry of its blocks.
-use Rattle.std.specs.Prelude.{ℕ, List, [], ◌∷◌, codes, pos, ℤ}
+use Rattle.std.specs.Prelude.{List, [], ◌∷◌, codes, pos}
 use Rattle.spf_ast.specs.Syntax.{Number, Local, For, Fold, Emit, By, FoldHead, Block, end, on_line, Program}
 use Rattle.spf_ast.specs.Construct.{Construct, fold}
 use Rattle.spf_ast.specs.Event.{Event, Turn}
