@@ -85,7 +85,7 @@ from-place lists p (suc left) n e before = go (λ kept. from-place lists p left 
       line_of here.0,
       broken.1,
       first-refused p n broken.0 (line_of here.0) broken.1 within before
-      (λ k is. let same = some_is here.0 k (sym here.1 ∙ is) in (subst (λ c. IsLowestBroken p c broken.0 broken.1) same broken.2, ap line_of same)),
+          (λ k is. let same = some_is here.0 k (sym here.1 ∙ is) in (subst (λ c. IsLowestBroken p c broken.0 broken.1) same broken.2, ap line_of same)),
     )
 
 pub accepted-or-refused : EffectsHaveLists → (p : Program) → IsAccepted p ⊎ IsRefused p

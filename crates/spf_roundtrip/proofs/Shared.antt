@@ -220,10 +220,12 @@ bound_front c m free p front d =
     let k = front.0 in
     let q = front.1 in
     let held = 0 + length k in
-    let e = front.2 in
-    (d.0 + e.0, (bound (d.0 + e.0) free held program refl c m k p q [] [] (omega arith)
-    (raise d.0 (d.0 + e.0) free (omega arith) program (c ++ m) p [] d.1)
-    (raise e.0 (d.0 + e.0) held (omega arith) program (c ++ k) q [] e.1) tt tt).0)
+    let e = front.2 in (
+      d.0 + e.0,
+      (bound (d.0 + e.0) free held program refl c m k p q [] [] (omega arith)
+          (raise d.0 (d.0 + e.0) free (omega arith) program (c ++ m) p [] d.1)
+          (raise e.0 (d.0 + e.0) held (omega arith) program (c ++ k) q [] e.1) tt tt).0,
+    )
 
 -- some program begins with nothing
 empty_front : IsFront 0 []
@@ -260,10 +262,13 @@ module _ (ts : List Lexeme) (end : ℕ) (unread : (p : RawProgram) → Reads 0 t
       allowed : (free : ℕ) → IsFront free (read ++ t ∷ []) → IsFront 1 (read ++ t ∷ [])
       allowed free f =
           let one = append_assoc read (t ∷ []) f.0 in
-          let size : length (t ∷ f.0) ≡ 1 + length f.0 = omega arith in
-          (f.0, f.1, subst (λ n. Reads n ((read ++ t ∷ []) ++ f.0) f.1) size
-          (subst (λ l. Reads (length (t ∷ f.0)) l f.1) (sym one)
-          (bound_front read (t ∷ f.0) (free + length f.0) f.1 front (subst (λ l. Reads (free + length f.0) l f.1) one f.2))))
+          let size : length (t ∷ f.0) ≡ 1 + length f.0 = omega arith in (
+            f.0,
+            f.1,
+            subst (λ n. Reads n ((read ++ t ∷ []) ++ f.0) f.1) size
+                (subst (λ l. Reads (length (t ∷ f.0)) l f.1) (sym one)
+                (bound_front read (t ∷ f.0) (free + length f.0) f.1 front (subst (λ l. Reads (free + length f.0) l f.1) one f.2))),
+          )
 
 -- no tokens are left that neither are those of a program nor go wrong
 pub none_left : (ts : List Lexeme) (end : ℕ) → ((p : RawProgram) → Reads 0 ts p → ⊥) → ((at : ℕ) → IsUnexpected ts end at → ⊥) → ((at : ℕ) → IsTooDeep ts at → ⊥) → ⊥
