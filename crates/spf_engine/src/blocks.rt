@@ -21,8 +21,6 @@ ghost use Rattle.spf_engine.specs.Blocks.{guesses_after, paired, counts_of, AreA
 use spf_ast::carried::is_same;
 use spf_ast::construct::TopConstruct;
 use spf_ast::syntax::Part;
-use spf_task_chain::chain::Chain;
-use spf_task_chain::task::{Filed, Guess, Settled, Task, Validated};
 use spf_exec::block_run::{Block, exec_block, exec_predictor};
 use spf_exec::frame::Frame;
 use spf_exec::pieces::Header;
@@ -30,6 +28,8 @@ use spf_exec::plain::Plain;
 use spf_guess::stats::Stats;
 use spf_layout::instance::Instance;
 use spf_layout::stop::Stop;
+use spf_task_chain::chain::Chain;
+use spf_task_chain::task::{Filed, Guess, Settled, Task, Validated};
 use std::alloc::{AllocError, Global};
 
 /// What the blocks of a fold are run in.

@@ -22,12 +22,12 @@ use spf_ast::construct::TopConstruct;
 use spf_ast::laws::{each_guess_has_one_answer, lawful_programs_are_quiet_and_small};
 use spf_ast::outcome::{Outcome, Trap};
 use spf_ast::syntax::Program;
-use spf_task_chain::task::Settled;
 use spf_exec::pieces::{Pause, Run};
 use spf_guess::stats::Stats;
 use spf_laws::{each_construct_is_its_block_runs, each_form_sees_visible_slots_alone};
 use spf_layout::instance::Instance;
 use spf_layout::layout::RunError;
+use spf_task_chain::task::Settled;
 use std::alloc::{AllocError, Global};
 
 /// How a whole run came out, and how good its guesses were.
