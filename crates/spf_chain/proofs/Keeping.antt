@@ -36,7 +36,7 @@ use Rattle.spf_chain.specs.declared.chain.Chain.TheInside.{Inside}
 use Rattle.spf_chain.specs.Chains.{ChainValue, cells_of, next_block, HasTrapped, HasEnded, WaitsFor}
 use Rattle.spf_chain.specs.Kept.{chain_value, cells_inside, IsKept}
 use Rattle.spf_entry.specs.Sites.{entry_at, guess_at, AreMadeFor, RaisesMispredicted}
-use Rattle.spf_chain.specs.Homes.{known_at, home_log, log_in, IsHome, AreHomes}
+use Rattle.spf_chain.specs.Homes.{known_at, known_in, home_log, log_in, IsHome, AreHomes}
 use Rattle.spf_chain.specs.Standing.{reals, PrefixAt, StandsAt, StandsOver}
 use Rattle.spf_chain.specs.declared.validation.Validation.{Validation}
 use Rattle.spf_chain.proofs.Lists.{some-same}
@@ -210,6 +210,44 @@ next-value law a h v is low =
     let f : PrefixAt e (guess_at a.site.value) (log_in a.homes.items) a.validation.count (reals a.validation.count a.validation.blocks.items) v =
     subst (StandsAt e (guess_at a.site.value) (log_in a.homes.items) a.validation.count (reals a.validation.count a.validation.blocks.items)) is h.stands.stands in
     law e (guess_at a.site.value) (log_in a.homes.items) a.validation.count (reals a.validation.count a.validation.blocks.items) v f.memory f.prefix (omega (arith, low, h.stands.blocks))
+
+-- ---- the next block's second attempt
+
+-- what a second attempt has for its value
+second-real : (e : Entry) (guess : ℕ → Carried) (n a : ℕ) (v : Carried) (before : List Event) → a ≡ 2 → IsReady e guess n a v before → slice_get (plain_blocks e).values n ≡ Some v
+second-real e guess n a v before two (first a-is v-is none) = absurd (omega (arith, two, a-is))
+second-real e guess n a v before two (second a-is ne real att) = real
+
+-- a block has no real value after a trap
+no-real : (xs : List Carried) (n : ℕ) (v : Carried) → length xs ≤ n → slice_get xs n ≡ Some v → ⊥
+no-real xs n v past at = let low = slice_get_within xs n v at in omega (arith, low, past)
+
+-- where the next block's second attempt is home, something is known of it
+pub second-known : PrefixesHaveRealValues → UnstoppedAttemptsAreWhole → LanesStopNoSecondAttempt → (a : Inside) → IsKept a → (r : Report) → slice_get a.homes.items a.validation.count ≡ Some (Some r) → r.ticket.attempt ≡ 2
+    → ((v : Carried) → a.validation.settled ≡ settled.Carried v → known_in v (slice_get a.homes.items a.validation.count) ≡ None) → ⊥
+second-known real whole lanes a h r at two none = by-settled a.validation.settled refl
+  where
+    e : Entry
+    e = entry_at a.site.value
+
+    home : IsHome e (guess_at a.site.value) (cells_inside a) a.validation.count r
+    home = h.homes a.validation.count r at
+
+    value : slice_get (plain_blocks e).values a.validation.count ≡ Some r.ticket.carried
+    value = second-real e (guess_at a.site.value) a.validation.count r.ticket.attempt r.ticket.carried home.lawful.before two
+        (subst (λ k. IsReady e (guess_at a.site.value) k r.ticket.attempt r.ticket.carried home.lawful.before) home.block home.lawful.ready)
+
+    low : a.validation.count < length a.homes.items
+    low = slice_get_within a.homes.items a.validation.count (Some r) at
+
+    by-settled : (s : Settled) → a.validation.settled ≡ s → ⊥
+    by-settled (settled.Carried v) is =
+        let here = next-value real a h v is low in
+        wrong-home whole lanes e (guess_at a.site.value) (cells_inside a) a.validation.count v r h.ground.raisable home here (ap (known_in v) (sym at) ∙ none v is)
+        (some-same r.ticket.carried v (sym value ∙ here))
+    by-settled (settled.Trapped t) is =
+        let ended = subst (StandsAt e (guess_at a.site.value) (log_in a.homes.items) a.validation.count (reals a.validation.count a.validation.blocks.items)) is h.stands.stands in
+        no-real (plain_blocks e).values a.validation.count r.ticket.carried (omega (arith, ended.count, ap length ended.ends.plain_values)) value
 
 -- ---- the next block's second ticket
 

@@ -134,10 +134,12 @@ pub record IsExact (c : ChainValue) (answer : Filed) : Type 0 where
   pub waiting : (block : ℕ) → (answer ≡ Waiting block) ↔ WaitsFor c block
   pub ended : (answer ≡ Ended) ↔ HasEnded c
 
--- A report was filed: it came home, blocks were validated, flags were raised, and then this was the answer, exactly where its cause held.
+-- A report was filed: it came home, blocks were validated, flags were raised, and then this was the answer, exactly where its cause held. After a trap nothing more is validated; the second attempt of the next block to be validated always validates it.
 pub record IsFiled (before : ChainValue) (r : Report) (answer : Filed) (after : ChainValue) : Type 0 where
   pub validated : ChainValue
   pub validates : Validates (came_home before r) validated
+  pub after_trap : HasTrapped before → validated ≡ came_home before r
+  pub second : r.ticket.attempt ≡ 2 → r.ticket.block ≡ next_block before → next_block before < next_block validated
   pub raised : ChainValue
   pub raises : Raises validated raised
   pub answers : IsAnswer raised answer after

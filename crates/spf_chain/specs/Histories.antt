@@ -1,11 +1,11 @@
 -- What stands in a history, and that at most one answer is right.
-use Rattle.std.specs.Prelude.{◌≡◌, ℕ, Some, slice_get}
+use Rattle.std.specs.Prelude.{◌≡◌, ◌≤◌, ℕ, length, Some, slice_get}
 use Rattle.spf_ast.specs.Carried.{Carried}
 use Rattle.spf_entry.specs.Entry.{plain_blocks}
 use Rattle.spf_entry.specs.Sites.{entry_at, guess_given}
 use Rattle.spf_ticket.specs.declared.ticket.Report.{Report}
 use Rattle.spf_chain.specs.declared.validated.Validated.{Validated}
-use Rattle.spf_chain.specs.Chains.{ChainValue, NeedsRerun, WaitsFor, HasEnded}
+use Rattle.spf_chain.specs.Chains.{ChainValue, next_block, IsOut, NeedsRerun, WaitsFor, HasEnded}
 
 -- block n is validated with the guess that was given for it, at its real value in the plain run
 pub record IsValidated (c : ChainValue) (n : ℕ) (b : Validated) : Type 0 where
@@ -16,6 +16,12 @@ pub record IsValidated (c : ChainValue) (n : ℕ) (b : Validated) : Type 0 where
 -- the history has the blocks from 0 on, each once and in order
 abbrev pub IsHistory : ChainValue → Type 0
 IsHistory c = (n : ℕ) (b : Validated) → slice_get c.history n ≡ Some b → IsValidated c n b
+
+-- there is a place for the report of each block; the validated blocks are some of them, and none of these is out
+pub record HasItsPlaces (c : ChainValue) : Type 0 where
+  pub size : length c.homes ≡ c.site.blocks
+  pub within : next_block c ≤ c.site.blocks
+  pub out : (n : ℕ) → IsOut c n → next_block c ≤ n
 
 -- no two of these are so: a rerun is needed, a block is waited for, the chain has ended; and one block is waited for at most
 pub record AreExclusive (c : ChainValue) : Type 0 where

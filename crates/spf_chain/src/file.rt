@@ -4,6 +4,7 @@ ghost use Rattle.spf_chain.specs.declared.validated.Settled.TheVariants.{Carried
 ghost use Rattle.spf_ast.specs.Carried.{Carried as CarriedValue};
 ghost use Rattle.std.specs.List.{Contains};
 ghost use Rattle.spf_cells.specs.Values.{IsWardenOf};
+ghost use Rattle.spf_ticket.specs.declared.ticket.Report.{Report as SeenReport};
 ghost use Rattle.spf_ticket.specs.Tickets.{IsLawfulReport};
 ghost use Rattle.spf_entry.specs.Sites.{entry_at, guess_at};
 ghost use Rattle.spf_chain.specs.Homes.{known_in};
@@ -75,8 +76,14 @@ impl Chain {
 
     // Blocks are validated.
     fn validate(&mut self)
-        ensures { Validates self.old self.new }
+        ensures validates { Validates self.old self.new }
+        ensures trapped { HasTrapped self.old → self.new ≡ self.old }
+        ensures second { (r : SeenReport) → slice_get self.old.homes (next_block self.old) ≡ Some (Some r) → r.ticket.attempt ≡ 2
+            → next_block self.old < next_block self.new }
     {
+        prefixes_grow();
+        block_runs_are_attempts();
+        lanes_make_speculative_runs();
         self.validation.advance(&self.homes);
     }
 

@@ -1,15 +1,16 @@
 //! The validated blocks.
 ghost use Rattle.std.specs.Prelude.{◌≡◌};
-ghost use Rattle.spf_chain.specs.Histories.{IsHistory, AreExclusive};
+ghost use Rattle.spf_chain.specs.Histories.{IsHistory, HasItsPlaces, AreExclusive};
 
 use crate::chain::Chain;
 use crate::validated::Validated;
 
 impl Chain {
-    /// The validated blocks, from block 0 on.
+    /// The validated blocks, from block 0 on. No block that is out is among them.
     pub fn history(&self) -> &[Validated]
         ensures history { result.now ≡ self.now.history }
         ensures validated { IsHistory self.now }
+        ensures places { HasItsPlaces self.now }
     {
         &self.validation.blocks[..self.validation.count]
     }

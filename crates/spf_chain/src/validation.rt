@@ -1,8 +1,10 @@
 // How far the blocks of a chain are validated.
 ghost use Rattle.std.specs.Prelude.{◌≡◌, ◌≤◌, length, ℕ};
 ghost use Rattle.spf_ast.specs.Carried.{Carried as CarriedValue};
+ghost use Rattle.spf_ast.specs.declared.outcome.Trap.{Trap as SeenTrap};
 ghost use Rattle.spf_entry.specs.Entry.{Entry, IsEntry};
 ghost use Rattle.spf_cells.specs.Values.{CellsValue};
+ghost use Rattle.spf_chain.specs.declared.validated.Settled.TheVariants.{Trapped};
 ghost use Rattle.spf_chain.specs.Homes.{AreHomes};
 ghost use Rattle.spf_chain.specs.Standing.{StandsOver, IsDone, GrowsTo};
 
@@ -30,6 +32,7 @@ impl Validation {
         ensures stands { (e : Entry) (guess : ℕ → CarriedValue) (c : CellsValue) → IsEntry e → AreHomes e guess c homes.now → StandsOver e guess homes.now self.old → StandsOver e guess homes.now self.new }
         ensures done { IsDone homes.now self.new.count self.new.settled }
         ensures grown { GrowsTo self.old self.new }
+        ensures trapped { (t : SeenTrap) → self.old.settled ≡ Trapped t → self.new ≡ self.old }
         ensures stays { self.new.count ≡ self.old.count → self.new.settled ≡ self.old.settled }
         ensures size { length self.new.blocks.items ≡ length homes.now }
         ensures within { self.new.count ≤ length homes.now }

@@ -1,15 +1,23 @@
-use Rattle.std.proofs.Common.{◌≡◌, ◌∙◌, arith, w64, to_z, of_z, length, refl}
+use Rattle.spf_ast.specs.declared.outcome.Trap.{Trap}
+use Rattle.spf_chain.specs.declared.validated.Settled.{Settled}
+use Rattle.spf_chain.specs.declared.validated.Settled.TheVariants.{Carried, Trapped}
+use Rattle.spf_chain.specs.declared.validation.Validation.{Validation}
+use Rattle.std.proofs.Common.{◌≡◌, ◌∙◌, ap, sym, ℤ, arith, w64, to_z, of_z, length, refl}
 use Rattle.std.proofs.lemmas.Int.{to_z-of_z}
 use Rattle.std.proofs.lemmas.List.{length-set}
 use Rattle.std.proofs.lemmas.Option.{slice_get_read}
 use Rattle.spf_chain.proofs.Steps.{one-more-at, is-home, home-below, past-none, grows-more, grows-none}
 use Rattle.spf_chain.proofs.validation.Validation.advance.Goals as goal
 
+not-carried : (s : Settled) (v : ℤ) (t : Trap) → s ≡ Carried v → s ≡ Trapped t → ⊥
+not-carried s v t c d = let e : Carried v ≡ Trapped t = sym c ∙ d in absurd cc
+
 pub loop-block-init : goal.loop-block-init
 loop-block-init c = record {
   stands = λ e guess cells h are stands. stands;
   count = refl;
   size = c.requires.size;
+  trapped = λ t is. refl;
   stays = λ same. refl;
   grown = grows-none _ _;
 }
@@ -30,6 +38,7 @@ loop-block-preserved c =
           };
       count = refl;
       size = length-set x.blocks.items i _ ∙ inv.size;
+      trapped = λ t is. absurd (not-carried x.settled c.in-Carried.real t c.in-Carried.is (ap (λ (y : Validation). y.settled) (inv.trapped t is) ∙ is));
       stays = λ again. let f = inv.grown.further in absurd (omega (arith, again, f, inv.count));
       grown = grows-more _ _ x.count i x.blocks.items c.index_mut.result.now (to_z w64 (of_z w64 c.in-Carried.real)) inv.grown inv.count
           (slice_get_read x.blocks.items (length x.blocks.items) i c.index_mut.result.now refl (omega (arith, c.loop-block-test.true, inv.size)) c.index_mut.ensures.value);
