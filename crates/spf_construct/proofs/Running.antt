@@ -1,0 +1,52 @@
+-- The blocks of an accepted program can be run as attempts.
+use Rattle.std.proofs.Common.{◌≡◌, ℕ, zero, suc, false, List, [], ◌∷◌, length, sym, subst, Some, slice_get}
+use Rattle.std.specs.Prelude.{slice_index_or}
+use Rattle.std.specs.List.{Contains}
+use Rattle.std.proofs.lemmas.Option.{slice_get_within}
+use Rattle.spf_ast.specs.declared.syntax.Program as code_program
+use Rattle.spf_ast.specs.View.{program}
+use Rattle.spf_ast.specs.Syntax.{Program}
+use Rattle.spf_ast.specs.Lawful.{IsLawful}
+use Rattle.spf_ast.specs.Silence.{PartIsSilent}
+use Rattle.spf_ast.specs.Slots.{assigns_outer}
+use Rattle.spf_ast.specs.Construct.{Construct, fold, pair, constructs_in, part_of, statements_of}
+use Rattle.spf_ast.specs.ConstructView.{construct}
+use Rattle.spf_ast.specs.Program.{cell_count_of}
+use Rattle.spf_layout.specs.Instance.{program_of}
+use Rattle.spf_rollback.specs.Rules.{KeepsTheRules}
+use Rattle.spf_check.specs.Accepting.{IsAccepted}
+use Rattle.spf_ticket.specs.declared.run.Job.{Job}
+use Rattle.spf_serial.specs.InOrder.{CanRun}
+use Rattle.spf_ast.specs.declared.syntax.Part.TheVariants.{Body, Producer, Consumer}
+
+silent-of : (p : Program) (c : Construct) → KeepsTheRules p c → (n : ℕ) → PartIsSilent c (part_of c n)
+silent-of p (fold line head body) k n = k.emits_nothing Body tt
+silent-of p (pair line head producer consumer) k zero = k.emits_nothing Producer tt
+silent-of p (pair line head producer consumer) k (suc n) = k.emits_nothing Consumer tt
+
+outer-of : (p : Program) (c : Construct) → KeepsTheRules p c → (n : ℕ) → assigns_outer (statements_of c (part_of c n)) ≡ false
+outer-of p (fold line head body) k n = k.assigns_no_outer Body tt
+outer-of p (pair line head producer consumer) k zero = k.assigns_no_outer Producer tt
+outer-of p (pair line head producer consumer) k (suc n) = k.assigns_no_outer Consumer tt
+
+is-among : (cs : List Construct) (n : ℕ) (c : Construct) → slice_get cs n ≡ Some c → Contains cs c
+is-among cs n c at = (n, slice_get_within cs n c at, read cs n c at)
+  where
+    read : (xs : List Construct) (i : ℕ) (x : Construct) → slice_get xs i ≡ Some x → slice_index_or xs i x ≡ x
+    read [] i x e = cc
+    read (y ∷ xs) zero x e = cc
+    read (y ∷ xs) (suc i) x e = read xs i x e
+
+pub can-run : (job : Job) (p : code_program.Program) (number : ℕ) → job.instance.now.code ≡ p → IsLawful (program p) → IsAccepted (program p)
+    → slice_get (constructs_in (program_of job.instance.now).main) number ≡ Some (construct job.construct)
+    → length job.entry.now ≡ cell_count_of (program_of job.instance.now) (length job.instance.now.input) → CanRun job
+can-run job p number same lawful accepted at cells =
+    let mine : IsAccepted (program_of job.instance.now) = subst (λ (q : code_program.Program). IsAccepted (program q)) (sym same) accepted in
+    let keeps = mine number (construct job.construct) at in
+    record {
+      lawful = subst (λ (q : code_program.Program). IsLawful (program q)) (sym same) lawful;
+      top = is-among (constructs_in (program_of job.instance.now).main) number (construct job.construct) at;
+      silent = silent-of (program_of job.instance.now) (construct job.construct) keeps;
+      outer = outer-of (program_of job.instance.now) (construct job.construct) keeps;
+      cells = cells;
+    }

@@ -1,0 +1,26 @@
+use Rattle.std.proofs.Common.{◌≡◌, ◌∙◌, sym, ap, subst}
+use Rattle.spf_entry.specs.declared.site.Site.{Site}
+use Rattle.spf_entry.specs.Entry.{plain_blocks}
+use Rattle.spf_entry.specs.Sites.{entry_at}
+use Rattle.spf_chain.specs.Chains.{ChainValue}
+use Rattle.spf_chain.specs.Beginning.{site_of}
+use Rattle.spf_chain.specs.Finishing.{result_as}
+use Rattle.spf_construct.proofs.Running.{can-run}
+use Rattle.spf_construct.proofs.run_construct.Goals as goal
+
+pub run_in_order-requires-clause-job : goal.run_in_order-requires-clause-job
+run_in_order-requires-clause-job g c =
+    can-run _ c.args.checked.now c.args.number c.requires.program c.program-program.ensures.lawful c.program-program.ensures.accepted c.requires.construct c.requires.entry
+
+pub returns : goal.returns
+returns g c =
+    let s = site_of c.args.instance.now c.args.number c.args.header c.args.frame.now c.args.entry.now c.args.guesses.now in
+    let f = c.finish-settled.ensures in
+    let site : c.run_in_order.new.chain.site ≡ s = c.run_in_order.ensures.same.site ∙ ap (λ (x : ChainValue). x.site) c.in_ok-chain.ensures.chain in
+    record {
+      came = record {
+        result = subst (λ (x : Site). (plain_blocks (entry_at x)).result ≡ result_as c.finish-settled.result.0) site f.result;
+        plain_memory = λ v is. subst (λ (x : Site). c.finish-settled.new.into ≡ (plain_blocks (entry_at x)).memory) site
+            (f.memory v is (c.requires.size ∙ sym (ap (λ (x : Site). x.memory) site)));
+      };
+    }
