@@ -1,6 +1,7 @@
 //! A chain starts: cells are made for the blocks of a construct, and the tickets of all blocks go out.
 ghost use Rattle.std.specs.Prelude.{◌≡◌, ◌+◌, ◌≤◌, ◌<◌, ◌+ℤ◌, ◌≤ℤ◌, ℕ, length, map, pos, replicate, [], None, IfOk, Some, slice_get};
 ghost use Rattle.std.specs.List.{All};
+ghost use Rattle.spf_ast.specs.View.{program as seen_program};
 ghost use Rattle.spf_ast.specs.Construct.{constructs_in};
 ghost use Rattle.spf_ast.specs.Construct as construct_names;
 ghost use Rattle.spf_ast.specs.Program.{cell_count_of};
@@ -197,7 +198,7 @@ impl Chain {
         entry: &[i64],
         guesses: &[Guess],
     ) -> Result<(Chain, Cells, Vec<Ticket>), AllocError>
-        requires program { instance.now.code ≡ checked.now }
+        requires program { program_of instance.now ≡ seen_program checked.now }
         requires construct { (c : construct_names.Construct) × (slice_get (constructs_in (program_of instance.now).main) construct ≡ Some c) × AreBlocksOf c header.blocks }
         requires guesses { length guesses.now + 1 ≡ header.blocks }
         requires few { header.blocks ≤ 4096 }

@@ -37,14 +37,14 @@ is-among cs n c at = (n, slice_get_within cs n c at, read cs n c at)
     read (y ∷ xs) zero x e = cc
     read (y ∷ xs) (suc i) x e = read xs i x e
 
-pub can-run : (job : Job) (p : code_program.Program) (number : ℕ) → job.instance.now.code ≡ p → IsLawful (program p) → IsAccepted (program p)
+pub can-run : (job : Job) (p : code_program.Program) (number : ℕ) → program_of job.instance.now ≡ program p → IsLawful (program p) → IsAccepted (program p)
     → slice_get (constructs_in (program_of job.instance.now).main) number ≡ Some (construct job.construct)
     → length job.entry.now ≡ cell_count_of (program_of job.instance.now) (length job.instance.now.input) → CanRun job
 can-run job p number same lawful accepted at cells =
-    let mine : IsAccepted (program_of job.instance.now) = subst (λ (q : code_program.Program). IsAccepted (program q)) (sym same) accepted in
+    let mine : IsAccepted (program_of job.instance.now) = subst IsAccepted (sym same) accepted in
     let keeps = mine number (construct job.construct) at in
     record {
-      lawful = subst (λ (q : code_program.Program). IsLawful (program q)) (sym same) lawful;
+      lawful = subst IsLawful (sym same) lawful;
       top = is-among (constructs_in (program_of job.instance.now).main) number (construct job.construct) at;
       silent = silent-of (program_of job.instance.now) (construct job.construct) keeps;
       outer = outer-of (program_of job.instance.now) (construct job.construct) keeps;

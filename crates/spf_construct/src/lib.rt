@@ -2,6 +2,7 @@
 #![tactic(auto)]
 
 ghost use Rattle.std.specs.Prelude.{◌≡◌, ◌+◌, ◌≤◌, ◌+ℤ◌, ◌≤ℤ◌, length, pos, IfOk, Some, slice_get};
+ghost use Rattle.spf_ast.specs.View.{program as seen_program};
 ghost use Rattle.spf_ast.specs.Construct.{constructs_in};
 ghost use Rattle.spf_ast.specs.ConstructView.{construct as construct_seen};
 ghost use Rattle.spf_ast.specs.Program.{cell_count_of};
@@ -42,7 +43,7 @@ pub fn run_construct<G: Gate>(
     gate: &G,
     into: &mut [i64],
 ) -> Result<Settled, AllocError>
-    requires program { instance.now.code ≡ checked.now }
+    requires program { program_of instance.now ≡ seen_program checked.now }
     requires construct { slice_get (constructs_in (program_of instance.now).main) number ≡ Some (construct_seen construct) }
     requires blocks { AreBlocksOf (construct_seen construct) header.blocks }
     requires guesses { length guesses.now + 1 ≡ header.blocks }

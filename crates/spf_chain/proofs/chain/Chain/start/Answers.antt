@@ -3,6 +3,7 @@ use Rattle.std.specs.List.{All}
 use Rattle.std.proofs.lemmas.Int.{to_z-of_z}
 use Rattle.std.proofs.lemmas.List.{length-replicate}
 use Rattle.spf_ast.specs.declared.syntax.Program as code_program
+use Rattle.spf_ast.specs.Syntax.{Program}
 use Rattle.spf_ast.specs.View.{program}
 use Rattle.spf_ast.specs.Construct.{Construct, constructs_in}
 use Rattle.spf_layout.specs.Layout.{LayoutValue, IsLayoutOf}
@@ -24,11 +25,11 @@ use Rattle.spf_chain.specs.Beginning.{IsBegin, AreFirstTickets, site_of, begun}
 use Rattle.spf_chain.proofs.Starting.{AreParts, entry-is, made-for, started}
 use Rattle.spf_chain.proofs.chain.Chain.start.Goals as goal
 
-parts-of : (i : InstanceValue) (p : code_program.Program) (k : ℕ) (h : code.Header) (frame : List ℤ) (c : Construct) → i.code ≡ p → IsFree p → All (λ b. b < 256) i.input → length frame ≡ frame_size (program_of i)
+parts-of : (i : InstanceValue) (p : code_program.Program) (k : ℕ) (h : code.Header) (frame : List ℤ) (c : Construct) → program_of i ≡ program p → IsFree p → All (λ b. b < 256) i.input → length frame ≡ frame_size (program_of i)
     → slice_get (constructs_in (program_of i).main) k ≡ Some c → AreBlocksOf c h.blocks → AreParts i k h frame c
 parts-of i p k h frame c same free bytes size at blocks = record {
   at = at;
-  free = subst (λ (q : code_program.Program). slice_get (constructs_in (program q).main) k ≡ Some c → IsRollbackFree (program q) c) (sym same) (free k c) at;
+  free = subst (λ (q : Program). slice_get (constructs_in q.main) k ≡ Some c → IsRollbackFree q c) (sym same) (free k c) at;
   bytes = bytes;
   size = size;
   blocks = blocks;
@@ -36,13 +37,13 @@ parts-of i p k h frame c same free bytes size at blocks = record {
 
 -- the cells that were made of the plan are ground for the site
 ground-of : (i : InstanceValue) (p : code_program.Program) (k : ℕ) (h : code.Header) (low : ℤ) (frame entry : List ℤ) (guesses : List Guess) (c : Construct) (l : LayoutValue) (plan : List (List Span)) (s : Site) (cells : CellsValue)
-    → AreParts i k h frame c → i.code ≡ p → IsLayoutOf (program_of i) (length i.input) l
+    → AreParts i k h frame c → program_of i ≡ program p → IsLayoutOf (program_of i) (length i.input) l
     → (slice_get (constructs_in (program p).main) k ≡ Some c → IsPlanOf (program p) c l.extents l.cells low h.blocks plan) → low ≡ h.low
     → cells.setting.plan ≡ plan → cells.setting.entry ≡ entry → s ≡ site_of i k h frame entry guesses → RaisesMispredicted (entry_at s) (guess_at s) cells.setting → h.blocks ≤ 4096
     → IsGround (site_of i k h frame entry guesses) cells
 ground-of i p k h low frame entry guesses c l plan s cells parts same layout is low-is plan-is entry-same site raisable few =
     let of : IsPlanOf (program_of i) c l.extents l.cells low h.blocks plan
-    = subst (λ (q : code_program.Program). slice_get (constructs_in (program q).main) k ≡ Some c → IsPlanOf (program q) c l.extents l.cells low h.blocks plan) (sym same) is parts.at in
+    = subst (λ (q : Program). slice_get (constructs_in q.main) k ≡ Some c → IsPlanOf q c l.extents l.cells low h.blocks plan) (sym same) is parts.at in
     let mine : IsPlanOf (program_of i) c l.extents l.cells h.low h.blocks cells.setting.plan
     = subst (IsPlanOf (program_of i) c l.extents l.cells h.low h.blocks) (sym plan-is) (subst (λ x. IsPlanOf (program_of i) c l.extents l.cells x h.blocks plan) low-is of) in
     record {
