@@ -39,7 +39,7 @@ pub record IsBegin (s : Site) (w : WardenValue) (start : carried.Carried) (guess
   pub same_guesses : s.guesses ≡ map (λ g. g.value) guesses
   pub count : length guesses + 1 ≡ s.blocks
 
--- the chain at its begin: all blocks are out, and none is validated
+-- the chain when it starts: all blocks are out, and none is validated
 abbrev pub begun : Site → WardenValue → ChainValue
 begun s w = record { site = s; warden = w; homes = replicate s.blocks None; again = false; history = []; settled = Carried s.start }
 

@@ -44,10 +44,6 @@ pub record IsOutFirst (c : ChainValue) (n : ℕ) : Type 0 where
   pub out : IsOut c n
   pub first : c.again ≡ true → n ≢ next_block c
 
--- the block's report is home
-pub record IsHomeWith (c : ChainValue) (n : ℕ) (r : Report) : Type 0 where
-  pub home : slice_get c.homes n ≡ Some (Some r)
-
 -- a validated block has trapped
 pub record HasTrapped (c : ChainValue) : Type 0 where
   pub trap : Trap

@@ -1,5 +1,5 @@
 //! Reports are filed.
-ghost use Rattle.std.specs.Prelude.{◌≡◌, ◌≢◌, ◌<◌, ◌≤◌, ◌==◌, ◌↔◌, IsTrue, if◌then◌else◌, ℕ, ℤ, false, length, slice_get, Some, None, MatchOption};
+ghost use Rattle.std.specs.Prelude.{◌≡◌, ◌≢◌, ◌<◌, ◌≤◌, ◌==◌, ◌↔◌, IsTrue, if◌then◌else◌, ℕ, false, length, slice_get, Some, None, MatchOption};
 ghost use Rattle.spf_chain.specs.declared.validated.Settled.TheVariants.{Carried as Gave, Trapped};
 ghost use Rattle.spf_ast.specs.Carried.{Carried as CarriedValue};
 ghost use Rattle.std.specs.List.{Contains};
@@ -155,9 +155,7 @@ impl Chain {
             Settled::Trapped(_) => self.answer_trapped(),
         }
     }
-}
 
-impl Chain {
     // Whether the next block's flag is to be raised, where its real value is known.
     fn is_next_mispredicted(&self, real: Carried) -> bool
         requires { self.now.settled ≡ Gave real }

@@ -13,6 +13,7 @@ ghost use Rattle.spf_chain.specs.Beginning.{site_of};
 ghost use Rattle.spf_construct.specs.Constructs.{ComesTo};
 
 use spf_ast::construct::TopConstruct;
+use spf_cells::finish::Trace;
 use spf_chain::chain::Chain;
 use spf_chain::validated::{Guess, Settled};
 use spf_check::checked::Checked;
@@ -25,7 +26,8 @@ use spf_ticket::run::Job;
 use std::alloc::{AllocError, Global};
 
 /// Runs the blocks of a top construct whose header is done, each from its guess, and again from its real value where the guess was
-/// wrong. `frame` and `entry` are the slots and the memory at its entry, and `into` takes the memory after it.
+/// wrong. `frame` and `entry` are the slots and the memory at its entry, and `into` takes the memory after it. The trace has the
+/// logs of all attempts: those of wrong guesses too.
 ///
 /// # Errors
 ///
@@ -42,7 +44,7 @@ pub fn run_construct<G: Gate>(
     guesses: &[Guess],
     gate: &G,
     into: &mut [i64],
-) -> Result<Settled, AllocError>
+) -> Result<(Settled, Trace), AllocError>
     requires program { program_of instance.now ≡ seen_program checked.now }
     requires construct { slice_get (constructs_in (program_of instance.now).main) number ≡ Some (construct_seen construct) }
     requires blocks { AreBlocksOf (construct_seen construct) header.blocks }
@@ -52,7 +54,7 @@ pub fn run_construct<G: Gate>(
     requires frame { length frame.now ≡ frame_size (program_of instance.now) }
     requires entry { length entry.now ≡ cell_count_of (program_of instance.now) (length instance.now.input) }
     requires size { into.old ≡ entry.now }
-    ensures came { IfOk result (λ r. ComesTo (site_of instance.now number header frame.now entry.now guesses.now) r into.new) }
+    ensures came { IfOk result (λ r. ComesTo (site_of instance.now number header frame.now entry.now guesses.now) r.0 r.1 into.new) }
 {
     let _program = checked.program();
     let (mut chain, cells, tickets) = Chain::start(
@@ -64,6 +66,5 @@ pub fn run_construct<G: Gate>(
         entry,
     };
     run_in_order(&mut chain, &cells, &job, gate, tickets);
-    let (settled, _trace) = chain.finish(cells, into);
-    Ok(settled)
+    Ok(chain.finish(cells, into))
 }

@@ -1,13 +1,7 @@
 //! The blocks of a construct, run on the calling thread: each is attempted in order, and again where it was mispredicted.
 #![tactic(auto)]
 
-ghost use Rattle.std.specs.Prelude.{◌≡◌, ◌+◌, ◌<◌, ℕ, length, false};
-ghost use Rattle.std.specs.List.{Contains};
-ghost use Rattle.spf_ast.specs.Construct.{constructs_in};
-ghost use Rattle.spf_ast.specs.ConstructView.{construct as construct_seen};
-ghost use Rattle.spf_ast.specs.Lawful.{IsLawful};
-ghost use Rattle.spf_ast.specs.Program.{cell_count_of};
-ghost use Rattle.spf_layout.specs.Instance.{program_of};
+ghost use Rattle.std.specs.Prelude.{◌≡◌, ◌+◌};
 ghost use Rattle.spf_entry.specs.Sites.{entry_at, guess_at};
 ghost use Rattle.spf_ticket.specs.Tickets.{IsJobOf, IsFresh};
 ghost use Rattle.spf_chain.specs.Sites.{IsGround};
