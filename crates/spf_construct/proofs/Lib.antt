@@ -1,1 +1,3 @@
 pub mod Running
+pub mod Counting
+pub mod Coming

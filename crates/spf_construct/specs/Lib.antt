@@ -1,1 +1,2 @@
-pub mod Constructs
+pub mod Guesses
+pub mod Coming

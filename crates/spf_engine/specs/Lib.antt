@@ -1,5 +1,2 @@
-pub mod FirstForm
-pub mod Standing
-pub mod Laws
-pub mod Blocks
 pub mod Runs
+pub mod Errors

@@ -1,26 +1,76 @@
 -- Whole runs by blocks.
-use Rattle.std.specs.Prelude.{ℕ, ◌*◌, ◌-◌, List, length}
+use Rattle.std.specs.Prelude.{◌≡◌, ◌<◌, ℕ, ◌*◌, ◌-◌, List, ◌++◌, length}
+use Rattle.std.specs.Option.{option_to_list}
 use Rattle.spf_ast.specs.Syntax.{Program}
-use Rattle.spf_ast.specs.Program.{Stopped}
+use Rattle.spf_ast.specs.Program.{Done, Stopped}
 use Rattle.spf_ast.specs.Construct.{Construct, constructs_in}
+use Rattle.spf_ast.specs.Pieces.{statement_count}
 use Rattle.spf_exec.specs.Pieces.{Stand, IsSettled, ahead}
-use Rattle.spf_task_chain.specs.declared.task.Settled.{Settled}
-use Rattle.spf_task_chain.specs.declared.task.Settled.TheVariants.{Carried, Trapped}
+use Rattle.spf_chain.specs.declared.validated.Settled.{Settled}
+use Rattle.spf_chain.specs.declared.validated.Settled.TheVariants.{Carried, Trapped}
 use Rattle.spf_guess.specs.declared.stats.Stats.{Stats}
-use Rattle.spf_guess.specs.Statistics.{plus}
-use Rattle.spf_engine.specs.declared.blocks.FoldReport.{FoldReport}
-use Rattle.spf_engine.specs.Blocks.{AreAtMost}
-use Rattle.spf_engine.specs.Standing.{GoesOn, HasCome}
+use Rattle.spf_guess.specs.Guess.{Hosts, Telling}
+use Rattle.spf_guess.specs.Statistics.{plus, tally}
+use Rattle.spf_predictors.specs.Answers.{WereTold}
+use Rattle.spf_construct.specs.Guesses.{AreAtMost}
+use Rattle.spf_progress.specs.Progress.{Progress, GoesOn, HasCome}
+use Rattle.spf_engine.specs.declared.account.Account.{Account}
+use Rattle.spf_engine.specs.declared.construct.Passed.{Passed}
+use Rattle.spf_engine.specs.declared.step.Step.{Step}
+use Rattle.spf_engine.specs.declared.step.Step.TheVariants as step
+
+-- ---- one construct
 
 -- where the construct that stands next came to a value, a run that is settled with it goes on; where it came to a trap, the run has come to its end
-abbrev pub LeadsTo : Program → List ℕ → Stand → Construct → Settled → Stats → Type 0
-LeadsTo p input s c (Carried value) counted = (last : Stand) → IsSettled p c s last value → GoesOn p input last counted
-LeadsTo p input s c (Trapped trap) counted = HasCome p input (Stopped trap s.output) counted
+abbrev pub SettlesSo : Hosts → Program → List ℕ → Stand → Construct → Settled → Progress → Type 0
+SettlesSo hosts p input s c (Carried value) progress = (last : Stand) → IsSettled p c s last value → GoesOn hosts p input last progress
+SettlesSo hosts p input s c (Trapped trap) progress = HasCome hosts p input (Stopped trap s.output) progress
 
--- so it is of a run that went on before the construct, with what was counted and what the construct counts
-abbrev pub LeadsOn : Program → List ℕ → Stand → Stand → Construct → FoldReport → Type 0
-LeadsOn p input before after c came = (counted : Stats) → GoesOn p input before counted → LeadsTo p input after c came.settled (plus counted came.stats)
+-- so it is with the progress after the construct: with what it counted, its trace, and all that hosts were told by then
+pub record LeadsTo (hosts : Hosts) (p : Program) (input : List ℕ) (progress : Progress) (s : Stand) (c : Construct) (passed : Passed) (now : Hosts) : Type 0 where
+  pub later : Progress
+  pub stats : later.stats ≡ plus progress.stats passed.stats
+  pub traces : later.traces ≡ progress.traces ++ option_to_list passed.trace
+  pub told : WereTold hosts later.telling now
+  pub settles : SettlesSo hosts p input s c passed.settled later
+
+-- a run goes on past a construct with this value, or ends with this trap
+abbrev pub IsSettledSo : Program → Construct → Stand → Stand → Settled → Step → Type 0
+IsSettledSo p c before after (Carried value) taken = (taken ≡ step.Next) × IsSettled p c before after value
+IsSettledSo p c before after (Trapped trap) taken = (taken ≡ step.Trapped trap) × (after ≡ before)
+
+-- ---- steps
 
 -- each construct that a run went over has counted at most so much
 abbrev pub AreFew : Program → Stand → Stats → Type 0
 AreFew p s counted = AreAtMost counted (4096 * (length (constructs_in p.main) - length (constructs_in (ahead p s))))
+
+-- an account has what the progress of a run has, but for what hosts were told
+pub record AgreesWith (progress : Progress) (account : Account) : Type 0 where
+  pub stats : account.stats ≡ progress.stats
+  pub traces : account.traces.items ≡ progress.traces
+
+-- where a run is after a step: before further statements, at its end, or at a trap
+abbrev pub IsThere : Hosts → Program → List ℕ → Step → Stand → Progress → Type 0
+IsThere hosts p input step.Next s progress = GoesOn hosts p input s progress
+IsThere hosts p input step.Finished s progress = HasCome hosts p input (Done s.cells s.output) progress
+IsThere hosts p input (step.Trapped trap) s progress = HasCome hosts p input (Stopped trap s.output) progress
+
+-- a step led to a further progress of the run, with which the account agrees
+pub record StepsTo (hosts : Hosts) (p : Program) (input : List ℕ) (taken : Step) (s : Stand) (account : Account) (now : Hosts) : Type 0 where
+  pub later : Progress
+  pub agrees : AgreesWith later account
+  pub told : WereTold hosts later.telling now
+  pub there : IsThere hosts p input taken s later
+
+-- fewer statements are still to come, where the run goes on
+abbrev pub ComesNearer : Program → Step → Stand → Stand → Type 0
+ComesNearer p step.Next before after = statement_count (ahead p after) < statement_count (ahead p before)
+ComesNearer p _ before after = Unit {0}
+
+-- hosts were told the first of the pairs that they are told in the whole run
+pub record WereToldFirst (hosts : Hosts) (p : Program) (input : List ℕ) (now : Hosts) : Type 0 where
+  pub telling : List Telling
+  pub more : List Telling
+  pub all : telling ++ more ≡ (tally hosts p input).telling
+  pub told : WereTold hosts telling now

@@ -1,7 +1,8 @@
-//! Whole runs of programs, by blocks from guesses, and why they mean what plain runs do.
+//! Whole runs of accepted programs, by blocks from guesses.
 #![tactic(auto)]
 
-mod blocks;
-pub mod first_form;
-pub mod laws;
+mod account;
+mod construct;
+pub mod error;
 pub mod run;
+mod step;

@@ -1,154 +1,165 @@
-// Whole runs of programs of the first form, by blocks from guesses.
-
-ghost use Rattle.std.specs.Prelude.{◌≡◌, ◌<◌, ◌^◌, length, IfOk, IfErr, Some, true};
+//! Whole runs.
+ghost use Rattle.std.specs.Prelude.{◌≡◌, ◌<◌, ◌≤◌, ◌^◌, [], length, map, None, IfOk, IfErr, IsErrAnd};
 ghost use Rattle.spf_ast.specs.View.{program as seen_program};
-ghost use Rattle.spf_ast.specs.Lawful.{IsLawful};
-ghost use Rattle.spf_ast.specs.ConstructView.{construct as construct_seen};
-ghost use Rattle.spf_ast.specs.Silence.{FunctionsAreSilent};
+ghost use Rattle.spf_ast.specs.Construct.{constructs_in, reals};
+ghost use Rattle.spf_ast.specs.Program.{outcome as outcome_of, seen_outcome, Done, Stopped, cell_count_of, max_cells};
 ghost use Rattle.spf_layout.specs.Instance.{program_of};
-ghost use Rattle.spf_ast.specs.Pieces.{construct_first};
-ghost use Rattle.spf_ast.specs.Program.{outcome as outcome_of, seen_outcome, Done, Stopped};
-ghost use Rattle.spf_layout.specs.declared.layout.RunError.TheVariants.{OutOfMemory};
-ghost use Rattle.spf_exec.specs.Pieces.{IsRunOf, ahead};
-ghost use Rattle.spf_guess.specs.Statistics.{statistics as statistics_of_run};
-ghost use Rattle.spf_engine.specs.FirstForm.{is_first_form as is_first_program};
-ghost use Rattle.spf_engine.specs.Standing.{HasCome};
-ghost use Rattle.spf_engine.specs.Blocks.{AreAtMost};
-ghost use Rattle.spf_engine.specs.Runs.{LeadsOn};
+ghost use Rattle.spf_guess.specs.Statistics.{tally};
+ghost use Rattle.spf_predictors.specs.Answers.{handed_in, WereTold};
+ghost use Rattle.spf_predictors.specs.Missing.{missing_host};
+ghost use Rattle.spf_progress.specs.Traces.{AreTraces};
+ghost use Rattle.spf_engine.specs.Runs.{WereToldFirst};
+ghost use Rattle.spf_engine.specs.Errors.{AreTooMany, IsMissing, WereToldNothing};
 
-use crate::blocks::{FoldReport, Job, run_blocks};
-use crate::laws::runs_in_pieces_go_on;
-use spf_ast::construct::TopConstruct;
-use spf_ast::laws::{each_guess_has_one_answer, lawful_programs_are_quiet_and_small};
+use crate::account::Account;
+use crate::error::EngineError;
+use crate::step::{Step, step};
 use spf_ast::outcome::{Outcome, Trap};
-use spf_ast::syntax::Program;
-use spf_exec::pieces::{Pause, Run};
+use spf_cells::finish::Trace;
+use spf_check::checked::Checked;
+use spf_edge::Gate;
+use spf_exec::pieces::Run;
 use spf_guess::stats::Stats;
-use spf_laws::{each_construct_is_its_block_runs, each_form_sees_visible_slots_alone};
 use spf_layout::instance::Instance;
 use spf_layout::layout::RunError;
-use spf_task_chain::task::Settled;
+use spf_predictors::Predictor;
+use spf_predictors::missing::first_missing;
+use spf_progress::runs_in_pieces_go_on;
 use std::alloc::{AllocError, Global};
 
-/// How a whole run came out, and how good its guesses were.
+/// How a whole run came out.
 #[derive(Drop)]
 pub struct RunReport {
+    /// The output, and the cells or the trap.
     pub outcome: Outcome,
+    /// How good the guesses were.
     pub stats: Stats,
-}
-
-/// Runs the construct that stands next.
-fn run_construct(
-    alloc: Global,
-    instance: &Instance,
-    construct: TopConstruct,
-    run: &mut Run,
-) -> Result<FoldReport, AllocError>
-    requires first_form { is_first_program (program_of instance.now) ≡ true }
-    requires functions { FunctionsAreSilent (program_of instance.now).functions }
-    requires run { IsRunOf (program_of instance.now) (length instance.now.input) run.old }
-    requires construct { construct_first (ahead (program_of instance.now) run.old) ≡ Some (construct_seen construct) }
-    ensures run { IsRunOf (program_of instance.now) (length instance.now.input) run.new }
-    ensures place { run.new.place ≡ run.old.place }
-    ensures came { IfOk result (LeadsOn (program_of instance.now) instance.now.input run.old run.new (construct_seen construct.entry)) }
-    ensures few { IfOk result (λ r. AreAtMost r.stats 4096) }
-{
-    each_form_sees_visible_slots_alone();
-    each_guess_has_one_answer();
-    each_construct_is_its_block_runs();
-    let header = match run.header(instance, construct) {
-        Ok(header) => header,
-        Err(trap) => {
-            return Ok(FoldReport {
-                settled: Settled::Trapped(trap),
-                stats: Stats::none(),
-            });
-        }
-    };
-    if header.blocks == 0 {
-        return Ok(FoldReport {
-            settled: Settled::Carried(header.start),
-            stats: Stats::none(),
-        });
-    }
-    let job = Job {
-        instance,
-        construct,
-        entry: run.frame(),
-    };
-    run_blocks(alloc, &job, header)
+    /// The logs of each construct that had blocks, in the order in which they were reached.
+    pub traces: Vec<Trace>,
 }
 
 /// The report of a run that came to its end.
-fn finished(run: Run, stats: Stats) -> RunReport
+fn finished(run: Run, account: Account) -> RunReport
     ensures outcome { seen_outcome result.outcome ≡ Done run.cells run.output }
-    ensures stats { result.stats ≡ stats }
+    ensures stats { result.stats ≡ account.stats }
+    ensures traces { result.traces.items ≡ account.traces.items }
 {
     let (cells, output) = run.finish();
     RunReport {
         outcome: Outcome::Done { cells, output },
-        stats,
+        stats: account.stats,
+        traces: account.traces,
     }
 }
 
 /// The report of a run that trapped.
-fn trapped(run: Run, trap: Trap, stats: Stats) -> RunReport
+fn trapped(run: Run, trap: Trap, account: Account) -> RunReport
     ensures outcome { seen_outcome result.outcome ≡ Stopped trap run.output }
-    ensures stats { result.stats ≡ stats }
+    ensures stats { result.stats ≡ account.stats }
+    ensures traces { result.traces.items ≡ account.traces.items }
 {
     let (_, output) = run.finish();
     RunReport {
         outcome: Outcome::Trapped { trap, output },
-        stats,
+        stats: account.stats,
+        traces: account.traces,
     }
 }
 
-/// Runs an instance of a program of the first form. The blocks of each fold of `main` are run from guesses, and those again whose
-/// guesses were wrong. What comes of it is the plain outcome, whatever the guesses are.
+/// Runs an instance of an accepted program. All hosts that its constructs name are handed in.
 ///
 /// # Errors
 ///
-/// `AllocError` where there is no memory for the run.
-pub fn run_instance(alloc: Global, instance: &Instance) -> Result<RunReport, AllocError>
-    requires lawful { IsLawful (program_of instance.now) }
-    requires first_form { is_first_program (program_of instance.now) ≡ true }
+/// `AllocError` where there is no memory for the run; the hosts were told the first of what they are told in the whole run.
+pub fn run_instance<G: Gate>(
+    alloc: Global,
+    checked: &Checked,
+    instance: &Instance,
+    hosts: &mut Vec<Box<dyn Predictor>>,
+    gate: &G,
+) -> Result<RunReport, AllocError>
+    requires program { program_of instance.now ≡ seen_program checked.now }
+    requires hosts { missing_host (length hosts.old.items) (constructs_in (program_of instance.now).main) ≡ None }
     ensures outcome { IfOk result (λ r. seen_outcome r.outcome ≡ outcome_of (program_of instance.now) instance.now.input) }
-    ensures statistics { IfOk result (λ r. r.stats ≡ statistics_of_run (program_of instance.now) instance.now.input) }
+    ensures statistics { IfOk result (λ r. r.stats ≡ (tally (handed_in (map (λ h. answer h) hosts.old.items)) (program_of instance.now) instance.now.input).stats) }
+    ensures traces { IfOk result (λ r. AreTraces (handed_in (map (λ h. answer h) hosts.old.items)) (program_of instance.now) instance.now.input
+        (constructs_in (program_of instance.now).main) (reals (program_of instance.now) instance.now.input) [] r.traces.items) }
+    ensures told { IfOk result (λ r. WereTold (handed_in (map (λ h. answer h) hosts.old.items))
+        (tally (handed_in (map (λ h. answer h) hosts.old.items)) (program_of instance.now) instance.now.input).telling
+        (handed_in (map (λ h. answer h) hosts.new.items))) }
+    ensures told_first { IfErr result (λ why. WereToldFirst (handed_in (map (λ h. answer h) hosts.old.items)) (program_of instance.now) instance.now.input
+        (handed_in (map (λ h. answer h) hosts.new.items))) }
 {
-    lawful_programs_are_quiet_and_small();
     runs_in_pieces_go_on();
+    let _program = checked.program();
     let mut run = Run::start(alloc, instance)?;
-    let mut stats = Stats::none();
+    let mut account = Account::new(alloc);
     loop {
-        match run.advance(instance)? {
-            Pause::Finished => return Ok(finished(run, stats)),
-            Pause::Trapped(trap) => return Ok(trapped(run, trap, stats)),
-            Pause::AtConstruct { construct, .. } => {
-                let came = run_construct(alloc, instance, construct, &mut run)?;
-                stats = stats.plus(came.stats);
-                match came.settled {
-                    Settled::Carried(value) => run.settle(instance, construct, value),
-                    Settled::Trapped(trap) => return Ok(trapped(run, trap, stats)),
-                }
-            }
+        match step(alloc, checked, instance, &mut run, &mut account, hosts, gate)? {
+            Step::Next => {}
+            Step::Finished => return Ok(finished(run, account)),
+            Step::Trapped(trap) => return Ok(trapped(run, trap, account)),
         }
     }
 }
 
-/// Runs a program of the first form on an input, by blocks from guesses.
+/// Lays out the arrays of the program for the input.
+fn lay_out<'a>(
+    alloc: Global,
+    checked: &'a Checked,
+    input: &'a [u8],
+) -> Result<Instance<'a>, EngineError>
+    ensures program { IfOk result (λ i. program_of i ≡ seen_program checked.now) }
+    ensures input { IfOk result (λ i. i.input ≡ input.now) }
+    ensures few { IfOk result (λ i. cell_count_of (seen_program checked.now) (length input.now) ≤ max_cells) }
+    ensures too_many { max_cells < cell_count_of (seen_program checked.now) (length input.now)
+        → IsErrAnd result (AreTooMany (cell_count_of (seen_program checked.now) (length input.now))) }
+    ensures error { cell_count_of (seen_program checked.now) (length input.now) ≤ max_cells → IfErr result (IsMissing None) }
+{
+    match Instance::make(alloc, checked.program(), input) {
+        Ok(instance) => Ok(instance),
+        Err(RunError::TooManyCells { count }) => Err(EngineError::TooManyCells { count }),
+        Err(RunError::OutOfMemory) => Err(EngineError::OutOfMemory),
+    }
+}
+
+/// Runs an accepted program on an input by blocks, each from its guess, and those again whose guesses were wrong. What comes of it is
+/// the plain outcome, whatever the guesses are.
+///
+/// `hosts` are the predictors that the program names by number. Each is asked once for each block but the first of its constructs, in
+/// order, before the first attempt, and told their real values, in order, after the construct. `gate` watches the attempts.
 ///
 /// # Errors
 ///
-/// `OutOfMemory` where there is no memory for the run.
-pub fn run_by_blocks(alloc: Global, program: &Program, input: &[u8]) -> Result<RunReport, RunError>
-    requires lawful { IsLawful (seen_program program.now) }
-    requires first_form { is_first_program (seen_program program.now) ≡ true }
-    requires short { length input.now < 2 ^ 63 }
-    ensures outcome { IfOk result (λ r. seen_outcome r.outcome ≡ outcome_of (seen_program program.now) input.now) }
-    ensures statistics { IfOk result (λ r. r.stats ≡ statistics_of_run (seen_program program.now) input.now) }
-    ensures out_of_memory { IfErr result (λ why. why ≡ OutOfMemory) }
+/// `TooManyCells` where the arrays have more than 4,194,304 cells; `NoHost` where the program names a host that isn't handed in; and
+/// `OutOfMemory`. The hosts were told the first of what they are told in the whole run; after the first two errors nothing.
+pub fn run_program<G: Gate>(
+    alloc: Global,
+    checked: &Checked,
+    input: &[u8],
+    hosts: &mut Vec<Box<dyn Predictor>>,
+    gate: &G,
+) -> Result<RunReport, EngineError>
+    ensures outcome { IfOk result (λ r. seen_outcome r.outcome ≡ outcome_of (seen_program checked.now) input.now) }
+    ensures statistics { IfOk result (λ r. r.stats ≡ (tally (handed_in (map (λ h. answer h) hosts.old.items)) (seen_program checked.now) input.now).stats) }
+    ensures traces { IfOk result (λ r. AreTraces (handed_in (map (λ h. answer h) hosts.old.items)) (seen_program checked.now) input.now
+        (constructs_in (seen_program checked.now).main) (reals (seen_program checked.now) input.now) [] r.traces.items) }
+    ensures told { IfOk result (λ r. WereTold (handed_in (map (λ h. answer h) hosts.old.items))
+        (tally (handed_in (map (λ h. answer h) hosts.old.items)) (seen_program checked.now) input.now).telling
+        (handed_in (map (λ h. answer h) hosts.new.items))) }
+    ensures told_first { IfErr result (λ why. WereToldFirst (handed_in (map (λ h. answer h) hosts.old.items)) (seen_program checked.now) input.now
+        (handed_in (map (λ h. answer h) hosts.new.items))) }
+    ensures too_many { max_cells < cell_count_of (seen_program checked.now) (length input.now)
+        → IsErrAnd result (AreTooMany (cell_count_of (seen_program checked.now) (length input.now))) }
+    ensures few { cell_count_of (seen_program checked.now) (length input.now) ≤ max_cells
+        → IfErr result (IsMissing (missing_host (length hosts.old.items) (constructs_in (seen_program checked.now).main))) }
+    ensures complete { IfOk result (λ r. missing_host (length hosts.old.items) (constructs_in (seen_program checked.now).main) ≡ None) }
+    ensures untold { IfErr result (λ why. WereToldNothing why (handed_in (map (λ h. answer h) hosts.old.items)) (handed_in (map (λ h. answer h) hosts.new.items))) }
 {
-    let instance = Instance::make(alloc, program, input)?;
-    let report = run_instance(alloc, &instance)?;
+    let instance = lay_out(alloc, checked, input)?;
+    if let Some(number) = first_missing(checked.program(), hosts.len() as u64) {
+        return Err(EngineError::NoHost { number });
+    }
+    let report = run_instance(alloc, checked, &instance, hosts, gate)?;
     Ok(report)
 }

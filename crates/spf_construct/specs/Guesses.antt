@@ -1,0 +1,68 @@
+-- The guesses for a construct's blocks, and how good they were.
+use Rattle.std.specs.Prelude.{◌≡◌, ◌<◌, ◌≤◌, ℕ, zero, suc, not, List, [], ◌∷◌, map, length, ℤ, pos, ◌+ℤ◌}
+use Rattle.spf_ast.specs.BlockRun.{predicts}
+use Rattle.spf_ast.specs.Carried.{Carried}
+use Rattle.spf_ast.specs.Construct.{Construct}
+use Rattle.spf_ast.specs.ConstructView.{construct as construct_seen}
+use Rattle.spf_ast.specs.Syntax.{Host}
+use Rattle.spf_exec.specs.declared.pieces.Header.{Header}
+use Rattle.spf_layout.specs.Frame.{main_slots}
+use Rattle.spf_layout.specs.Instance.{program_of}
+use Rattle.spf_chain.specs.declared.validated.Guess as code_guess
+use Rattle.spf_chain.specs.declared.validated.Validated.{Validated}
+use Rattle.spf_guess.specs.declared.stats.Stats.{Stats}
+use Rattle.spf_guess.specs.Guess.{Guess, guess_of, Hosts, Telling, predictor_of, guess_for}
+use Rattle.spf_guess.specs.Statistics.{Guessed, is_hit, how_many}
+use Rattle.spf_construct.specs.declared.guesses.Stand.{Stand}
+
+-- a guess, as definitions see it
+abbrev pub seen_guess : code_guess.Guess → Guess
+seen_guess guess = record { value = guess.value; blind = guess.blind }
+
+-- what the construct's predictor comes to for a block number where the run stands, an expression
+abbrev pub predicted : Stand → ℤ → Guess
+predicted at number = guess_of (predicts (program_of at.instance.now) at.instance.now.input (construct_seen at.construct) (main_slots (program_of at.instance.now) at.frame.now) at.cells.now number)
+
+-- the guess there for a block number, where these hosts were told so much
+abbrev pub guess_there : Hosts → List Telling → Stand → ℤ → Guess
+guess_there hosts telling at number = guess_for hosts telling (program_of at.instance.now) at.instance.now.input (construct_seen at.construct) (main_slots (program_of at.instance.now) at.frame.now) at.cells.now number
+
+-- the same for a block of a construct with this header, by the block's index
+abbrev pub block_guess : Hosts → List Telling → Stand → Header → ℕ → Guess
+block_guess hosts telling at header n = guess_there hosts telling at (header.low +ℤ pos n)
+
+-- the host that a construct names is one of so many
+abbrev pub IsHandedIn : ℕ → Construct → Type 0
+IsHandedIn count construct = (host : ℕ) → predictor_of construct ≡ Host host → host < count
+
+-- the guesses for so many blocks from an index on
+abbrev pub guesses_from : (ℕ → Guess) → ℕ → ℕ → List Guess
+guesses_from guess n zero = []
+guesses_from guess n (suc count) = guess n ∷ guesses_from guess (suc n) count
+
+-- ---- counts
+
+-- the real values of validated blocks
+abbrev pub real_values : List Validated → List Carried
+real_values history = map (λ b. b.real) history
+
+-- blocks with their guesses, as far as there are both
+abbrev pub paired : List Guess → List Carried → List Guessed
+paired (guess ∷ guesses) (real ∷ reals) = record { guess = guess; real = real } ∷ paired guesses reals
+paired _ _ = []
+
+-- the statistics of so many blocks, those of them with guesses being these
+abbrev pub counts_of : ℕ → List Guessed → Stats
+counts_of blocks guessed_blocks = record {
+  blocks = blocks;
+  hits = how_many is_hit guessed_blocks;
+  misses = how_many (λ block. not (is_hit block)) guessed_blocks;
+  blind = how_many (λ block. block.guess.blind) guessed_blocks;
+}
+
+-- each count is at most so much
+pub record AreAtMost (stats : Stats) (most : ℕ) : Type 0 where
+  pub blocks : stats.blocks ≤ most
+  pub hits : stats.hits ≤ most
+  pub misses : stats.misses ≤ most
+  pub blind : stats.blind ≤ most

@@ -1,0 +1,156 @@
+//! Constructs, from their header on.
+ghost use Rattle.std.specs.Prelude.{◌≡◌, ◌+◌, ◌++◌, List, length, map, IfOk, IfErr};
+ghost use Rattle.spf_ast.specs.View.{program as seen_program};
+ghost use Rattle.spf_chain.specs.Beginning.{site_of};
+ghost use Rattle.spf_chain.specs.Chains.{cells_of, HasEnded};
+ghost use Rattle.spf_ast.specs.ConstructView.{construct as construct_seen};
+ghost use Rattle.spf_entry.specs.Entry.{plain_blocks};
+ghost use Rattle.spf_exec.specs.Pieces.{seen_header};
+ghost use Rattle.spf_guess.specs.Guess.{Hosts, Telling, tells};
+ghost use Rattle.spf_predictors.specs.Answers.{handed_in, WereTold};
+ghost use Rattle.spf_construct.specs.Guesses.{block_guess, AreAtMost, IsHandedIn};
+ghost use Rattle.spf_chain.specs.Finishing.{IsFinished};
+ghost use Rattle.spf_construct.specs.Coming.{IsAtConstruct, IsReady, entry_of, ComeTo};
+
+use crate::counts::count_blocks;
+use crate::guesses::{Stand, take_guesses};
+use crate::telling::tell_history;
+use spf_alike::speculative_runs_see_visible_slots_alone;
+use spf_ast::laws::lawful_programs_are_quiet_and_small;
+use spf_cells::cells::Cells;
+use spf_cells::finish::Trace;
+use spf_chain::chain::Chain;
+use spf_chain::validated::{Guess, Settled};
+use spf_check::checked::Checked;
+use spf_edge::Gate;
+use spf_exec::frame::Frame;
+use spf_exec::pieces::Header;
+use spf_guess::stats::Stats;
+use spf_predictors::Predictor;
+use spf_serial::run_in_order;
+use spf_ticket::run::Job;
+use std::alloc::{AllocError, Global};
+
+/// What the blocks of a construct came to.
+#[derive(Drop)]
+pub struct ConstructReport {
+    /// The carried value after the last block, or the trap.
+    pub settled: Settled,
+    /// How good the guesses were.
+    pub stats: Stats,
+    /// The logs of all attempts, those from wrong guesses too.
+    pub trace: Trace,
+}
+
+/// The blocks of a construct when all are run: what is left is to write their cells back.
+#[derive(Drop)]
+pub struct Blocks {
+    /// Their chain, which has ended.
+    pub chain: Chain,
+    /// Its cells.
+    pub cells: Cells,
+    /// How good the guesses were.
+    pub stats: Stats,
+}
+
+/// Runs the blocks, each from its guess, and again from its real value where the guess was wrong, until all are validated or one
+/// has trapped.
+fn run_from<G: Gate>(
+    alloc: Global,
+    checked: &Checked,
+    at: Stand,
+    number: u32,
+    header: Header,
+    guesses: &[Guess],
+    gate: &G,
+) -> Result<(Chain, Cells), AllocError>
+    requires there { IsAtConstruct (seen_program checked.now) at number header }
+    requires guesses { length guesses.now + 1 ≡ header.blocks }
+    ensures site { IfOk result (λ r. r.0.site ≡ site_of at.entry.instance.now number header at.entry.frame.now at.entry.cells.now guesses.now) }
+    ensures ended { IfOk result (λ r. HasEnded r.0) }
+    ensures own { IfOk result (λ r. r.1 ≡ cells_of r.0) }
+{
+    let _program = checked.program();
+    let (mut chain, cells, tickets) = Chain::start(
+        alloc,
+        checked,
+        at.instance,
+        number,
+        header,
+        at.frame,
+        at.cells,
+        guesses,
+    )?;
+    let job = Job {
+        instance: at.instance,
+        construct: at.construct,
+        entry: at.cells,
+    };
+    run_in_order(&mut chain, &cells, &job, gate, tickets);
+    Ok((chain, cells))
+}
+
+/// Runs the blocks of a top construct whose header is done. `at` is where the run stands, and `number` is the construct's number
+/// among the top constructs. A host is asked for each block but the first, in order, before the first attempt, and told their real
+/// values, in order, when all is run.
+///
+/// # Errors
+///
+/// `AllocError` where there is no memory for the blocks; nothing was told then.
+pub fn run_blocks<G: Gate>(
+    alloc: Global,
+    checked: &Checked,
+    at: Stand,
+    number: u32,
+    header: Header,
+    hosts: &mut Vec<Box<dyn Predictor>>,
+    gate: &G,
+) -> Result<Blocks, AllocError>
+    requires there { IsAtConstruct (seen_program checked.now) at number header }
+    requires host { IsHandedIn (length hosts.old.items) (construct_seen at.construct) }
+    ensures ready { IfOk result IsReady }
+    ensures size { IfOk result (λ b. length b.chain.site.memory ≡ length at.entry.cells.now) }
+    ensures came { IfOk result (λ b. (before : Hosts) (telling : List Telling)
+        → WereTold before telling (handed_in (map (λ h. answer h) hosts.old.items))
+        → ComeTo (entry_of at.entry header) (block_guess before telling at.entry header) b) }
+    ensures told { IfOk result (λ b. (before : Hosts) (telling : List Telling)
+        → WereTold before telling (handed_in (map (λ h. answer h) hosts.old.items))
+        → WereTold before (telling ++ tells (construct_seen at.entry.construct) (seen_header header) (plain_blocks (entry_of at.entry header)).values)
+        (handed_in (map (λ h. answer h) hosts.new.items))) }
+    ensures nothing_told { IfErr result (λ why. (before : Hosts) (telling : List Telling)
+        → WereTold before telling (handed_in (map (λ h. answer h) hosts.old.items))
+        → WereTold before telling (handed_in (map (λ h. answer h) hosts.new.items))) }
+    ensures count { length hosts.new.items ≡ length hosts.old.items }
+    ensures few { IfOk result (λ b. AreAtMost b.stats 4096) }
+{
+    speculative_runs_see_visible_slots_alone();
+    lawful_programs_are_quiet_and_small();
+    let _program = checked.program();
+    let guesses = take_guesses(alloc, at, header, hosts)?;
+    let (chain, cells) = run_from(alloc, checked, at, number, header, &guesses, gate)?;
+    let history = chain.history();
+    let stats = count_blocks(history, &guesses);
+    tell_history(at.construct, header, history, hosts);
+    Ok(Blocks {
+        chain,
+        cells,
+        stats,
+    })
+}
+
+impl Blocks {
+    /// Writes the blocks' cells back to the run's. Where no block trapped, these are then the memory after the blocks.
+    pub fn write_back(self, into: &mut [i64]) -> ConstructReport
+        requires ready { IsReady self }
+        requires size { length into.old ≡ length self.chain.site.memory }
+        ensures finished { IsFinished self.chain result.settled result.trace into.old into.new }
+        ensures stats { result.stats ≡ self.stats }
+    {
+        let (settled, trace) = self.chain.finish(self.cells, into);
+        ConstructReport {
+            settled,
+            stats: self.stats,
+            trace,
+        }
+    }
+}

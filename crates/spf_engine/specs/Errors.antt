@@ -1,0 +1,25 @@
+-- Why a run doesn't come to its end.
+use Rattle.std.specs.Prelude.{◌≡◌, ℕ, [], Option, Some}
+use Rattle.spf_layout.specs.RunErrors.{counted}
+use Rattle.spf_guess.specs.Guess.{Hosts}
+use Rattle.spf_predictors.specs.Answers.{WereTold}
+use Rattle.spf_engine.specs.declared.error.EngineError.{EngineError}
+use Rattle.spf_engine.specs.declared.error.EngineError.TheVariants.{TooManyCells, NoHost, OutOfMemory}
+
+-- too many cells are the cause, and they are so many; or memory ran out
+abbrev pub AreTooMany : ℕ → EngineError → Type 0
+AreTooMany cells (TooManyCells count) = count ≡ counted cells
+AreTooMany cells (NoHost number) = ⊥
+AreTooMany cells OutOfMemory = Unit {0}
+
+-- the first host that is missing is the cause; or memory ran out
+abbrev pub IsMissing : Option ℕ → EngineError → Type 0
+IsMissing missing (TooManyCells count) = ⊥
+IsMissing missing (NoHost number) = missing ≡ Some number
+IsMissing missing OutOfMemory = Unit {0}
+
+-- hosts were told nothing where the program wasn't begun
+abbrev pub WereToldNothing : EngineError → Hosts → Hosts → Type 0
+WereToldNothing (TooManyCells count) before now = WereTold before [] now
+WereToldNothing (NoHost number) before now = WereTold before [] now
+WereToldNothing OutOfMemory before now = Unit {0}

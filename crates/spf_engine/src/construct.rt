@@ -1,0 +1,145 @@
+//! The construct that stands next in a run.
+ghost use Rattle.std.specs.Prelude.{◌≡◌, ◌<◌, ◌≤◌, ◌+ℤ◌, ◌≤ℤ◌, ◌++◌, List, length, map, pos, slice_get, Some, IfOk, IfErr};
+ghost use Rattle.spf_ast.specs.View.{program as seen_program};
+ghost use Rattle.spf_ast.specs.ConstructView.{construct as construct_seen};
+ghost use Rattle.spf_ast.specs.Construct.{constructs_in};
+ghost use Rattle.spf_ast.specs.Pieces.{construct_first};
+ghost use Rattle.spf_check.specs.Plans.{AreBlocksOf};
+ghost use Rattle.spf_exec.specs.Pieces.{IsRunOf, ahead, seen_header};
+ghost use Rattle.spf_layout.specs.Instance.{program_of};
+ghost use Rattle.spf_entry.specs.Entry.{plain_blocks};
+ghost use Rattle.spf_guess.specs.Guess.{Hosts, Telling, tells};
+ghost use Rattle.spf_predictors.specs.Answers.{handed_in, WereTold};
+ghost use Rattle.spf_construct.specs.Guesses.{AreAtMost, IsHandedIn};
+ghost use Rattle.spf_construct.specs.Coming.{ComesTo};
+ghost use Rattle.spf_progress.specs.Progress.{Progress, GoesOn, entry_there, guess_there};
+ghost use Rattle.spf_engine.specs.Runs.{LeadsTo};
+
+use spf_ast::construct::TopConstruct;
+use spf_ast::laws::lawful_programs_are_quiet_and_small;
+use spf_cells::finish::Trace;
+use spf_chain::validated::Settled;
+use spf_check::checked::Checked;
+use spf_construct::construct::{ConstructReport, run_blocks};
+use spf_construct::guesses::Stand;
+use spf_edge::Gate;
+use spf_exec::pieces::{Header, Run};
+use spf_guess::stats::Stats;
+use spf_layout::instance::Instance;
+use spf_predictors::Predictor;
+use spf_progress::runs_in_pieces_go_on;
+use std::alloc::{AllocError, Global};
+
+/// What a construct came to.
+#[derive(Drop)]
+pub(crate) struct Passed {
+    pub settled: Settled,
+    pub stats: Stats,
+    /// The logs of its attempts, where it has blocks.
+    pub trace: Option<Trace>,
+}
+
+/// A construct without blocks, or one whose header trapped.
+fn without_blocks(settled: Settled) -> Passed {
+    Passed {
+        settled,
+        stats: Stats::none(),
+        trace: None,
+    }
+}
+
+/// Runs the blocks of the construct that stands next, whose header is done.
+fn run_at<G: Gate>(
+    alloc: Global,
+    checked: &Checked,
+    instance: &Instance,
+    construct: TopConstruct,
+    number: u32,
+    header: Header,
+    run: &mut Run,
+    hosts: &mut Vec<Box<dyn Predictor>>,
+    gate: &G,
+) -> Result<ConstructReport, AllocError>
+    requires program { program_of instance.now ≡ seen_program checked.now }
+    requires run { IsRunOf (program_of instance.now) (length instance.now.input) run.old }
+    requires construct { slice_get (constructs_in (program_of instance.now).main) number ≡ Some (construct_seen construct) }
+    requires blocks { AreBlocksOf (construct_seen construct) header.blocks }
+    requires some { 1 ≤ header.blocks }
+    requires few { header.blocks ≤ 4096 }
+    requires fits { (header.low +ℤ pos header.blocks) ≤ℤ i64.MAX }
+    requires host { IsHandedIn (length hosts.old.items) (construct_seen construct) }
+    ensures came { IfOk result (λ r. (before : Hosts) (telling : List Telling)
+        → WereTold before telling (handed_in (map (λ h. answer h) hosts.old.items))
+        → ComesTo (entry_there (program_of instance.now) instance.now.input (construct_seen construct.entry) (seen_header header) run.old)
+        (guess_there before telling (program_of instance.now) instance.now.input (construct_seen construct.entry) (seen_header header) run.old)
+        r run.new.cells) }
+    ensures told { IfOk result (λ r. (before : Hosts) (telling : List Telling)
+        → WereTold before telling (handed_in (map (λ h. answer h) hosts.old.items))
+        → WereTold before (telling ++ tells (construct_seen construct.entry) (seen_header header)
+        (plain_blocks (entry_there (program_of instance.now) instance.now.input (construct_seen construct.entry) (seen_header header) run.old)).values)
+        (handed_in (map (λ h. answer h) hosts.new.items))) }
+    ensures nothing_told { IfErr result (λ why. (before : Hosts) (telling : List Telling)
+        → WereTold before telling (handed_in (map (λ h. answer h) hosts.old.items))
+        → WereTold before telling (handed_in (map (λ h. answer h) hosts.new.items))) }
+    ensures count { length hosts.new.items ≡ length hosts.old.items }
+    ensures few { IfOk result (λ r. AreAtMost r.stats 4096) }
+    ensures run { IsRunOf (program_of instance.now) (length instance.now.input) run.new }
+    ensures others { record run.new { cells = run.old.cells } ≡ run.old }
+{
+    let at = Stand {
+        instance,
+        construct,
+        frame: run.frame(),
+        cells: run.cells(),
+    };
+    let blocks = run_blocks(alloc, checked, at, number, header, hosts, gate)?;
+    Ok(blocks.write_back(run.cells_mut()))
+}
+
+/// Performs the header of the construct that stands next and runs its blocks. The run stays before the construct.
+pub(crate) fn pass_construct<G: Gate>(
+    alloc: Global,
+    checked: &Checked,
+    instance: &Instance,
+    construct: TopConstruct,
+    number: u32,
+    run: &mut Run,
+    hosts: &mut Vec<Box<dyn Predictor>>,
+    gate: &G,
+) -> Result<Passed, AllocError>
+    requires program { program_of instance.now ≡ seen_program checked.now }
+    requires run { IsRunOf (program_of instance.now) (length instance.now.input) run.old }
+    requires next { construct_first (ahead (program_of instance.now) run.old) ≡ Some (construct_seen construct) }
+    requires construct { slice_get (constructs_in (program_of instance.now).main) number ≡ Some (construct_seen construct) }
+    requires host { IsHandedIn (length hosts.old.items) (construct_seen construct) }
+    ensures came { IfOk result (λ r. (before : Hosts) (progress : Progress)
+        → WereTold before progress.telling (handed_in (map (λ h. answer h) hosts.old.items))
+        → GoesOn before (program_of instance.now) instance.now.input run.old progress
+        → LeadsTo before (program_of instance.now) instance.now.input progress run.new (construct_seen construct.entry) r (handed_in (map (λ h. answer h) hosts.new.items))) }
+    ensures nothing_told { IfErr result (λ why. (before : Hosts) (telling : List Telling)
+        → WereTold before telling (handed_in (map (λ h. answer h) hosts.old.items))
+        → WereTold before telling (handed_in (map (λ h. answer h) hosts.new.items))) }
+    ensures count { length hosts.new.items ≡ length hosts.old.items }
+    ensures few { IfOk result (λ r. AreAtMost r.stats 4096) }
+    ensures run { IsRunOf (program_of instance.now) (length instance.now.input) run.new }
+    ensures place { run.new.place ≡ run.old.place }
+{
+    runs_in_pieces_go_on();
+    lawful_programs_are_quiet_and_small();
+    let _program = checked.program();
+    let header = match run.header(instance, construct) {
+        Ok(header) => header,
+        Err(trap) => return Ok(without_blocks(Settled::Trapped(trap))),
+    };
+    if header.blocks == 0 {
+        return Ok(without_blocks(Settled::Carried(header.start)));
+    }
+    let report = run_at(
+        alloc, checked, instance, construct, number, header, run, hosts, gate,
+    )?;
+    Ok(Passed {
+        settled: report.settled,
+        stats: report.stats,
+        trace: Some(report.trace),
+    })
+}

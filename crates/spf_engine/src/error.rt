@@ -1,0 +1,25 @@
+//! Why a run doesn't come to its end.
+ghost use Rattle.std.specs.Prelude.{◌≡◌};
+ghost use Rattle.spf_engine.specs.declared.error.EngineError.TheVariants as engine_error;
+
+use spf_layout::layout::RunError;
+use std::alloc::AllocError;
+
+/// Why a program wasn't run to its end.
+#[derive(Clone, Copy, PartialEq, Eq, Debug)]
+pub enum EngineError {
+    /// All arrays together have more than 4,194,304 cells. `count` is their number, or 2^128 - 1 where it is greater than that.
+    TooManyCells { count: u128 },
+    /// A construct names this host, and fewer are handed in.
+    NoHost { number: u64 },
+    /// There was no memory for the run.
+    OutOfMemory,
+}
+
+impl From<AllocError> for EngineError {
+    ghost from_gives = { λ _ error. error ≡ engine_error.OutOfMemory };
+
+    fn from(_: AllocError) -> Self {
+        EngineError::OutOfMemory
+    }
+}

@@ -1,0 +1,6 @@
+pub mod Places
+pub mod Fronts
+pub mod Performing
+pub mod Tallies
+pub mod Standing
+pub mod Constructs

@@ -1,0 +1,32 @@
+use Rattle.spf_exec.specs.declared.pieces.Pause.TheVariants as pause
+use Rattle.spf_progress.specs.Laws.{RunsAdvance}
+use Rattle.spf_progress.proofs.Standing.{Laws, begins, advances, advances-to-trap, finishes}
+use Rattle.spf_progress.proofs.Constructs.{header-traps-run, construct-settles, construct-ends-run}
+use Rattle.spf_progress.proofs.runs_in_pieces_go_on.Goals as goal
+
+advance : Laws → RunsAdvance
+advance laws hosts p input before after progress (pause.AtConstruct number construct) goes a = advances laws hosts p input before after progress goes a.went a.at
+advance laws hosts p input before after progress pause.Finished goes a = finishes hosts p input after progress (advances laws hosts p input before after progress goes a.went a.at) a.none
+advance laws hosts p input before after progress (pause.Trapped trap) goes a = advances-to-trap laws hosts p input before after progress trap goes a
+
+pub returns : goal.returns
+returns c =
+    let see = c.each_form_sees_visible_slots_alone.ensures in
+    let own = c.each_construct_is_its_block_runs.ensures in
+    let laws : Laws = record {
+      blocks_see = see.blocks;
+      parts_see = see.parts;
+      headers_see = see.headers;
+      unshared = c.each_guess_has_one_answer.ensures.guesses;
+      blocks = own.constructs;
+      headers = own.headers;
+      contained = c.each_construct_is_self_contained.ensures;
+      slots = c.speculative_runs_see_visible_slots_alone.ensures.slots;
+    } in
+    record {
+      begin = begins;
+      advance = advance laws;
+      headers = header-traps-run laws;
+      settle = construct-settles laws;
+      blocks = construct-ends-run laws;
+    }

@@ -1,0 +1,3 @@
+pub mod Traces
+pub mod Progress
+pub mod Laws

@@ -1,7 +1,0 @@
-use Rattle.std.proofs.Common.{◌≡◌, ◌∷◌, take, map, None, Some}
-use Rattle.spf_task_chain.specs.Kept.{unvalidated}
-use Rattle.spf_task_chain.proofs.validation.blocks_of.Given as goal
-
--- block 0 and the blocks of the guesses so far
-abbrev pub invariant-loop-guess : goal.invariant-loop-guess
-invariant-loop-guess l = l.blocks.items ≡ unvalidated 0 l.start (None ∷ map (λ g. Some g.value) (take l.guess-index l.guesses))

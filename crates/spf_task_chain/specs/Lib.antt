@@ -1,3 +1,0 @@
-pub mod Validation
-pub mod Chain
-pub mod Kept
