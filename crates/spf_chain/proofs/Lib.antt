@@ -8,3 +8,4 @@ pub mod Histories
 pub mod Mispredicted
 pub mod Tickets
 pub mod Starting
+pub mod Filed

@@ -16,7 +16,7 @@ use Rattle.spf_layout.specs.Instance.{program_of}
 use Rattle.spf_rollback.specs.Rules.{KeepsTheRules}
 use Rattle.spf_check.specs.Accepting.{IsAccepted}
 use Rattle.spf_ticket.specs.declared.run.Job.{Job}
-use Rattle.spf_serial.specs.InOrder.{CanRun}
+use Rattle.spf_chain.specs.Jobs.{CanRun}
 use Rattle.spf_ast.specs.declared.syntax.Part.TheVariants.{Body, Producer, Consumer}
 
 silent-of : (p : Program) (c : Construct) → KeepsTheRules p c → (n : ℕ) → PartIsSilent c (part_of c n)
