@@ -12,7 +12,8 @@ use std::marker::Model;
 
 /// A hand of a pool, for one thread.
 ///
-/// Contracts see of it the key of its pool, which deque is its own, how many items it may give, how many items it has seen given to each deque and taken from it, and how often it has looked at these numbers.
+/// Contracts see of it the key and the deques of its pool, which deque is its own, how many items it may give, how many items it has
+/// seen given to each deque and taken from it, how many it took itself, and how often it has looked at these numbers.
 pub struct Hand<T: Item<K>, K> {
     pub(crate) key: GhostKey<K>,
     pub(crate) own: usize,
@@ -48,10 +49,14 @@ impl<T: Item<K>, K> Drop for Hand<T, K> {
 }
 
 impl<T: Item<K>, K> Hand<T, K> {
-    /// Puts an item at the back of the hand's own deque. It comes back exactly where the hand has given `capacity` items before.
+    /// Puts an item at the back of the hand's own deque. It takes no memory.
+    ///
+    /// # Errors
+    ///
+    /// The item comes back exactly where the hand has given `capacity` items before.
     pub fn give(&mut self, item: T) -> Result<(), T>
-        requires { T.meets self.old.key item }
-        ensures { MatchResult result
+        requires item { T.meets self.old.key item }
+        ensures given { MatchResult result
             (λ _. (slice_index self.old.given self.old.own < self.old.capacity) × (self.new ≡ after_giving self.old))
             (λ x. (x ≡ item) × (slice_index self.old.given self.old.own ≡ self.old.capacity) × (self.new ≡ self.old)) }
     {
@@ -82,7 +87,11 @@ impl<T: Item<K>, K> Hand<T, K> {
         sweep(self.ends.as_mut_slice(), self.own)
     }
 
-    /// Takes the front of the hand's own deque, or else the front of another one.
+    /// Takes the front of the hand's own deque, or else the front of another one. It takes no memory and doesn't wait.
+    ///
+    /// `Empty` comes only where each deque was seen empty in this call: at a look as many items were taken from it as were given.
+    /// `Again` comes only where there are two hands or more, and each deque was looked at in this call and seen empty, or busy: an item
+    /// was given to it that wasn't counted as taken.
     pub fn next(&mut self) -> Next<T>
         ensures next { MatchNext result (T.meets self.old.key) (SeenAllEmpty self.old self.new) (SeenAllEmptyOrBusy self.old self.new) }
         ensures took { MatchNext result (λ _. TookOne self.old self.new) (TookNone self.old self.new) (TookNone self.old self.new) }

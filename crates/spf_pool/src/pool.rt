@@ -1,8 +1,11 @@
 //! A pool is made, with its hands.
 ghost use Rattle.std.specs.Prelude.{◌≡◌, ◌+◌, ◌<◌, ◌≤◌, true, false, length, map, replicate, IfOk};
+ghost use mathlib.Core.Option.{some};
+ghost use lib.ListN.{get_elem?};
+ghost use Rattle.spf_pool.specs.Ends.{EndValue};
 ghost use Rattle.spf_pool.specs.Counter.{ledger_of};
 ghost use Rattle.spf_pool.specs.Deque.{tag_of};
-ghost use Rattle.spf_pool.specs.Made.{new_end, new_hand, as_guest, AreOpen, AreRows, AreNewHands};
+ghost use Rattle.spf_pool.specs.Made.{new_end, new_hand, as_guest, AreOpen, AreNewEnds, AreRows, IsLoneHand, AreNewHands};
 
 use crate::counter::Counter;
 use crate::end::End;
@@ -38,7 +41,7 @@ fn deck<T: Item<K>, K>(
     capacity: u64,
 ) -> Result<End<T, K>, AllocError>
     requires { capacity ≤ 8192 }
-    ensures { IfOk result (λ e. e ≡ new_end key.now.value capacity true true) }
+    ensures { IfOk result (λ e. e ≡ new_end key.now.value e.deque capacity true true) }
 {
     let counter = Counter::make(alloc)?;
     let tag = tag_for(key, &counter);
@@ -59,7 +62,7 @@ fn decks<T: Item<K>, K>(
     capacity: u64,
 ) -> Result<Vec<End<T, K>>, AllocError>
     requires { capacity ≤ 8192 }
-    ensures { IfOk result (λ v. v.items ≡ replicate workers (new_end key.now.value capacity true false)) }
+    ensures { IfOk result (λ v. (length v.items ≡ workers) × AreNewEnds key.now.value capacity true v.items) }
 {
     let mut owners = Vec::new(alloc);
     for _ in 0..workers {
@@ -121,10 +124,11 @@ fn hand_of<T: Item<K>, K>(
     own: usize,
     capacity: u64,
 ) -> Hand<T, K>
-    requires own { (own < length ends.items) × (1 < length ends.items) × (capacity ≤ 8192) }
-    requires owner { owner ≡ new_end key.now.value capacity true false }
-    requires ends { ends.items ≡ replicate (length ends.items) (new_end key.now.value capacity false false) }
-    ensures { result ≡ new_hand key.now.value capacity (length ends.items) own }
+    requires size { (own < length ends.items) × (1 < length ends.items) × (capacity ≤ 8192) }
+    requires owner { owner ≡ new_end key.now.value owner.deque capacity true false }
+    requires ends { AreNewEnds key.now.value capacity false ends.items }
+    requires same { (e : EndValue K) → get_elem? ends.items own ≡ some e → owner.deque ≡ e.deque }
+    ensures { result ≡ new_hand key.now.value capacity (map (λ e. e.deque) ends.items) own }
 {
     ends[own] = owner;
     Hand {
@@ -153,24 +157,24 @@ fn rows<T: Item<K>, K>(
     Ok(rows)
 }
 
-// A hand of each own end and each row.
+// A hand of each own end and a row of ends.
 fn hands_of<T: Item<K>, K>(
     alloc: Global,
     key: &GhostKey<K>,
-    mut owners: Vec<End<T, K>>,
+    owners: Vec<End<T, K>>,
     mut rows: Vec<Vec<End<T, K>>>,
-    workers: u64,
     capacity: u64,
 ) -> Result<Vec<Hand<T, K>>, AllocError>
-    requires workers { (1 < workers) × (capacity ≤ 8192) }
-    requires owners { owners.items ≡ replicate workers (new_end key.now.value capacity true false) }
-    requires rows { (length rows.items ≡ workers) × AreRows owners.items rows.items }
-    ensures { IfOk result (λ v. AreNewHands key.now.value capacity workers v.items) }
+    requires size { (1 < length owners.items) × (length rows.items ≡ length owners.items) × (capacity ≤ 8192) }
+    requires owners { AreNewEnds key.now.value capacity true owners.items }
+    requires rows { AreRows owners.items rows.items }
+    ensures { IfOk result (λ v. AreNewHands key.now.value capacity (length owners.items) v.items) }
 {
     let mut hands = Vec::new(alloc);
-    while let Some(owner) = owners.pop() {
+    for owner in owners {
         let ends = rows.pop().unwrap();
-        hands.push(hand_of(key, owner, ends, owners.len(), capacity))?;
+        let own = hands.len();
+        hands.push(hand_of(key, owner, ends, own, capacity))?;
     }
     Ok(hands)
 }
@@ -188,7 +192,7 @@ fn many<T: Item<K>, K>(
 {
     let mut owners = decks::<T, K>(alloc, key, workers, capacity)?;
     let rows = rows(alloc, owners.as_mut_slice(), workers)?;
-    hands_of(alloc, key, owners, rows, workers, capacity)
+    hands_of(alloc, key, owners, rows, capacity)
 }
 
 // The only hand.
@@ -198,7 +202,7 @@ fn alone<T: Item<K>, K>(
     capacity: u64,
 ) -> Result<Hand<T, K>, AllocError>
     requires { capacity ≤ 8192 }
-    ensures { IfOk result (λ h. h ≡ new_hand key.now.value capacity 1 0) }
+    ensures { IfOk result (λ h. IsLoneHand key.now.value capacity h) }
 {
     let mut ends = Vec::new(alloc);
     ends.push(deck::<T, K>(alloc, key, capacity)?)?;
