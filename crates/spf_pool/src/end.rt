@@ -3,7 +3,6 @@ ghost use Rattle.std.specs.Prelude.{◌≡◌, ◌+◌, ◌<◌, ◌≤◌, true
 ghost use Rattle.spf_pool.specs.Ends.{EndValue, Later, MatchFound, IsSeenEmpty, IsSeenBusy};
 
 use crate::counter::Counter;
-use crate::key::again;
 use crate::parcel::{Parcel, Tag};
 use crate::rule::Item;
 use crate::side::Side;
@@ -65,7 +64,7 @@ impl<T: Item<K>, K> End<T, K> {
     {
         let receipt = self.counter.issue(given);
         let parcel = Parcel {
-            tag: again(&self.tag),
+            tag: self.tag.again(),
             load: Some((item, receipt)),
         };
         self.side.put(parcel);

@@ -9,7 +9,6 @@
 mod counter;
 mod end;
 pub mod hand;
-mod key;
 pub mod ledger;
 pub mod next;
 pub mod parcel;

@@ -10,7 +10,6 @@ ghost use Rattle.spf_pool.specs.Made.{new_end, new_hand, as_guest, AreOpen, AreN
 use crate::counter::Counter;
 use crate::end::End;
 use crate::hand::Hand;
-use crate::key::again;
 use crate::parcel::Tag;
 use crate::rule::Item;
 use crate::side::Side;
@@ -45,7 +44,7 @@ fn deck<T: Item<K>, K>(
 {
     let counter = Counter::make(alloc)?;
     let tag = tag_for(key, &counter);
-    let side = Side::make(alloc, capacity as usize, again(&tag))?;
+    let side = Side::make(alloc, capacity as usize, tag.again())?;
     Ok(End {
         tag,
         counter,
@@ -89,7 +88,7 @@ impl<T: Item<K>, K> End<T, K> {
         ensures same { self.new ≡ self.old }
         ensures guest { IfOk result (λ e. e ≡ as_guest self.old) }
     {
-        let tag = again(&self.tag);
+        let tag = self.tag.again();
         let counter = self.counter.guest()?;
         let side = self.side.guest(&tag)?;
         Ok(End {
@@ -132,7 +131,7 @@ fn hand_of<T: Item<K>, K>(
 {
     ends[own] = owner;
     Hand {
-        key: again(key),
+        key: key.again(),
         own,
         given: 0,
         capacity,
@@ -207,7 +206,7 @@ fn alone<T: Item<K>, K>(
     let mut ends = Vec::new(alloc);
     ends.push(deck::<T, K>(alloc, key, capacity)?)?;
     Ok(Hand {
-        key: again(key),
+        key: key.again(),
         own: 0,
         given: 0,
         capacity,
