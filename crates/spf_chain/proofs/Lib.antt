@@ -9,3 +9,4 @@ pub mod Mispredicted
 pub mod Tickets
 pub mod Starting
 pub mod Filed
+pub mod Running

@@ -15,6 +15,7 @@ ghost use Rattle.spf_construct.specs.Constructs.{ComesTo};
 use spf_ast::construct::TopConstruct;
 use spf_cells::finish::Trace;
 use spf_chain::chain::Chain;
+use spf_chain::laws::accepted_constructs_can_run;
 use spf_chain::validated::{Guess, Settled};
 use spf_check::checked::Checked;
 use spf_edge::Gate;
@@ -56,6 +57,7 @@ pub fn run_construct<G: Gate>(
     requires size { into.old ≡ entry.now }
     ensures came { IfOk result (λ r. ComesTo (site_of instance.now number header frame.now entry.now guesses.now) r.0 r.1 into.new) }
 {
+    accepted_constructs_can_run();
     let _program = checked.program();
     let (mut chain, cells, tickets) = Chain::start(
         alloc, checked, instance, number, header, frame, entry, guesses,

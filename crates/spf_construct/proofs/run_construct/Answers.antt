@@ -8,12 +8,13 @@ use Rattle.spf_lane_runs.specs.Lanes.{logs_in}
 use Rattle.spf_chain.specs.Chains.{ChainValue}
 use Rattle.spf_chain.specs.Beginning.{site_of}
 use Rattle.spf_chain.specs.Finishing.{result_as}
-use Rattle.spf_construct.proofs.Running.{can-run}
+use Rattle.spf_ast.specs.Lawful.{IsLawful}
+use Rattle.spf_check.specs.Accepting.{IsAccepted}
 use Rattle.spf_construct.proofs.run_construct.Goals as goal
 
 pub run_in_order-requires-clause-job : goal.run_in_order-requires-clause-job
 run_in_order-requires-clause-job g c =
-    can-run _ c.args.checked.now c.args.number c.requires.program c.program-program.ensures.lawful c.program-program.ensures.accepted c.requires.construct c.requires.entry
+    c.accepted_constructs_can_run.ensures _ c.args.number (subst IsLawful (sym c.requires.program) c.program-program.ensures.lawful) (subst IsAccepted (sym c.requires.program) c.program-program.ensures.accepted) c.requires.construct c.requires.entry
 
 pub returns : goal.returns
 returns g c =
