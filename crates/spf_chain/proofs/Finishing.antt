@@ -16,9 +16,9 @@ use Rattle.spf_ast.specs.Interaction.{Value, Trapped, HasReadAll}
 use Rattle.spf_ast.specs.Carried.{Carried}
 use Rattle.spf_entry.specs.Entry.{Entry, begins_at, plain_blocks}
 use Rattle.spf_entry.specs.Attempts.{attempted}
-use Rattle.spf_speculation.specs.Runs.{IsRealLog, IsGuessedLog, LogsComeTo, no_more_blocks, gave_value, gave_trap}
+use Rattle.spf_speculation.specs.Runs.{IsSpeculativeRun, IsRealLog, IsGuessedLog, LogsComeTo, no_more_blocks, gave_value, gave_trap}
 use Rattle.spf_speculation.specs.Prefixes.{PrefixesComplete}
-use Rattle.spf_lane_runs.specs.Lanes.{trace_of, logs_in, AreLanesFor}
+use Rattle.spf_lane_runs.specs.Lanes.{trace_of, logs_in, AreLanesFor, EveryMergingOfLanes}
 use Rattle.spf_ticket.specs.Tickets.{IsReady, first, second, EndsAs}
 use Rattle.spf_ticket.specs.declared.ticket.Report.{Report}
 use Rattle.spf_chain.specs.declared.chain.Chain.TheInside.{Inside}
@@ -27,7 +27,8 @@ use Rattle.spf_chain.specs.Homes.{home_log, log_in, IsHome}
 use Rattle.spf_chain.specs.Standing.{reals, PrefixAt, TrappedAt, StandsAt}
 use Rattle.spf_chain.specs.Chains.{ChainValue, HasEnded, HasTrapped}
 use Rattle.spf_chain.specs.Kept.{chain_value, cells_inside, IsKept}
-use Rattle.spf_chain.specs.Finishing.{lanes_in, result_as}
+use Rattle.spf_chain.specs.Finishing.{lanes_in, result_as, EveryMergingRuns}
+use Rattle.spf_speculation.specs.Steps.{Step, Merges}
 use Rattle.spf_chain.proofs.Keeping.{next-is, read-all}
 use Rattle.spf_chain.proofs.Raising.{values-end, not-both-settled}
 
@@ -167,3 +168,16 @@ came-out law a v h is ended =
 pub trace-come : (a : Inside) → AllHome a.homes.items → CameOut a
     → LogsComeTo (entry_at a.site.value) (guess_at a.site.value) (logs_in (trace_of (lanes_in a.homes.items))) 0 a.site.value.start (reals a.validation.count a.validation.blocks.items) (result_as a.validation.settled)
 trace-come a all c = logs-same (entry_at a.site.value) (guess_at a.site.value) (log_in a.homes.items) (logs_in (trace_of (lanes_in a.homes.items))) (λ n low. sym (logs-are a.homes.items all n)) c.come
+
+-- every merging of an ended chain's logs is a speculative run
+pub merged : PrefixesComplete → EveryMergingOfLanes → (a : Inside) (v : ChainValue) → IsKept a → chain_value a ≡ v → HasEnded v → EveryMergingRuns v (log_in v.homes)
+merged complete merging a v h is ended =
+    let e = entry_at a.site.value in
+    let g = guess_at a.site.value in
+    let d : HasEnded (chain_value a) = subst HasEnded (sym is) ended in
+    let values = reals a.validation.count a.validation.blocks.items in
+    let result = result_as a.validation.settled in
+    let come = trace-come a d.home (came-out complete a v h is ended) in
+    subst (λ (w : ChainValue). EveryMergingRuns w (log_in w.homes)) is
+    (subst (λ (logs : ℕ → List Event). (steps : List Step) → Merges e.header.blocks logs steps → IsSpeculativeRun e g steps values result) (λ t n. logs-are a.homes.items d.home n t)
+    (merging e g (cells_inside a) (lanes_in a.homes.items) values result h.ground.entry (lanes-for a h d.home) come))

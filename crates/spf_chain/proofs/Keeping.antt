@@ -297,3 +297,7 @@ waits-trapped a v b is trapped out lowest = record {
 -- a chain's value with other homes
 abbrev pub home_value : Inside → List (Option Report) → Bool → ChainValue
 home_value a homes again = record (chain_value a) { homes = homes; again = again }
+
+-- a chain's value with other homes, after so many reports
+abbrev pub filed_value : Inside → List (Option Report) → Bool → ℕ → ChainValue
+filed_value a homes again reports = record (chain_value a) { homes = homes; again = again; reports = reports }

@@ -8,3 +8,5 @@ pub mod Histories
 pub mod Mispredicted
 pub mod Tickets
 pub mod Starting
+pub mod Filed
+pub mod Running

@@ -39,9 +39,9 @@ pub record IsBegin (s : Site) (w : WardenValue) (start : carried.Carried) (guess
   pub same_guesses : s.guesses ≡ map (λ g. g.value) guesses
   pub count : length guesses + 1 ≡ s.blocks
 
--- the chain when it starts: all blocks are out, and none is validated
+-- the chain when it starts: all blocks are out, none is validated, and no report was filed
 abbrev pub begun : Site → WardenValue → ChainValue
-begun s w = record { site = s; warden = w; homes = replicate s.blocks None; again = false; history = []; settled = Carried s.start }
+begun s w = record { site = s; warden = w; homes = replicate s.blocks None; again = false; history = []; settled = Carried s.start; reports = 0 }
 
 -- the site of a construct of this number, whose header is done, with these slots and this memory at its entry
 abbrev pub site_of : InstanceValue → ℕ → Header → List ℤ → List ℤ → List Guess → Site
@@ -71,7 +71,7 @@ pub record AreFirstTickets (cells : CellsValue) (low : ℤ) (blocks : List Valid
   pub size : length tickets ≡ count
   pub each : (n : ℕ) (t : Ticket) → slice_get tickets n ≡ Some t → IsFirstTicket (new_lane cells n) low blocks frame n t
 
--- The chain, its cells and its tickets when the blocks of a site start: all tickets are out and fresh, in the order of blocks, each with its first attempt; no block is validated; the cells were made for the site, and no flag is raised.
+-- The chain, its cells and its tickets when the blocks of a site start: all tickets are out and fresh, in the order of blocks, each with its first attempt; no block is validated, and no report was filed; the cells were made for the site, and no flag is raised.
 pub record IsStarted (s : Site) (c : ChainValue) (cells : CellsValue) (tickets : List Ticket) : Type 0 where
   pub chain : c ≡ begun s c.warden
   pub its_cells : cells ≡ cells_of c

@@ -1,5 +1,6 @@
 -- What contracts see of a chain.
 use Rattle.std.specs.Prelude.{◌≡◌, ◌≢◌, ◌⊎◌, ◌↔◌, ℕ, ◌<◌, Bool, true, false, ◌==◌, if◌then◌else◌, List, ◌++◌, length, slice_get, slice_index, slice_set, max, Option, Some, None}
+use Rattle.spf_edge.specs.Faults.{one_more}
 use Rattle.spf_ast.specs.declared.outcome.Trap.{Trap}
 use Rattle.spf_cells.specs.Values.{CellsValue, WardenValue}
 use Rattle.spf_chain.specs.declared.validated.Settled.{Settled}
@@ -16,7 +17,7 @@ use Rattle.spf_entry.specs.Sites.{entry_at, guess_at}
 use Rattle.spf_ast.specs.Carried as carried
 use Rattle.spf_chain.specs.Homes.{known_in}
 
--- the site, the warden, the reports that are home, whether the second attempt of the next block to be validated is out, the validated blocks, and the real value of the next block or the trap of the last one
+-- the site, the warden, the reports that are home, whether the second attempt of the next block to be validated is out, the validated blocks, the real value of the next block or the trap of the last one, and how many reports were filed
 pub record ChainValue : Type 0 where
   pub site : Site
   pub warden : WardenValue
@@ -24,6 +25,7 @@ pub record ChainValue : Type 0 where
   pub again : Bool
   pub history : List Validated
   pub settled : Settled
+  pub reports : ℕ
 
 -- the cells of a chain
 abbrev pub cells_of : ChainValue → CellsValue
@@ -98,7 +100,7 @@ pub record Raises (before after : ChainValue) : Type 0 where
 
 -- a report comes home
 abbrev pub came_home : ChainValue → Report → ChainValue
-came_home c r = record c { homes = slice_set c.homes r.ticket.block (Some r); again = if r.ticket.block == next_block c then false else c.again }
+came_home c r = record c { homes = slice_set c.homes r.ticket.block (Some r); again = if r.ticket.block == next_block c then false else c.again; reports = one_more c.reports }
 
 -- the next block's second attempt goes out
 abbrev pub sent_again : ChainValue → ChainValue
@@ -129,6 +131,11 @@ pub record IsExact (c : ChainValue) (answer : Filed) : Type 0 where
   pub rerun : ((t : Ticket) × (answer ≡ Rerun t)) ↔ ((real : carried.Carried) × (r : Report) × NeedsRerun c real r)
   pub waiting : (block : ℕ) → (answer ≡ Waiting block) ↔ WaitsFor c block
   pub ended : (answer ≡ Ended) ↔ HasEnded c
+
+-- the chain is of the same site, with the same cells
+pub record IsSameChain (before after : ChainValue) : Type 0 where
+  pub site : after.site ≡ before.site
+  pub cells : cells_of after ≡ cells_of before
 
 -- A report was filed: it came home, blocks were validated, flags were raised, and then this was the answer, exactly where its cause held. After a trap nothing more is validated; the second attempt of the next block to be validated always validates it.
 pub record IsFiled (before : ChainValue) (r : Report) (answer : Filed) (after : ChainValue) : Type 0 where

@@ -1,7 +1,8 @@
 -- What a chain comes to.
-use Rattle.std.specs.Prelude.{◌≡◌, List, [], ◌∷◌, map, Option, Some, None, Result, Ok, Err, ℤ}
+use Rattle.std.specs.Prelude.{◌≡◌, ℕ, List, [], ◌∷◌, map, Option, Some, None, Result, Ok, Err, ℤ}
 use Rattle.spf_ast.specs.declared.outcome.Trap.{Trap}
 use Rattle.spf_ast.specs.Carried as carried
+use Rattle.spf_ast.specs.Event.{Event}
 use Rattle.spf_cells.specs.declared.view.LogEntry.{LogEntry}
 use Rattle.spf_cells.specs.Values.{LaneValue}
 use Rattle.spf_entry.specs.Entry.{plain_blocks}
@@ -24,6 +25,10 @@ lanes_in (Some r ∷ homes) = r.ticket.lane ∷ lanes_in homes
 abbrev pub result_as : Settled → Result carried.Carried Trap
 result_as (Carried v) = Ok v
 result_as (Trapped t) = Err t
+
+-- every merging of these logs of the blocks that keeps the order of each log is a speculative run, with the chain's guesses, its history's real values and what it came to
+abbrev pub EveryMergingRuns : ChainValue → (ℕ → List Event) → Type 0
+EveryMergingRuns c logs = (steps : List Step) → Merges c.site.blocks logs steps → IsSpeculativeRun (entry_at c.site) (guess_at c.site) steps (map (λ b. b.real) c.history) (result_as c.settled)
 
 -- The chain came to this, with these logs, and its lanes were written back to a memory. The plain run of the site's blocks has the same real values and the same result, and where none traps and the memory was that of the entry, the same memory. Every merging of the logs that keeps the order of each log is a speculative run.
 pub record IsFinished (c : ChainValue) (s : Settled) (trace : List (List LogEntry)) (before after : List ℤ) : Type 0 where

@@ -22,6 +22,7 @@ chain_value a = record {
   again = a.again;
   history = history_of a.validation;
   settled = a.validation.settled;
+  reports = a.reports;
 }
 
 -- the cells of its warden

@@ -7,3 +7,4 @@ pub mod Finishing
 pub mod Beginning
 pub mod Histories
 pub mod Mispredicted
+pub mod Jobs

@@ -1,4 +1,7 @@
 //! The chain: what is home, and how far the blocks are validated.
+ghost use Rattle.std.specs.Prelude.{◌≡◌, ◌↔◌, IsTrue};
+ghost use Rattle.spf_chain.specs.declared.chain.Filed.TheVariants.{Ended as HasSaidEnded};
+
 use crate::validated::Validated;
 use crate::validation::Validation;
 use spf_cells::lane::Lane;
@@ -19,10 +22,19 @@ pub enum Filed {
     Ended,
 }
 
+impl Filed {
+    /// Whether the chain has ended.
+    pub fn is_ended(&self) -> bool
+        ensures { IsTrue result ↔ (self.now ≡ HasSaidEnded) }
+    {
+        matches!(self, Filed::Ended)
+    }
+}
+
 /// The validation chain of one construct.
 ///
-/// Contracts see of it the site, the warden, the reports that are home, whether the next block's second attempt is out, and how far
-/// the blocks are validated.
+/// Contracts see of it the site, the warden, the reports that are home, whether the next block's second attempt is out, how far the
+/// blocks are validated, and how many reports were filed; that number stands still at 2^64 - 1.
 #[derive(Drop)]
 pub struct Chain {
     pub(crate) site: GhostKey<Site>,
@@ -34,6 +46,8 @@ pub struct Chain {
     // whether the next block is out with its second attempt
     pub(crate) again: bool,
     pub(crate) validation: Validation,
+    // how many reports were filed
+    pub(crate) reports: u64,
 }
 
 impl Model for Chain {

@@ -8,7 +8,8 @@ ghost use Rattle.spf_ticket.specs.declared.ticket.Report.{Report as SeenReport};
 ghost use Rattle.spf_ticket.specs.Tickets.{IsLawfulReport};
 ghost use Rattle.spf_entry.specs.Sites.{entry_at, guess_at};
 ghost use Rattle.spf_chain.specs.Homes.{known_in};
-ghost use Rattle.spf_chain.specs.Chains.{HasRaised, Raises, IsToRaise, IsFiled, cells_of, next_block, IsOut, came_home, Validates, IsAnswer, IsExact, HasTrapped};
+ghost use Rattle.spf_chain.specs.Chains.{HasRaised, Raises, IsToRaise, IsFiled, cells_of, next_block, IsOut, came_home, Validates, IsAnswer, IsExact, HasTrapped, IsSameChain};
+ghost use Rattle.spf_edge.specs.Faults.{one_more};
 
 use crate::chain::{Chain, Filed};
 use crate::validated::Settled;
@@ -70,6 +71,7 @@ impl Chain {
             None => {
                 self.homes[block] = Some(report);
                 self.again = still_again(self.again, block, self.validation.count);
+                self.reports = self.reports.saturating_add(1);
             }
         }
     }
@@ -208,12 +210,14 @@ impl Chain {
     }
 
     /// Files a report: its ticket comes home, the next blocks that are home and were run at their real values are validated, and the
-    /// flags of attempts that can't be of use are raised. Says what is to be done next. Takes no memory.
+    /// flags of attempts that can't be of use are raised. Says what is to be done next. One report more was filed then. Takes no memory.
     pub fn file(&mut self, cells: &Cells, report: Report) -> Filed
         requires own { cells.now ≡ cells_of self.old }
         requires lawful { IsLawfulReport (entry_at self.old.site) (guess_at self.old.site) cells.now report }
         ensures filed { IsFiled self.old report result self.new }
         ensures free { IsOut self.old report.ticket.block }
+        ensures same { IsSameChain self.old self.new }
+        ensures reports { self.new.reports ≡ one_more self.old.reports }
     {
         self.come_home(cells, report);
         self.validate();

@@ -1,7 +1,8 @@
 //! What a chain comes to.
 ghost use Rattle.std.specs.Prelude.{◌≡◌, ◌≤◌, [], length};
 ghost use Rattle.spf_chain.specs.Chains.{HasEnded, cells_of};
-ghost use Rattle.spf_chain.specs.Finishing.{lanes_in, IsFinished};
+ghost use Rattle.spf_chain.specs.Homes.{log_in};
+ghost use Rattle.spf_chain.specs.Finishing.{lanes_in, EveryMergingRuns, IsFinished};
 
 use crate::chain::Chain;
 use crate::validated::Settled;
@@ -32,6 +33,16 @@ fn lanes_of(room: Vec<Lane>, mut homes: Vec<Option<Report>>) -> Vec<Lane>
 }
 
 impl Chain {
+    /// Each order in which the events of an ended chain's lanes may have happened is a speculative run.
+    pub fn merged_logs_are_speculative_runs(&self)
+        requires ended { HasEnded self.now }
+        ensures merging { EveryMergingRuns self.now (log_in self.now.homes) }
+    {
+        prefixes_grow();
+        lanes_make_speculative_runs();
+        let _ = &self.again;
+    }
+
     /// What the blocks came to: the value after the last one, or the trap of the last validated one. `into`, which is as long as the
     /// memory at the entry, takes the lanes' contents, and the trace has their logs. It takes no memory.
     pub fn finish(self, cells: Cells, into: &mut [i64]) -> (Settled, Trace)
@@ -49,6 +60,7 @@ impl Chain {
             room,
             again: _,
             validation,
+            reports: _,
         } = self;
         let settled = validation.settled;
         let lanes = lanes_of(room, homes);

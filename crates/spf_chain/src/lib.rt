@@ -6,6 +6,7 @@ pub mod chain;
 pub mod file;
 pub mod finish;
 pub mod history;
+pub mod laws;
 mod place;
 pub mod start;
 pub mod validated;

@@ -1,5 +1,5 @@
 //! A chain starts: cells are made for the blocks of a construct, and the tickets of all blocks go out.
-ghost use Rattle.std.specs.Prelude.{◌≡◌, ◌+◌, ◌≤◌, ◌<◌, ◌+ℤ◌, ◌≤ℤ◌, ℕ, length, map, pos, replicate, [], None, IfOk, Some, slice_get};
+ghost use Rattle.std.specs.Prelude.{◌≡◌, ◌+◌, ◌≤◌, ◌<◌, ◌+ℤ◌, ◌≤ℤ◌, length, pos, replicate, None, IfOk, Some, slice_get};
 ghost use Rattle.std.specs.List.{All};
 ghost use Rattle.spf_ast.specs.View.{program as seen_program};
 ghost use Rattle.spf_ast.specs.Construct.{constructs_in};
@@ -175,6 +175,7 @@ impl Chain {
             room,
             again: false,
             validation,
+            reports: 0,
         })
     }
 

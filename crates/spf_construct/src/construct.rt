@@ -20,6 +20,7 @@ use spf_ast::laws::lawful_programs_are_quiet_and_small;
 use spf_cells::cells::Cells;
 use spf_cells::finish::Trace;
 use spf_chain::chain::Chain;
+use spf_chain::laws::accepted_constructs_can_run;
 use spf_chain::validated::{Guess, Settled};
 use spf_check::checked::Checked;
 use spf_edge::Gate;
@@ -70,6 +71,7 @@ fn run_from<G: Gate>(
     ensures ended { IfOk result (λ r. HasEnded r.0) }
     ensures own { IfOk result (λ r. r.1 ≡ cells_of r.0) }
 {
+    accepted_constructs_can_run();
     let _program = checked.program();
     let (mut chain, cells, tickets) = Chain::start(
         alloc,

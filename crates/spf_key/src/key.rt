@@ -29,3 +29,24 @@ pub fn ghost_key<V>() -> GhostKey<V>
         marker: PhantomData,
     }
 }
+
+// SAFETY: a key has no bytes and owns nothing, whatever its value is.
+unsafe impl<V> Send for GhostKey<V> {}
+
+impl<V> GhostKey<V> {
+    /// The same key again.
+    pub fn again(&self) -> GhostKey<V>
+        ensures { result.value ≡ self.now.value }
+    {
+        self.with()
+    }
+
+    // A ghost value is named by a call's arguments alone, so the call has the key.
+    fn with(&self) -> GhostKey<V>
+        ghost named: { V }
+        ensures { result.value ≡ named }
+    {
+        let _ = self;
+        ghost_key::<V>()
+    }
+}

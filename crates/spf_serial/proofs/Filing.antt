@@ -13,7 +13,8 @@ use Rattle.spf_chain.specs.Chains.{ChainValue, cells_of, next_block, IsOut, HasT
 use Rattle.spf_chain.specs.Histories.{HasItsPlaces}
 use Rattle.spf_entry.specs.Sites.{entry_at, guess_at}
 use Rattle.spf_ticket.specs.Tickets.{IsFresh}
-use Rattle.spf_serial.specs.InOrder.{IsInOrder, IsSameChain}
+use Rattle.spf_chain.specs.Chains.{IsSameChain}
+use Rattle.spf_serial.specs.InOrder.{IsInOrder}
 
 -- ---- places
 

@@ -1,23 +1,6 @@
 -- Blocks that are run in their order.
-use Rattle.std.specs.Prelude.{◌≡◌, ◌<◌, ◌≤◌, ◌⊎◌, ℕ, false, length}
-use Rattle.std.specs.List.{Contains}
-use Rattle.spf_ast.specs.Construct.{constructs_in, part_of, statements_of}
-use Rattle.spf_ast.specs.ConstructView.{construct}
-use Rattle.spf_ast.specs.Lawful.{IsLawful}
-use Rattle.spf_ast.specs.Program.{cell_count_of}
-use Rattle.spf_ast.specs.Silence.{PartIsSilent}
-use Rattle.spf_ast.specs.Slots.{assigns_outer}
-use Rattle.spf_layout.specs.Instance.{program_of}
-use Rattle.spf_ticket.specs.declared.run.Job.{Job}
-use Rattle.spf_chain.specs.Chains.{ChainValue, cells_of, next_block, IsOut, HasTrapped}
-
--- the blocks of the job's construct can be run as attempts: the program is lawful, the construct is one of its top constructs, no block of it emits or assigns a slot from outside, and the job has a word for each cell
-pub record CanRun (job : Job) : Type 0 where
-  pub lawful : IsLawful (program_of job.instance.now)
-  pub top : Contains (constructs_in (program_of job.instance.now).main) (construct job.construct)
-  pub silent : (n : ℕ) → PartIsSilent (construct job.construct) (part_of (construct job.construct) n)
-  pub outer : (n : ℕ) → assigns_outer (statements_of (construct job.construct) (part_of (construct job.construct) n)) ≡ false
-  pub cells : length job.entry.now ≡ cell_count_of (program_of job.instance.now) (length job.instance.now.input)
+use Rattle.std.specs.Prelude.{◌≡◌, ◌<◌, ◌≤◌, ◌⊎◌, ℕ, length}
+use Rattle.spf_chain.specs.Chains.{ChainValue, next_block, IsOut, HasTrapped}
 
 -- the first n blocks are home and all others out; the first n are validated, or one of them trapped
 pub record IsInOrder (n : ℕ) (c : ChainValue) : Type 0 where
@@ -25,8 +8,3 @@ pub record IsInOrder (n : ℕ) (c : ChainValue) : Type 0 where
   pub home : (k : ℕ) → k < n → IsOut c k → ⊥
   pub out : (k : ℕ) → n ≤ k → k < c.site.blocks → IsOut c k
   pub next : (next_block c ≡ n) ⊎ HasTrapped c
-
--- the chain is of the same site, with the same cells
-pub record IsSameChain (before after : ChainValue) : Type 0 where
-  pub site : after.site ≡ before.site
-  pub cells : cells_of after ≡ cells_of before

@@ -5,9 +5,10 @@ ghost use Rattle.std.specs.Prelude.{◌≡◌, ◌+◌};
 ghost use Rattle.spf_entry.specs.Sites.{entry_at, guess_at};
 ghost use Rattle.spf_ticket.specs.Tickets.{IsJobOf, IsFresh};
 ghost use Rattle.spf_chain.specs.Sites.{IsGround};
-ghost use Rattle.spf_chain.specs.Chains.{cells_of, next_block, HasEnded};
+ghost use Rattle.spf_chain.specs.Jobs.{CanRun};
+ghost use Rattle.spf_chain.specs.Chains.{cells_of, next_block, HasEnded, IsSameChain};
 ghost use Rattle.spf_chain.specs.Beginning.{IsStarted};
-ghost use Rattle.spf_serial.specs.InOrder.{CanRun, IsInOrder, IsSameChain};
+ghost use Rattle.spf_serial.specs.InOrder.{IsInOrder};
 
 use spf_cells::cells::Cells;
 use spf_chain::chain::{Chain, Filed};

@@ -1,5 +1,6 @@
 use Rattle.std.proofs.Common.{◌≡◌, ◌++◌, length}
-use Rattle.spf_serial.specs.InOrder.{IsInOrder, IsSameChain}
+use Rattle.spf_chain.specs.Chains.{IsSameChain}
+use Rattle.spf_serial.specs.InOrder.{IsInOrder}
 use Rattle.spf_serial.proofs.run_in_order.Given as goal
 
 -- the blocks of the tickets so far are home

@@ -1,6 +1,9 @@
-use Rattle.spf_construct.proofs.Running.{can-run}
+use Rattle.std.proofs.Common.{sym, subst}
+use Rattle.spf_ast.specs.Lawful.{IsLawful}
+use Rattle.spf_check.specs.Accepting.{IsAccepted}
 use Rattle.spf_construct.proofs.construct.run_from.Goals as goal
 
 pub run_in_order-requires-clause-job : goal.run_in_order-requires-clause-job
 run_in_order-requires-clause-job g c =
-    can-run _ c.args.checked.now c.args.number c.requires.there.program c.program-program.ensures.lawful c.program-program.ensures.accepted c.requires.there.construct c.requires.there.cells
+    c.accepted_constructs_can_run.ensures _ c.args.number (subst IsLawful (sym c.requires.there.program) c.program-program.ensures.lawful)
+    (subst IsAccepted (sym c.requires.there.program) c.program-program.ensures.accepted) c.requires.there.construct c.requires.there.cells

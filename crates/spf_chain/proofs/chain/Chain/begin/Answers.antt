@@ -51,5 +51,5 @@ returns c =
     let many : length c.in_ok-blocks.blocks.items ≡ c.args.site.value.blocks =
     ap length c.in_ok-blocks.ensures ∙ length-unvalidated 0 (to_z w64 (of_z w64 c.args.start)) (guesses_for c.args.guesses.now) ∙ length-guesses c.args.guesses.now ∙ b.count in
     let homes : c.in_ok-homes.homes.items ≡ replicate c.args.site.value.blocks None = c.in_ok-homes.ensures ∙ ap (λ n. replicate n None) (c.len.ensures ∙ c.in_ok-blocks.blocks.ok.0 ∙ many) in
-    let value : Site → List (Option Report) → ℤ → ChainValue = λ s hs v. record { site = s; warden = c.args.warden; homes = hs; again = false; history = []; settled = Carried v } in
+    let value : Site → List (Option Report) → ℤ → ChainValue = λ s hs v. record { site = s; warden = c.args.warden; homes = hs; again = false; history = []; settled = Carried v; reports = 0 } in
     λ t. value c.args.site.value (homes t) ((word ∙ b.same_start) t)

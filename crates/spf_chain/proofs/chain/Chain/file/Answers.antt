@@ -3,6 +3,7 @@ use Rattle.std.proofs.lemmas.Option.{slice_get_within}
 use Rattle.spf_ticket.specs.declared.ticket.Report.{Report}
 use Rattle.spf_chain.specs.Chains.{ChainValue, Validates, HasTrapped, came_home, next_block}
 use Rattle.spf_chain.proofs.Lists.{set_here}
+use Rattle.spf_chain.proofs.Filed.{same-after, one-filed}
 use Rattle.spf_chain.proofs.chain.Chain.file.Goals as goal
 
 trapped-home : (before after : ChainValue) (r : Report) → after ≡ came_home before r → HasTrapped before → HasTrapped after
@@ -25,3 +26,11 @@ returns-clause-filed c = record {
   answers = c.answer.ensures.answer;
   exact = c.answer.ensures.exact;
 }
+
+pub returns-clause-same : goal.returns-clause-same
+returns-clause-same c = same-after c.args.self.now c.come_home.new.self c.validate.new.self c.raise.new.self c.answer.new.self c.args.report c.answer.result
+    (record { came = c.come_home.ensures.state; validates = c.validate.ensures.validates; raises = c.raise.ensures; answers = c.answer.ensures.answer })
+
+pub returns-clause-reports : goal.returns-clause-reports
+returns-clause-reports c = one-filed c.args.self.now c.come_home.new.self c.validate.new.self c.raise.new.self c.answer.new.self c.args.report c.answer.result
+    (record { came = c.come_home.ensures.state; validates = c.validate.ensures.validates; raises = c.raise.ensures; answers = c.answer.ensures.answer })

@@ -3,8 +3,6 @@ use Rattle.std.proofs.Common.{◌≡◌, ℕ, zero, suc, false, List, [], ◌∷
 use Rattle.std.specs.Prelude.{slice_index_or}
 use Rattle.std.specs.List.{Contains}
 use Rattle.std.proofs.lemmas.Option.{slice_get_within}
-use Rattle.spf_ast.specs.declared.syntax.Program as code_program
-use Rattle.spf_ast.specs.View.{program}
 use Rattle.spf_ast.specs.Syntax.{Program}
 use Rattle.spf_ast.specs.Lawful.{IsLawful}
 use Rattle.spf_ast.specs.Silence.{PartIsSilent}
@@ -16,7 +14,7 @@ use Rattle.spf_layout.specs.Instance.{program_of}
 use Rattle.spf_rollback.specs.Rules.{KeepsTheRules}
 use Rattle.spf_check.specs.Accepting.{IsAccepted}
 use Rattle.spf_ticket.specs.declared.run.Job.{Job}
-use Rattle.spf_serial.specs.InOrder.{CanRun}
+use Rattle.spf_chain.specs.Jobs.{AcceptedConstructsCanRun}
 use Rattle.spf_ast.specs.declared.syntax.Part.TheVariants.{Body, Producer, Consumer}
 
 silent-of : (p : Program) (c : Construct) → KeepsTheRules p c → (n : ℕ) → PartIsSilent c (part_of c n)
@@ -37,14 +35,11 @@ is-among cs n c at = (n, slice_get_within cs n c at, read cs n c at)
     read (y ∷ xs) zero x e = cc
     read (y ∷ xs) (suc i) x e = read xs i x e
 
-pub can-run : (job : Job) (p : code_program.Program) (number : ℕ) → program_of job.instance.now ≡ program p → IsLawful (program p) → IsAccepted (program p)
-    → slice_get (constructs_in (program_of job.instance.now).main) number ≡ Some (construct job.construct)
-    → length job.entry.now ≡ cell_count_of (program_of job.instance.now) (length job.instance.now.input) → CanRun job
-can-run job p number same lawful accepted at cells =
-    let mine : IsAccepted (program_of job.instance.now) = subst IsAccepted (sym same) accepted in
-    let keeps = mine number (construct job.construct) at in
+pub can-run : AcceptedConstructsCanRun
+can-run job number lawful accepted at cells =
+    let keeps = accepted number (construct job.construct) at in
     record {
-      lawful = subst IsLawful (sym same) lawful;
+      lawful = lawful;
       top = is-among (constructs_in (program_of job.instance.now).main) number (construct job.construct) at;
       silent = silent-of (program_of job.instance.now) (construct job.construct) keeps;
       outer = outer-of (program_of job.instance.now) (construct job.construct) keeps;

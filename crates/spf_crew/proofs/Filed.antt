@@ -1,0 +1,62 @@
+-- What a filed report makes of a chain of a crew.
+use Rattle.std.proofs.Common.{◌≡◌, ℕ, ◌+◌, ◌<◌, Bool, true, false, refl, sym, ap, ◌∙◌, subst, arith, min, ◌-◌, ◌^◌}
+use Rattle.spf_edge.specs.Faults.{one_more}
+use Rattle.spf_ticket.specs.declared.ticket.Report.{Report}
+use Rattle.spf_chain.specs.declared.chain.Filed.{Filed}
+use Rattle.spf_chain.specs.declared.chain.Filed.TheVariants.{Rerun, Waiting, Ended}
+use Rattle.spf_chain.specs.Chains.{ChainValue, cells_of, HasEnded, IsFiled, IsAnswer, IsSameChain, IsOut, Raises, Validates}
+use Rattle.spf_entry.specs.Sites.{entry_at, guess_at}
+use Rattle.spf_ticket.specs.Tickets.{IsFresh}
+use Rattle.spf_crew.specs.declared.view.CrewSetting.{CrewSetting}
+use Rattle.spf_crew.specs.Rule.{IsChainOf}
+use Rattle.spf_crew.specs.Endings.{has_ended}
+use Rattle.spf_crew.specs.Filing.{RerunsFresh, IsFiledAt}
+use Rattle.spf_crew.proofs.Endings.{ended-of, ended-is}
+
+pub still-of : (k : CrewSetting) (before after : ChainValue) → IsChainOf k before → IsSameChain before after → IsChainOf k after
+still-of k before after of same = record { site = same.site ∙ of.site; cells = same.cells ∙ of.cells }
+
+pub one-report : (half n m : ℕ) → half < 8192 → n ≡ half → m ≡ one_more n → m ≡ half + 1
+one-report half n m low is more = more ∙ (ap one_more is ∙ small half low)
+  where
+    small : (h : ℕ) → h < 8192 → one_more h ≡ h + 1
+    small h l = omega (arith, l)
+
+raised-site : (v w : ChainValue) → Raises v w → (w.site ≡ v.site) × (cells_of w ≡ cells_of v)
+raised-site v w r = (
+  ap (λ (x : ChainValue). x.site) r.same,
+  (λ t. record { table = (ap (λ (x : ChainValue). x.warden.table) r.same ∙ ap (λ x. x.table) r.raised.same) t; setting = (ap (λ (x : ChainValue). x.warden.setting) r.same ∙ ap (λ x. x.setting) r.raised.same) t }),
+)
+
+-- the chain as the answer finds it is of the crew
+raised-of : (k : CrewSetting) (before after : ChainValue) (r : Report) (answer : Filed) → IsChainOf k before → (f : IsFiled before r answer after) → IsChainOf k f.raised
+raised-of k before after r answer of f =
+    let s = raised-site f.validated f.raised f.raises in
+    record { site = s.0 ∙ (ap (λ (x : ChainValue). x.site) f.validates.same ∙ of.site); cells = s.1 ∙ (ap cells_of f.validates.same ∙ of.cells) }
+
+reruns : (k : CrewSetting) (raised after : ChainValue) (answer : Filed) → IsChainOf k raised → IsAnswer raised answer after → RerunsFresh k answer
+reruns k raised after (Rerun t) of is =
+    subst (λ s. IsFresh (entry_at s) (guess_at s) k.cells t) of.site (subst (λ c. IsFresh (entry_at raised.site) (guess_at raised.site) c t) of.cells is.3.fresh)
+reruns k raised after (Waiting block) of is = tt
+reruns k raised after Ended of is = tt
+
+pub filed-at : (k : CrewSetting) (half : ℕ) (before after : ChainValue) (r : Report) (answer : Filed) → IsChainOf k before → before.reports ≡ half → IsFiled before r answer after → IsFiledAt k half r answer
+filed-at k half before after r answer of count f = record {
+  before = before;
+  after = after;
+  of = of;
+  count = count;
+  filed = f;
+  rerun = reruns k f.raised after answer (raised-of k before after r answer of f) f.answers;
+}
+
+answered-ended : (raised after : ChainValue) (answer : Filed) → answer ≡ Ended → IsAnswer raised answer after → HasEnded after
+answered-ended raised after answer is said =
+    let a : IsAnswer raised Ended after = subst (λ x. IsAnswer raised x after) is said in subst HasEnded (sym a.1) a.0
+
+pub filed-ended : (before after : ChainValue) (r : Report) (answer : Filed) → answer ≡ Ended → IsFiled before r answer after → has_ended after ≡ true
+filed-ended before after r answer is f = ended-is after (answered-ended f.raised after answer is f.answers)
+
+-- no report is filed with a chain that has ended
+pub not-ended : (before : ChainValue) (block : ℕ) → IsOut before block → has_ended before ≡ true → ⊥
+not-ended before block out ended = (ended-of before ended).home block out

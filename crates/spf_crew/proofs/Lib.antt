@@ -1,0 +1,4 @@
+pub mod Endings
+pub mod Steps
+pub mod Crews
+pub mod Filed

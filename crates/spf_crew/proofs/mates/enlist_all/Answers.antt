@@ -1,0 +1,76 @@
+use Rattle.std.proofs.Common.{◌≡◌, ℕ, ◌+◌, ◌<◌, List, ◌∷◌, ◌++◌, [], length, length-append, get_or, remove, suc, sym, refl, ap, ◌∙◌, subst, arith}
+use mathlib.Core.Option.{some}
+use lib.ListN.{get_elem?}
+use Rattle.spf_pool.specs.Hands.{HandValue}
+use Rattle.spf_crew.specs.declared.view.CrewSetting.{CrewSetting}
+use Rattle.spf_crew.specs.Values.{PlaceValue, CrewValue}
+use Rattle.spf_crew.specs.Mates.{MateValue}
+use Rattle.spf_crew.specs.Mates.{new_place}
+use Rattle.spf_crew.specs.Crews.{IsNumbered, AreFirstMates, AreAllMates, dealt, IsNewMate}
+use Rattle.spf_crew.proofs.Crews.{beheaded, first_of, numbered-snoc, all-snoc, each-snoc, dealt-on, dealt-first, new-mate}
+use Rattle.spf_crew.proofs.mates.enlist_all.Goals as goal
+
+pub new-requires : goal.new-requires
+new-requires c =
+    let i = c.loop-hands.invariant in
+    let d = dealt-first c.args.crew.now.setting c.args.tickets (length c.loop-hands.mates.items) c.loop-hands.hands.items c.remove-hand.result i.hands (first_of c.loop-hands.hands.items c.remove-hand.result i.some c.remove-hand.ensures.value) in
+    d.key ∙ (sym (ap (λ p. p.setting) i.rest) ∙ sym (ap (λ p. p.setting) c.enlist-place.ensures.new))
+
+pub new-requires-2 : goal.new-requires-2
+new-requires-2 c =
+    let i = c.loop-hands.invariant in
+    let d = dealt-first c.args.crew.now.setting c.args.tickets (length c.loop-hands.mates.items) c.loop-hands.hands.items c.remove-hand-2.result i.hands (first_of c.loop-hands.hands.items c.remove-hand-2.result i.some c.remove-hand-2.ensures.value) in
+    d.key ∙ sym (ap (λ p. p.setting) i.rest)
+
+pub loop-hands-preserved : goal.loop-hands-preserved
+loop-hands-preserved c =
+    let i = c.loop-hands.invariant in
+    let crew : CrewValue = c.args.crew.now in
+    let mates : List MateValue = c.loop-hands.mates.items in
+    let hands : List (HandValue CrewSetting) = c.loop-hands.hands.items in
+    let m : MateValue = c.new.result in
+    let grown : c.push.new.self.items ≡ mates ++ m ∷ [] = c.in_ok-push.ensures.items in
+    let long : length c.push.new.self.items ≡ length mates + 1 = ap length grown ∙ length-append mates (m ∷ []) in
+    let shorter : length c.remove-hand.new.self.items + 1 ≡ length hands = ap (λ l. length l + 1) c.remove-hand.ensures.items ∙ beheaded hands i.some in
+    let at : PlaceValue = c.enlist-place.result in
+    let own : at ≡ record (new_place crew (length mates)) { to = length mates + 1 } = c.enlist-place.ensures.new ∙ ap (λ (p : PlaceValue). record p { to = p.from + 1 }) i.rest in
+    let place : m.place ≡ record (new_place crew (length mates)) { to = length mates + 1 } = ap (λ (x : MateValue). x.place) c.new.ensures ∙ own in
+    let d = dealt-first crew.setting c.args.tickets (length mates) hands c.remove-hand.result i.hands (first_of hands c.remove-hand.result i.some c.remove-hand.ensures.value) in
+    let count = i.count in
+    let more = c.loop-hands-test.true in
+    let len = c.len-2.ensures in
+    let ok = c.loop-hands.hands.ok.0 in record {
+      rest = c.enlist-place.ensures.rest ∙ (ap (λ (p : PlaceValue). record p { from = p.from + 1 }) i.rest ∙ ap (new_place crew) (sym long));
+      mates = subst (AreFirstMates crew) (sym grown) (numbered-snoc crew mates m i.mates record { of = (ap (λ (p : PlaceValue). p.table) place, ap (λ (p : PlaceValue). p.setting) place); from = ap (λ (p : PlaceValue). p.from) place; to = ap (λ (p : PlaceValue). p.to) place });
+      fresh = each-snoc (λ n. IsNewMate (dealt c.args.tickets n)) mates c.push.new.self.items m grown i.fresh
+          (new-mate crew.setting (dealt c.args.tickets (length mates)) m at c.remove-hand.result c.new.ensures (ap (λ (p : PlaceValue). p.seen) own) (ap (λ (p : PlaceValue). p.read) own) d);
+      hands = dealt-on crew.setting c.args.tickets (length mates) (length c.push.new.self.items) hands c.remove-hand.new.self.items i.hands c.remove-hand.ensures.items long;
+      count = omega (arith, long, shorter, count);
+      some = omega (arith, shorter, more, len, ok);
+    }
+
+pub returns-clause-all : goal.returns-clause-all
+returns-clause-all c =
+    let i = c.loop-hands.invariant in
+    let crew : CrewValue = c.args.crew.now in
+    let mates : List MateValue = c.loop-hands.mates.items in
+    let m : MateValue = c.new-2.result in
+    let place : m.place ≡ new_place crew (length mates) = ap (λ (x : MateValue). x.place) c.new-2.ensures ∙ i.rest in
+    let count = i.count in
+    let some = i.some in
+    let less = c.loop-hands-test.false in
+    let len = c.len-2.ensures in
+    let ok = c.loop-hands.hands.ok.0 in
+    let one : length mates + 1 ≡ crew.setting.mates = omega (arith, count, some, less, len, ok) in
+    all-snoc crew mates c.push-2.new.self.items m c.in_ok-push-2.ensures.items i.mates
+    record { of = (ap (λ (p : PlaceValue). p.table) place, ap (λ (p : PlaceValue). p.setting) place); from = ap (λ (p : PlaceValue). p.from) place; to = ap (λ (p : PlaceValue). p.to) place ∙ sym one } one
+
+pub returns-clause-new : goal.returns-clause-new
+returns-clause-new c =
+    let i = c.loop-hands.invariant in
+    let crew : CrewValue = c.args.crew.now in
+    let mates : List MateValue = c.loop-hands.mates.items in
+    let hands : List (HandValue CrewSetting) = c.loop-hands.hands.items in
+    let d = dealt-first crew.setting c.args.tickets (length mates) hands c.remove-hand-2.result i.hands (first_of hands c.remove-hand-2.result i.some c.remove-hand-2.ensures.value) in
+    each-snoc (λ n. IsNewMate (dealt c.args.tickets n)) mates c.push-2.new.self.items c.new-2.result c.in_ok-push-2.ensures.items i.fresh
+    (new-mate crew.setting (dealt c.args.tickets (length mates)) c.new-2.result c.loop-hands.rest c.remove-hand-2.result c.new-2.ensures (ap (λ (p : PlaceValue). p.seen) i.rest) (ap (λ (p : PlaceValue). p.read) i.rest) d)

@@ -1,0 +1,11 @@
+pub mod Endings
+pub mod Values
+pub mod Rule
+pub mod Seats
+pub mod Place
+pub mod Crew
+pub mod Tickets
+pub mod Filing
+pub mod Mates
+pub mod Mate
+pub mod Crews

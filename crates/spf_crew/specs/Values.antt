@@ -1,0 +1,27 @@
+-- What contracts see of a crew and of a mate's place in it.
+use Rattle.std.specs.Prelude.{◌≡◌, ℕ, Bool}
+use Rattle.atomic_table.specs.Seated.{TableId}
+use Rattle.spf_chain.specs.Chains.{ChainValue, cells_of}
+use Rattle.spf_crew.specs.declared.view.CrewSetting.{CrewSetting}
+
+-- a crew: its table, and what is fixed for it
+pub record CrewValue : Type 0 where
+  pub table : TableId
+  pub setting : CrewSetting
+
+-- a place: its table and what is fixed, its numbers, the turn number that it saw last, and whether it has read 1 in the ending word
+pub record PlaceValue : Type 0 where
+  pub table : TableId
+  pub setting : CrewSetting
+  pub from : ℕ
+  pub to : ℕ
+  pub seen : ℕ
+  pub read : Bool
+
+-- the place is of this crew
+abbrev pub IsPlaceOf : CrewValue → PlaceValue → Type 0
+IsPlaceOf c p = (p.table ≡ c.table) × (p.setting ≡ c.setting)
+
+-- what is fixed for a crew of so many mates over this chain
+abbrev pub setting_of : ChainValue → ℕ → CrewSetting
+setting_of c mates = record { site = c.site; cells = cells_of c; mates = mates }

@@ -1,0 +1,48 @@
+// A crew is closed.
+ghost use Rattle.std.specs.Prelude.{◌≡◌, true, length};
+ghost use Rattle.spf_chain.specs.Chains.{cells_of, HasEnded};
+ghost use Rattle.spf_chain.specs.Finishing.{EveryMergingRuns};
+ghost use Rattle.spf_chain.specs.Homes.{log_in};
+ghost use Rattle.spf_crew.specs.Crews.{AreFirstMates, AreAllMates, HaveRead};
+ghost use Rattle.spf_crew.specs.Values.{IsPlaceOf};
+
+use crate::crew::Crew;
+use crate::mate::Mate;
+use crate::place::Place;
+use spf_cells::cells::Cells;
+use spf_chain::chain::Chain;
+
+impl<'a> Crew<'a> {
+    // All places are put together.
+    fn dismiss_all(&self, last: Place, mut mates: Vec<Mate>) -> Place
+        requires last { IsPlaceOf self.now last × (last.read ≡ true) × (last.from ≡ length mates.items) × (last.to ≡ self.now.setting.mates) }
+        requires mates { AreFirstMates self.now mates.items × HaveRead mates.items }
+        ensures { IsPlaceOf self.now result × (result.read ≡ true) × (result.from ≡ 0) × (result.to ≡ self.now.setting.mates) }
+    {
+        let mut all = last;
+        while let Some(mate) = mates.pop() {
+            let mut place = mate.into_place();
+            place.dismiss(self, all);
+            all = place;
+        }
+        all
+    }
+
+    /// Ends the crew, whose mates these are, in their order. The chain has ended, since each mate has read 1 in the ending word. Every
+    /// merging of the logs of its lanes is a speculative run. It takes no memory.
+    pub fn close(self, mut mates: Vec<Mate>) -> (Chain, Cells)
+        requires all { AreAllMates self mates.items }
+        requires ended { HaveRead mates.items }
+        ensures ended { HasEnded result.0 }
+        ensures site { result.0.site ≡ self.setting.site }
+        ensures own { result.1 ≡ cells_of result.0 }
+        ensures cells { result.1 ≡ self.setting.cells }
+        ensures merging { EveryMergingRuns result.0 (log_in result.0.homes) }
+    {
+        let last = mates.pop().unwrap().into_place();
+        let all = self.dismiss_all(last, mates);
+        let (chain, cells) = self.end(all);
+        chain.merged_logs_are_speculative_runs();
+        (chain, cells)
+    }
+}

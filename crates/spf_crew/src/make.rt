@@ -1,0 +1,97 @@
+// A crew is made.
+ghost use Rattle.std.specs.Prelude.{◌≡◌, ◌+◌, ◌<◌, ◌≤◌, length, slice_index, IfOk};
+ghost use Rattle.std.specs.List.{All};
+ghost use Rattle.spf_chain.specs.Beginning.{IsStarted};
+ghost use Rattle.spf_chain.specs.Jobs.{CanRun};
+ghost use Rattle.spf_entry.specs.Sites.{entry_at};
+ghost use Rattle.spf_pool.specs.Hands.{after_giving};
+ghost use Rattle.spf_pool.specs.Made.{AreNewHands};
+ghost use Rattle.spf_ticket.specs.Tickets.{IsJobOf};
+ghost use Rattle.spf_crew.specs.Tickets.{IsFreshOf};
+ghost use Rattle.spf_crew.specs.Values.{setting_of};
+ghost use Rattle.spf_crew.specs.Crews.{AreAllMates, AreNewMates, IsDealtTo};
+
+use crate::crew::Crew;
+use crate::mate::Mate;
+use crate::mates::enlist_all;
+use crate::open::key_of;
+use crate::view::CrewSetting;
+use spf_cells::cells::Cells;
+use spf_chain::chain::Chain;
+use spf_pool::hand::Hand;
+use spf_pool::pool::Pool;
+use spf_ticket::run::Job;
+use spf_ticket::ticket::Ticket;
+use std::alloc::{AllocError, Global};
+
+// The hands of a pool, each of which may give so many tickets.
+fn hands_of(
+    alloc: Global,
+    chain: &Chain,
+    workers: u64,
+    capacity: u64,
+) -> Result<Vec<Hand<Ticket, CrewSetting>>, AllocError>
+    requires workers { (0 < workers) × (workers ≤ 64) }
+    requires capacity { capacity ≤ 8192 }
+    ensures { IfOk result (λ v. AreNewHands (setting_of chain.now workers) capacity workers v.items) }
+{
+    let key = key_of(chain, workers);
+    Pool::make::<Ticket, CrewSetting>(alloc, &key, workers, capacity)
+}
+
+// A ticket goes to the back of the hand's own deque.
+fn give_one(hand: &mut Hand<Ticket, CrewSetting>, ticket: Ticket)
+    requires fresh { IsFreshOf hand.old.key ticket }
+    requires room { slice_index hand.old.given hand.old.own < hand.old.capacity }
+    ensures { hand.new ≡ after_giving hand.old }
+{
+    match hand.give(ticket) {
+        Ok(()) => {}
+        Err(_) => unreachable!(),
+    }
+}
+
+// All tickets go into one hand's deque, in their order.
+fn give_all(hand: &mut Hand<Ticket, CrewSetting>, tickets: Vec<Ticket>)
+    requires fresh { All (IsFreshOf hand.old.key) tickets.items }
+    requires room { hand.old.capacity ≡ length tickets.items }
+    requires own { (hand.old.own < length hand.old.given) × (slice_index hand.old.given hand.old.own ≡ 0) }
+    ensures { IsDealtTo hand.old.key (length tickets.items) hand.new }
+{
+    for ticket in tickets {
+        give_one(hand, ticket);
+    }
+}
+
+impl<'a> Crew<'a> {
+    /// A crew of 1 to 64 mates over a chain that has just started, with its cells and its tickets. All tickets go into the first mate's
+    /// deque, in their order, and the chain into its slot. `job` is the construct with the memory at its entry. All memory of the crew
+    /// is taken here.
+    ///
+    /// # Errors
+    ///
+    /// `AllocError` where there is no memory for it.
+    pub fn make(
+        alloc: Global,
+        chain: Chain,
+        cells: Cells,
+        tickets: Vec<Ticket>,
+        workers: u64,
+        job: Job<'a>,
+    ) -> Result<(Crew<'a>, Vec<Mate>), AllocError>
+        requires workers { (0 < workers) × (workers ≤ 64) }
+        requires started { IsStarted chain.site chain cells tickets.items }
+        requires job { CanRun job }
+        requires entry { IsJobOf (entry_at chain.site) job }
+        ensures setting { IfOk result (λ r. r.0.setting ≡ setting_of chain workers) }
+        ensures all { IfOk result (λ r. AreAllMates r.0 r.1.items) }
+        ensures new { IfOk result (λ r. AreNewMates (length tickets.items) r.1.items) }
+    {
+        let count = tickets.len() as u64;
+        let mut hands = hands_of(alloc, &chain, workers, count)?;
+        give_all(&mut hands[0], tickets);
+        let (crew, founder) = Crew::open(alloc, chain, cells, workers, job)?;
+        let mates = enlist_all(alloc, &crew, founder, hands, count)?;
+        Ok((crew, mates))
+    }
+}

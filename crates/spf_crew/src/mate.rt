@@ -1,0 +1,152 @@
+//! A mate: it takes tickets, runs them, and files their reports.
+ghost use Rattle.std.specs.Prelude.{◌≡◌, true};
+ghost use Rattle.spf_crew.specs.declared.held.Held.TheVariants as held;
+ghost use Rattle.spf_crew.specs.declared.turn.Turn.TheVariants as turn;
+ghost use Rattle.spf_ticket.specs.declared.ticket.Report.{Report as SeenReport};
+ghost use Rattle.spf_crew.specs.Tickets.{IsFreshOf, IsLawfulOf, IsAttemptBy};
+ghost use Rattle.spf_crew.specs.Mates.{IsMateOf, IsTurn};
+
+use crate::crew::Crew;
+use crate::held::Held;
+use crate::place::Place;
+use crate::turn::{Turn, Why};
+use crate::view::CrewSetting;
+use spf_chain::chain::Filed;
+use spf_edge::Gate;
+use spf_pool::hand::Hand;
+use spf_pool::next::Next;
+use spf_ticket::ticket::{Report, Ticket};
+use std::marker::Model;
+use std::mem;
+
+/// One worker of a crew, for one thread.
+///
+/// Contracts see of it its place at the chain, what its hand has seen, and what it holds. Of the place they see the numbers of its mate,
+/// the turn number that it saw last, and whether it has read 1 in the ending word.
+#[derive(Drop)]
+pub struct Mate {
+    pub(crate) place: Place,
+    pub(crate) hand: Hand<Ticket, CrewSetting>,
+    pub(crate) held: Held,
+}
+
+impl Model for Mate {
+    ghost use Rattle.std.specs.Coded.{codes};
+    ghost use Rattle.spf_crew.specs.contracts.view.CrewSetting as setting_row;
+    ghost use Rattle.spf_crew.specs.contracts.held.Held as held_row;
+
+    ghost coded = { Prim.hlevel (codes, setting_row.the_row.coded, held_row.the_row.coded) };
+
+    ghost use Rattle.spf_crew.specs.Mates.{MateValue};
+
+    ghost Value = { MateValue };
+
+    ghost use Rattle.spf_crew.specs.Mate.{mate_value, IsMate};
+
+    ghost view = { mate_value };
+
+    ghost invariant = { IsMate };
+}
+
+impl Mate {
+    // A mate that holds nothing.
+    pub(crate) fn new(place: Place, hand: Hand<Ticket, CrewSetting>) -> Mate
+        requires { hand.key ≡ place.setting }
+        ensures { result ≡ record { place = place; hand = hand; held = held.Nothing } }
+    {
+        Mate {
+            place,
+            hand,
+            held: Held::Nothing,
+        }
+    }
+
+    pub(crate) fn into_place(self) -> Place
+        ensures { result ≡ self.place }
+    {
+        let Mate {
+            place,
+            hand: _,
+            held: _,
+        } = self;
+        place
+    }
+
+    // Tries to file a report.
+    fn file(&mut self, crew: &Crew, report: Report) -> Turn
+        requires own { IsMateOf crew.now self.old }
+        requires free { self.old.held ≡ held.Nothing }
+        requires lawful { IsLawfulOf self.old.place.setting report }
+        ensures turn { IsTurn (record self.old { held = held.Report report }) result self.new }
+        ensures own { IsMateOf crew.now self.new }
+        ensures numbers { (self.new.place.from ≡ self.old.place.from) × (self.new.place.to ≡ self.old.place.to) }
+    {
+        match self.place.file(crew, report) {
+            Ok(filed) => match filed {
+                Filed::Rerun(ticket) => {
+                    self.held = Held::Ticket(ticket);
+                    Turn::Worked
+                }
+                Filed::Waiting { .. } => Turn::Worked,
+                Filed::Ended => Turn::Worked,
+            },
+            Err((report, seen)) => {
+                self.held = Held::Report(report);
+                Turn::Idle {
+                    why: Why::ChainOut { seen },
+                }
+            }
+        }
+    }
+
+    // Runs a ticket.
+    fn run<G: Gate>(&mut self, crew: &Crew, gate: &G, ticket: Ticket) -> Turn
+        requires own { IsMateOf crew.now self.old }
+        requires fresh { IsFreshOf self.old.place.setting ticket }
+        ensures worked { result ≡ turn.Worked }
+        ensures report { (r : SeenReport) × IsAttemptBy self.old.place.setting ticket r × (self.new ≡ record self.old { held = held.Report r }) }
+    {
+        self.held = Held::Report(crew.attempt(gate, ticket));
+        Turn::Worked
+    }
+
+    // Looks whether the chain has ended, and else for a ticket.
+    fn look<G: Gate>(&mut self, crew: &Crew, gate: &G) -> Turn
+        requires own { IsMateOf crew.now self.old }
+        requires free { self.old.held ≡ held.Nothing }
+        ensures turn { IsTurn self.old result self.new }
+        ensures own { IsMateOf crew.now self.new }
+        ensures numbers { (self.new.place.from ≡ self.old.place.from) × (self.new.place.to ≡ self.old.place.to) }
+        ensures ended { self.old.place.read ≡ true → result ≡ turn.Ended }
+    {
+        if self.place.reads_end(crew) {
+            return Turn::Ended;
+        }
+        match self.hand.next() {
+            Next::Got(ticket) => self.run(crew, gate, ticket),
+            Next::Empty => Turn::Idle { why: Why::Empty },
+            Next::Again => Turn::Idle { why: Why::Again },
+        }
+    }
+
+    /// One turn. A mate with a report tries once to take the chain, and files it. A mate with a ticket to rerun runs it. Any other one
+    /// looks whether the chain has ended; if not, it takes a ticket and runs it. The gate is called before and after an attempt.
+    ///
+    /// `Ended` comes exactly where the mate held nothing and read 1 in the ending word, and from then on. `Idle` with `ChainOut` comes
+    /// only where it has a report and found another turn number than the even one at or after that which it saw last, or 16,384, at
+    /// which no report is filed; it keeps the report. `Idle` with `Empty` or `Again` comes exactly where it held nothing and its hand
+    /// found no ticket. It neither takes memory nor waits.
+    pub fn turn<G: Gate>(&mut self, crew: &Crew, gate: &G) -> Turn
+        requires own { IsMateOf crew.now self.old }
+        ensures turn { IsTurn self.old result self.new }
+        ensures own { IsMateOf crew.now self.new }
+        ensures numbers { (self.new.place.from ≡ self.old.place.from) × (self.new.place.to ≡ self.old.place.to) }
+        ensures ended { self.old.held ≡ held.Nothing → self.old.place.read ≡ true → result ≡ turn.Ended }
+    {
+        match mem::replace(&mut self.held, Held::Nothing) {
+            Held::Report(report) => self.file(crew, report),
+            Held::Ticket(ticket) => self.run(crew, gate, ticket),
+            Held::Nothing => self.look(crew, gate),
+        }
+    }
+}

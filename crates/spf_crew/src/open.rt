@@ -1,0 +1,130 @@
+// The table is made with the chain in its slot, places are split off and joined again, and the chain comes back.
+ghost use Rattle.std.specs.Prelude.{◌≡◌, ◌+◌, ◌<◌, true, false, IfOk};
+ghost use Rattle.spf_chain.specs.Chains.{cells_of};
+ghost use Rattle.spf_chain.specs.Jobs.{CanRun};
+ghost use Rattle.spf_chain.specs.Sites.{IsGround};
+ghost use Rattle.spf_entry.specs.Sites.{entry_at};
+ghost use Rattle.spf_ticket.specs.Tickets.{IsJobOf};
+ghost use Rattle.spf_crew.specs.declared.view.CrewSetting.{CrewSetting};
+ghost use Rattle.spf_crew.specs.Endings.{has_ended};
+ghost use Rattle.spf_crew.specs.Rule.{IsChainOf};
+ghost use Rattle.spf_crew.specs.Mates.{new_place};
+ghost use Rattle.spf_crew.specs.Values.{IsPlaceOf, setting_of};
+
+use crate::crew::Crew;
+use crate::place::Place;
+use crate::rule::{Dismisses, Enlists};
+use crate::view::CrewSetting;
+use atomic_table::Table;
+use spf_cells::cells::Cells;
+use spf_chain::chain::Chain;
+use spf_key::key::{GhostKey, ghost_key};
+use spf_ticket::run::Job;
+use std::alloc::{AllocError, Global};
+
+// A key with the setting of a crew. A ghost value is named by a call's arguments alone, so the call has those that the name speaks of.
+pub(crate) fn key_of(chain: &Chain, mates: u64) -> GhostKey<CrewSetting>
+    ensures { result.value ≡ setting_of chain.now mates }
+{
+    named(chain, mates)
+}
+
+fn named(chain: &Chain, mates: u64) -> GhostKey<CrewSetting>
+    ghost setting: { CrewSetting }
+    ensures { result.value ≡ setting }
+{
+    let _ = chain;
+    let _ = mates;
+    ghost_key::<CrewSetting>()
+}
+
+impl<'a> Crew<'a> {
+    // The table with the chain, and a place with all numbers.
+    pub(crate) fn open(
+        alloc: Global,
+        chain: Chain,
+        cells: Cells,
+        mates: u64,
+        job: Job<'a>,
+    ) -> Result<(Crew<'a>, Place), AllocError>
+        requires cells { cells ≡ cells_of chain }
+        requires ground { IsGround chain.site cells }
+        requires mates { 0 < mates }
+        requires new { chain.reports ≡ 0 }
+        requires job { CanRun job }
+        requires entry { IsJobOf (entry_at chain.site) job }
+        ensures setting { IfOk result (λ r. r.0.setting ≡ setting_of chain mates) }
+        ensures place { IfOk result (λ r. r.1 ≡ new_place r.0 0) }
+    {
+        let key = key_of(&chain, mates);
+        let slots = Vec::from_array(alloc, [Some(chain)])?;
+        let Ok((table, seat)) = Table::new(alloc, &[0, 0], slots, &key) else {
+            return Err(AllocError);
+        };
+        let place = Place {
+            key,
+            seen: 0,
+            seat,
+        };
+        Ok((Crew { table, cells, job }, place))
+    }
+
+    // The chain, which has ended, where one place has all numbers and has read 1.
+    pub(crate) fn end(self, place: Place) -> (Chain, Cells)
+        requires own { IsPlaceOf self place }
+        requires all { (place.from ≡ 0) × (place.to ≡ self.setting.mates) }
+        requires read { place.read ≡ true }
+        ensures same { IsChainOf self.setting result.0 }
+        ensures ended { has_ended result.0 ≡ true }
+        ensures cells { result.1 ≡ self.setting.cells }
+    {
+        let Place {
+            key: _,
+            seen: _,
+            seat,
+        } = place;
+        let Crew {
+            table,
+            cells,
+            job: _,
+        } = self;
+        let mut closed = table.close_with(seat);
+        let chain = closed.take(0).unwrap();
+        closed.free();
+        (chain, cells)
+    }
+}
+
+impl Place {
+    // A new place gets the first number.
+    pub(crate) fn enlist(&mut self, crew: &Crew) -> Place
+        requires own { IsPlaceOf crew.now self.old }
+        requires more { self.old.from + 1 < self.old.to }
+        ensures new { result ≡ record self.old { to = self.old.from + 1 } }
+        ensures rest { self.new ≡ record self.old { from = self.old.from + 1 } }
+    {
+        let shared = &crew.table.shared;
+        let seat = shared.split_seat::<Enlists>(&mut self.seat);
+        Place {
+            key: self.key.again(),
+            seen: self.seen,
+            seat,
+        }
+    }
+
+    // The numbers of the next place are taken over.
+    pub(crate) fn dismiss(&mut self, crew: &Crew, other: Place)
+        requires own { IsPlaceOf crew.now self.old }
+        requires other { IsPlaceOf crew.now other }
+        requires next { other.from ≡ self.old.to }
+        ensures { self.new ≡ record self.old { to = other.to } }
+    {
+        let Place {
+            key: _,
+            seen: _,
+            seat,
+        } = other;
+        let shared = &crew.table.shared;
+        shared.join_seat::<Dismisses>(&mut self.seat, seat);
+    }
+}

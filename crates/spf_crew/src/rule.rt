@@ -1,0 +1,90 @@
+// The rule of the crew's table, and what each step on it tells the seat that makes it.
+use crate::view::{CrewSetting, CrewView};
+use atomic_table::{Join, Play, Seat, Split, Table, TableRule};
+use spf_chain::chain::Chain;
+use spf_key::key::GhostKey;
+use std::alloc::Global;
+
+/// The rule, which holds at every moment, and the first view.
+pub struct CrewRule;
+
+impl TableRule<Option<Chain>, CrewView, GhostKey<CrewSetting>> for CrewRule {
+    ghost use Rattle.spf_crew.specs.Rule.{IsCrewTable, first};
+
+    ghost holds = { λ t. IsCrewTable t.value };
+
+    ghost first = { λ t. first t.value };
+}
+
+/// The try to take the chain.
+pub struct Takes;
+
+impl Play<Option<Chain>, CrewView> for Takes {
+    ghost use Rattle.spf_crew.specs.Rule.{IsTake};
+
+    ghost then = { IsTake };
+}
+
+/// The step on the turn word that changes it to itself.
+pub struct Looks;
+
+impl Play<Option<Chain>, CrewView> for Looks {
+    ghost use Rattle.spf_crew.specs.Rule.{IsLook};
+
+    ghost then = { IsLook };
+}
+
+/// The end is announced.
+pub struct Announces;
+
+impl Play<Option<Chain>, CrewView> for Announces {
+    ghost use Rattle.spf_crew.specs.Rule.{IsAnnounce};
+
+    ghost then = { IsAnnounce };
+}
+
+/// The chain is given back.
+pub struct Gives;
+
+impl Play<Option<Chain>, CrewView> for Gives {
+    ghost use Rattle.spf_crew.specs.Rule.{IsGive};
+
+    ghost then = { IsGive };
+}
+
+/// The ending word is read.
+pub struct Reads;
+
+impl Play<Option<Chain>, CrewView> for Reads {
+    ghost use Rattle.spf_crew.specs.Rule.{IsRead};
+
+    ghost then = { IsRead };
+}
+
+/// A new mate gets the first number of the seat that is split.
+pub struct Enlists;
+
+impl Split<CrewView> for Enlists {
+    ghost use Rattle.spf_crew.specs.Rule.{after_enlisting, enlisted};
+
+    ghost left = { after_enlisting };
+
+    ghost right = { enlisted };
+}
+
+/// The numbers of another mate are taken over.
+pub struct Dismisses;
+
+impl Join<CrewView> for Dismisses {
+    ghost use Rattle.spf_crew.specs.Rule.{after_dismissing, spent_view};
+
+    ghost both = { after_dismissing };
+
+    ghost spent = { spent_view };
+}
+
+/// The table of the turn word, the ending word and the chain.
+pub type CrewTable = Table<Option<Chain>, CrewView, GhostKey<CrewSetting>, CrewRule, Global>;
+
+/// A mate's seat on it.
+pub type CrewSeat = Seat<Option<Chain>, CrewView>;

@@ -1,0 +1,5 @@
+//! Tests of a crew over the blocks of a program's construct, on one thread and on several.
+#![tactic(auto)]
+
+#[cfg(test)]
+mod tests;
