@@ -1,0 +1,6 @@
+mod Best
+mod Counts
+mod Handed
+mod Kept
+mod Stores
+mod Tables

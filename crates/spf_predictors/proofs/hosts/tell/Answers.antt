@@ -1,0 +1,11 @@
+use Rattle.std.proofs.Common.{w64}
+use Rattle.std.proofs.lemmas.Int.{to_z-of_z}
+use Rattle.spf_predictors.proofs.Handed.{one-told-as}
+use Rattle.spf_predictors.proofs.hosts.tell.Goals as goal
+
+pub returns-clause-told : goal.returns-clause-told
+returns-clause-told g c =
+    let block = to_z-of_z w64 c.args.block c.ranges.block in
+    let real = to_z-of_z w64 c.args.real c.ranges.real in
+    one-told-as _ c.args.hosts.now.items c.args.host c.index_mut.result.now _ _ (record { block = c.args.block; real = c.args.real })
+    (λ i. record { block = block i; real = real i }) c.requires c.index_mut.ensures.value c.tell_one.ensures.told

@@ -1,0 +1,12 @@
+use Rattle.std.proofs.Common.{◌≡◌, List, ◌++◌, length, map, take}
+use Rattle.spf_guess.specs.Guess.{Hosts, Telling, tells_from}
+use Rattle.spf_predictors.specs.Answers.{handed_in, WereTold}
+use Rattle.spf_predictors.proofs.hosts.tell_all.Given as goal
+
+-- the values so far were told
+abbrev pub invariant-loop-index : goal.invariant-loop-index
+invariant-loop-index g l = record {
+  count : length l.hosts.items ≡ length l.initial.hosts.items;
+  told : (before : Hosts) (telling : List Telling) → WereTold before telling (handed_in (map (λ h. (goal.Predictor-dyn g (h.vtable, h.value)).answer h.value) l.initial.hosts.items))
+      → WereTold before (telling ++ tells_from l.host l.first (take l.index l.reals)) (handed_in (map (λ h. (goal.Predictor-dyn g (h.vtable, h.value)).answer h.value) l.hosts.items));
+}

@@ -1,0 +1,5 @@
+pub mod Answers
+pub mod Counting
+pub mod Kinds
+pub mod Missing
+pub mod Stores
