@@ -1,6 +1,6 @@
 mod Best
 mod Counts
-mod Handed
+pub mod Handed
 mod Kept
 mod Stores
 mod Tables

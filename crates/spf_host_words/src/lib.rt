@@ -1,0 +1,9 @@
+//! The words of the command line that ask for predictors to be handed in.
+#![tactic(auto)]
+
+pub mod host_words;
+
+pub use host_words::{HostKind, HostWords, WordsError, read_hosts};
+
+#[cfg(test)]
+mod tests;
