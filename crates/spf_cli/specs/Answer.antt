@@ -7,7 +7,7 @@ use Rattle.spf_ast.specs.Canonical.{canonical_text}
 use Rattle.spf_region.specs.declared.range.Range.{Range}
 use Rattle.spf_check.specs.declared.rule.Rule.{Rule}
 use Rattle.spf_guess.specs.declared.stats.Stats.{Stats}
-use Rattle.spf_cli.specs.Message.{trap_line, words_line, failed_line, long_line, too_many_line, not_built_line, accepted_line, rule_line, stats_line, array_lines}
+use Rattle.spf_cli.specs.Message.{trap_line, words_line, failed_line, long_line, too_many_line, host_line, accepted_line, rule_line, stats_line, array_lines}
 use Rattle.spf_cli.specs.Command.{Options}
 use Rattle.spf_cli.specs.Reading.{Refusal, refusal_line}
 
@@ -37,10 +37,6 @@ accepted = record { status = 0; out = []; err = accepted_line ∷ [] }
 abbrev pub rule_refused : Program → Rule → ℕ → Option Range → Answer
 rule_refused p rule at range = refused 4 (rule_line p.arrays rule at range)
 
--- what runs such a program isn't built yet
-abbrev pub not_built : Answer
-not_built = refused 4 not_built_line
-
 -- a file can't be had
 abbrev pub file_failed : List ℕ → Answer
 file_failed name = refused 5 (failed_line name)
@@ -52,6 +48,10 @@ file_too_long name limit = refused 7 (long_line name limit)
 -- the arrays have too many cells
 abbrev pub too_many_cells : ℕ → Answer
 too_many_cells count = refused 7 (too_many_line count)
+
+-- a host that the program names isn't handed in
+abbrev pub host_missing : ℕ → Answer
+host_missing host = refused 7 (host_line host)
 
 -- a program was printed
 abbrev pub printed : Program → Answer

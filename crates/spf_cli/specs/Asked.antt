@@ -6,7 +6,7 @@ use Rattle.spf_cli.specs.declared.command.Options.{Options}
 
 -- what contracts see of options
 abbrev pub seen_options : Options → asked.Options
-seen_options o = record { stats = o.stats; cells = o.cells; plain = o.plain }
+seen_options o = record { workers = o.workers; stats = o.stats; cells = o.cells; plain = o.plain }
 
 -- what contracts see of a command
 abbrev pub seen_command : Command → asked.Command

@@ -1,8 +1,10 @@
 -- What the words of the command line ask for.
-use Rattle.std.specs.Prelude.{◌≡◌, ℕ, Bool, true, false, List, [], ◌∷◌, ◌++◌, codes}
+use Rattle.std.specs.Prelude.{◌≡◌, ℕ, ◌≤◌, Bool, true, false, List, [], ◌∷◌, ◌++◌, codes, Option, Some, None}
+use Rattle.std.specs.Fmt.{decimal}
 
--- what a run is to show, and whether it goes by the plain meaning alone
+-- how many workers run the blocks, where that is said; what a run is to show; and whether it goes by the plain meaning alone
 pub record Options : Type 0 where
+  pub workers : Option ℕ
   pub stats : Bool
   pub cells : Bool
   pub plain : Bool
@@ -19,9 +21,14 @@ abbrev pub option : Bool → List ℕ → List (List ℕ)
 option true word = word ∷ []
 option false word = []
 
+-- the words of a number of workers
+abbrev pub workers_words : Option ℕ → List (List ℕ)
+workers_words None = []
+workers_words (Some count) = codes "--workers" ∷ decimal count ∷ []
+
 -- the words of options, in their order
 abbrev pub option_words : Options → List (List ℕ)
-option_words o = option o.stats (codes "--stats") ++ (option o.cells (codes "--cells") ++ option o.plain (codes "--plain"))
+option_words o = workers_words o.workers ++ (option o.stats (codes "--stats") ++ (option o.cells (codes "--cells") ++ option o.plain (codes "--plain")))
 
 -- the words of a command
 abbrev pub words_of : Command → List (List ℕ)
@@ -42,7 +49,17 @@ HasFileNames (Check program) = IsFileName program
 HasFileNames (Explain program) = IsFileName program
 HasFileNames (Print program) = IsFileName program
 
+-- there are 1 to 64 workers
+abbrev pub AreWorkers : Option ℕ → Type 0
+AreWorkers None = Unit {0}
+AreWorkers (Some count) = (1 ≤ count) × (count ≤ 64)
+
+abbrev pub HasWorkers : Command → Type 0
+HasWorkers (Run program input options) = AreWorkers options.workers
+HasWorkers _ = Unit {0}
+
 -- the words ask for this command
 pub record Asks (words : List (List ℕ)) (command : Command) : Type 0 where
   pub words_are : words ≡ words_of command
   pub files_are : HasFileNames command
+  pub workers_are : HasWorkers command

@@ -5,7 +5,7 @@ use Rattle.spf_check.specs.Laws.{AreAcceptedOrRefused, FirstRefusalsAreTheSame, 
 use Rattle.spf_cli.specs.Answer.{Answer}
 use Rattle.spf_cli.specs.Command.{Command, Asks}
 use Rattle.spf_cli.specs.Reading.{Verdict, IsVerdict}
-use Rattle.spf_cli.specs.Whole.{Whole, IsOnly}
+use Rattle.spf_cli.specs.Whole.{Handed, Whole, IsOnly}
 
 -- one thing is said of each program, by the laws on refusals and explanations
 pub record RuleLaws : Type 0 where
@@ -31,10 +31,10 @@ NoTextIsLeftUnjudged = (text : List ℕ) → ((verdict : Verdict) → IsVerdict 
 abbrev pub EachAsksForOneOrNone : Type 0
 EachAsksForOneOrNone = (words : List (List ℕ)) → ((command : Command) × IsOnly (Asks words) command) ⊎ ((command : Command) → Asks words command → ⊥)
 
--- a list of words has at most one answer over files
+-- a list of words has at most one answer, with what is handed in and over files
 abbrev pub NoneHasTwoAnswers : Type 0
-NoneHasTwoAnswers = (words : List (List ℕ)) (files : List Entry) (one other : Answer) → Whole words files one → Whole words files other → one ≡ other
+NoneHasTwoAnswers = (handed : Handed) (words : List (List ℕ)) (files : List Entry) (one other : Answer) → Whole handed words files one → Whole handed words files other → one ≡ other
 
--- no list of words is left without an answer: there is none, over whatever files, to which no answer is the whole one
+-- no list of words is left without an answer: there is none, whatever is handed in and whatever the files are, to which no answer is the whole one
 abbrev pub NoneIsLeftUnanswered : Type 0
-NoneIsLeftUnanswered = (words : List (List ℕ)) (files : List Entry) → ((answer : Answer) → Whole words files answer → ⊥) → ⊥
+NoneIsLeftUnanswered = (handed : Handed) (words : List (List ℕ)) (files : List Entry) → ((answer : Answer) → Whole handed words files answer → ⊥) → ⊥

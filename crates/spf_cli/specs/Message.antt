@@ -49,9 +49,9 @@ long_line name limit = line (codes "file " ∷ name ∷ codes " over " ∷ decim
 abbrev pub too_many_line : ℕ → List ℕ
 too_many_line count = line (codes "cells " ∷ decimal count ∷ codes " over 4194304" ∷ [])
 
--- `refused not-built`
-abbrev pub not_built_line : List ℕ
-not_built_line = line (codes "refused not-built" ∷ [])
+-- `host N not handed in`
+abbrev pub host_line : ℕ → List ℕ
+host_line host = line (codes "host " ∷ decimal host ∷ codes " not handed in" ∷ [])
 
 -- `accepted`
 abbrev pub accepted_line : List ℕ

@@ -1,20 +1,23 @@
 -- The whole answer of the program: what it says to these words, where these are the files.
-use Rattle.std.specs.Prelude.{◌≡◌, ◌⊎◌, ℕ, ◌≤◌, Bool, true, false, if◌then◌else◌, ◌||◌, nat_le, List, length, Option, Some, None}
+use Rattle.std.specs.Prelude.{◌≡◌, ◌⊎◌, ℕ, ◌≤◌, Bool, true, false, if◌then◌else◌, nat_le, List, length, Option, Some, None}
 use Rattle.std.specs.List.{concat}
 use Rattle.spf_ast.specs.Syntax.{Program}
 use Rattle.spf_ast.specs.Program.{outcome, cell_count_of, max_cells}
 use Rattle.spf_layout.specs.RunErrors.{counted}
 use Rattle.spf_edge.specs.Entries.{Entry, lookup}
 use Rattle.spf_edge.specs.Bytes.{Adds, AddsPrefix, Hands}
-use Rattle.spf_cli.specs.Answer.{Answer, not_understood, text_refused, accepted, rule_refused, explained, not_built, file_failed, file_too_long, too_many_cells, printed, ran}
+use Rattle.spf_cli.specs.Answer.{Answer, not_understood, text_refused, accepted, rule_refused, explained, file_failed, file_too_long, too_many_cells, host_missing, printed, ran}
 use Rattle.spf_cli.specs.Command.{Command, Run, Check, Explain, Print, Options, Asks}
 use Rattle.spf_region.specs.declared.range.Range.{Range}
 use Rattle.spf_check.specs.declared.rule.Rule.{Rule}
 use Rattle.spf_check.specs.Accepting.{IsAccepted, IsFirstRefusal}
 use Rattle.spf_check.specs.Explaining.{Explains}
 use Rattle.spf_guess.specs.declared.stats.Stats.{Stats}
-use Rattle.spf_guess.specs.Statistics.{none, statistics}
-use Rattle.spf_engine.specs.FirstForm.{is_first_form}
+use Rattle.spf_ast.specs.Construct.{constructs_in}
+use Rattle.spf_guess.specs.Guess.{Hosts}
+use Rattle.spf_guess.specs.Statistics.{none, tally}
+use Rattle.spf_predictors.specs.Answers.{Answers, handed_in}
+use Rattle.spf_predictors.specs.Missing.{missing_host}
 use Rattle.spf_cli.specs.Reading.{Verdict, Says, Refuses, IsVerdict}
 
 -- how many bytes the file of a program, and that of an input, may have
@@ -60,47 +63,60 @@ CheckedBy p next answer =
 abbrev pub Explained : Program → Wanted
 Explained p answer = (text : List ℕ) × Explains p text × (answer ≡ explained text)
 
--- whether what runs this program so is built: all programs go by the plain meaning, those of the first form also by blocks
-abbrev pub is_built : Options → Program → Bool
-is_built options p = options.plain || is_first_form p
+-- the predictors that are handed in: what each answers, and how many they are
+pub record Handed : Type 0 where
+  pub hosts : Hosts
+  pub count : ℕ
+
+-- the predictors whose answers these are
+abbrev pub handed : List Answers → Handed
+handed predictors = record { hosts = handed_in predictors; count = length predictors }
 
 -- the statistics of a run; by the plain meaning no block is guessed
-abbrev pub stats_of : Options → Program → List ℕ → Stats
-stats_of options p input = if options.plain then none else statistics p input
+abbrev pub stats_of : Options → Handed → Program → List ℕ → Stats
+stats_of options given p input = if options.plain then none else (tally given.hosts p input).stats
+
+-- the first host that a run would ask and that isn't handed in; by the plain meaning none is asked
+abbrev pub host_wanted : Options → Handed → Program → Option ℕ
+host_wanted options given p = if options.plain then None else missing_host given.count (constructs_in p.main)
+
+-- where no host is missing
+abbrev pub WithHosts : Option ℕ → Wanted → Wanted
+WithHosts None next = next
+WithHosts (Some host) next = Is (host_missing host)
 
 -- a program is run on an input
-abbrev pub Runs : Options → Program → List ℕ → Wanted
-Runs options p input =
+abbrev pub Runs : Options → Handed → Program → List ℕ → Wanted
+Runs options given p input =
     Either (nat_le (cell_count_of p (length input)) max_cells)
-    (Is (ran options p (length input) (outcome p input) (stats_of options p input)))
+    (WithHosts (host_wanted options given p) (Is (ran options p (length input) (outcome p input) (stats_of options given p input))))
     (Is (too_many_cells (counted (cell_count_of p (length input)))))
 
--- a program is run on the file of an input, where what runs it so is built
-abbrev pub RunsOn : Options → List ℕ → Program → List Entry → Wanted
-RunsOn options input p files =
-    Either (is_built options p) (Fetched input max_input (lookup files input) (λ content. Runs options p content)) (Is not_built)
+-- a program is run on the file of an input
+abbrev pub RunsOn : Options → Handed → List ℕ → Program → List Entry → Wanted
+RunsOn options handed input p files = Fetched input max_input (lookup files input) (λ content. Runs options given p content)
 
 -- a program may be run so: by the plain meaning each, else those that the rules accept
 abbrev pub MayRun : Options → Program → Type 0
 MayRun options p = (options.plain ≡ true) ⊎ IsAccepted p
 
 -- the answer to a command: its files in their order, each with its tests
-abbrev pub WholeOf : Command → List Entry → Wanted
-WholeOf (Run program input options) files =
+abbrev pub WholeOf : Handed → Command → List Entry → Wanted
+WholeOf given (Run program input options) files =
     Fetched program max_program (lookup files program) (λ text.
     Read text (λ p.
-    Either options.plain (RunsOn options input p files) (CheckedBy p (RunsOn options input p files))))
-WholeOf (Check program) files =
+    Either options.plain (RunsOn options handed input p files) (CheckedBy p (RunsOn options handed input p files))))
+WholeOf given (Check program) files =
     Fetched program max_program (lookup files program) (λ text. Read text (λ p. CheckedBy p (Is accepted)))
-WholeOf (Explain program) files =
+WholeOf given (Explain program) files =
     Fetched program max_program (lookup files program) (λ text. Read text (λ p. Explained p))
-WholeOf (Print program) files =
+WholeOf given (Print program) files =
     Fetched program max_program (lookup files program) (λ text. Read text (λ p. Is (printed p)))
 
--- the answer to these words, where these are the files
-abbrev pub Whole : List (List ℕ) → List Entry → Wanted
-Whole words files answer =
-    ((command : Command) × Asks words command × WholeOf command files answer)
+-- the answer to these words, where these predictors are handed in, and these are the files
+abbrev pub Whole : Handed → List (List ℕ) → List Entry → Wanted
+Whole given words files answer =
+    ((command : Command) × Asks words command × WholeOf given command files answer)
     ⊎ (((command : Command) → Asks words command → ⊥) × (answer ≡ not_understood))
 
 -- this is so of the one, and of no other
@@ -116,14 +132,14 @@ IsReached (Run program input options) files name =
     × ((text : List ℕ)
     × (lookup files program ≡ Some text)
     × (length text ≤ max_program)
-    × ((p : Program) × IsVerdict text (Says p) × MayRun options p × (is_built options p ≡ true))))
+    × ((p : Program) × IsVerdict text (Says p) × MayRun options p)))
 IsReached (Check program) files name = name ≡ program
 IsReached (Explain program) files name = name ≡ program
 IsReached (Print program) files name = name ≡ program
 
 -- the answer that the input of a program which is run can't be had
-abbrev pub IsInputFault : Options → List ℕ → Program → List Entry → Wanted
-IsInputFault options input p files answer = (is_built options p ≡ true) × (answer ≡ file_failed input)
+abbrev pub IsInputFault : List ℕ → List Entry → Wanted
+IsInputFault input files answer = answer ≡ file_failed input
 
 -- the answer that a file which a command reaches can't be had
 abbrev pub IsFaultOf : Command → List Entry → Answer → Type 0
@@ -147,16 +163,16 @@ pub record IsGivenInPart (answer : Answer) (out_before out_now err_before err_no
   pub lines_wait : Adds out_before out_now answer.out ⊎ (err_now ≡ err_before)
 
 -- What was put is a prefix of the one whole answer; or memory ran out, and nothing was put; or a fault of a file that was reached was met, and it is a prefix of the answer to that, with its status or that for a sink.
-abbrev pub IsAnsweredInPart : List (List ℕ) → List Entry → Type 0 → ℕ → Option (List ℕ) → Option (List ℕ) → Option (List ℕ) → Option (List ℕ) → Type 0
-IsAnsweredInPart words files FileFault status out_before out_now err_before err_now =
-    ((answer : Answer) × IsOnly (Whole words files) answer × IsGivenInPart answer out_before out_now err_before err_now)
+abbrev pub IsAnsweredInPart : Handed → List (List ℕ) → List Entry → Type 0 → ℕ → Option (List ℕ) → Option (List ℕ) → Option (List ℕ) → Option (List ℕ) → Type 0
+IsAnsweredInPart given words files FileFault status out_before out_now err_before err_now =
+    ((answer : Answer) × IsOnly (Whole given words files) answer × IsGivenInPart answer out_before out_now err_before err_now)
     ⊎ ((status ≡ 8) × (out_now ≡ out_before) × (err_now ≡ err_before))
     ⊎ (FileFault × ((status ≡ 5) ⊎ (status ≡ 6)) × ((answer : Answer) × IsFaultAnswer words files answer × IsGivenInPart answer out_before out_now err_before err_now))
 
 -- What the program answered: the one whole answer, put on both sinks; or memory ran out, or a fault of a file that was reached, or of a sink, was met.
-abbrev pub IsAnswered : List (List ℕ) → List Entry → Type 0 → Type 0 → ℕ → Option (List ℕ) → Option (List ℕ) → Option (List ℕ) → Option (List ℕ) → Option (List (List ℕ)) → Option (List (List ℕ)) → Type 0
-IsAnswered words files FileFault PutFault status out_before out_now err_before err_now lines_before lines_now =
-    ((answer : Answer) × IsOnly (Whole words files) answer × IsGiven answer status out_before out_now err_before err_now lines_before lines_now)
+abbrev pub IsAnswered : Handed → List (List ℕ) → List Entry → Type 0 → Type 0 → ℕ → Option (List ℕ) → Option (List ℕ) → Option (List ℕ) → Option (List ℕ) → Option (List (List ℕ)) → Option (List (List ℕ)) → Type 0
+IsAnswered given words files FileFault PutFault status out_before out_now err_before err_now lines_before lines_now =
+    ((answer : Answer) × IsOnly (Whole given words files) answer × IsGiven answer status out_before out_now err_before err_now lines_before lines_now)
     ⊎ (status ≡ 8)
     ⊎ (FileFault × ((answer : Answer) × IsFaultAnswer words files answer × IsGiven answer status out_before out_now err_before err_now lines_before lines_now))
     ⊎ (PutFault × (status ≡ 6))

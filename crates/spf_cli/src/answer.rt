@@ -1,8 +1,8 @@
 // What the program answers, before any of it is put anywhere.
 
-ghost use Rattle.std.specs.Prelude.{◌≡◌, ◌≤◌, ◌<◌, ◌^◌, ◌++◌, ◌∷◌, [], List, Option, Some, IfOk, IfErr, map, length, string_bytes, true};
+ghost use Rattle.std.specs.Prelude.{◌≡◌, ◌≤◌, ◌<◌, ◌^◌, ◌++◌, ◌∷◌, [], List, Option, Some, IfOk, IfErr, map, length, string_bytes, true, false};
 ghost use Rattle.spf_ast.specs.View.{program as program_of, array as array_of};
-ghost use Rattle.spf_ast.specs.Program.{extents_from, outcome as outcome_of, seen_outcome};
+ghost use Rattle.spf_ast.specs.Program.{extents_from, seen_outcome};
 ghost use Rattle.spf_ast.specs.Lawful.{IsLawful};
 ghost use Rattle.spf_layout.specs.Instance.{program_of as instance_program};
 ghost use Rattle.spf_edge.specs.Entries.{Entry, HasContent};
@@ -11,16 +11,16 @@ ghost use Rattle.spf_cli.specs.Message.{array_lines};
 ghost use Rattle.spf_cli.specs.Command.{Run as run_command, Check as check_command, Explain as explain_command, Print as print_command};
 ghost use Rattle.spf_cli.specs.Reading.{IsVerdict, Says};
 ghost use Rattle.spf_check.specs.Accepting.{IsAccepted};
-ghost use Rattle.spf_cli.specs.Answer.{refused as refused_answer, accepted as accepted_answer, rule_refused as rule_refused_answer, file_failed, too_many_cells, printed, stats_lines, ran as ran_answer};
+ghost use Rattle.spf_cli.specs.Answer.{refused as refused_answer, accepted as accepted_answer, rule_refused as rule_refused_answer, file_failed, too_many_cells, host_missing, printed, stats_lines, ran as ran_answer};
 ghost use Rattle.spf_cli.specs.Asked.{seen_command, seen_options};
 ghost use Rattle.spf_cli.specs.Status.{status_number};
-ghost use Rattle.spf_cli.specs.Whole.{IsOnly, Runs, RunsOn, IsInputFault, Whole, WholeOf, IsFaultOf, IsFaultAnswer, stats_of, is_built as is_built_program};
+ghost use Rattle.spf_cli.specs.Whole.{Handed, handed, IsOnly, Runs, RunsOn, IsInputFault, Whole, WholeOf, IsFaultOf, IsFaultAnswer};
 ghost use Rattle.spf_cli.specs.Answering.{lines_of, seen_answer, IsFetchExit, IsReadExit, IsRuleExit, IsNotAccepted, IsNotRun, IsWholeUnless, IsCaused, AnswersWith};
 
 use crate::command::{Command, Options, read_words};
 use crate::laws::rules_say_one_thing;
 use crate::message::{
-    array_line, failed_line, long_line, rule_line, stats_line, too_many_line, trap_line,
+    array_line, failed_line, host_line, long_line, rule_line, stats_line, too_many_line, trap_line,
 };
 use crate::reading::{Unread, read_program, refusal_line};
 use crate::status::Status;
@@ -31,14 +31,14 @@ use spf_check::check::check;
 use spf_check::checked::Checked;
 use spf_check::explain::explain;
 use spf_check::rule::{CheckError, Refusal};
-use spf_edge::{FetchError, Files};
-use spf_engine::first_form::is_first_form;
-use spf_engine::run;
-use spf_engine::run::RunReport;
+use spf_edge::{FetchError, Files, Gate};
+use spf_engine::run::run_instance;
 use spf_exec::plain_run;
 use spf_guess::stats::Stats;
 use spf_layout::instance::Instance;
 use spf_layout::layout::RunError;
+use spf_predictors::Predictor;
+use spf_predictors::missing::first_missing;
 use std::alloc::{AllocError, Global};
 
 /// How many bytes the file of a program may have.
@@ -186,13 +186,6 @@ fn accept(alloc: Global, program: Program) -> Result<Checked, Exit>
     }
 }
 
-/// Whether what runs this program so is built.
-fn is_built(options: Options, program: &Program) -> bool
-    ensures { result ≡ is_built_program (seen_options options) (program_of program.now) }
-{
-    options.plain || is_first_form(program)
-}
-
 /// Adds the statistics, where they are asked for.
 fn push_stats(
     alloc: Global,
@@ -236,11 +229,11 @@ fn ran(
     alloc: Global,
     options: Options,
     instance: &Instance,
-    report: RunReport,
+    outcome: Outcome,
+    stats: Stats,
 ) -> Result<Answer, AllocError>
-    ensures { IfOk result (λ a. seen_answer a ≡ ran_answer (seen_options options) (instance_program instance.now) (length instance.now.input) (seen_outcome report.outcome) report.stats) }
+    ensures { IfOk result (λ a. seen_answer a ≡ ran_answer (seen_options options) (instance_program instance.now) (length instance.now.input) (seen_outcome outcome) stats) }
 {
-    let RunReport { outcome, stats } = report;
     let mut messages = Vec::new(alloc);
     match outcome {
         Outcome::Done { cells, output } => {
@@ -293,43 +286,58 @@ fn too_many(alloc: Global, count: u128) -> Result<Answer, AllocError>
     refused(alloc, Status::OverLimit, too_many_line(alloc, count)?)
 }
 
-/// Runs an instance: by the plain meaning of its program where that is asked for, or by blocks from guesses.
-fn run_instance(
-    alloc: Global,
-    options: Options,
-    instance: &Instance,
-) -> Result<RunReport, AllocError>
-    requires lawful { IsLawful (instance_program instance.now) }
-    requires built { is_built_program (seen_options options) (instance_program instance.now) ≡ true }
-    ensures outcome { IfOk result (λ r. seen_outcome r.outcome ≡ outcome_of (instance_program instance.now) instance.now.input) }
-    ensures stats { IfOk result (λ r. r.stats ≡ stats_of (seen_options options) (instance_program instance.now) instance.now.input) }
+/// The answer where a host isn't handed in.
+fn without_host(alloc: Global, host: u64) -> Result<Answer, AllocError>
+    ensures { IfOk result (λ a. seen_answer a ≡ host_missing host) }
 {
-    if !options.plain {
-        return run::run_instance(alloc, instance);
-    }
-    let outcome = plain_run::run_instance(alloc, instance)?;
-    Ok(RunReport {
-        outcome,
-        stats: Stats::none(),
-    })
+    refused(alloc, Status::OverLimit, host_line(alloc, host)?)
 }
 
-/// The answer of a run.
-fn run(alloc: Global, options: Options, program: &Program, input: &[u8]) -> Result<Answer, Exit>
+/// The answer of a run by the plain meaning.
+fn run_plainly(
+    alloc: Global,
+    options: Options,
+    program: &Program,
+    input: &[u8],
+) -> Result<Answer, Exit>
     requires lawful { IsLawful (program_of program.now) }
-    requires built { is_built_program (seen_options options) (program_of program.now) ≡ true }
-    ensures { AnswersWith (IsOnly (Runs (seen_options options) (program_of program.now) input.now)) result }
+    requires plain { options.plain ≡ true }
+    ensures { (handed : Handed) → AnswersWith (IsOnly (Runs (seen_options options) handed (program_of program.now) input.now)) result }
 {
     let instance = match Instance::make(alloc, program, input) {
         Ok(instance) => instance,
         Err(error) => return Err(not_run(alloc, error)),
     };
-    let report = run_instance(alloc, options, &instance)?;
-    Ok(ran(alloc, options, &instance, report)?)
+    let outcome = plain_run::run_instance(alloc, &instance)?;
+    Ok(ran(alloc, options, &instance, outcome, Stats::none())?)
 }
 
-/// The answer of a run on the file of an input.
-fn run_on<F: Files>(
+/// The answer of a run by blocks from guesses.
+fn run_by_blocks<G: Gate>(
+    alloc: Global,
+    options: Options,
+    checked: &Checked,
+    input: &[u8],
+    hosts: &mut Vec<Box<dyn Predictor>>,
+    gate: &G,
+) -> Result<Answer, Exit>
+    requires blocks { options.plain ≡ false }
+    ensures { AnswersWith (IsOnly (Runs (seen_options options) (handed (map (λ h. answer h) hosts.old.items)) (program_of checked.now) input.now)) result }
+{
+    let program = checked.program();
+    let instance = match Instance::make(alloc, program, input) {
+        Ok(instance) => instance,
+        Err(error) => return Err(not_run(alloc, error)),
+    };
+    if let Some(host) = first_missing(program, hosts.len() as u64) {
+        return Ok(without_host(alloc, host)?);
+    }
+    let report = run_instance(alloc, checked, &instance, hosts, gate)?;
+    Ok(ran(alloc, options, &instance, report.outcome, report.stats)?)
+}
+
+/// The answer of `run` with `--plain` over a program, on the file of an input.
+fn run_plainly_on<F: Files>(
     alloc: Global,
     program: &Program,
     input: &str,
@@ -337,29 +345,48 @@ fn run_on<F: Files>(
     files: &mut F,
 ) -> Result<Answer, Exit>
     requires lawful { IsLawful (program_of program.now) }
-    ensures whole { let options = seen_options options in let p = program_of program.now in
-        AnswersWith (IsWholeUnless (RunsOn options input.now p) (IsInputFault options input.now p) (F.told files.old) (Rose (F.faults files.old) (F.faults files.new))) result }
+    requires plain { options.plain ≡ true }
+    ensures whole { (handed : Handed) → let o = seen_options options in let p = program_of program.now in
+        AnswersWith (IsWholeUnless (RunsOn o handed input.now p) (IsInputFault input.now) (F.told files.old) (Rose (F.faults files.old) (F.faults files.new))) result }
     ensures cause { AnswersWith (IsCaused (F.told files.old) (Rose (F.faults files.old) (F.faults files.new))) result }
     ensures later { F.faults files.old ≤ F.faults files.new }
 {
-    if !is_built(options, program) {
-        let line = String::from_str(alloc, "refused not-built\n")?;
-        return Ok(refused(alloc, Status::Refused, line)?);
-    }
     let content = fetch(alloc, files, input, MAX_INPUT)?;
-    run(alloc, options, program, &content)
+    run_plainly(alloc, options, program, &content)
+}
+
+/// The answer of `run` over an accepted program, on the file of an input.
+fn run_by_blocks_on<F: Files, G: Gate>(
+    alloc: Global,
+    checked: &Checked,
+    input: &str,
+    options: Options,
+    files: &mut F,
+    hosts: &mut Vec<Box<dyn Predictor>>,
+    gate: &G,
+) -> Result<Answer, Exit>
+    requires blocks { options.plain ≡ false }
+    ensures whole { let o = seen_options options in let p = program_of checked.now in
+        AnswersWith (IsWholeUnless (RunsOn o (handed (map (λ h. answer h) hosts.old.items)) input.now p) (IsInputFault input.now) (F.told files.old) (Rose (F.faults files.old) (F.faults files.new))) result }
+    ensures cause { AnswersWith (IsCaused (F.told files.old) (Rose (F.faults files.old) (F.faults files.new))) result }
+    ensures later { F.faults files.old ≤ F.faults files.new }
+{
+    let content = fetch(alloc, files, input, MAX_INPUT)?;
+    run_by_blocks(alloc, options, checked, &content, hosts, gate)
 }
 
 /// The answer of `run` over two files.
-fn run_files<F: Files>(
+fn run_files<F: Files, G: Gate>(
     alloc: Global,
     program: &str,
     input: &str,
     options: Options,
     files: &mut F,
+    hosts: &mut Vec<Box<dyn Predictor>>,
+    gate: &G,
 ) -> Result<Answer, Exit>
     ensures whole { let command = run_command program.now input.now (seen_options options) in
-        AnswersWith (IsWholeUnless (WholeOf command) (IsFaultOf command) (F.told files.old) (Rose (F.faults files.old) (F.faults files.new))) result }
+        AnswersWith (IsWholeUnless (WholeOf (handed (map (λ h. answer h) hosts.old.items)) command) (IsFaultOf command) (F.told files.old) (Rose (F.faults files.old) (F.faults files.new))) result }
     ensures cause { AnswersWith (IsCaused (F.told files.old) (Rose (F.faults files.old) (F.faults files.new))) result }
     ensures later { F.faults files.old ≤ F.faults files.new }
 {
@@ -367,16 +394,16 @@ fn run_files<F: Files>(
     let text = fetch(alloc, files, program, MAX_PROGRAM)?;
     let parsed = read(alloc, &text)?;
     if options.plain {
-        return run_on(alloc, &parsed, input, options, files);
+        return run_plainly_on(alloc, &parsed, input, options, files);
     }
     let checked = accept(alloc, parsed)?;
-    run_on(alloc, checked.program(), input, options, files)
+    run_by_blocks_on(alloc, &checked, input, options, files, hosts, gate)
 }
 
 /// The answer of `check` over a file.
 fn check_file<F: Files>(alloc: Global, program: &str, files: &mut F) -> Result<Answer, Exit>
-    ensures whole { let command = check_command program.now in
-        AnswersWith (IsWholeUnless (WholeOf command) (IsFaultOf command) (F.told files.old) (Rose (F.faults files.old) (F.faults files.new))) result }
+    ensures whole { (handed : Handed) → let command = check_command program.now in
+        AnswersWith (IsWholeUnless (WholeOf handed command) (IsFaultOf command) (F.told files.old) (Rose (F.faults files.old) (F.faults files.new))) result }
     ensures cause { AnswersWith (IsCaused (F.told files.old) (Rose (F.faults files.old) (F.faults files.new))) result }
     ensures later { F.faults files.old ≤ F.faults files.new }
 {
@@ -389,8 +416,8 @@ fn check_file<F: Files>(alloc: Global, program: &str, files: &mut F) -> Result<A
 
 /// The answer of `explain` over a file.
 fn explain_file<F: Files>(alloc: Global, program: &str, files: &mut F) -> Result<Answer, Exit>
-    ensures whole { let command = explain_command program.now in
-        AnswersWith (IsWholeUnless (WholeOf command) (IsFaultOf command) (F.told files.old) (Rose (F.faults files.old) (F.faults files.new))) result }
+    ensures whole { (handed : Handed) → let command = explain_command program.now in
+        AnswersWith (IsWholeUnless (WholeOf handed command) (IsFaultOf command) (F.told files.old) (Rose (F.faults files.old) (F.faults files.new))) result }
     ensures cause { AnswersWith (IsCaused (F.told files.old) (Rose (F.faults files.old) (F.faults files.new))) result }
     ensures later { F.faults files.old ≤ F.faults files.new }
 {
@@ -407,8 +434,8 @@ fn explain_file<F: Files>(alloc: Global, program: &str, files: &mut F) -> Result
 
 /// The answer of `print` over a file.
 fn print_file<F: Files>(alloc: Global, program: &str, files: &mut F) -> Result<Answer, Exit>
-    ensures whole { let command = print_command program.now in
-        AnswersWith (IsWholeUnless (WholeOf command) (IsFaultOf command) (F.told files.old) (Rose (F.faults files.old) (F.faults files.new))) result }
+    ensures whole { (handed : Handed) → let command = print_command program.now in
+        AnswersWith (IsWholeUnless (WholeOf handed command) (IsFaultOf command) (F.told files.old) (Rose (F.faults files.old) (F.faults files.new))) result }
     ensures cause { AnswersWith (IsCaused (F.told files.old) (Rose (F.faults files.old) (F.faults files.new))) result }
     ensures later { F.faults files.old ≤ F.faults files.new }
 {
@@ -422,8 +449,14 @@ fn print_file<F: Files>(alloc: Global, program: &str, files: &mut F) -> Result<A
 }
 
 /// The answer of a command.
-fn answer_command<F: Files>(alloc: Global, command: Command, files: &mut F) -> Result<Answer, Exit>
-    ensures whole { AnswersWith (IsWholeUnless (WholeOf (seen_command command.entry)) (IsFaultOf (seen_command command.entry)) (F.told files.old) (Rose (F.faults files.old) (F.faults files.new))) result }
+fn answer_command<F: Files, G: Gate>(
+    alloc: Global,
+    command: Command,
+    files: &mut F,
+    hosts: &mut Vec<Box<dyn Predictor>>,
+    gate: &G,
+) -> Result<Answer, Exit>
+    ensures whole { AnswersWith (IsWholeUnless (WholeOf (handed (map (λ h. answer h) hosts.old.items)) (seen_command command.entry)) (IsFaultOf (seen_command command.entry)) (F.told files.old) (Rose (F.faults files.old) (F.faults files.new))) result }
     ensures cause { AnswersWith (IsCaused (F.told files.old) (Rose (F.faults files.old) (F.faults files.new))) result }
     ensures later { F.faults files.old ≤ F.faults files.new }
 {
@@ -432,7 +465,7 @@ fn answer_command<F: Files>(alloc: Global, command: Command, files: &mut F) -> R
             program,
             input,
             options,
-        } => run_files(alloc, program, input, options, files),
+        } => run_files(alloc, program, input, options, files, hosts, gate),
         Command::Check { program } => check_file(alloc, program, files),
         Command::Explain { program } => explain_file(alloc, program, files),
         Command::Print { program } => print_file(alloc, program, files),
@@ -440,19 +473,21 @@ fn answer_command<F: Files>(alloc: Global, command: Command, files: &mut F) -> R
 }
 
 /// The answer to the words of a command line.
-pub(crate) fn answer_words<F: Files>(
+pub(crate) fn answer_words<F: Files, G: Gate>(
     alloc: Global,
     words: &[String],
     files: &mut F,
+    hosts: &mut Vec<Box<dyn Predictor>>,
+    gate: &G,
 ) -> Result<Answer, AllocError>
-    ensures whole { IfOk result (λ a. IsWholeUnless (Whole (map string_bytes words.now)) (IsFaultAnswer (map string_bytes words.now)) (F.told files.old) (Rose (F.faults files.old) (F.faults files.new)) (seen_answer a)) }
+    ensures whole { IfOk result (λ a. IsWholeUnless (Whole (handed (map (λ h. answer h) hosts.old.items)) (map string_bytes words.now)) (IsFaultAnswer (map string_bytes words.now)) (F.told files.old) (Rose (F.faults files.old) (F.faults files.new)) (seen_answer a)) }
     ensures cause { IfOk result (λ a. IsCaused (F.told files.old) (Rose (F.faults files.old) (F.faults files.new)) (seen_answer a)) }
 {
     let Some(command) = read_words(words) else {
         let line = String::from_str(alloc, "words not understood\n")?;
         return refused(alloc, Status::NotUnderstood, line);
     };
-    match answer_command(alloc, command, files) {
+    match answer_command(alloc, command, files, hosts, gate) {
         Ok(given) => Ok(given),
         Err(Exit::Answered(given)) => Ok(given),
         Err(Exit::NoMemory) => Err(AllocError),

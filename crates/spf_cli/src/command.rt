@@ -4,11 +4,12 @@ ghost use Rattle.std.specs.Prelude.{◌≡◌, ◌∷◌, ℕ, List, [], codes, 
 ghost use Rattle.spf_cli.specs.Whole.{IsOnly};
 ghost use Rattle.spf_cli.specs.Command.{IsFileName, Asks, Command as Wish};
 ghost use Rattle.spf_cli.specs.Asked.{seen_command, seen_options};
-ghost use Rattle.spf_cli.specs.Options.{taken, options_in};
+ghost use Rattle.spf_cli.specs.Options.{taken, count_in, shown_in, options_in};
 
-/// What a run is to show, and whether it goes by the plain meaning alone.
+/// How many workers run the blocks, where that is said; what a run is to show; and whether it goes by the plain meaning alone.
 #[derive(Clone, Copy, Debug)]
 pub(crate) struct Options {
+    pub workers: Option<u64>,
     pub stats: bool,
     pub cells: bool,
     pub plain: bool,
@@ -54,17 +55,30 @@ fn take_word<'a>(words: &'a [String], name: &str) -> (bool, &'a [String])
     }
 }
 
-/// The options that these words are.
-fn read_options(words: &[String]) -> Option<Options>
+/// The number of workers that a word is: a decimal number from 1 to 64, without a sign or a leading zero.
+fn read_count(word: &str) -> Option<u64>
+    ensures { result ≡ count_in word.now }
+{
+    let first = word.as_bytes().first()?;
+    if !(b'1'..=b'9').contains(first) {
+        return None;
+    }
+    let count = word.parse::<u64>().ok()?;
+    if count <= 64 { Some(count) } else { None }
+}
+
+/// The options that these words are, after those on workers.
+fn read_shown(workers: Option<u64>, words: &[String]) -> Option<Options>
     ensures { MatchOption result
-        (options_in (map string_bytes words.now) ≡ None)
-        (λ options. options_in (map string_bytes words.now) ≡ Some (seen_options options)) }
+        (shown_in workers (map string_bytes words.now) ≡ None)
+        (λ options. shown_in workers (map string_bytes words.now) ≡ Some (seen_options options)) }
 {
     let (stats, words) = take_word(words, "--stats");
     let (cells, words) = take_word(words, "--cells");
     let (plain, words) = take_word(words, "--plain");
     if words.is_empty() {
         Some(Options {
+            workers,
             stats,
             cells,
             plain,
@@ -72,6 +86,21 @@ fn read_options(words: &[String]) -> Option<Options>
     } else {
         None
     }
+}
+
+/// The options that these words are.
+fn read_options(words: &[String]) -> Option<Options>
+    ensures { MatchOption result
+        (options_in (map string_bytes words.now) ≡ None)
+        (λ options. options_in (map string_bytes words.now) ≡ Some (seen_options options)) }
+{
+    let (counted, words) = take_word(words, "--workers");
+    if !counted {
+        return read_shown(None, words);
+    }
+    let (word, others) = words.split_first()?;
+    let count = read_count(word)?;
+    read_shown(Some(count), others)
 }
 
 /// The run that words after `run` ask for.

@@ -4,7 +4,7 @@ ghost use Rattle.std.specs.Prelude.{◌≡◌, ◌++◌, codes, IfOk, map, strin
 ghost use Rattle.std.specs.Fmt.{signed_decimal};
 ghost use Rattle.spf_ast.specs.View.{name as name_of, array as array_of};
 ghost use Rattle.spf_check.specs.Text.{perhaps_range};
-ghost use Rattle.spf_cli.specs.Message.{trap_line as trap_line_of, failed_line as failed_line_of, long_line as long_line_of, too_many_line as too_many_line_of, byte_line as byte_line_of, fault_line as fault_line_of, fault_name as fault_name_of, stats_line as stats_line_of, numbers, array_line as array_line_of, rule_line as rule_line_of};
+ghost use Rattle.spf_cli.specs.Message.{trap_line as trap_line_of, failed_line as failed_line_of, long_line as long_line_of, too_many_line as too_many_line_of, host_line as host_line_of, byte_line as byte_line_of, fault_line as fault_line_of, fault_name as fault_name_of, stats_line as stats_line_of, numbers, array_line as array_line_of, rule_line as rule_line_of};
 
 use spf_ast::outcome::{Trap, TrapKind};
 use spf_ast::syntax::{Array, Name};
@@ -51,6 +51,13 @@ pub(crate) fn too_many_line(alloc: Global, count: u128) -> Result<String, AllocE
     ensures { IfOk result (λ text. string_bytes text ≡ too_many_line_of count) }
 {
     format!(in alloc; "cells {count} over 4194304\n")
+}
+
+/// `host N not handed in`.
+pub(crate) fn host_line(alloc: Global, host: u64) -> Result<String, AllocError>
+    ensures { IfOk result (λ text. string_bytes text ≡ host_line_of host) }
+{
+    format!(in alloc; "host {host} not handed in\n")
 }
 
 /// `text byte N: FAULT`.

@@ -7,12 +7,13 @@ ghost use Rattle.spf_edge.specs.declared.sink.PutError.TheVariants.{OutOfMemory}
 ghost use Rattle.spf_edge.specs.Entries.{Entry};
 ghost use Rattle.spf_edge.specs.Faults.{Rose};
 ghost use Rattle.spf_cli.specs.Answering.{lines_of, seen_answer, IsOneLine, IsPutFault};
-ghost use Rattle.spf_cli.specs.Whole.{IsAnswered, IsAnsweredInPart, IsGiven, IsGivenInPart};
+ghost use Rattle.spf_cli.specs.Whole.{handed, IsAnswered, IsAnsweredInPart, IsGiven, IsGivenInPart};
 ghost use Rattle.spf_cli.specs.Status.{status_number, put_status as put_status_of};
 
 use crate::answer::{Answer, answer_words};
 use crate::status::{Status, number};
-use spf_edge::{Files, PutError, Sink};
+use spf_edge::{Files, Gate, PutError, Sink};
+use spf_predictors::Predictor;
 use std::alloc::Global;
 
 /// How many bytes of output are put at once.
@@ -73,25 +74,28 @@ fn put<S: Sink>(given: &Answer, out: &mut S, err: &mut S) -> Result<(), PutError
 /// Does all that the program does: reads the words of its command line, fetches the files that they
 /// name, and puts the answer.
 ///
-/// `words` are the words after the program's name. The status is 0 where the command is done, 1 where
-/// the program trapped, 2 where the words aren't understood, 3 where the text has no lawful program, 4
-/// where the checker refuses the program or what runs it isn't built yet, 5 where a file can't be had, 6
-/// where a sink failed, 7 where a limit was passed, and 8 where memory ran out.
-pub fn spf_main<F: Files, S: Sink>(
+/// `words` are the words after the program's name and after those that ask for hosts. `hosts` are the predictors that a program names
+/// by number; they are asked, told and dropped here. `gate` watches the attempts. The status is 0 where the command is done, 1 where
+/// the program trapped, 2 where the words aren't understood, 3 where the text has no lawful program, 4 where the checker refuses the
+/// program, 5 where a file could not be read, 6 where a sink failed, 7 where a limit was passed or a host isn't handed in, and 8
+/// where memory ran out.
+pub fn spf_main<F: Files, S: Sink, G: Gate>(
     alloc: Global,
     words: &[String],
     files: &mut F,
     out: &mut S,
     err: &mut S,
+    hosts: Vec<Box<dyn Predictor>>,
+    gate: &G,
 ) -> u8
     // Where the files are told, the whole answer is given, unless a fault was met or memory ran out.
-    ensures answered { (told : List Entry) → F.told files.old ≡ Some told → IsAnswered (map string_bytes words.now) told
+    ensures answered { (told : List Entry) → F.told files.old ≡ Some told → IsAnswered (handed (map (λ h. answer h) hosts.items)) (map string_bytes words.now) told
         (Rose (F.faults files.old) (F.faults files.new))
         (Rose (S.faults out.old) (S.faults out.new) ⊎ Rose (S.faults err.old) (S.faults err.new))
         result (S.taken out.old) (S.taken out.new) (S.taken err.old) (S.taken err.new) (S.pieces err.old) (S.pieces err.new) }
 
     // With every status each sink took a prefix of what the whole answer has for it; only with status 5 or 6 may it be one of the answer to a fault of the files that was met.
-    ensures in_part { (told : List Entry) → F.told files.old ≡ Some told → IsAnsweredInPart (map string_bytes words.now) told
+    ensures in_part { (told : List Entry) → F.told files.old ≡ Some told → IsAnsweredInPart (handed (map (λ h. answer h) hosts.items)) (map string_bytes words.now) told
         (Rose (F.faults files.old) (F.faults files.new))
         result (S.taken out.old) (S.taken out.new) (S.taken err.old) (S.taken err.new) }
 
@@ -99,7 +103,8 @@ pub fn spf_main<F: Files, S: Sink>(
     ensures file_fault { result ≡ 5 → Rose (F.faults files.old) (F.faults files.new) ⊎ ((told : List Entry) × (F.told files.old ≡ Some told)) }
     ensures put_fault { result ≡ 6 → Rose (S.faults out.old) (S.faults out.new) ⊎ Rose (S.faults err.old) (S.faults err.new) }
 {
-    let Ok(given) = answer_words(alloc, words, files) else {
+    let mut hosts = hosts;
+    let Ok(given) = answer_words(alloc, words, files, &mut hosts, gate) else {
         return number(Status::NoMemory);
     };
     match put(&given, out, err) {
