@@ -1,5 +1,7 @@
 //! What a chain comes to.
-ghost use Rattle.std.specs.Prelude.{◌≡◌, ◌≤◌, [], length};
+ghost use Rattle.std.specs.Prelude.{◌≡◌, ◌≤◌, [], length, map};
+ghost use Rattle.spf_entry.specs.Entry.{plain_blocks};
+ghost use Rattle.spf_entry.specs.Sites.{entry_at};
 ghost use Rattle.spf_chain.specs.Chains.{HasEnded, cells_of};
 ghost use Rattle.spf_chain.specs.Homes.{log_in};
 ghost use Rattle.spf_chain.specs.Finishing.{lanes_in, EveryMergingRuns, IsFinished};
@@ -33,10 +35,12 @@ fn lanes_of(room: Vec<Lane>, mut homes: Vec<Option<Report>>) -> Vec<Lane>
 }
 
 impl Chain {
-    /// Each order in which the events of an ended chain's lanes may have happened is a speculative run.
+    /// Each order in which the events of an ended chain's lanes may have happened is a speculative run, and the history has all real
+    /// values of the plain run.
     pub fn merged_logs_are_speculative_runs(&self)
         requires ended { HasEnded self.now }
         ensures merging { EveryMergingRuns self.now (log_in self.now.homes) }
+        ensures values { map (λ b. b.real) self.now.history ≡ (plain_blocks (entry_at self.now.site)).values }
     {
         prefixes_grow();
         lanes_make_speculative_runs();

@@ -5,11 +5,11 @@ use Rattle.std.proofs.Common.{◌≡◌, ◌⊎◌, ℕ, Bool, true, false, List
 use Rattle.spf_ast.specs.Syntax.{Program}
 use Rattle.spf_ast.specs.Program.{cell_count_of, max_cells}
 use Rattle.spf_edge.specs.Entries.{Entry, lookup}
-use Rattle.spf_cli.specs.Answer.{Answer, not_understood, text_refused, rule_refused, explained, file_failed, file_too_long}
-use Rattle.spf_cli.specs.Command.{Command, Run, Check, Explain, Print, Options, Asks, IsFileName, HasFileNames, words_of}
+use Rattle.spf_cli.specs.Answer.{Answer, not_understood, text_refused, rule_refused, explained, file_failed, file_too_long, host_missing}
+use Rattle.spf_cli.specs.Command.{Command, Run, Check, Explain, Print, Options, Asks, IsFileName, HasFileNames, AreWorkers, HasWorkers, words_of}
 use Rattle.spf_cli.specs.Options.{options_in}
 use Rattle.spf_cli.specs.Reading.{Verdict, Says, Refuses, IsVerdict}
-use Rattle.spf_cli.specs.Whole.{Wanted, Is, Either, Fetched, Judged, Read, CheckedBy, Explained, Runs, RunsOn, WholeOf, Whole, IsOnly, is_built, max_program, max_input}
+use Rattle.spf_cli.specs.Whole.{Handed, Wanted, Is, Either, Fetched, Judged, Read, CheckedBy, Explained, WithHosts, host_wanted, Runs, RunsOn, WholeOf, Whole, IsOnly, max_program, max_input}
 use Rattle.spf_cli.specs.Laws.{RuleLaws, VerdictsAreTheSame, NoTextIsLeftUnjudged}
 use Rattle.spf_cli.proofs.Words.{options_are}
 
@@ -34,15 +34,15 @@ command_in (word ∷ program ∷ []) = named (bytes_eq word (codes "check")) (by
 command_in (word ∷ program ∷ input ∷ others) = run_of (bytes_eq word (codes "run")) program input (options_in others)
 
 -- the words of a command are that command
-command_back : (command : Command) → command_in (words_of command) ≡ Some command
-command_back (Run program input options) = ap (run_of true program input) (options_are options.stats options.cells options.plain)
-command_back (Check program) = refl
-command_back (Explain program) = refl
-command_back (Print program) = refl
+command_back : (command : Command) → HasWorkers command → command_in (words_of command) ≡ Some command
+command_back (Run program input options) workers = ap (run_of true program input) (options_are options workers)
+command_back (Check program) workers = refl
+command_back (Explain program) workers = refl
+command_back (Print program) workers = refl
 
 -- words that ask for a command are that command
 asked_is : (words : List (List ℕ)) (command : Command) → Asks words command → command_in words ≡ Some command
-asked_is words command asks = ap command_in asks.words_are ∙ command_back command
+asked_is words command asks = ap command_in asks.words_are ∙ command_back command asks.workers_are
 
 -- whether two lists of words are the same
 abbrev words_eq : List (List ℕ) → List (List ℕ) → Bool
@@ -84,6 +84,21 @@ has_names (Check program) = is_name program
 has_names (Explain program) = is_name program
 has_names (Print program) = is_name program
 
+has_workers : (command : Command) → HasWorkers command ⊎ (HasWorkers command → ⊥)
+has_workers (Run program input options) = go options.workers
+  where
+    go : (workers : Option ℕ) → AreWorkers workers ⊎ (AreWorkers workers → ⊥)
+    go None = inl tt
+    go (Some count) = by_tests (nat_le 1 count) refl (nat_le count 64) refl
+      where
+        by_tests : (low : Bool) → nat_le 1 count ≡ low → (high : Bool) → nat_le count 64 ≡ high → AreWorkers (Some count) ⊎ (AreWorkers (Some count) → ⊥)
+        by_tests true l true h = inl (grind (arith, l), grind (arith, h))
+        by_tests false l high h = inr (λ both. let low = both.0 in grind (arith, l, low))
+        by_tests true l false h = inr (λ both. let high = both.1 in grind (arith, h, high))
+has_workers (Check program) = inl tt
+has_workers (Explain program) = inl tt
+has_workers (Print program) = inl tt
+
 -- each list of words asks for one command, or for none
 pub one_or_none : (words : List (List ℕ)) → ((command : Command) × IsOnly (Asks words) command) ⊎ ((command : Command) → Asks words command → ⊥)
 one_or_none words = by_command (command_in words) refl
@@ -94,7 +109,10 @@ one_or_none words = by_command (command_in words) refl
     by_words : (command : Command) → command_in words ≡ Some command → (t : Bool) → words_eq words (words_of command) ≡ t → ((command : Command) × IsOnly (Asks words) command) ⊎ ((command : Command) → Asks words command → ⊥)
     by_words command is true e =
         elim (has_names command) [
-          | inl names ↦ inl (command, record { is = record { words_are = same_words words (words_of command) e; files_are = names }; only = λ d a. some_same d command (sym (asked_is words d a) ∙ is) })
+          | inl names ↦ elim (has_workers command) [
+            | inl workers ↦ inl (command, record { is = record { words_are = same_words words (words_of command) e; files_are = names; workers_are = workers }; only = λ d a. some_same d command (sym (asked_is words d a) ∙ is) })
+            | inr never ↦ inr (λ d a. never (subst HasWorkers (some_same d command (sym (asked_is words d a) ∙ is)) a.workers_are))
+          ]
           | inr never ↦ inr (λ d a. never (subst HasFileNames (some_same d command (sym (asked_is words d a) ∙ is)) a.files_are))
         ]
     by_words command is false e = inr (λ d a. differ d a (some_same d command (sym (asked_is words d a) ∙ is)))
@@ -144,30 +162,33 @@ same_checked laws p next f a b (inr x) (inr y) =
 same_explained : RuleLaws → (p : Program) → AtMostOne (Explained p)
 same_explained laws p a b x y = x.2 ∙ ap explained (laws.explanation p x.0 y.0 x.1 y.1) ∙ sym y.2
 
-same_runs_on : (options : Options) (input : List ℕ) (p : Program) (files : List Entry) → AtMostOne (RunsOn options input p files)
-same_runs_on options input p files =
-    same_either _ _ (is_built options p)
-    (same_fetched input max_input (lookup files input) (λ content. Runs options p content) (λ content. same_either _ _ (nat_le (cell_count_of p (length content)) max_cells) (same_said _) (same_said _)))
-    (same_said _)
+same_hosts : (wanted : Option ℕ) (next : Wanted) → AtMostOne next → AtMostOne (WithHosts wanted next)
+same_hosts None next f = f
+same_hosts (Some host) next f = same_said (host_missing host)
 
-command_same : RuleLaws → VerdictsAreTheSame → (command : Command) (files : List Entry) → AtMostOne (WholeOf command files)
-command_same laws one (Run program input options) files =
+same_runs_on : (options : Options) (given : Handed) (input : List ℕ) (p : Program) (files : List Entry) → AtMostOne (RunsOn options given input p files)
+same_runs_on options given input p files =
+    same_fetched input max_input (lookup files input) (λ content. Runs options given p content) (λ content.
+    same_either _ _ (nat_le (cell_count_of p (length content)) max_cells) (same_hosts (host_wanted options given p) _ (same_said _)) (same_said _))
+
+command_same : RuleLaws → VerdictsAreTheSame → (given : Handed) (command : Command) (files : List Entry) → AtMostOne (WholeOf given command files)
+command_same laws one given (Run program input options) files =
     same_fetched program max_program (lookup files program) _ (λ text. same_read one text _ (λ p.
-    same_either _ _ options.plain (same_runs_on options input p files) (same_checked laws p _ (same_runs_on options input p files))))
-command_same laws one (Check program) files =
+    same_either _ _ options.plain (same_runs_on options given input p files) (same_checked laws p _ (same_runs_on options given input p files))))
+command_same laws one given (Check program) files =
     same_fetched program max_program (lookup files program) _ (λ text. same_read one text _ (λ p. same_checked laws p _ (same_said _)))
-command_same laws one (Explain program) files =
+command_same laws one given (Explain program) files =
     same_fetched program max_program (lookup files program) _ (λ text. same_read one text _ (λ p. same_explained laws p))
-command_same laws one (Print program) files =
+command_same laws one given (Print program) files =
     same_fetched program max_program (lookup files program) _ (λ text. same_read one text _ (λ p. same_said _))
 
 -- a list of words has at most one answer
-pub answers_same : RuleLaws → VerdictsAreTheSame → (words : List (List ℕ)) (files : List Entry) → AtMostOne (Whole words files)
-answers_same laws one words files a b x y = by_command (one_or_none words) x y
+pub answers_same : RuleLaws → VerdictsAreTheSame → (given : Handed) (words : List (List ℕ)) (files : List Entry) → AtMostOne (Whole given words files)
+answers_same laws one given words files a b x y = by_command (one_or_none words) x y
   where
-    by_command : ((command : Command) × IsOnly (Asks words) command) ⊎ ((command : Command) → Asks words command → ⊥) → Whole words files a → Whole words files b → a ≡ b
+    by_command : ((command : Command) × IsOnly (Asks words) command) ⊎ ((command : Command) → Asks words command → ⊥) → Whole given words files a → Whole given words files b → a ≡ b
     by_command (inl c) (inl x) (inl y) =
-        command_same laws one c.0 files a b (subst (λ k. WholeOf k files a) (c.1.only x.0 x.1) x.2) (subst (λ k. WholeOf k files b) (c.1.only y.0 y.1) y.2)
+        command_same laws one given c.0 files a b (subst (λ k. WholeOf given k files a) (c.1.only x.0 x.1) x.2) (subst (λ k. WholeOf given k files b) (c.1.only y.0 y.1) y.2)
     by_command (inl c) (inl x) (inr y) = absurd (y.0 c.0 c.1.is)
     by_command (inl c) (inr x) y = absurd (x.0 c.0 c.1.is)
     by_command (inr none) (inl x) y = absurd (none x.0 x.1)
@@ -209,11 +230,14 @@ some_checked laws p next one =
 some_explained : RuleLaws → (p : Program) → HasOne (Explained p)
 some_explained laws p = let x = laws.explained p in (explained x.0, (x.0, x.1, refl))
 
-some_run : (options : Options) (input : List ℕ) (p : Program) (files : List Entry) → HasOne (RunsOn options input p files)
-some_run options input p files =
-    some_either _ _ (is_built options p)
-    (some_fetched input max_input (lookup files input) (λ content. Runs options p content) (λ content e. some_either _ _ (nat_le (cell_count_of p (length content)) max_cells) (_, refl) (_, refl)))
-    (_, refl)
+some_hosts : (wanted : Option ℕ) (next : Wanted) → HasOne next → HasOne (WithHosts wanted next)
+some_hosts None next one = one
+some_hosts (Some host) next one = (host_missing host, refl)
+
+some_run : (options : Options) (given : Handed) (input : List ℕ) (p : Program) (files : List Entry) → HasOne (RunsOn options given input p files)
+some_run options given input p files =
+    some_fetched input max_input (lookup files input) (λ content. Runs options given p content) (λ content e.
+    some_either _ _ (nat_le (cell_count_of p (length content)) max_cells) (some_hosts (host_wanted options given p) _ (_, refl)) (_, refl))
 
 -- the file of a command's program
 abbrev program_of : Command → List ℕ
@@ -222,20 +246,20 @@ program_of (Check program) = program
 program_of (Explain program) = program
 program_of (Print program) = program
 
-some_command : RuleLaws → (command : Command) (files : List Entry) → ((text : List ℕ) → lookup files (program_of command) ≡ Some text → HasVerdict text) → HasOne (WholeOf command files)
-some_command laws (Run program input options) files judged =
+some_command : RuleLaws → (given : Handed) (command : Command) (files : List Entry) → ((text : List ℕ) → lookup files (program_of command) ≡ Some text → HasVerdict text) → HasOne (WholeOf given command files)
+some_command laws given (Run program input options) files judged =
     some_fetched program max_program (lookup files program) _ (λ text e. some_read text _ (judged text e) (λ p.
-    some_either _ _ options.plain (some_run options input p files) (some_checked laws p _ (some_run options input p files))))
-some_command laws (Check program) files judged =
+    some_either _ _ options.plain (some_run options given input p files) (some_checked laws p _ (some_run options given input p files))))
+some_command laws given (Check program) files judged =
     some_fetched program max_program (lookup files program) _ (λ text e. some_read text _ (judged text e) (λ p. some_checked laws p _ (_, refl)))
-some_command laws (Explain program) files judged =
+some_command laws given (Explain program) files judged =
     some_fetched program max_program (lookup files program) _ (λ text e. some_read text _ (judged text e) (λ p. some_explained laws p))
-some_command laws (Print program) files judged =
+some_command laws given (Print program) files judged =
     some_fetched program max_program (lookup files program) _ (λ text e. some_read text _ (judged text e) (λ p. (_, refl)))
 
 -- no list of words is left without an answer
-pub none_unanswered : RuleLaws → NoTextIsLeftUnjudged → (words : List (List ℕ)) (files : List Entry) → ((answer : Answer) → Whole words files answer → ⊥) → ⊥
-none_unanswered laws left words files never =
+pub none_unanswered : RuleLaws → NoTextIsLeftUnjudged → (given : Handed) (words : List (List ℕ)) (files : List Entry) → ((answer : Answer) → Whole given words files answer → ⊥) → ⊥
+none_unanswered laws left given words files never =
     elim (one_or_none words) [
       | inl c ↦ by_file c.0 (lookup files (program_of c.0)) refl (λ a w. never a (inl (c.0, c.1.is, w)))
       | inr none ↦ never not_understood (inr (none, refl))
@@ -244,11 +268,11 @@ none_unanswered laws left words files never =
     same_text : (text other : List ℕ) → Some text ≡ Some other → text ≡ other
     same_text text other e = cc
 
-    by_file : (command : Command) (held : Option (List ℕ)) → lookup files (program_of command) ≡ held → ((answer : Answer) → WholeOf command files answer → ⊥) → ⊥
+    by_file : (command : Command) (held : Option (List ℕ)) → lookup files (program_of command) ≡ held → ((answer : Answer) → WholeOf given command files answer → ⊥) → ⊥
     by_file command None e unanswered =
-        let one = some_command laws command files (λ text is. let none : None ≡ Some text = sym e ∙ is in absurd (cc)) in
+        let one = some_command laws given command files (λ text is. let none : None ≡ Some text = sym e ∙ is in absurd (cc)) in
         unanswered one.0 one.1
     by_file command (Some text) e unanswered =
         left text (λ v h.
-        let one = some_command laws command files (λ other is. subst HasVerdict (same_text text other (sym e ∙ is)) (v, h)) in
+        let one = some_command laws given command files (λ other is. subst HasVerdict (same_text text other (sym e ∙ is)) (v, h)) in
         unanswered one.0 one.1)

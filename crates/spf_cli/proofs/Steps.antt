@@ -20,7 +20,7 @@ use Rattle.spf_edge.specs.declared.sink.PutError.{PutError}
 use Rattle.spf_edge.specs.declared.sink.PutError.TheVariants.{Failed}
 use Rattle.spf_edge.specs.declared.sink.PutError.TheVariants as put_error
 use Rattle.spf_edge.proofs.Taking.{adds_empty_prefix}
-use Rattle.spf_cli.specs.Answer.{Answer, not_built, text_refused, rule_refused, explained, file_failed, file_too_long, too_many_cells, ran}
+use Rattle.spf_cli.specs.Answer.{Answer, text_refused, rule_refused, explained, file_failed, file_too_long, too_many_cells, host_missing, ran}
 use Rattle.spf_cli.specs.Answering.{seen_answer, FetchAnswer, IsFetchExit, IsReadExit, IsRuleExit, IsNotAccepted, IsWholeUnless, IsCaused, AnswersWith, IsPutFault, IsOneLine}
 use Rattle.spf_cli.specs.Message.{failed_line}
 use Rattle.spf_cli.specs.Command.{Command, Run, Options, Asks}
@@ -28,7 +28,7 @@ use Rattle.spf_cli.specs.Reading.{Says, Refuses, IsVerdict, Refusal}
 use Rattle.spf_cli.specs.Status.{put_status}
 use Rattle.spf_cli.specs.Laws.{RuleLaws}
 use Rattle.spf_guess.specs.declared.stats.Stats.{Stats}
-use Rattle.spf_cli.specs.Whole.{Wanted, Either, Fetched, Judged, Read, CheckedBy, Explained, Runs, RunsOn, MayRun, IsInputFault, stats_of, is_built, WholeOf, Whole, IsOnly, IsFaultOf, IsFaultAnswer, IsGiven, IsGivenInPart, IsAnswered, IsAnsweredInPart, max_program, max_input}
+use Rattle.spf_cli.specs.Whole.{Handed, Wanted, Is, Either, Fetched, Judged, Read, CheckedBy, Explained, WithHosts, host_wanted, Runs, RunsOn, MayRun, IsInputFault, stats_of, WholeOf, Whole, IsOnly, IsFaultOf, IsFaultAnswer, IsGiven, IsGivenInPart, IsAnswered, IsAnsweredInPart, max_program, max_input}
 use Rattle.spf_cli.specs.declared.answer.Answer as made
 use Rattle.spf_cli.specs.declared.answer.Exit.{Exit}
 use Rattle.spf_cli.specs.declared.answer.Exit.TheVariants.{Answered, NoMemory}
@@ -73,14 +73,34 @@ fetched_long name limit held content next e l =
     beyond : (a b : ℕ) → b < a → nat_le a b ≡ false
     beyond a b l = grind arith
 
--- a program was run, whose cells aren't too many
-pub run_done : (options : Options) (p : Program) (input : List ℕ) (a : Answer) → (max_cells < cell_count_of p (length input) → ⊥) → a ≡ ran options p (length input) (outcome p input) (stats_of options p input) → IsOnly (Runs options p input) a
-run_done options p input a few e =
-    let done = ran options p (length input) (outcome p input) (stats_of options p input) in
-    subst (IsOnly (Runs options p input)) (sym e) (either_first _ _ (nat_le (cell_count_of p (length input)) max_cells) done (within (cell_count_of p (length input)) max_cells few) (only_this done))
+-- whose cells aren't too many
+fits : (cells : ℕ) → (max_cells < cells → ⊥) → nat_le cells max_cells ≡ true
+fits cells few = go cells max_cells few
   where
-    within : (a b : ℕ) → (b < a → ⊥) → nat_le a b ≡ true
-    within a b few = grind (arith, few)
+    go : (a b : ℕ) → (b < a → ⊥) → nat_le a b ≡ true
+    go a b few = grind (arith, few)
+
+-- where no host is missing, and where one is
+with_hosts : (wanted : Option ℕ) (next : Wanted) (a : Answer) → wanted ≡ None → IsOnly next a → IsOnly (WithHosts wanted next) a
+with_hosts wanted next a none h = subst (λ w. IsOnly (WithHosts w next) a) (sym none) h
+
+without_hosts : (wanted : Option ℕ) (host : ℕ) (next : Wanted) → wanted ≡ Some host → IsOnly (WithHosts wanted next) (host_missing host)
+without_hosts wanted host next some = subst (λ w. IsOnly (WithHosts w next) (host_missing host)) (sym some) (only_this (host_missing host))
+
+-- a program was run, whose cells aren't too many and whose hosts are handed in
+pub run_done : (options : Options) (given : Handed) (p : Program) (input : List ℕ) (a : Answer) → (max_cells < cell_count_of p (length input) → ⊥) → host_wanted options given p ≡ None → a ≡ ran options p (length input) (outcome p input) (stats_of options given p input) → IsOnly (Runs options given p input) a
+run_done options given p input a few none e =
+    let done = ran options p (length input) (outcome p input) (stats_of options given p input) in
+    subst (IsOnly (Runs options given p input)) (sym e)
+    (either_first _ _ (nat_le (cell_count_of p (length input)) max_cells) done (fits (cell_count_of p (length input)) few)
+    (with_hosts (host_wanted options given p) (Is done) done none (only_this done)))
+
+-- a program wasn't run, since a host is missing
+pub host_left : (options : Options) (given : Handed) (p : Program) (input : List ℕ) (host : ℕ) (a : Answer) → (max_cells < cell_count_of p (length input) → ⊥) → host_wanted options given p ≡ Some host → a ≡ host_missing host → IsOnly (Runs options given p input) a
+host_left options given p input host a few some e =
+    subst (IsOnly (Runs options given p input)) (sym e)
+    (either_first _ _ (nat_le (cell_count_of p (length input)) max_cells) (host_missing host) (fits (cell_count_of p (length input)) few)
+    (without_hosts (host_wanted options given p) host _ some))
 
 -- with a text that says a program
 pub read_says : (text : List ℕ) (p : Program) (next : Program → Wanted) (a : Answer) → IsOnly (IsVerdict text) (Says p) → IsOnly (next p) a → IsOnly (Read text next) a
@@ -169,63 +189,56 @@ explained_so laws p text a x e = record {
 
 -- ---- runs
 
--- what a run goes on with, behind the text of its program
-abbrev pub behind_text : List ℕ → Options → List Entry → Program → Wanted
-behind_text input options files p = Either options.plain (RunsOn options input p files) (CheckedBy p (RunsOn options input p files))
+-- what a run goes on with, after the text of its program
+abbrev pub behind_text : List ℕ → Options → Handed → List Entry → Program → Wanted
+behind_text input options given files p = Either options.plain (RunsOn options given input p files) (CheckedBy p (RunsOn options given input p files))
 
 -- a program that may be run is answered as its run is
-passed : RuleLaws → (input : List ℕ) (options : Options) (files : List Entry) (p : Program) (a : Answer) → MayRun options p → IsOnly (RunsOn options input p files) a → IsOnly (behind_text input options files p) a
-passed laws input options files p a may h = by_plain options.plain may
+passed : RuleLaws → (input : List ℕ) (options : Options) (given : Handed) (files : List Entry) (p : Program) (a : Answer) → MayRun options p → IsOnly (RunsOn options given input p files) a → IsOnly (behind_text input options given files p) a
+passed laws input options given files p a may h = by_plain options.plain may
   where
-    by_plain : (plain : Bool) → (plain ≡ true) ⊎ IsAccepted p → IsOnly (Either plain (RunsOn options input p files) (CheckedBy p (RunsOn options input p files))) a
+    by_plain : (plain : Bool) → (plain ≡ true) ⊎ IsAccepted p → IsOnly (Either plain (RunsOn options given input p files) (CheckedBy p (RunsOn options given input p files))) a
     by_plain true m = h
     by_plain false m = elim m [
       | inl e ↦ absurd (cc)
-      | inr accepted ↦ checked_accepted laws p (RunsOn options input p files) a accepted h
+      | inr accepted ↦ checked_accepted laws p (RunsOn options given input p files) a accepted h
     ]
 
-pub run_passed : RuleLaws → (told : Option (List Entry)) (program input text : List ℕ) (options : Options) (p : Program) (Fault Later : Type 0) (r : Result made.Answer Exit) → HasContent told program text → length text ≤ max_program → IsOnly (IsVerdict text) (Says p) → MayRun options p → (Fault → Later) → AnswersWith (IsWholeUnless (RunsOn options input p) (IsInputFault options input p) told Fault) r → AnswersWith (IsWholeUnless (WholeOf (Run program input options)) (IsFaultOf (Run program input options)) told Later) r
-run_passed laws told program input text options p Fault Later r t l v may f h =
-    answers_with (IsWholeUnless (WholeOf (Run program input options)) (IsFaultOf (Run program input options)) told Later) (IsWholeUnless (RunsOn options input p) (IsInputFault options input p) told Fault) r h (λ a w files is.
+pub run_passed : RuleLaws → (told : Option (List Entry)) (program input text : List ℕ) (options : Options) (given : Handed) (p : Program) (Fault Later : Type 0) (r : Result made.Answer Exit) → HasContent told program text → length text ≤ max_program → IsOnly (IsVerdict text) (Says p) → MayRun options p → (Fault → Later)
+    → AnswersWith (IsWholeUnless (RunsOn options given input p) (IsInputFault input) told Fault) r → AnswersWith (IsWholeUnless (WholeOf given (Run program input options)) (IsFaultOf (Run program input options)) told Later) r
+run_passed laws told program input text options given p Fault Later r t l v may f h =
+    answers_with (IsWholeUnless (WholeOf given (Run program input options)) (IsFaultOf (Run program input options)) told Later) (IsWholeUnless (RunsOn options given input p) (IsInputFault input) told Fault) r h (λ a w files is.
     elim (w files is) [
-      | inl o ↦ inl (with_text (λ fs x. Read x (behind_text input options fs)) told files program text a is t l
-          (read_says text p (behind_text input options files) a v (passed laws input options files p a may o)))
-      | inr x ↦ inr (f x.0, (input, inr (refl, (text, content_of told files program text is t, l, (p, v.is, may, x.1.0))), x.1.1))
+      | inl o ↦ inl (with_text (λ fs x. Read x (behind_text input options given fs)) told files program text a is t l
+          (read_says text p (behind_text input options given files) a v (passed laws input options given files p a may o)))
+      | inr x ↦ inr (f x.0, (input, inr (refl, (text, content_of told files program text is t, l, (p, v.is, may))), x.1))
     ])
 
 -- the rules refuse the program of a run
-pub run_refused : RuleLaws → (told : Option (List Entry)) (program input text : List ℕ) (options : Options) (p : Program) (Fault : Type 0) (left : Exit) → HasContent told program text → length text ≤ max_program → IsOnly (IsVerdict text) (Says p) → options.plain ≡ false → IsRuleExit p left → AnswersWith (IsWholeUnless (WholeOf (Run program input options)) (IsFaultOf (Run program input options)) told Fault) (Err left)
-run_refused laws told program input text options p Fault left t l v plain h =
-    rule_left laws (IsFaultOf (Run program input options)) (behind_text input options) (RunsOn options input p) told program text p Fault left t l v
-    (λ files a o. either_second (RunsOn options input p files) (CheckedBy p (RunsOn options input p files)) options.plain a plain o) h
-
--- what runs the program so isn't built
-pub on_not_built : (told : Option (List Entry)) (input : List ℕ) (options : Options) (p : Program) (Fault : Type 0) (a : Answer) → is_built options p ≡ false → a ≡ not_built → IsWholeUnless (RunsOn options input p) (IsInputFault options input p) told Fault a
-on_not_built told input options p Fault a b e files is =
-    inl (at_same (IsOnly (RunsOn options input p files)) a not_built e (either_second _ _ (is_built options p) not_built b (only_this not_built)))
+pub run_refused : RuleLaws → (told : Option (List Entry)) (program input text : List ℕ) (options : Options) (given : Handed) (p : Program) (Fault : Type 0) (left : Exit) → HasContent told program text → length text ≤ max_program → IsOnly (IsVerdict text) (Says p) → options.plain ≡ false → IsRuleExit p left → AnswersWith (IsWholeUnless (WholeOf given (Run program input options)) (IsFaultOf (Run program input options)) told Fault) (Err left)
+run_refused laws told program input text options given p Fault left t l v plain h =
+    rule_left laws (IsFaultOf (Run program input options)) (behind_text input options given) (RunsOn options given input p) told program text p Fault left t l v
+    (λ files a o. either_second (RunsOn options given input p files) (CheckedBy p (RunsOn options given input p files)) options.plain a plain o) h
 
 -- the input is there
-pub on_whole : (told : Option (List Entry)) (input content : List ℕ) (options : Options) (p : Program) (Fault : Type 0) (a : Answer) → is_built options p ≡ true → HasContent told input content → length content ≤ max_input → IsOnly (Runs options p content) a → IsWholeUnless (RunsOn options input p) (IsInputFault options input p) told Fault a
-on_whole told input content options p Fault a b i m r files is =
-    inl (either_first _ _ (is_built options p) a b
-    (fetched input max_input (lookup files input) content (λ c. Runs options p c) a (content_of told files input content is i) m r))
+pub on_whole : (told : Option (List Entry)) (input content : List ℕ) (options : Options) (given : Handed) (p : Program) (Fault : Type 0) (a : Answer) → HasContent told input content → length content ≤ max_input → IsOnly (Runs options given p content) a → IsWholeUnless (RunsOn options given input p) (IsInputFault input) told Fault a
+on_whole told input content options given p Fault a i m r files is =
+    inl (fetched input max_input (lookup files input) content (λ c. Runs options given p c) a (content_of told files input content is i) m r)
 
 -- the input can't be had
-pub on_input_left : (told : Option (List Entry)) (input : List ℕ) (options : Options) (p : Program) (Fault : Type 0) (left : Exit) → is_built options p ≡ true → IsFetchExit told input max_input Fault left → AnswersWith (IsWholeUnless (RunsOn options input p) (IsInputFault options input p) told Fault) (Err left)
-on_input_left told input options p Fault (Answered a) b h = λ files is.
+pub on_input_left : (told : Option (List Entry)) (input : List ℕ) (options : Options) (given : Handed) (p : Program) (Fault : Type 0) (left : Exit) → IsFetchExit told input max_input Fault left → AnswersWith (IsWholeUnless (RunsOn options given input p) (IsInputFault input) told Fault) (Err left)
+on_input_left told input options given p Fault (Answered a) h = λ files is.
     elim h [
-      | inl x ↦ inr (x.0, (b, x.1))
+      | inl x ↦ inr (x.0, x.1)
       | inr y ↦ elim y [
-        | inl m ↦ inl (either_first _ _ (is_built options p) (seen_answer a) b
-            (at_same (IsOnly (Fetched input max_input (lookup files input) (λ c. Runs options p c))) (seen_answer a) (file_failed input) m.1
-            (fetched_none input max_input (lookup files input) (λ c. Runs options p c) (subst (λ o. IsMissing o input) is m.0))))
-        | inr n ↦ inl (either_first _ _ (is_built options p) (seen_answer a) b
-            (at_same (IsOnly (Fetched input max_input (lookup files input) (λ c. Runs options p c))) (seen_answer a) (file_too_long input max_input) n.1
+        | inl m ↦ inl (at_same (IsOnly (Fetched input max_input (lookup files input) (λ c. Runs options given p c))) (seen_answer a) (file_failed input) m.1
+            (fetched_none input max_input (lookup files input) (λ c. Runs options given p c) (subst (λ o. IsMissing o input) is m.0)))
+        | inr n ↦ inl (at_same (IsOnly (Fetched input max_input (lookup files input) (λ c. Runs options given p c))) (seen_answer a) (file_too_long input max_input) n.1
             (let long = subst (λ o. IsLongerThan max_input o input) is n.0 in
-            fetched_long input max_input (lookup files input) long.0 (λ c. Runs options p c) long.1 long.2)))
+            fetched_long input max_input (lookup files input) long.0 (λ c. Runs options given p c) long.1 long.2))
       ]
     ]
-on_input_left told input options p Fault NoMemory b h = tt
+on_input_left told input options given p Fault NoMemory h = tt
 
 -- ---- causes
 
@@ -246,14 +259,19 @@ either_apart P Q a true h f g = f h
 either_apart P Q a false h f g = g h
 
 -- a run never has the status for a file or a put
-pub run_cause : (options : Options) (p : Program) (input : List ℕ) (answer : Answer) (told : Option (List Entry)) (Fault : Type 0) → Runs options p input answer → IsCaused told Fault answer
-run_cause options p input answer told Fault r =
-    let stats = stats_of options p input in
-    let done = ran options p (length input) (outcome p input) stats in
+pub run_cause : (options : Options) (given : Handed) (p : Program) (input : List ℕ) (answer : Answer) (told : Option (List Entry)) (Fault : Type 0) → Runs options given p input answer → IsCaused told Fault answer
+run_cause options given p input answer told Fault r =
+    let done = ran options p (length input) (outcome p input) (stats_of options given p input) in
     let many = too_many_cells (counted (cell_count_of p (length input))) in
-    either_apart (λ a. a ≡ done) (λ a. a ≡ many) answer (nat_le (cell_count_of p (length input)) max_cells) r
-    (λ e. caused_by_neither told Fault answer (other_status 5 answer done e (ran_status 5 (omega arith) options p (length input) (outcome p input) stats)) (other_status 6 answer done e (ran_status 6 (omega arith) options p (length input) (outcome p input) stats)))
+    either_apart (WithHosts (host_wanted options given p) (Is done)) (λ a. a ≡ many) answer (nat_le (cell_count_of p (length input)) max_cells) r
+    (λ w. by_hosts (host_wanted options given p) w)
     (λ e. caused_by_neither told Fault answer (other_status 5 answer many e (λ z. omega (arith, z))) (other_status 6 answer many e (λ z. omega (arith, z))))
+  where
+    by_hosts : (wanted : Option ℕ) → WithHosts wanted (Is (ran options p (length input) (outcome p input) (stats_of options given p input))) answer → IsCaused told Fault answer
+    by_hosts None e =
+        let done = ran options p (length input) (outcome p input) (stats_of options given p input) in
+        caused_by_neither told Fault answer (other_status 5 answer done e (ran_status 5 (omega arith) options p (length input) (outcome p input) (stats_of options given p input))) (other_status 6 answer done e (ran_status 6 (omega arith) options p (length input) (outcome p input) (stats_of options given p input)))
+    by_hosts (Some host) e = caused_by_neither told Fault answer (other_status 5 answer (host_missing host) e (λ z. omega (arith, z))) (other_status 6 answer (host_missing host) e (λ z. omega (arith, z)))
 
 -- names that are missing are told
 told_of : (told : Option (List Entry)) (name : List ℕ) → IsMissing told name → (files : List Entry) × (told ≡ Some files)
@@ -282,31 +300,31 @@ rose_since a b c l h = omega (arith, l, h)
 -- ---- words
 
 -- what a command is answered is what the words that ask for it are answered
-pub whole_words : (words : List (List ℕ)) (command : Command) → IsOnly (Asks words) command → (told : Option (List Entry)) (Fault : Type 0) (a : Answer) → IsWholeUnless (WholeOf command) (IsFaultOf command) told Fault a → IsWholeUnless (Whole words) (IsFaultAnswer words) told Fault a
-whole_words words command asks told Fault a h files e =
+pub whole_words : (given : Handed) (words : List (List ℕ)) (command : Command) → IsOnly (Asks words) command → (told : Option (List Entry)) (Fault : Type 0) (a : Answer) → IsWholeUnless (WholeOf given command) (IsFaultOf command) told Fault a → IsWholeUnless (Whole given words) (IsFaultAnswer words) told Fault a
+whole_words given words command asks told Fault a h files e =
     elim (h files e) [
       | inl w ↦ inl (record { is = inl (command, asks.is, w.is); only = λ b x. other files w b x })
       | inr f ↦ inr (f.0, (command, asks.is, f.1))
     ]
   where
-    other : (files : List Entry) → IsOnly (WholeOf command files) a → (b : Answer) → Whole words files b → b ≡ a
+    other : (files : List Entry) → IsOnly (WholeOf given command files) a → (b : Answer) → Whole given words files b → b ≡ a
     other files w b x = elim x [
-      | inl y ↦ w.only b (subst (λ c. WholeOf c files b) (asks.only y.0 y.1) y.2)
+      | inl y ↦ w.only b (subst (λ c. WholeOf given c files b) (asks.only y.0 y.1) y.2)
       | inr z ↦ absurd (z.0 command asks.is)
     ]
 
 -- words that ask for nothing
-pub no_command : (words : List (List ℕ)) (a said : Answer) (files : List Entry) → ((command : Command) → Asks words command → ⊥) → a ≡ said → ((b : Answer) → Whole words files b → b ≡ said) → Whole words files said → IsOnly (Whole words files) a
-no_command words a said files none e only is = at_same (IsOnly (Whole words files)) a said e (record { is = is; only = only })
+pub no_command : (given : Handed) (words : List (List ℕ)) (a said : Answer) (files : List Entry) → ((command : Command) → Asks words command → ⊥) → a ≡ said → ((b : Answer) → Whole given words files b → b ≡ said) → Whole given words files said → IsOnly (Whole given words files) a
+no_command given words a said files none e only is = at_same (IsOnly (Whole given words files)) a said e (record { is = is; only = only })
 
 -- ---- puts
 
 -- an answer that was put is what was answered
-pub answered_by : (words : List (List ℕ)) (files : List Entry) (FileFault PutFault : Type 0) (a : Answer) (status : ℕ) (out_before out_now err_before err_now : Option (List ℕ)) (lines_before lines_now : Option (List (List ℕ))) → IsOnly (Whole words files) a ⊎ (FileFault × IsFaultAnswer words files a) → IsGiven a status out_before out_now err_before err_now lines_before lines_now → IsAnswered words files FileFault PutFault status out_before out_now err_before err_now lines_before lines_now
-answered_by words files FileFault PutFault a status out_before out_now err_before err_now lines_before lines_now h given =
+pub answered_by : (given : Handed) (words : List (List ℕ)) (files : List Entry) (FileFault PutFault : Type 0) (a : Answer) (status : ℕ) (out_before out_now err_before err_now : Option (List ℕ)) (lines_before lines_now : Option (List (List ℕ))) → IsOnly (Whole given words files) a ⊎ (FileFault × IsFaultAnswer words files a) → IsGiven a status out_before out_now err_before err_now lines_before lines_now → IsAnswered given words files FileFault PutFault status out_before out_now err_before err_now lines_before lines_now
+answered_by given words files FileFault PutFault a status out_before out_now err_before err_now lines_before lines_now h put =
     elim h [
-      | inl w ↦ inl (a, w, given)
-      | inr f ↦ inr (inr (inl (f.0, (a, f.1, given))))
+      | inl w ↦ inl (a, w, put)
+      | inr f ↦ inr (inr (inl (f.0, (a, f.1, put))))
     ]
 
 -- a put that failed has its cause
@@ -314,8 +332,8 @@ pub put_failed : (Fault : Type 0) (error : PutError) (status : ℕ) → IsPutFau
 put_failed Fault Failed status h e = inl (h, e)
 put_failed Fault put_error.OutOfMemory status h e = inr e
 
-pub answered_without : (words : List (List ℕ)) (files : List Entry) (FileFault PutFault : Type 0) (status : ℕ) (out_before out_now err_before err_now : Option (List ℕ)) (lines_before lines_now : Option (List (List ℕ))) → (PutFault × (status ≡ 6)) ⊎ (status ≡ 8) → IsAnswered words files FileFault PutFault status out_before out_now err_before err_now lines_before lines_now
-answered_without words files FileFault PutFault status out_before out_now err_before err_now lines_before lines_now h =
+pub answered_without : (given : Handed) (words : List (List ℕ)) (files : List Entry) (FileFault PutFault : Type 0) (status : ℕ) (out_before out_now err_before err_now : Option (List ℕ)) (lines_before lines_now : Option (List (List ℕ))) → (PutFault × (status ≡ 6)) ⊎ (status ≡ 8) → IsAnswered given words files FileFault PutFault status out_before out_now err_before err_now lines_before lines_now
+answered_without given words files FileFault PutFault status out_before out_now err_before err_now lines_before lines_now h =
     elim h [
       | inl f ↦ inr (inr (inr f))
       | inr e ↦ inr (inl e)
@@ -344,10 +362,10 @@ nothing_given answer out_before out_now err_before err_now o e = record {
 }
 
 -- what was put of an answer, by its status
-pub given_in_part : (words : List (List ℕ)) (files : List Entry) (FileFault : Type 0) (given : Answer) (status : ℕ) (out_before out_now err_before err_now : Option (List ℕ)) → IsOnly (Whole words files) given ⊎ (FileFault × IsFaultAnswer words files given) → IsGivenInPart given out_before out_now err_before err_now
+pub given_in_part : (handed : Handed) (words : List (List ℕ)) (files : List Entry) (FileFault : Type 0) (given : Answer) (status : ℕ) (out_before out_now err_before err_now : Option (List ℕ)) → IsOnly (Whole handed words files) given ⊎ (FileFault × IsFaultAnswer words files given) → IsGivenInPart given out_before out_now err_before err_now
     → (IsFaultAnswer words files given → (status ≡ 5) ⊎ (status ≡ 6) ⊎ ((status ≡ 8) × (out_now ≡ out_before) × (err_now ≡ err_before)))
-    → IsAnsweredInPart words files FileFault status out_before out_now err_before err_now
-given_in_part words files FileFault given status out_before out_now err_before err_now h part ends =
+    → IsAnsweredInPart handed words files FileFault status out_before out_now err_before err_now
+given_in_part handed words files FileFault given status out_before out_now err_before err_now h part ends =
     elim h [
       | inl w ↦ inl (given, w, part)
       | inr f ↦ elim (ends f.1) [

@@ -94,7 +94,7 @@ Runs options given p input =
 
 -- a program is run on the file of an input
 abbrev pub RunsOn : Options → Handed → List ℕ → Program → List Entry → Wanted
-RunsOn options handed input p files = Fetched input max_input (lookup files input) (λ content. Runs options given p content)
+RunsOn options given input p files = Fetched input max_input (lookup files input) (λ content. Runs options given p content)
 
 -- a program may be run so: by the plain meaning each, else those that the rules accept
 abbrev pub MayRun : Options → Program → Type 0
@@ -105,7 +105,7 @@ abbrev pub WholeOf : Handed → Command → List Entry → Wanted
 WholeOf given (Run program input options) files =
     Fetched program max_program (lookup files program) (λ text.
     Read text (λ p.
-    Either options.plain (RunsOn options handed input p files) (CheckedBy p (RunsOn options handed input p files))))
+    Either options.plain (RunsOn options given input p files) (CheckedBy p (RunsOn options given input p files))))
 WholeOf given (Check program) files =
     Fetched program max_program (lookup files program) (λ text. Read text (λ p. CheckedBy p (Is accepted)))
 WholeOf given (Explain program) files =

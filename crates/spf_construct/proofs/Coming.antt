@@ -34,7 +34,7 @@ use Rattle.spf_construct.specs.Coming.{IsAtConstruct, entry_of, ComesTo}
 use Rattle.spf_construct.proofs.Counting.{counts-are, guess-at}
 
 -- the entry of the chain's site is the construct's
-entry-is : (at : Stand) (number : ℕ) (h : Header) (guesses : List code_guess.Guess) → slice_get (constructs_in (program_of at.instance.now).main) number ≡ Some (construct_seen at.construct)
+pub entry-is : (at : Stand) (number : ℕ) (h : Header) (guesses : List code_guess.Guess) → slice_get (constructs_in (program_of at.instance.now).main) number ≡ Some (construct_seen at.construct)
     → entry_at (site_of at.instance.now number h at.frame.now at.cells.now guesses) ≡ entry_of at h
 entry-is at number h guesses is = λ i. record {
   program = program_of at.instance.now;
@@ -49,7 +49,9 @@ entry-is at number h guesses is = λ i. record {
 same-guesses : (guess : ℕ → Guess) (at : Stand) (number : ℕ) (h : Header) (guesses : List code_guess.Guess) → map seen_guess guesses ≡ guesses_from guess 1 (h.blocks - 1)
     → (n : ℕ) → 0 < n → n < h.blocks → guess_at (site_of at.instance.now number h at.frame.now at.cells.now guesses) n ≡ (guess n).value
 same-guesses guess at number h guesses taken zero above below = absurd (omega (arith, above))
-same-guesses guess at number h guesses taken (suc n) above below = guess-at guesses guess 1 (h.blocks - 1) n taken (omega (arith, below))
+same-guesses guess at number h guesses taken (suc n) above below =
+    let one_more : 1 + n ≡ suc n = omega arith in
+    guess-at guesses guess 1 (h.blocks - 1) n taken (omega (arith, below)) ∙ ap (λ k. (guess k).value) one_more
 
 pub comes : (guess : ℕ → Guess) (p : Program) (at : Stand) (number : ℕ) (h : Header) (guesses : List code_guess.Guess) → IsAtConstruct p at number h
     → (c : ChainValue) → c.site ≡ site_of at.instance.now number h at.frame.now at.cells.now guesses

@@ -1,5 +1,5 @@
 -- What the blocks of a construct come to.
-use Rattle.std.specs.Prelude.{◌≡◌, ◌≤◌, ℕ, List, length, Some, slice_get, ℤ, pos, ◌+ℤ◌, ◌≤ℤ◌}
+use Rattle.std.specs.Prelude.{◌≡◌, ◌≤◌, ℕ, List, length, Some, slice_get, ℤ}
 use Rattle.spf_ast.specs.Carried as carried
 use Rattle.spf_ast.specs.Construct.{constructs_in}
 use Rattle.spf_ast.specs.ConstructView.{construct as construct_seen}
@@ -25,14 +25,13 @@ use Rattle.spf_construct.specs.declared.guesses.Stand.{Stand}
 use Rattle.spf_construct.specs.declared.construct.Blocks.{Blocks}
 use Rattle.spf_construct.specs.declared.construct.ConstructReport.{ConstructReport}
 
--- a run of this program stands at one of its top constructs, with this number, whose header is done: frame and cells are the program's, and the block numbers fit
+-- a run of this program stands at one of its top constructs, with this number, whose header is done: frame and cells are the program's
 pub record IsAtConstruct (p : Program) (at : Stand) (number : ℕ) (header : Header) : Type 0 where
   pub program : program_of at.instance.now ≡ p
   pub construct : slice_get (constructs_in (program_of at.instance.now).main) number ≡ Some (construct_seen at.construct)
   pub blocks : AreBlocksOf (construct_seen at.construct) header.blocks
   pub some : 1 ≤ header.blocks
   pub few : header.blocks ≤ 4096
-  pub fits : (header.low +ℤ pos header.blocks) ≤ℤ i64.MAX
   pub frame : length at.frame.now ≡ frame_size (program_of at.instance.now)
   pub cells : length at.cells.now ≡ cell_count_of (program_of at.instance.now) (length at.instance.now.input)
 

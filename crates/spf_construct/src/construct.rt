@@ -1,5 +1,5 @@
 //! Constructs, from their header on.
-ghost use Rattle.std.specs.Prelude.{◌≡◌, ◌+◌, ◌++◌, List, length, map, IfOk, IfErr};
+ghost use Rattle.std.specs.Prelude.{◌≡◌, ◌+◌, ◌++◌, ◌+ℤ◌, ◌≤ℤ◌, List, length, map, pos, IfOk, IfErr};
 ghost use Rattle.spf_ast.specs.View.{program as seen_program};
 ghost use Rattle.spf_chain.specs.Beginning.{site_of};
 ghost use Rattle.spf_chain.specs.Chains.{cells_of, HasEnded};
@@ -66,6 +66,7 @@ fn run_from<G: Gate>(
     gate: &G,
 ) -> Result<(Chain, Cells), AllocError>
     requires there { IsAtConstruct (seen_program checked.now) at number header }
+    requires fits { (header.low +ℤ pos header.blocks) ≤ℤ i64.MAX }
     requires guesses { length guesses.now + 1 ≡ header.blocks }
     ensures site { IfOk result (λ r. r.0.site ≡ site_of at.entry.instance.now number header at.entry.frame.now at.entry.cells.now guesses.now) }
     ensures ended { IfOk result (λ r. HasEnded r.0) }
@@ -109,6 +110,7 @@ pub fn run_blocks<G: Gate>(
     gate: &G,
 ) -> Result<Blocks, AllocError>
     requires there { IsAtConstruct (seen_program checked.now) at number header }
+    requires fits { (header.low +ℤ pos header.blocks) ≤ℤ i64.MAX }
     requires host { IsHandedIn (length hosts.old.items) (construct_seen at.construct) }
     ensures ready { IfOk result IsReady }
     ensures size { IfOk result (λ b. length b.chain.site.memory ≡ length at.entry.cells.now) }
@@ -130,6 +132,7 @@ pub fn run_blocks<G: Gate>(
     let _program = checked.program();
     let guesses = take_guesses(alloc, at, header, hosts)?;
     let (chain, cells) = run_from(alloc, checked, at, number, header, &guesses, gate)?;
+    chain.merged_logs_are_speculative_runs();
     let history = chain.history();
     let stats = count_blocks(history, &guesses);
     tell_history(at.construct, header, history, hosts);

@@ -48,4 +48,3 @@ pub(crate) fn count_blocks(history: &[Validated], guesses: &[Guess]) -> Stats
     }
     stats
 }
-

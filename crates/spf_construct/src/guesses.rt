@@ -1,5 +1,5 @@
 //! The guesses for a construct's blocks.
-ghost use Rattle.std.specs.Prelude.{◌≡◌, ◌<◌, ◌≤◌, ◌-◌, ◌+ℤ◌, ◌≤ℤ◌, List, length, map, pos, IfOk};
+ghost use Rattle.std.specs.Prelude.{◌≡◌, ◌<◌, ◌≤◌, ◌-◌, ◌+◌, ◌+ℤ◌, ◌≤ℤ◌, List, length, map, pos, IfOk};
 ghost use Rattle.std.specs.List.{Contains};
 ghost use Rattle.spf_ast.specs.Construct.{constructs_in};
 ghost use Rattle.spf_ast.specs.ConstructView.{construct as construct_seen};
@@ -125,6 +125,7 @@ pub(crate) fn take_guesses(
         → WereTold before telling (handed_in (map (λ h. answer h) hosts.old.items))
         → WereTold before telling (handed_in (map (λ h. answer h) hosts.new.items)) }
     ensures count { length hosts.new.items ≡ length hosts.old.items }
+    ensures size { IfOk result (λ r. length r.items + 1 ≡ header.blocks) }
 {
     let mut frame = at.frame.copy(alloc)?;
     let mut guesses = Vec::with_capacity(alloc, header.blocks as usize)?;

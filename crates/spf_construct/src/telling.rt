@@ -1,5 +1,5 @@
 //! What hosts are told after a construct.
-ghost use Rattle.std.specs.Prelude.{◌≡◌, ◌≤◌, ◌++◌, ◌+ℤ◌, ◌≤ℤ◌, List, length, map, drop, pos};
+ghost use Rattle.std.specs.Prelude.{◌≡◌, ◌<◌, ◌≤◌, ◌+◌, ◌++◌, ◌+ℤ◌, ◌≤ℤ◌, List, length, map, drop, pos};
 ghost use Rattle.spf_ast.specs.ConstructView.{construct as construct_seen};
 ghost use Rattle.spf_exec.specs.Pieces.{seen_header};
 ghost use Rattle.spf_guess.specs.Guess.{Hosts, Telling, tells, tells_from};

@@ -1,6 +1,6 @@
-use Rattle.std.proofs.Common.{◌≡◌, pos, ◌+ℤ◌, ◌-◌, ◌+◌, suc, ◌++◌, ◌∷◌, [], map, sym, ap, ◌∙◌, arith, rules, w64, FitsSigned, ℕ, to_z, of_z, List}
+use Rattle.std.proofs.Common.{◌≡◌, pos, ◌+ℤ◌, ◌-◌, ◌+◌, suc, ◌++◌, ◌∷◌, [], map, sym, ap, ◌∙◌, arith, rules, w64, FitsSigned, ℕ, to_z, of_z, List, length}
 use Rattle.spf_guess.specs.Guess.{Guess, Hosts, Telling}
-use Rattle.std.proofs.lemmas.List.{map-append}
+use Rattle.std.proofs.lemmas.List.{map-append, length-append}
 use Rattle.std.proofs.lemmas.Int.{to_z-of_z}
 use Rattle.spf_construct.specs.Guesses.{seen_guess, guess_there, block_guess, guesses_from}
 use Rattle.spf_construct.proofs.Counting.{guesses-snoc}
@@ -18,15 +18,35 @@ loop-n-preserved g c =
     record {
       guesses = λ before telling were.
           let of : ℕ → Guess = block_guess before telling c.args.at c.args.header in
-          let guess : seen_guess c.take_guess.result ≡ of (1 + (c.loop-n.n - 1))
-          = c.take_guess.ensures.guess before telling (inv.told before telling were) ∙ ap (guess_there before telling c.args.at) number ∙ ap of place in
-          ap (map seen_guess) items ∙ map-append seen_guess c.loop-n.guesses.items (c.take_guess.result ∷ [])
-          ∙ ap (λ l. l ++ seen_guess c.take_guess.result ∷ []) (inv.guesses before telling were)
+          let guess : seen_guess c.take_guess-guess.result ≡ of (1 + (c.loop-n.n - 1))
+          = c.take_guess-guess.ensures.guess before telling (inv.told before telling were) ∙ ap (guess_there before telling c.args.at) number ∙ ap of place in
+          ap (map seen_guess) items ∙ map-append seen_guess c.loop-n.guesses.items (c.take_guess-guess.result ∷ [])
+          ∙ ap (λ l. l ++ seen_guess c.take_guess-guess.result ∷ []) (inv.guesses before telling were)
           ∙ ap (λ x. guesses_from of 1 (c.loop-n.n - 1) ++ x ∷ []) guess
           ∙ sym (guesses-snoc of 1 (c.loop-n.n - 1))
           ∙ ap (guesses_from of 1) count;
-      told = λ before telling were. c.take_guess.ensures.told before telling (inv.told before telling were);
-      count = c.take_guess.ensures.count ∙ inv.count;
+      told = λ before telling were. c.take_guess-guess.ensures.told before telling (inv.told before telling were);
+      count = c.take_guess-guess.ensures.count ∙ inv.count;
       begun = omega (arith, begun);
-      size = c.take_guess.ensures.size ∙ inv.size;
+      taken = (let one = ap length items in let taken = inv.taken in let two = length-append c.loop-n.guesses.items (c.take_guess-guess.result ∷ []) in omega (arith, one, taken, two));
+      size = c.take_guess-guess.ensures.size ∙ inv.size;
     }
+
+pub returns-in_err-push-clause-told : goal.returns-in_err-push-clause-told
+returns-in_err-push-clause-told g c = λ before telling were. c.take_guess-guess.ensures.told before telling (c.loop-n.invariant.told before telling were)
+
+pub returns-clause-guesses : goal.returns-clause-guesses
+returns-clause-guesses g c = λ before telling were.
+    let low = c.loop-n-test.false in
+    let high = c.loop-n.auto.n-end in
+    let some = c.requires.some in
+    let ended : c.loop-n.n ≡ c.args.header.blocks = omega (arith, low, high, some) in
+    c.loop-n.invariant.guesses before telling were ∙ ap (λ n. guesses_from (block_guess before telling c.args.at c.args.header) 1 (n - 1)) ended
+
+pub returns-clause-size : goal.returns-clause-size
+returns-clause-size g c =
+    let low = c.loop-n-test.false in
+    let high = c.loop-n.auto.n-end in
+    let some = c.requires.some in
+    let taken = c.loop-n.invariant.taken in
+    omega (arith, low, high, some, taken)

@@ -1,4 +1,4 @@
-use Rattle.std.proofs.Common.{◌≡◌, ◌≤◌, ◌-◌, map, length, List}
+use Rattle.std.proofs.Common.{◌≡◌, ◌≤◌, ◌-◌, ◌+◌, map, length, List}
 use Rattle.spf_guess.specs.Guess.{Hosts, Telling}
 use Rattle.spf_layout.specs.Frame.{frame_size}
 use Rattle.spf_layout.specs.Instance.{program_of}
@@ -15,5 +15,6 @@ invariant-loop-n g l = record {
       → WereTold before telling (handed_in (map (λ h. (goal.Predictor-dyn g (h.vtable, h.value)).answer h.value) l.hosts.items));
   count : length l.hosts.items ≡ length l.initial.hosts.items;
   begun : 1 ≤ l.n;
+  taken : length l.guesses.items + 1 ≡ l.n;
   size : length l.frame ≡ frame_size (program_of l.fn.at.instance.now);
 }
