@@ -7,8 +7,8 @@ use Rattle.spf_ast.specs.Pieces.{rest_from, from_construct, construct_first, sta
 use Rattle.spf_exec.specs.Pieces.{Stand, ahead}
 use Rattle.spf_guess.specs.declared.stats.Stats.{Stats}
 use Rattle.spf_guess.specs.Statistics.{none, plus}
-use Rattle.spf_progress.specs.Blocks.{AreAtMost}
-use Rattle.spf_progress.specs.Runs.{AreFew}
+use Rattle.spf_construct.specs.Guesses.{AreAtMost}
+use Rattle.spf_engine.specs.Runs.{AreFew}
 use Rattle.spf_progress.proofs.Fronts.{front-constructs}
 use Rattle.spf_progress.proofs.Constructs.{stands-before, rest-next, counts-first}
 

@@ -10,11 +10,12 @@ use Rattle.spf_construct.specs.Guesses.{IsHandedIn}
 -- none of two lists is missing
 none-of-two : (count : ℕ) (one other : List ℕ) → find (λ host. nat_le count host) (one ++ other) ≡ None → (find (λ host. nat_le count host) one ≡ None) × (find (λ host. nat_le count host) other ≡ None)
 none-of-two count [] other e = (refl, e)
-none-of-two count (x ∷ xs) other e = go (nat_le count x) refl
+none-of-two count (x ∷ xs) other e = go (nat_le count x) refl (λ rest. none-of-two count xs other rest)
   where
-    go : (b : Bool) → nat_le count x ≡ b → (find (λ host. nat_le count host) (x ∷ xs) ≡ None) × (find (λ host. nat_le count host) other ≡ None)
-    go true is = cc
-    go false is = let later = none-of-two count xs other (rw is at e) in (rw is later.0, later.1)
+    go : (b : Bool) → nat_le count x ≡ b → (find (λ host. nat_le count host) (xs ++ other) ≡ None → (find (λ host. nat_le count host) xs ≡ None) × (find (λ host. nat_le count host) other ≡ None))
+        → (find (λ host. nat_le count host) (x ∷ xs) ≡ None) × (find (λ host. nat_le count host) other ≡ None)
+    go true is later = cc
+    go false is later = let rest = later (rw is at e) in (rw is rest.0, rest.1)
 
 below : (count host : ℕ) → find (λ h. nat_le count h) (host ∷ []) ≡ None → host < count
 below count host e = go (nat_le count host) refl

@@ -1,5 +1,5 @@
 -- What a construct that was passed leads to.
-use Rattle.std.proofs.Common.{◌≡◌, ℕ, zero, suc, ◌+◌, ◌≤◌, List, [], ◌∷◌, ◌++◌, ℤ, pos, refl, sym, ap, ◌∙◌, subst, arith}
+use Rattle.std.proofs.Common.{◌≡◌, ℕ, zero, suc, ◌+◌, ◌≤◌, List, [], ◌∷◌, ◌++◌, ℤ, pos, ◌+ℤ◌, length, refl, sym, ap, ◌∙◌, subst, arith}
 use Rattle.std.specs.Prelude.{Option, Some, None, Result, Ok, Err}
 use Rattle.std.specs.Option.{option_to_list}
 use Rattle.std.proofs.lemmas.List.{append-nil}
@@ -7,13 +7,14 @@ use Rattle.spf_ast.specs.Carried as carried
 use Rattle.spf_ast.specs.Interaction.{State, Ending, Value, Trapped as trapped_at}
 use Rattle.spf_ast.specs.Syntax.{Program, Predictor, By, Host}
 use Rattle.spf_ast.specs.Meaning.{Environment}
-use Rattle.spf_ast.specs.Program.{environment_of}
+use Rattle.spf_ast.specs.Program.{environment_of, Stopped}
 use Rattle.spf_ast.specs.Construct.{Construct, fold, pair, Header, header_means, Moment, plainly}
 use Rattle.spf_ast.specs.Pieces.{construct_first}
 use Rattle.spf_ast.specs.Silence.{FunctionsAreSilent}
 use Rattle.spf_check.specs.Plans.{AreBlocksOf}
 use Rattle.spf_exec.specs.declared.pieces.Header as code_header
-use Rattle.spf_exec.specs.Pieces.{Stand, EndsAt, ahead, seen_header}
+use Rattle.spf_ast.specs.declared.outcome.Trap.{Trap}
+use Rattle.spf_exec.specs.Pieces.{Stand, EndsAt, TrapsAt, ahead, refilled, seen_header}
 use Rattle.spf_rollback.specs.Rules.{KeepsTheRules}
 use Rattle.spf_cells.specs.declared.view.LogEntry.{LogEntry}
 use Rattle.spf_entry.specs.Entry.{Entry, plain_blocks}
@@ -28,12 +29,12 @@ use Rattle.spf_chain.specs.Finishing.{result_as}
 use Rattle.spf_construct.specs.declared.construct.ConstructReport.{ConstructReport}
 use Rattle.spf_construct.specs.Coming.{ComesTo}
 use Rattle.spf_guess.specs.declared.stats.Stats.{Stats}
-use Rattle.spf_guess.specs.Guess.{Guess, Hosts, Telling, predictor_of, tells_by, tells}
+use Rattle.spf_guess.specs.Guess.{Guess, Hosts, Telling, guess_for, predictor_of, tells_by, tells}
 use Rattle.spf_guess.specs.Statistics.{none, plus, statistics_with}
 use Rattle.spf_predictors.specs.Answers.{WereTold}
 use Rattle.spf_progress.specs.Traces.{Trace, begin_with}
-use Rattle.spf_progress.specs.Progress.{Progress, GoesOn, BlocksComeTo, entry_there, guess_there, with_construct}
-use Rattle.spf_progress.specs.Laws.{ConstructsSettle, ConstructsEndRuns}
+use Rattle.spf_progress.specs.Progress.{Progress, GoesOn, HasCome, BlocksComeTo, entry_there, guess_there, with_construct}
+use Rattle.spf_progress.specs.Laws.{HeadersEndRuns, ConstructsSettle, ConstructsEndRuns}
 use Rattle.spf_engine.specs.declared.construct.Passed.{Passed}
 use Rattle.spf_engine.specs.Runs.{SettlesSo, LeadsTo}
 
@@ -66,16 +67,13 @@ pub leads : ConstructsSettle → ConstructsEndRuns → (hosts : Hosts) (p : Prog
     → LeadsTo hosts p input progress now c passed told
 leads settle ends hosts p input before after now progress c h passed told values goes first went silent keeps left came stats were =
     record {
-      later = with_construct guess c h values (option_to_list passed.trace) progress;
+      later = with_construct (guess_there hosts progress.telling p input c h after) c h values (option_to_list passed.trace) progress;
       stats = ap (plus progress.stats) (sym stats);
       traces = refl;
       told = were;
       settles = go passed.settled came;
     }
   where
-    abbrev guess : ℕ → Guess
-    guess = guess_there hosts progress.telling p input c h after
-
     go : (r : Settled) → BlocksComeTo (entry_there p input c h after) (guess_there hosts progress.telling p input c h after) (result_as r) values now.cells (option_to_list passed.trace)
         → SettlesSo hosts p input now c r (with_construct (guess_there hosts progress.telling p input c h after) c h values (option_to_list passed.trace) progress)
     go (Carried v) o = λ last s.
@@ -83,7 +81,7 @@ leads settle ends hosts p input before after now progress c h passed told values
         (subst (λ cells. BlocksComeTo (entry_there p input c h after) (guess_there hosts progress.telling p input c h after) (Ok v) values cells (option_to_list passed.trace)) (sym s.cells) o)
         (s.slots ∙ ap (λ f. carried.with_carried _ v (main_slots p f)) left.frame) (s.output ∙ left.output) (s.place ∙ ap (λ n. n + 1) (left.same_place ∙ left.place))
     go (Trapped t) o =
-        subst (λ out. _) (sym left.output)
+        subst (λ out. HasCome hosts p input (Stopped t out) (with_construct (guess_there hosts progress.telling p input c h after) c h values (option_to_list passed.trace) progress)) (sym left.output)
         (ends hosts p input before after progress c h t values now.cells (option_to_list passed.trace) goes first went silent keeps o)
 
 -- ---- with blocks
@@ -132,3 +130,70 @@ no-blocks-come p input c h s guess none_there = record {
   memory_is = λ v is. sym (ap (λ n. (chained (environment_of p input) c (main_slots p s.frame) 0 n h.low h.start s.cells).memory) none_there);
   traces_are = no-trace h.blocks _ none_there;
 }
+
+-- a construct without blocks leads on with its start value
+pub leads-nothing : ConstructsSettle → ConstructsEndRuns → (hosts : Hosts) (p : Program) (input : List ℕ) (before after : Stand) (progress : Progress) (c : Construct) (h : Header) (passed : Passed) (told : Hosts)
+    → GoesOn hosts p input before progress → construct_first (ahead p before) ≡ Some c → EndsAt p (header_means (environment_of p input) c) before after h
+    → FunctionsAreSilent p.functions → KeepsTheRules p c → after.place ≡ before.place → h.blocks ≡ 0
+    → passed.settled ≡ Carried h.start → passed.stats ≡ none → passed.trace ≡ None → WereTold hosts progress.telling told
+    → LeadsTo hosts p input progress after c passed told
+leads-nothing settle ends hosts p input before after progress c h passed told goes first went silent keeps place none_there settled stats trace were =
+    leads settle ends hosts p input before after after progress c h passed told [] goes first went silent keeps
+    (record { place = place; frame = refl; output = refl; same_place = refl })
+    (subst (λ t. BlocksComeTo (entry_there p input c h after) (guess_there hosts progress.telling p input c h after) (result_as passed.settled) [] after.cells (option_to_list t)) (sym trace)
+    (subst (λ s. BlocksComeTo (entry_there p input c h after) (guess_there hosts progress.telling p input c h after) (result_as s) [] after.cells []) (sym settled)
+    (no-blocks-come p input c h after (guess_there hosts progress.telling p input c h after) none_there)))
+    stats
+    (subst (λ t. WereTold hosts t told) (sym (ap (λ more. progress.telling ++ more) (tells-nothing c h) ∙ append-nil progress.telling)) were)
+
+-- ---- headers that trap
+
+plus-none : (one : Stats) → plus one none ≡ one
+plus-none one =
+    let blocks : one.blocks + 0 ≡ one.blocks = omega arith in
+    let hits : one.hits + 0 ≡ one.hits = omega arith in
+    let misses : one.misses + 0 ≡ one.misses = omega arith in
+    let blind : one.blind + 0 ≡ one.blind = omega arith in
+    λ i. record { blocks = blocks i; hits = hits i; misses = misses i; blind = blind i }
+
+pub header-leads : HeadersEndRuns → (hosts : Hosts) (p : Program) (input : List ℕ) (before after : Stand) (progress : Progress) (c : Construct) (t : Trap) (passed : Passed) (told : Hosts)
+    → GoesOn hosts p input before progress → construct_first (ahead p before) ≡ Some c → TrapsAt p (header_means (environment_of p input) c) before after t
+    → passed.settled ≡ Trapped t → passed.stats ≡ none → passed.trace ≡ None → WereTold hosts progress.telling told
+    → LeadsTo hosts p input progress after c passed told
+header-leads ends hosts p input before after progress c t passed told goes first traps settled stats trace were = record {
+  later = progress;
+  stats = sym (plus-none progress.stats) ∙ ap (plus progress.stats) (sym stats);
+  traces = sym (append-nil progress.traces) ∙ ap (λ x. progress.traces ++ option_to_list x) (sym trace);
+  told = were;
+  settles = subst (λ s. SettlesSo hosts p input after c s progress) (sym settled) (ends hosts p input before after progress c t goes first traps);
+}
+
+-- ---- what blocks came to where a run stands
+
+-- the entry of a construct with these slots and cells, and the guesses there
+abbrev pub entry_with : Program → List ℕ → Construct → Header → List ℤ → List ℤ → Entry
+entry_with p input c h frame cells = record { program = p; construct = c; input = input; slots = main_slots p frame; memory = cells; header = h }
+
+abbrev pub guess_with : Hosts → List Telling → Program → List ℕ → Construct → Header → List ℤ → List ℤ → ℕ → Guess
+guess_with hosts telling p input c h frame cells n = guess_for hosts telling p input c (main_slots p frame) cells (h.low +ℤ pos n)
+
+pub come-as : (hosts : Hosts) (telling : List Telling) (p : Program) (input : List ℕ) (c : Construct) (h : Header) (frame other_frame cells other_cells : List ℤ) (report other_report : ConstructReport) (memory other_memory : List ℤ)
+    → frame ≡ other_frame → cells ≡ other_cells → report ≡ other_report → memory ≡ other_memory
+    → ComesTo (entry_with p input c h frame cells) (guess_with hosts telling p input c h frame cells) report memory
+    → ComesTo (entry_with p input c h other_frame other_cells) (guess_with hosts telling p input c h other_frame other_cells) other_report other_memory
+come-as hosts telling p input c h frame other_frame cells other_cells report other_report memory other_memory f k r m came =
+    subst (λ x. ComesTo (entry_with p input c h other_frame other_cells) (guess_with hosts telling p input c h other_frame other_cells) other_report x) m
+    (subst (λ x. ComesTo (entry_with p input c h other_frame other_cells) (guess_with hosts telling p input c h other_frame other_cells) x memory) r
+    (subst (λ x. ComesTo (entry_with p input c h other_frame x) (guess_with hosts telling p input c h other_frame x) report memory) k
+    (subst (λ x. ComesTo (entry_with p input c h x cells) (guess_with hosts telling p input c h x cells) report memory) f came)))
+
+-- cells that are filled up with as many words are these words
+pub refilled-is : (cells words : List ℤ) → length words ≡ length cells → words ≡ refilled cells words
+refilled-is [] [] e = refl
+refilled-is [] (w ∷ words) e = absurd (omega (arith, e))
+refilled-is (x ∷ cells) [] e = absurd (omega (arith, e))
+refilled-is (x ∷ cells) (w ∷ words) e = ap (λ l. w ∷ l) (refilled-is cells words (omega (arith, e)))
+
+-- what was told, by another name
+pub retold : (before now : Hosts) (one other : List Telling) → one ≡ other → WereTold before one now → WereTold before other now
+retold before now one other same were = subst (λ telling. WereTold before telling now) same were

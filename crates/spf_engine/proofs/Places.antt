@@ -39,11 +39,11 @@ numbered zero b number c count e =
     let none : 0 ≡ number = omega (arith, count) in
     subst (λ n. slice_get (constructs_in b) n ≡ Some c) none (first-of b c e)
 numbered (suc place) end number c count e = cc
-numbered (suc place) (on_line line s rest) number c count e = go (has-first line s rest) number count
+numbered (suc place) (on_line line s rest) number c count e = go (has-first line s rest) (λ k h. numbered place rest k c h e) number count
   where
-    go : HasFirst line s rest → (k : ℕ) → k + length (constructs_in (rest_from place rest)) ≡ length (constructs_in (on_line line s rest)) → slice_get (constructs_in (on_line line s rest)) k ≡ Some c
-    go (is_one d is all) zero h = (let more = ap length all in let few = fewer place rest in absurd (omega (arith, h, more, few)))
-    go (is_one d is all) (suc k) h =
+    go : HasFirst line s rest → ((k : ℕ) → k + length (constructs_in (rest_from place rest)) ≡ length (constructs_in rest) → slice_get (constructs_in rest) k ≡ Some c) → (k : ℕ) → k + length (constructs_in (rest_from place rest)) ≡ length (constructs_in (on_line line s rest)) → slice_get (constructs_in (on_line line s rest)) k ≡ Some c
+    go (is_one d is all) later zero h = (let more = ap length all in let few = fewer place rest in absurd (omega (arith, h, more, few)))
+    go (is_one d is all) later (suc k) h =
         (let more = ap length all in
-        ap (λ l. slice_get l (suc k)) all ∙ numbered place rest k c (omega (arith, h, more)) e)
-    go (is_none all) k h = ap (λ l. slice_get l k) all ∙ numbered place rest k c (h ∙ ap length all) e
+        ap (λ l. slice_get l (suc k)) all ∙ later k (omega (arith, h, more)))
+    go (is_none all) later k h = ap (λ l. slice_get l k) all ∙ later k (h ∙ ap length all)

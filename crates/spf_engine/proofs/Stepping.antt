@@ -7,7 +7,8 @@ use Rattle.spf_ast.specs.Construct.{Construct, constructs_in, Reached, reached_f
 use Rattle.spf_guess.specs.Guess.{Hosts, Telling, tells}
 use Rattle.spf_guess.specs.Statistics.{tally_from, tally}
 use Rattle.spf_predictors.specs.Answers.{WereTold}
-use Rattle.spf_exec.specs.Pieces.{Stand}
+use Rattle.spf_ast.specs.Program.{environment_of}
+use Rattle.spf_exec.specs.Pieces.{Stand, ahead}
 use Rattle.spf_progress.specs.Progress.{Progress, IsCompletedBy, GoesOn, HasCome}
 use Rattle.spf_engine.specs.declared.account.Account.{Account}
 use Rattle.spf_engine.specs.Runs.{AgreesWith, WereToldFirst}
@@ -27,7 +28,7 @@ tells-on hosts p input (c ∷ cs) (r ∷ rs) telling =
 -- hosts of a run that goes on were told the first of what they are told
 pub told-first : (hosts : Hosts) (p : Program) (input : List ℕ) (s : Stand) (progress : Progress) (now : Hosts) → GoesOn hosts p input s progress → WereTold hosts progress.telling now → WereToldFirst hosts p input now
 told-first hosts p input s progress now goes told =
-    let on = tells-on hosts p input _ _ progress.telling in
+    let on = tells-on hosts p input (constructs_in (ahead p s)) (reached_from (environment_of p input) (ahead p s) goes.moment) progress.telling in
     record { telling = progress.telling; more = on.more; all = on.all ∙ goes.completes.telling_is; told = told }
 
 -- those of a run that has come to its end were told all

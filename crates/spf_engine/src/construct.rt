@@ -1,5 +1,5 @@
 //! The construct that stands next in a run.
-ghost use Rattle.std.specs.Prelude.{◌≡◌, ◌<◌, ◌≤◌, ◌+ℤ◌, ◌≤ℤ◌, ◌++◌, List, length, map, pos, slice_get, Some, IfOk, IfErr};
+ghost use Rattle.std.specs.Prelude.{◌≡◌, ◌<◌, ◌≤◌, ◌+ℤ◌, ◌≤ℤ◌, ◌++◌, List, length, map, pos, slice_get, Some, None, IfOk, IfErr};
 ghost use Rattle.spf_ast.specs.View.{program as seen_program};
 ghost use Rattle.spf_ast.specs.ConstructView.{construct as construct_seen};
 ghost use Rattle.spf_ast.specs.Construct.{constructs_in};
@@ -9,6 +9,7 @@ ghost use Rattle.spf_exec.specs.Pieces.{IsRunOf, ahead, seen_header};
 ghost use Rattle.spf_layout.specs.Instance.{program_of};
 ghost use Rattle.spf_entry.specs.Entry.{plain_blocks};
 ghost use Rattle.spf_guess.specs.Guess.{Hosts, Telling, tells};
+ghost use Rattle.spf_guess.specs.Statistics.{none as no_blocks};
 ghost use Rattle.spf_predictors.specs.Answers.{handed_in, WereTold};
 ghost use Rattle.spf_construct.specs.Guesses.{AreAtMost, IsHandedIn};
 ghost use Rattle.spf_construct.specs.Coming.{ComesTo};
@@ -40,7 +41,11 @@ pub(crate) struct Passed {
 }
 
 /// A construct without blocks, or one whose header trapped.
-fn without_blocks(settled: Settled) -> Passed {
+fn without_blocks(settled: Settled) -> Passed
+    ensures settled { result.settled ≡ settled }
+    ensures stats { result.stats ≡ no_blocks }
+    ensures trace { result.trace ≡ None }
+{
     Passed {
         settled,
         stats: Stats::none(),

@@ -13,7 +13,7 @@ ghost use Rattle.spf_engine.specs.Errors.{AreTooMany, IsMissing, WereToldNothing
 
 use crate::account::Account;
 use crate::error::EngineError;
-use crate::step::{Step, step};
+use crate::step::{Step, take_step};
 use spf_ast::outcome::{Outcome, Trap};
 use spf_cells::finish::Trace;
 use spf_check::checked::Checked;
@@ -95,7 +95,7 @@ pub fn run_instance<G: Gate>(
     let mut run = Run::start(alloc, instance)?;
     let mut account = Account::new(alloc);
     loop {
-        match step(alloc, checked, instance, &mut run, &mut account, hosts, gate)? {
+        match take_step(alloc, checked, instance, &mut run, &mut account, hosts, gate)? {
             Step::Next => {}
             Step::Finished => return Ok(finished(run, account)),
             Step::Trapped(trap) => return Ok(trapped(run, trap, account)),

@@ -1,5 +1,5 @@
 //! Steps of a run: from one construct past the next.
-ghost use Rattle.std.specs.Prelude.{◌≡◌, ◌<◌, List, length, map, None, Some, IfOk, IfErr};
+ghost use Rattle.std.specs.Prelude.{◌≡◌, ◌+◌, List, length, map, None, Some, IfOk, IfErr};
 ghost use Rattle.spf_ast.specs.View.{program as seen_program};
 ghost use Rattle.spf_ast.specs.ConstructView.{construct as construct_seen};
 ghost use Rattle.spf_ast.specs.Construct.{constructs_in};
@@ -95,7 +95,7 @@ fn pass<G: Gate>(
 }
 
 /// Runs `main` up to the next construct and past it, or to its end.
-pub(crate) fn step<G: Gate>(
+pub(crate) fn take_step<G: Gate>(
     alloc: Global,
     checked: &Checked,
     instance: &Instance,
