@@ -1,6 +1,6 @@
 //! The predictors that the caller hands in, as a list; the first of them is host 0.
 ghost use Rattle.std.specs.Prelude.{◌≡◌, ℕ, ◌<◌, ◌^◌, ◌++◌, ◌∷◌, [], List, map, length, pos, ◌+ℤ◌, ◌≤ℤ◌, ◌<ℤ◌};
-ghost use Rattle.spf_guess.specs.Guess.{Told, Hosts, Telling, told_to, tells_from, tells_by};
+ghost use Rattle.spf_guess.specs.Guess.{Hosts, Telling, told_to, tells_from, tells_by};
 ghost use Rattle.spf_ast.specs.Syntax.{Host};
 ghost use Rattle.spf_ast.specs.View.{predictor as predictor_seen};
 ghost use Rattle.spf_predictors.specs.Answers.{AnswersAlike, WasTold, handed_in, WereTold};

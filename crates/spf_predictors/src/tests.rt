@@ -1,7 +1,6 @@
 // What each kind of predictor answers, and what hosts in a list answer after they were told something.
-ghost use Rattle.std.specs.Prelude.{Some};
 ghost use Rattle.std.specs.List.{last_or};
-ghost use Rattle.std.specs.Prelude.{unwrap_or};
+ghost use Rattle.std.specs.Prelude.{Some, unwrap_or};
 ghost use Rattle.spf_ast.specs.Carried.{no_value};
 ghost use Rattle.spf_predictors.specs.Kinds.{blocks_told};
 
