@@ -1,10 +1,13 @@
 //! The predictors that the caller hands in, as a list; the first of them is host 0.
-ghost use Rattle.std.specs.Prelude.{◌≡◌, ◌<◌, ◌^◌, ◌++◌, ◌∷◌, [], List, map, length, pos, ◌+ℤ◌, ◌≤ℤ◌, ◌<ℤ◌};
-ghost use Rattle.spf_guess.specs.Guess.{Told, Hosts, Telling, told_to, tells_from};
+ghost use Rattle.std.specs.Prelude.{◌≡◌, ℕ, ◌<◌, ◌^◌, ◌++◌, ◌∷◌, [], List, map, length, pos, ◌+ℤ◌, ◌≤ℤ◌, ◌<ℤ◌};
+ghost use Rattle.spf_guess.specs.Guess.{Hosts, Telling, told_to, tells_from, tells_by};
+ghost use Rattle.spf_ast.specs.Syntax.{Host};
+ghost use Rattle.spf_ast.specs.View.{predictor as predictor_seen};
 ghost use Rattle.spf_predictors.specs.Answers.{AnswersAlike, WasTold, handed_in, WereTold};
 
 use crate::Predictor;
 use spf_ast::carried::Carried;
+use spf_ast::syntax::Predict;
 
 /// What this host guesses for a block.
 fn ask_one(host: &mut Box<dyn Predictor>, block: i64) -> Carried
@@ -68,4 +71,28 @@ pub fn tell_all(hosts: &mut Vec<Box<dyn Predictor>>, host: u64, first: i64, real
     for (index, real) in reals.iter().enumerate() {
         tell(hosts, host, block_at(first, index), *real);
     }
+}
+
+/// Tells the host that guesses a construct's blocks, where it is one, the real values of all blocks but the first, in their order; `low` is
+/// the number of the first block.
+pub fn tell_blocks(
+    hosts: &mut Vec<Box<dyn Predictor>>,
+    predict: &Predict,
+    low: i64,
+    reals: &[Carried],
+)
+    requires handed_in { (host : ℕ) → predictor_seen predict.now ≡ Host host → host < length hosts.old.items }
+    requires numbers { (low +ℤ pos (length reals.now)) <ℤ pos (2 ^ 63) }
+    ensures told { (before : Hosts) (telling : List Telling)
+        → WereTold before telling (handed_in (map (λ h. answer h) hosts.old.items))
+        → WereTold before (telling ++ tells_by (predictor_seen predict.now) low reals.now) (handed_in (map (λ h. answer h) hosts.new.items)) }
+    ensures count { length hosts.new.items ≡ length hosts.old.items }
+{
+    let Predict::Host(host) = predict else {
+        return;
+    };
+    let Some((_, others)) = reals.split_first() else {
+        return;
+    };
+    tell_all(hosts, *host, block_at(low, 1), others);
 }

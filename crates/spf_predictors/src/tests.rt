@@ -1,13 +1,13 @@
 // What each kind of predictor answers, and what hosts in a list answer after they were told something.
-ghost use Rattle.std.specs.Prelude.{Some};
 ghost use Rattle.std.specs.List.{last_or};
-ghost use Rattle.std.specs.Prelude.{unwrap_or};
+ghost use Rattle.std.specs.Prelude.{Some, unwrap_or};
 ghost use Rattle.spf_ast.specs.Carried.{no_value};
 ghost use Rattle.spf_predictors.specs.Kinds.{blocks_told};
 
-use crate::hosts::{ask, tell, tell_all};
+use crate::hosts::{ask, tell, tell_all, tell_blocks};
 use crate::{Fixed, Last, Most, Predictor, Table};
 use spf_ast::carried::Carried;
+use spf_ast::syntax::Predict;
 use std::test::Fail;
 
 #[test]
@@ -115,6 +115,10 @@ fn hosts_in_a_list_are_asked_and_told_by_their_numbers(rt: HostRuntime) -> Resul
     tell_all(&mut hosts, 2, -1, &[1, 2, 3]);
     tell_all(&mut hosts, 2, 8, &[]);
     assert_eq!(rt; ask(&mut hosts, 0, 9), 5);
+    tell_blocks(&mut hosts, &Predict::Host(0), 3, &[6]);
+    assert_eq!(rt; ask(&mut hosts, 0, 9), 5);
+    tell_blocks(&mut hosts, &Predict::Host(0), 3, &[6, 7, 8]);
+    assert_eq!(rt; ask(&mut hosts, 0, 9), 8);
     assert_eq!(rt; ask(&mut hosts, 1, 5), 50);
     assert_eq!(rt; ask(&mut hosts, 1, 6), 60);
     assert_eq!(rt; ask(&mut hosts, 1, 7), 0);
