@@ -145,6 +145,15 @@ to-raise-raisable law a v real h is carried r =
       | inr t ↦ absurd (not-both-settled a.validation.settled real t.trap (ap (λ (w : ChainValue). w.settled) is ∙ carried) t.trapped)
     ]
 
+pub to-raise-inside : (a : Inside) (v : ChainValue) → IsKept a → chain_value a ≡ v → IsToRaise v (next_block v) → a.validation.count < length a.warden.setting.plan
+to-raise-inside a v h is q =
+    let low = slice_get_within v.homes (next_block v) None q.out.out in
+    let size : length v.homes ≡ length a.homes.items = ap (λ (x : ChainValue). length x.homes) (sym is) in
+    let f = next-is a v h is in
+    let b = h.stands.blocks in
+    let p = h.ground.made.blocks in
+    omega (arith, low, f, size, b, p)
+
 pub next-raised : (a : Inside) (v : ChainValue) (real : ℤ) (w : WardenValue) → IsKept a → chain_value a ≡ v → v.settled ≡ Carried real → IsToRaise v (next_block v) → w ≡ with_flag a.warden a.validation.count 1
     → Raises v (record (chain_value a) { warden = w })
 next-raised a v real w h is carried r one =

@@ -85,7 +85,7 @@ returns-clause-state c =
     let same : set (set a.homes.items n c.take.new.self) n (Some r) ≡ set a.homes.items r.ticket.block (Some r) = set-set a.homes.items n c.take.new.self (Some r) ∙ ap (λ m. set a.homes.items m (Some r)) c.block-block.ensures in
     let again : c.still_again-self-inside.result ≡ (if r.ticket.block == next_block (chain_value a) then false else a.again) =
     c.still_again-self-inside.ensures ∙ (λ t. if c.block-block.ensures t == sym (next-is a (chain_value a) c.self.invariant refl) t then false else a.again) in
-    (λ t. filed_value a (same t) (again t) (c.saturating_add.ensures t)) ∙ ap (λ (w : ChainValue). came_home w r) c.self.view_is
+    (λ t. filed_value a (same t) (again t) (c.saturating_add-self-inside.ensures t)) ∙ ap (λ (w : ChainValue). came_home w r) c.self.view_is
 
 pub returns-clause-free : goal.returns-clause-free
 returns-clause-free c =

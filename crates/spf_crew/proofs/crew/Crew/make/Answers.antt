@@ -8,6 +8,7 @@ use Rattle.spf_chain.specs.Chains.{ChainValue, cells_of}
 use Rattle.spf_chain.specs.Beginning.{IsStarted}
 use Rattle.spf_entry.specs.Sites.{entry_at, guess_at}
 use Rattle.spf_pool.specs.Hands.{HandValue}
+use Rattle.spf_pool.specs.Made.{AreNewHands}
 use Rattle.spf_ticket.specs.Tickets.{IsFresh}
 use Rattle.spf_ticket.specs.declared.ticket.Ticket.{Ticket}
 use Rattle.spf_crew.specs.declared.view.CrewSetting.{CrewSetting}
@@ -28,7 +29,7 @@ few c cells tickets n s is = let f = s.ground.few in let count = s.count in omeg
 pub hands_of-requires-clause-capacity : goal.hands_of-requires-clause-capacity
 hands_of-requires-clause-capacity c = few c.args.chain c.args.cells c.args.tickets.items c.len-count.result c.requires.started (c.len-count.ensures ∙ c.args.tickets.ok.0)
 
-first : (k : CrewSetting) (capacity workers : ℕ) (hands : List (HandValue CrewSetting)) (h : HandValue CrewSetting) → Rattle.spf_pool.specs.Made.AreNewHands k capacity workers hands → 0 < workers → h ≡ get_or hands 0 h → CanTakeAll k capacity h
+first : (k : CrewSetting) (capacity workers : ℕ) (hands : List (HandValue CrewSetting)) (h : HandValue CrewSetting) → AreNewHands k capacity workers hands → 0 < workers → h ≡ get_or hands 0 h → CanTakeAll k capacity h
 first k capacity workers hands h new some is = first-hand k capacity workers hands h new some (first_of hands h (let n = new.count in omega (arith, n, some)) is)
 
 pub give_all-requires : goal.give_all-requires
