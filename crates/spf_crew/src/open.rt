@@ -74,9 +74,9 @@ impl<'a> Crew<'a> {
         requires own { IsPlaceOf self place }
         requires all { (place.from ≡ 0) × (place.to ≡ self.setting.mates) }
         requires read { place.read ≡ true }
-        ensures same { IsChainOf self.setting result.0 }
+        ensures same { IsChainOf self.entry.setting result.0 }
         ensures ended { has_ended result.0 ≡ true }
-        ensures cells { result.1 ≡ self.setting.cells }
+        ensures cells { result.1 ≡ self.entry.setting.cells }
     {
         let Place {
             key: _,
