@@ -1,17 +1,17 @@
 -- Lists of mates, and of hands.
-use Rattle.std.proofs.Common.{◌≡◌, ◌⊎◌, ℕ, zero, suc, ◌+◌, ◌<◌, ◌≤◌, Bool, true, List, [], ◌∷◌, ◌++◌, length, length-append, get_or, remove, set, replicate, false, ◌≢◌, sym, refl, ap, ◌∙◌, subst, ⊎_elim, arith}
-use mathlib.Core.Option.{some, some-injective}
+use Rattle.std.proofs.Common.{◌≡◌, ℕ, zero, suc, ◌+◌, ◌<◌, true, List, [], ◌∷◌, ◌++◌, length, length-append, get_or, remove, set, replicate, false, ◌≢◌, sym, refl, ap, ◌∙◌, subst, ⊎_elim, arith}
+use mathlib.Core.Option.{some}
 use lib.ListN.{get_elem?, length-replicate}
 use Rattle.atomic_table.proofs.Lists.{at_longer, at_last, at_set}
 use Rattle.spf_pool.specs.Hands.{HandValue}
 use Rattle.spf_crew.specs.declared.view.CrewSetting.{CrewSetting}
-use Rattle.spf_crew.specs.Values.{CrewValue, PlaceValue, IsPlaceOf}
-use Rattle.spf_crew.specs.Mates.{MateValue, IsMateOf}
+use Rattle.spf_crew.specs.Values.{CrewValue, PlaceValue}
+use Rattle.spf_crew.specs.Mates.{MateValue}
 use Rattle.spf_crew.specs.Crews.{IsNumbered, AreFirstMates, AreAllMates, HaveRead, dealt, IsDealtTo, AreDealt, IsNewMate}
 use Rattle.spf_crew.specs.declared.held.Held.TheVariants as held
 use Rattle.spf_pool.specs.Made.{new_hand, AreNewHands}
 use Rattle.atomic_table.specs.Seated.{TableId}
-use Rattle.spf_crew.proofs.Steps.{snoc_at, below}
+use Rattle.spf_crew.proofs.Steps.{snoc_at}
 
 pub behead : {A : Type 0} (l : List A) (i : ℕ) → get_elem? (remove l 0) i ≡ get_elem? l (suc i)
 behead [] zero = refl

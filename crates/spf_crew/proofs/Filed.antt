@@ -4,7 +4,7 @@ use Rattle.spf_edge.specs.Faults.{one_more}
 use Rattle.spf_ticket.specs.declared.ticket.Report.{Report}
 use Rattle.spf_chain.specs.declared.chain.Filed.{Filed}
 use Rattle.spf_chain.specs.declared.chain.Filed.TheVariants.{Rerun, Waiting, Ended}
-use Rattle.spf_chain.specs.Chains.{ChainValue, cells_of, HasEnded, IsFiled, IsAnswer, IsSameChain, IsOut, Raises, Validates}
+use Rattle.spf_chain.specs.Chains.{ChainValue, cells_of, HasEnded, IsFiled, IsAnswer, IsSameChain, IsOut, Raises}
 use Rattle.spf_entry.specs.Sites.{entry_at, guess_at}
 use Rattle.spf_cells.specs.Values.{CellsValue}
 use Rattle.spf_ticket.specs.declared.ticket.Ticket.{Ticket}

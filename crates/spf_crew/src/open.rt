@@ -61,11 +61,7 @@ impl<'a> Crew<'a> {
         let Ok((table, seat)) = Table::new(alloc, &[0, 0], slots, &key) else {
             return Err(AllocError);
         };
-        let place = Place {
-            key,
-            seen: 0,
-            seat,
-        };
+        let place = Place { key, seen: 0, seat };
         Ok((Crew { table, cells, job }, place))
     }
 

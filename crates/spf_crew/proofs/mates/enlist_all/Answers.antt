@@ -1,4 +1,4 @@
-use Rattle.std.proofs.Common.{◌≡◌, ℕ, ◌+◌, ◌<◌, List, ◌∷◌, ◌++◌, [], length, length-append, get_or, remove, suc, sym, refl, ap, ◌∙◌, subst, arith}
+use Rattle.std.proofs.Common.{◌≡◌, ℕ, ◌+◌, List, ◌∷◌, ◌++◌, [], length, length-append, sym, ap, ◌∙◌, subst, arith}
 use mathlib.Core.Option.{some}
 use lib.ListN.{get_elem?}
 use Rattle.spf_pool.specs.Hands.{HandValue}
@@ -6,7 +6,7 @@ use Rattle.spf_crew.specs.declared.view.CrewSetting.{CrewSetting}
 use Rattle.spf_crew.specs.Values.{PlaceValue, CrewValue}
 use Rattle.spf_crew.specs.Mates.{MateValue}
 use Rattle.spf_crew.specs.Mates.{new_place}
-use Rattle.spf_crew.specs.Crews.{IsNumbered, AreFirstMates, AreAllMates, dealt, AreDealt, IsNewMate}
+use Rattle.spf_crew.specs.Crews.{AreFirstMates, dealt, AreDealt, IsNewMate}
 use Rattle.spf_crew.proofs.Crews.{beheaded, first_of, numbered-snoc, all-snoc, each-snoc, dealt-on, dealt-first, new-mate}
 use Rattle.spf_crew.proofs.mates.enlist_all.Goals as goal
 

@@ -1,4 +1,4 @@
-use Rattle.std.proofs.Common.{◌≡◌, ℕ, ◌+◌, true, List, [], ◌∷◌, ◌++◌, length, sym, refl, ap, ◌∙◌, subst, arith, Some, option_to_list}
+use Rattle.std.proofs.Common.{◌≡◌, [], ◌∷◌, ◌++◌, sym, ap, ◌∙◌, option_to_list}
 use Rattle.spf_crew.specs.Values.{PlaceValue}
 use Rattle.spf_crew.specs.Mates.{MateValue}
 use Rattle.spf_crew.proofs.Crews.{fewer, fewer_read, last_one}

@@ -1,10 +1,8 @@
-use Rattle.std.proofs.Common.{◌≡◌, ℕ, ◌<◌, ◌≤◌, List, length, length-set, get_or, set, refl, sym, ap, ◌∙◌, subst, arith, Some, slice_get}
+use Rattle.std.proofs.Common.{◌≡◌, ℕ, ◌<◌, ◌≤◌, List, length, length-set, get_or, set, sym, ap, ◌∙◌, subst, arith}
 use Rattle.std.specs.List.{All}
 use Rattle.std.proofs.lemmas.Option.{slice_get-get_or}
-use mathlib.Core.Option.{some}
-use lib.ListN.{get_elem?}
 use Rattle.spf_cells.specs.Values.{CellsValue}
-use Rattle.spf_chain.specs.Chains.{ChainValue, cells_of}
+use Rattle.spf_chain.specs.Chains.{ChainValue}
 use Rattle.spf_chain.specs.Beginning.{IsStarted}
 use Rattle.spf_entry.specs.Sites.{entry_at, guess_at}
 use Rattle.spf_pool.specs.Hands.{HandValue}

@@ -1,7 +1,6 @@
-use Rattle.std.proofs.Common.{◌≡◌, ◌+◌, ◌*◌, true, if◌then◌else◌, sym, ap, ◌∙◌, subst}
+use Rattle.std.proofs.Common.{true, if◌then◌else◌, sym, ap, ◌∙◌, subst}
 use Rattle.spf_chain.specs.Chains.{ChainValue}
 use Rattle.spf_crew.specs.Rule.{IsChainOf}
-use Rattle.spf_crew.specs.Endings.{has_ended}
 use Rattle.spf_crew.specs.Values.{CrewValue, PlaceValue}
 use Rattle.spf_crew.specs.Filing.{read_after}
 use Rattle.spf_crew.proofs.Filed.{lawful-on, one-report, still-of, filed-at, announced-ended, read-is}
@@ -20,8 +19,8 @@ give_chain-requires-clause-chain c =
       one-report c.args.half before.reports after.reports c.requires.room taken.1 c.file-filed.ensures.reports,
       still-of c.args.crew.now.setting before after taken.2 c.file-filed.ensures.same,
       announced-ended before after c.args.report c.file-filed.result c.is_ended.result c.announce.new.seat.me.0.announced
-      (ap (λ m. m.0.announced) c.announce.ensures.announced ∙ ap (λ m. if c.is_ended.result then true else m.0.announced) taken.0.view)
-      c.is_ended.ensures.0 c.file-filed.ensures.free c.file-filed.ensures.filed,
+          (ap (λ m. m.0.announced) c.announce.ensures.announced ∙ ap (λ m. if c.is_ended.result then true else m.0.announced) taken.0.view)
+          c.is_ended.ensures.0 c.file-filed.ensures.free c.file-filed.ensures.filed,
     )
 
 pub returns-in-Ok-clause-filed : goal.returns-in-Ok-clause-filed
