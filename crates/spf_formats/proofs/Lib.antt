@@ -1,0 +1,5 @@
+pub mod BitStrings
+pub mod Drawing
+pub mod Encoding
+pub mod Five
+pub mod Verdicts

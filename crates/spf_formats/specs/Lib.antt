@@ -1,0 +1,9 @@
+pub mod Signatures
+pub mod Huffman
+pub mod Huf1
+pub mod Lex1
+pub mod Toy
+pub mod Draws
+pub mod Written
+pub mod Refusals
+pub mod Laws
