@@ -1,5 +1,5 @@
 -- One draw more.
-use Rattle.std.proofs.Common.{◌≡◌, ℕ, suc, List, [], ◌∷◌, ◌++◌, map, refl, ap, sym, ◌∙◌, append_assoc}
+use Rattle.std.proofs.Common.{◌≡◌, ℕ, suc, List, [], ◌∷◌, ◌++◌, map, ap, sym, ◌∙◌, append_assoc}
 use Rattle.spf_formats.specs.Draws.{next_state, given_by, draws, state_after}
 
 -- what is drawn first stands before the rest

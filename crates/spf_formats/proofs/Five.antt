@@ -3,7 +3,7 @@ use Rattle.std.proofs.Common.{◌≡◌, ℕ, zero, suc, ◌%◌, ◌<◌, ◌�
 use Rattle.std.specs.Prelude.{slice_index}
 use Rattle.std.specs.List.{AllByRecursion}
 use Rattle.spf_formats.specs.Huffman.{AreCodeLengths, AreShort, HaveWords, space}
-use Rattle.spf_formats.specs.Draws.{five_lengths, five_symbols, picked_bytes, draws, given_by, next_state}
+use Rattle.spf_formats.specs.Draws.{five_lengths, five_symbols, picked_bytes, given_by, next_state}
 
 no_more : (n k : ℕ) → slice_index (replicate n 0) k ≡ 0
 no_more zero k = refl

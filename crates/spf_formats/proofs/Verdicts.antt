@@ -1,8 +1,8 @@
 -- That a file has one verdict.
-use Rattle.std.proofs.Common.{◌≡◌, ◌≢◌, ◌⊎◌, inl, inr, ℕ, ◌+◌, ◌*◌, ◌<◌, ◌≤◌, min, List, length, take, arith, refl, ap, ◌∙◌, sym, subst}
+use Rattle.std.proofs.Common.{◌≡◌, ◌⊎◌, inl, inr, ℕ, ◌+◌, ◌*◌, ◌<◌, ◌≤◌, min, List, length, take, arith, ap, ◌∙◌, sym, subst}
 use Rattle.std.proofs.lemmas.List.{take-take}
 use Rattle.std.proofs.lemmas.List.Sums.{sum_by-take-le}
-use Rattle.std.specs.Prelude.{slice_get, slice_index, Some}
+use Rattle.std.specs.Prelude.{Some}
 use Rattle.spf_formats.specs.Signatures.{BeginsWith, DepartsAt, AreBelow, IsFirstPast}
 use Rattle.spf_formats.specs.Huffman.{AreShort, AreCodeLengths, IsTooLongAt, IsOversubscribedAt, AreRefusedAt, space, share}
 use Rattle.spf_formats.specs.Huf1.{IsHuf1, EndsInHeader, HasBadLengths, IsNoHuf1At, lengths_of}

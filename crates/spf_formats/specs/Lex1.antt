@@ -1,5 +1,5 @@
 -- The format LEX1: a machine that reads bytes by their classes, with a mark beside each next state.
-use Rattle.std.specs.Prelude.{◌≡◌, ◌≢◌, ◌⊎◌, ℕ, ◌+◌, ◌*◌, ◌<◌, ◌≤◌, min, List, length, Some, codes, slice_get}
+use Rattle.std.specs.Prelude.{◌≡◌, ◌≢◌, ◌⊎◌, ℕ, ◌+◌, ◌*◌, ◌≤◌, min, List, length, Some, codes, slice_get}
 use Rattle.spf_formats.specs.Signatures.{BeginsWith, DepartsAt, AreBelow, IsFirstPast}
 
 abbrev pub signature : List ℕ

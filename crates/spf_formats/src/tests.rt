@@ -9,19 +9,19 @@ use std::alloc::{AllocError, Global};
 use std::test::Fail;
 
 /// The lengths of a code in which these symbols have code words.
-fn lengths_with(alloc: Global, words: &[(u8, u8)]) -> Result<Vec<u8>, AllocError> {
-    let mut lengths = vec![in alloc; 0u8; 256]?;
+fn lengths_with(words: &[(u8, u8)]) -> [u8; 256] {
+    let mut lengths = [0; 256];
     for (symbol, length) in words {
         lengths[*symbol as usize] = *length;
     }
-    Ok(lengths)
+    lengths
 }
 
 /// A HUF1 header with these lengths, and a count of 0.
 fn header_with(alloc: Global, words: &[(u8, u8)]) -> Result<Vec<u8>, AllocError> {
     let mut file = Vec::new(alloc);
     file.extend_from_slice(b"HUF1")?;
-    file.extend_from_slice(&lengths_with(alloc, words)?)?;
+    file.extend_from_slice(&lengths_with(words))?;
     file.extend_from_slice(&[0; 4])?;
     Ok(file)
 }
@@ -57,15 +57,16 @@ fn lengths_over_15_come_before_those_without_room(rt: HostRuntime) -> Result<(),
         let file = header_with(alloc, words)?;
         assert_eq!(rt; huf1_check(&file), verdict, "for {words:?}");
     }
-    let file = header_with(alloc, &[])?;
-    assert_eq!(rt; huf1_check(&file[..263]), Err(263));
+    let mut file = header_with(alloc, &[])?;
+    file.pop();
+    assert_eq!(rt; huf1_check(&file), Err(263));
     Ok(())
 }
 
 #[test]
 fn symbols_are_encoded_by_canonical_words(rt: HostRuntime) -> Result<(), Fail> {
     let alloc = rt.alloc();
-    let lengths = lengths_with(alloc, &[(65, 1), (66, 2), (67, 2)])?;
+    let lengths = lengths_with(&[(65, 1), (66, 2), (67, 2)]);
     let file = encode_huf1(alloc, &lengths, b"ABACAB")?;
     assert_eq!(rt; file.len(), 266);
     assert!(rt; file.ends_with(&[0, 0, 0, 6, 0x4d, 0x00]));
@@ -81,7 +82,7 @@ fn symbols_are_encoded_by_canonical_words(rt: HostRuntime) -> Result<(), Fail> {
         (b'G', 4),
         (b'H', 4),
     ];
-    let lengths = lengths_with(alloc, &words)?;
+    let lengths = lengths_with(&words);
     let file = encode_huf1(alloc, &lengths, b"ABCDEFGH")?;
     assert_eq!(rt; file.len(), 268);
     assert!(rt; file.ends_with(&[0b0100_1110, 0b0101_1100, 0b0111_0111, 0b1000_0000]));
@@ -93,12 +94,12 @@ fn symbols_are_encoded_by_canonical_words(rt: HostRuntime) -> Result<(), Fail> {
 #[test]
 fn lengths_are_refused_before_symbols(rt: HostRuntime) -> Result<(), Fail> {
     let alloc = rt.alloc();
-    let lengths = lengths_with(alloc, &[(65, 1), (66, 1), (67, 1)])?;
+    let lengths = lengths_with(&[(65, 1), (66, 1), (67, 1)]);
     match encode_huf1(alloc, &lengths, b"D") {
         Ok(_) => assert!(rt; false, "three words of one bit"),
         Err(error) => assert_eq!(rt; error, EncodeError::BadLengths { place: 71 }),
     }
-    let lengths = lengths_with(alloc, &[(65, 1), (66, 1)])?;
+    let lengths = lengths_with(&[(65, 1), (66, 1)]);
     match encode_huf1(alloc, &lengths, b"ABDC") {
         Ok(_) => assert!(rt; false, "a symbol without a word"),
         Err(error) => assert_eq!(rt; error, EncodeError::NoCode { at: 2 }),

@@ -1,4 +1,4 @@
-use Rattle.std.proofs.Common.{◌≡◌, ◌++◌, ◌<◌, List, ℕ, length, take, get_or, sym, ap, ◌∙◌, subst, arith, rules, ◌+◌}
+use Rattle.std.proofs.Common.{◌≡◌, ◌++◌, ◌<◌, take, get_or, sym, ap, ◌∙◌, subst, arith, ◌+◌}
 use Rattle.std.proofs.lemmas.List.{take_all}
 use Rattle.std.proofs.lemmas.Result.{IfOk-weaker}
 use Rattle.std.proofs.lemmas.List.FromFn.{get_or-map-range_with_len}

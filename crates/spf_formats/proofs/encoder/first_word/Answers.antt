@@ -1,4 +1,4 @@
-use Rattle.std.proofs.Common.{◌≡◌, suc, ◌+◌, ◌*◌, ◌^◌, ◌∙◌, ap, sym, arith}
+use Rattle.std.proofs.Common.{◌≡◌, suc, ◌+◌, ◌*◌, ◌∙◌, ap, arith}
 use Rattle.std.proofs.lemmas.Nat.{pow-add}
 use Rattle.spf_formats.specs.Huffman.{first_word}
 use Rattle.spf_formats.proofs.encoder.first_word.Goals as goal

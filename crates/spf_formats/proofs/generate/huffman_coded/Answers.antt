@@ -1,4 +1,4 @@
-use Rattle.std.proofs.Common.{◌≡◌, List, ℕ, length, sym, ap, ◌∙◌, subst, arith}
+use Rattle.std.proofs.Common.{List, ℕ, length, sym, ap, ◌∙◌, subst, arith}
 use Rattle.spf_formats.specs.Huffman.{AreCodeLengths, HaveWords}
 use Rattle.spf_formats.specs.Draws.{five_symbols, picked_bytes}
 use Rattle.spf_formats.proofs.Five.{five_are_lengths, picked_have_words}

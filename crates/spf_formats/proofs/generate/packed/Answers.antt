@@ -1,4 +1,4 @@
-use Rattle.std.proofs.Common.{◌≡◌, ◌⊎◌, inl, inr, ℕ, suc, ◌<◌, ◌++◌, List, length, arith, ap, sym, subst}
+use Rattle.std.proofs.Common.{◌≡◌, ◌⊎◌, inl, inr, ℕ, suc, ◌<◌, ◌++◌, List, length, arith, sym, subst}
 use Rattle.spf_formats.specs.Draws.{packets, packet_from}
 use Rattle.spf_formats.proofs.generate.packed.Goals as goal
 

@@ -1,4 +1,4 @@
-use Rattle.std.proofs.Common.{◌≡◌, suc, ◌+◌, ◌-◌, ◌%◌, arith, refl, ap, ◌∙◌}
+use Rattle.std.proofs.Common.{◌≡◌, suc, ◌+◌, ◌-◌, ◌%◌, arith, ap, ◌∙◌}
 use Rattle.spf_formats.proofs.Drawing.{drawn_more, state_more}
 use Rattle.spf_formats.proofs.generate.push_drawn.Goals as goal
 

@@ -1,6 +1,6 @@
-use Rattle.std.proofs.Common.{arith, ◌<◌, ◌≡◌, ◌+◌, length, take, slice_index, ◌∙◌, sym, suc}
+use Rattle.std.proofs.Common.{arith, ◌<◌, length}
 use Rattle.std.proofs.lemmas.List.Sums.{sum_by_more}
-use Rattle.spf_formats.specs.Huffman.{AreShort, share, space}
+use Rattle.spf_formats.specs.Huffman.{share}
 use Rattle.spf_formats.proofs.huf1.first_oversubscribed.Goals as goal
 
 pub returns-then-taken-gt-WHOLE : goal.returns-then-taken-gt-WHOLE

@@ -1,4 +1,4 @@
-use Rattle.std.proofs.Common.{◌≡◌, ◌*◌, ◌-◌, ◌^◌, ◌%◌, ◌++◌, ◌∷◌, [], ◌∙◌, ap, subst, sym, arith}
+use Rattle.std.proofs.Common.{◌++◌, ◌∷◌, [], ◌∙◌, ap, subst, sym, arith}
 use Rattle.spf_formats.specs.Huf1.{Holds}
 use Rattle.spf_formats.specs.Written.{written}
 use Rattle.spf_formats.proofs.BitStrings.{padded, unpadded, fits_byte, moved_whole}
