@@ -6,4 +6,7 @@ pub mod Toy
 pub mod Draws
 pub mod Written
 pub mod Refusals
+pub mod PackBits
+pub mod Decoded
+pub mod Tokens
 pub mod Laws
