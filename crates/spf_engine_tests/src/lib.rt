@@ -1,0 +1,5 @@
+//! Tests of whole runs by blocks.
+#![tactic(auto)]
+
+#[cfg(test)]
+mod tests;
