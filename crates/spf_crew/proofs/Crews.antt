@@ -1,12 +1,13 @@
 -- Lists of mates, and of hands.
-use Rattle.std.proofs.Common.{◌≡◌, ℕ, zero, suc, ◌+◌, ◌<◌, true, List, [], ◌∷◌, ◌++◌, length, length-append, get_or, remove, set, replicate, false, ◌≢◌, sym, refl, ap, ◌∙◌, subst, ⊎_elim, arith}
-use mathlib.Core.Option.{some}
+use Rattle.std.proofs.Common.{◌≡◌, ℕ, zero, suc, ◌+◌, ◌<◌, true, List, [], ◌∷◌, ◌++◌, length, length-append, length-set, get_or, remove, set, replicate, false, ◌≢◌, sym, refl, ap, ◌∙◌, subst, ⊎_elim, arith}
+use Rattle.std.specs.List.{All}
+use mathlib.Core.Option.{some, some-injective}
 use lib.ListN.{get_elem?, length-replicate}
 use Rattle.atomic_table.proofs.Lists.{at_longer, at_last, at_set}
 use Rattle.spf_pool.specs.Hands.{HandValue}
 use Rattle.spf_crew.specs.declared.view.CrewSetting.{CrewSetting}
 use Rattle.spf_crew.specs.Values.{CrewValue, PlaceValue}
-use Rattle.spf_crew.specs.Mates.{MateValue}
+use Rattle.spf_crew.specs.Mates.{MateValue, IsMateOf}
 use Rattle.spf_crew.specs.Crews.{IsNumbered, AreFirstMates, AreAllMates, HaveRead, dealt, IsDealtTo, AreDealt, IsNewMate}
 use Rattle.spf_crew.specs.declared.held.Held.TheVariants as held
 use Rattle.spf_pool.specs.Made.{new_hand, AreNewHands}
@@ -96,3 +97,21 @@ first-hand k capacity workers hands h new more at = subst (CanTakeAll k capacity
   own = (let n = new.size in omega (arith, more, n, length-replicate {A = ℕ} (length new.deques) 0));
   given = nothing-given (length new.deques) 0;
 })
+
+-- ---- all mates
+
+present : {A : Type 0} (l : List A) (i : ℕ) (d : A) → i < length l → get_elem? l i ≡ some (get_or l i d)
+present [] i d less = absurd (omega arith)
+present (x ∷ xs) zero d less = refl
+present (x ∷ xs) (suc i) d less = present xs i d (omega (arith, less))
+
+-- all mates of a crew are mates of it
+pub all-of : (c : CrewValue) (mates : List MateValue) → AreAllMates c mates → All (IsMateOf c) mates
+all-of c mates all = λ k d low. (all.each k (get_or mates k d) (present mates k d low)).of
+
+-- and so they are where one has changed
+pub still-mates : (c : CrewValue) (mates : List MateValue) (i : ℕ) (m : MateValue) → All (IsMateOf c) mates → IsMateOf c m → All (IsMateOf c) (set mates i m)
+still-mates c mates i m all one = λ k d low. ⊎_elim
+    (λ (t : (k ≡ i) × (m ≡ get_or (set mates i m) k d)). subst (IsMateOf c) t.1 one)
+    (λ (t : (k ≢ i) × (get_elem? mates k ≡ some (get_or (set mates i m) k d))). subst (IsMateOf c) (some-injective (get_or mates k d) (get_or (set mates i m) k d) (sym (present mates k d (let n = length-set mates i m in omega (arith, low, n))) ∙ t.1)) (all k d (let n = length-set mates i m in omega (arith, low, n))))
+    (at_set mates i k m (get_or (set mates i m) k d) (present (set mates i m) k d low))

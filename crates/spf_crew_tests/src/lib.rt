@@ -1,4 +1,4 @@
-//! Tests of a crew over the blocks of a program's construct, on one thread and on several.
+//! Tests of a crew over the blocks of a program's construct, on one thread.
 #![tactic(auto)]
 
 #[cfg(test)]

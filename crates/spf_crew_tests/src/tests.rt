@@ -1,4 +1,4 @@
-//! Turns of two mates on one thread, and whole runs by one, four and eight workers.
+//! Turns of two mates on one thread.
 ghost use Rattle.std.specs.Prelude.{◌≡◌, ◌<◌, ◌≤◌, ℕ, IfOk, IsTrue, MatchOption, Some, length, slice_get};
 ghost use Rattle.std.specs.List.{All};
 ghost use Rattle.spf_ast.specs.View.{program as seen_program};
@@ -19,13 +19,12 @@ use spf_ast::syntax::Program;
 use spf_cells::cells::Cells;
 use spf_chain::chain::Chain;
 use spf_chain::laws::accepted_constructs_can_run;
-use spf_chain::validated::{Guess, Settled};
+use spf_chain::validated::Guess;
 use spf_check::check::check;
 use spf_check::checked::Checked;
 use spf_crew::crew::Crew;
 use spf_crew::mate::Mate;
 use spf_crew::turn::{Turn, Why};
-use spf_drive::run_crew;
 use spf_edge::Open;
 use spf_exec::frame::Frame;
 use spf_exec::pieces::Header;
@@ -35,18 +34,13 @@ use spf_ticket::run::Job;
 use spf_ticket::ticket::Ticket;
 use spf_types::resolve;
 use std::alloc::{AllocError, Global};
-use std::sync::Wait;
 use std::test::Fail;
-use std::thread::Threads;
 
 /// Each block doubles the carried value.
 const DOUBLING: &[u8] = b"main { specfold s = 1 for k in 0..5 predict 1 << k { next s * 2; } emit s; }";
 
 /// Each block fills its span and stores one of its cells, which its carried value chooses.
 const SCATTERED: &[u8] = b"array out[6]; main { specfold s = 0 for k in 0..3 predict 1 { fill out[2*k..2*k + 2] = 0; out[2*k + (s & 1)] = 7; next s + 1; } }";
-
-/// Each of many blocks iterates, and nearly no guess is right.
-const MANY: &[u8] = b"main { specfold s = 1 for k in 0..600 predict 0 { let t = s; for i in 0..50 { t = (t * 5 + i) % 1009; } next t; } emit s & 255; }";
 
 /// The program of a text.
 fn read(alloc: Global, text: &[u8]) -> Option<Program>
@@ -194,46 +188,6 @@ fn turns_over(
     Ok(Some(answers(alloc, &crew, mates.as_mut_slice(), order)?))
 }
 
-/// What a construct came to: its result, its real values, and the memory after it.
-#[derive(Drop, PartialEq)]
-struct Came {
-    settled: Settled,
-    reals: Vec<i64>,
-    memory: Vec<i64>,
-}
-
-/// What the construct came to, run by so many workers.
-fn run_over<R: Threads + Wait + Sync>(
-    rt: &R,
-    alloc: Global,
-    checked: &Checked,
-    job: Job,
-    first: i64,
-    values: &[i64],
-    workers: u64,
-) -> Result<Option<Came>, AllocError>
-    requires program { program_of job.instance.now ≡ seen_program checked.now }
-    requires construct { slice_get (constructs_in (program_of job.instance.now).main) 0 ≡ Some (construct_seen job.construct) }
-    requires entry { length job.entry.now ≡ cell_count_of (program_of job.instance.now) (length job.instance.now.input) }
-    requires workers { (0 < workers) × (workers ≤ 64) }
-{
-    let Some((chain, cells, tickets)) = start(alloc, checked, &job, first, values)? else {
-        return Ok(None);
-    };
-    let mut memory = vec![in alloc; 0i64; job.entry.len()]?;
-    let (chain, cells) = run_crew(rt, alloc, chain, cells, tickets, workers, job, &Open)?;
-    let mut reals = Vec::new(alloc);
-    for validated in chain.history() {
-        reals.push(validated.real)?;
-    }
-    let (settled, _trace) = chain.finish(cells, memory.as_mut_slice());
-    Ok(Some(Came {
-        settled,
-        reals,
-        memory,
-    }))
-}
-
 /// What two mates answer over a program's first construct.
 fn turns(
     alloc: Global,
@@ -259,36 +213,6 @@ fn turns(
         entry: entry.as_slice(),
     };
     turns_over(alloc, &checked, job, first, values, order)
-}
-
-/// What a program's first construct came to.
-fn run<R: Threads + Wait + Sync>(
-    rt: &R,
-    alloc: Global,
-    text: &[u8],
-    first: i64,
-    values: &[i64],
-    workers: u64,
-) -> Result<Option<Came>, AllocError>
-    requires workers { (0 < workers) × (workers ≤ 64) }
-{
-    let Some(checked) = accepted(alloc, text) else {
-        return Ok(None);
-    };
-    let program = checked.program();
-    let Ok(instance) = Instance::make(alloc, program, &[]) else {
-        return Ok(None);
-    };
-    let Some(construct) = find_construct(&program.main, 0) else {
-        return Ok(None);
-    };
-    let entry = vec![in alloc; 0i64; instance.layout().cells() as usize]?;
-    let job = Job {
-        instance: &instance,
-        construct,
-        entry: entry.as_slice(),
-    };
-    run_over(rt, alloc, &checked, job, first, values, workers)
 }
 
 #[test]
@@ -322,55 +246,5 @@ fn a_mate_keeps_its_report_once_where_the_chain_was_taken(rt: HostRuntime) -> Re
         return Err(Fail::new("no turns"));
     };
     assert!(rt; answers.as_slice() == [1, 1, 1, 102, 1].as_slice());
-    Ok(())
-}
-
-#[test]
-fn workers_give_the_plain_memory(rt: HostRuntime) -> Result<(), Fail> {
-    for workers in [1u64, 2, 4, 8] {
-        let Some(came) = run(&rt, rt.alloc(), SCATTERED, 0, &[1, 1], workers)? else {
-            return Err(Fail::new("not run"));
-        };
-        assert!(rt; came.settled == Settled::Carried(3));
-        assert!(rt; came.reals.as_slice() == [0, 1, 2].as_slice());
-        assert!(rt; came.memory.as_slice() == [7, 0, 0, 7, 7, 0].as_slice());
-    }
-    Ok(())
-}
-
-/// The carried value after a block of `MANY`.
-fn after_one(value: i64) -> i64 {
-    let mut next = value;
-    for i in 0..50i64 {
-        next = next.wrapping_mul(5).wrapping_add(i) % 1009;
-    }
-    next
-}
-
-/// The values at which so many blocks of `MANY` begin, and that after the last one.
-fn values_of(alloc: Global, blocks: usize) -> Result<Vec<i64>, AllocError> {
-    let mut values = Vec::new(alloc);
-    let mut value = 1;
-    for _ in 0..blocks {
-        values.push(value)?;
-        value = after_one(value);
-    }
-    values.push(value)?;
-    Ok(values)
-}
-
-#[test]
-fn many_blocks_are_run_by_eight_workers(rt: HostRuntime) -> Result<(), Fail> {
-    let wanted = values_of(rt.alloc(), 600)?;
-    for workers in [1u64, 8] {
-        let Some(came) = run(&rt, rt.alloc(), MANY, 1, &[0; 599], workers)? else {
-            return Err(Fail::new("not run"));
-        };
-        let mut values = came.reals;
-        if let Settled::Carried(last) = came.settled {
-            values.push(last)?;
-        }
-        assert!(rt; values.as_slice() == wanted.as_slice());
-    }
     Ok(())
 }
