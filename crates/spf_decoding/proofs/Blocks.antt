@@ -77,7 +77,7 @@ outside-turn g size p c k i b x y there out =
     (place-outside g c k left b x y p (memory_at input all p) out)
     (record { carried = c; number = k; place = pos p; byte = b; out = x; turn = y; s_is = ap (λ l. at c k l (pos p) b x y) (sym (left_outside input p out)); m_is = memory })
 
-in_or_out : (p n : ℕ) → (p < n) ⊎ (n ≤ p)
+pub in_or_out : (p n : ℕ) → (p < n) ⊎ (n ≤ p)
 in_or_out p n = grind arith
 
 place-turn : (g : Environment) (size p : ℕ) (s : State) (m : List ℤ) → Runs g size → p < length g.input + size → At g size p s m → Reaches (place_form g) (At g size (suc p)) (with_slot 3 (pos p) s) m
@@ -102,12 +102,12 @@ pub record BlockAt (g : Environment) (size k : ℕ) (s : State) (m : List ℤ) :
   pub m_is : m ≡ memory_at g.input (length g.input + size) (size * k)
 
 -- the block's ends
-gives-begin : (g : Environment) (line size k : ℕ) (s : State) (m : List ℤ) → slice_index_or s.slots 1 (pos 0) ≡ pos k → size * k ≤ 4194304 → Gives g line (block_begin size) s m (pos (size * k))
+pub gives-begin : (g : Environment) (line size k : ℕ) (s : State) (m : List ℤ) → slice_index_or s.slots 1 (pos 0) ≡ pos k → size * k ≤ 4194304 → Gives g line (block_begin size) s m (pos (size * k))
 gives-begin g line size k s m e h =
     gives-binary g line Mul (number size) (Local 1) s m (pos size) (pos k) (pos (size * k)) (gives-number g line (pos size) s m) (gives-local g line 1 s m (pos k) e)
     (word-ok (size * k) (omega (arith, h)))
 
-gives-end : (g : Environment) (line size k : ℕ) (s : State) (m : List ℤ) → slice_index_or s.slots 1 (pos 0) ≡ pos k → size * k + size ≤ 4194304 → Gives g line (block_end size) s m (pos (size * k + size))
+pub gives-end : (g : Environment) (line size k : ℕ) (s : State) (m : List ℤ) → slice_index_or s.slots 1 (pos 0) ≡ pos k → size * k + size ≤ 4194304 → Gives g line (block_end size) s m (pos (size * k + size))
 gives-end g line size k s m e h =
     let sum : pos (size * k) +ℤ pos size ≡ pos (size * k + size) = omega (arith, ints) in
     gives-binary g line Add (block_begin size) (number size) s m (pos (size * k)) (pos size) (pos (size * k + size)) (gives-begin g line size k s m e (omega (arith, h))) (gives-number g line (pos size) s m)

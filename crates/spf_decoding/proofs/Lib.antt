@@ -5,3 +5,8 @@ pub mod Body
 pub mod Blocks
 pub mod Output
 pub mod Whole
+pub mod LexPlaces
+pub mod LexBody
+pub mod LexBlocks
+pub mod LexOutput
+pub mod LexWhole

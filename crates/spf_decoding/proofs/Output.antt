@@ -18,7 +18,7 @@ use Rattle.spf_decoding.proofs.Places.{left_at, times_at, times_before, written_
 use Rattle.spf_decoding.proofs.Blocks.{Runs}
 use Rattle.spf_decoding.proofs.Steps.{Gives, gives-number, gives-local, gives-len, gives-input, gives-load, with_slot, Reaches, reached, reaches-on, reaches-end, reaches-for, for-reaches, comes-only}
 
-comes-emit : (g : Environment) (line : ℕ) (e : Expression) (s : State) (m : List ℤ) (b : ℕ) → Gives g line e s m (pos b) → b < 256 → length s.output < max_output → Comes (statement_means g line (Emit e)) s m (Value tt (record s { output = s.output ++ b ∷ [] })) m
+pub comes-emit : (g : Environment) (line : ℕ) (e : Expression) (s : State) (m : List ℤ) (b : ℕ) → Gives g line e s m (pos b) → b < 256 → length s.output < max_output → Comes (statement_means g line (Emit e)) s m (Value tt (record s { output = s.output ++ b ∷ [] })) m
 comes-emit g line e s m b p small room = comes-then (emits line) p put
   where
     put : Comes (emits line (pos b)) s m (Value tt (record s { output = s.output ++ b ∷ [] })) m

@@ -31,21 +31,21 @@ use Rattle.spf_decoding.proofs.Steps.{Gives, gives-number, gives-len, gives-bina
 
 -- ---- how many blocks there are
 
-abbrev blocks_of : ℕ → ℕ → ℕ
+abbrev pub blocks_of : ℕ → ℕ → ℕ
 blocks_of n size = (n + (size - 1)) / size
 
-blocks_few : (n size : ℕ) → 1 ≤ size → n ≤ 4096 * size → blocks_of n size ≤ 4096
+pub blocks_few : (n size : ℕ) → 1 ≤ size → n ≤ 4096 * size → blocks_of n size ≤ 4096
 blocks_few n size some h = let below = div_below (n + (size - 1)) size 4097 some (omega (arith, some, h)) in omega (arith, below)
 
 -- each block begins in the file
-block_inside : (n size k : ℕ) → 1 ≤ size → k < blocks_of n size → size * k < n
+pub block_inside : (n size k : ℕ) → 1 ≤ size → k < blocks_of n size → size * k < n
 block_inside n size k some h =
     let whole = div-mul-le_self (n + (size - 1)) size in
     let part = mul-le (suc k) size (blocks_of n size) size h (let e : size ≤ size = omega arith in e) in
     omega (arith, whole, part, mul_comm (suc k) size, mul-suc size k, some)
 
 -- and the last one ends behind it
-blocks_enough : (n size : ℕ) → 1 ≤ size → n ≤ size * blocks_of n size
+pub blocks_enough : (n size : ℕ) → 1 ≤ size → n ≤ size * blocks_of n size
 blocks_enough n size some =
     let above = lt-div-mul-add {a = n + (size - 1)} {b = size} some in
     omega (arith, above, mul_comm (blocks_of n size) size, some)

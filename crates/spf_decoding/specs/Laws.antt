@@ -1,11 +1,14 @@
 -- What the decoders write.
-use Rattle.std.specs.Prelude.{◌≡◌, ℕ, ◌+◌, ◌*◌, ◌<◌, ◌≤◌, List, length, ℤ}
+use Rattle.std.specs.Prelude.{◌≡◌, ℕ, ◌+◌, ◌*◌, ◌<◌, ◌≤◌, List, ◌++◌, length, ℤ}
 use Rattle.std.specs.List.{AllByRecursion}
 use Rattle.spf_ast.specs.Program.{max_cells, outcome, Done}
 use Rattle.spf_ast.specs.Meaning.{max_blocks, max_output}
 use Rattle.spf_formats.specs.PackBits.{Unpacks}
 use Rattle.spf_programs.specs.Laws.{IsBlockSize}
 use Rattle.spf_programs.specs.PackBits.{packbits_program}
+use Rattle.spf_programs.specs.Lexer.{lexer_program}
+use Rattle.spf_formats.specs.Lex1.{IsLex1}
+use Rattle.spf_formats.specs.Tokens.{tokens}
 
 -- the program that unpacks PackBits ends with what its input stands for, where its cells, its blocks and the output are within their limits
 abbrev pub PackBitsUnpacks : Type 0
@@ -13,3 +16,11 @@ PackBitsUnpacks =
     (size : ℕ) (file output : List ℕ) → IsBlockSize size → AllByRecursion (λ b. b < 256) file
     → length file + size ≤ max_cells → length file ≤ max_blocks * size → Unpacks file output → length output ≤ max_output
     → (cells : List ℤ) × (outcome (packbits_program size) file ≡ Done cells output)
+
+-- the program that runs a machine ends with the tokens of the content behind it, where its cells and its blocks are within their limits
+abbrev pub LexerFindsTokens : Type 0
+LexerFindsTokens =
+    (size states classes : ℕ) (machine content : List ℕ) → IsBlockSize size → IsLex1 machine states classes
+    → AllByRecursion (λ b. b < 256) machine → AllByRecursion (λ b. b < 256) content
+    → (length machine + length content) + size ≤ max_cells → length content ≤ max_blocks * size
+    → (cells : List ℤ) × (outcome (lexer_program size states classes) (machine ++ content) ≡ Done cells (tokens machine content))

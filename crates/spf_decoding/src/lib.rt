@@ -1,9 +1,14 @@
 //! What the decoders write: the plain meaning of the built programs, tied to their formats.
 #![tactic(auto)]
 
-ghost use Rattle.spf_decoding.specs.Laws.{PackBitsUnpacks};
+ghost use Rattle.spf_decoding.specs.Laws.{PackBitsUnpacks, LexerFindsTokens};
 
 /// For each block size, the program that unpacks PackBits ends with what its input stands for.
 pub fn packbits_unpacks()
     ensures { PackBitsUnpacks }
+{}
+
+/// For each block size, the program that runs LEX1 machines ends with the tokens that its machine finds.
+pub fn lexer_finds_tokens()
+    ensures { LexerFindsTokens }
 {}

@@ -3,4 +3,6 @@ pub mod Drawing
 pub mod Encoding
 pub mod Five
 pub mod Packets
+pub mod PrefixFree
+pub mod RoundTrip
 pub mod Verdicts

@@ -1,6 +1,8 @@
 -- Laws on formats.
-use Rattle.std.specs.Prelude.{◌≡◌, ℕ, List}
-use Rattle.spf_formats.specs.Huf1.{IsHuf1, IsNoHuf1At}
+use Rattle.std.specs.Prelude.{◌≡◌, ℕ, ◌<◌, ◌^◌, Bool, List, ◌++◌, length, slice_index}
+use Rattle.spf_formats.specs.Huffman.{AreCodeLengths, code_word}
+use Rattle.spf_formats.specs.Huf1.{IsHuf1, IsNoHuf1At, Encodes}
+use Rattle.spf_formats.specs.Decoded.{IsDecoded, IsShort}
 use Rattle.spf_formats.specs.Lex1.{IsLex1, IsNoLex1At}
 use Rattle.spf_formats.specs.PackBits.{Packet, IsCut, Unpacks}
 
@@ -20,3 +22,15 @@ pub record PackBitsIsCutOnce : Type 0 where
   pub some : (file : List ℕ) → (packets : List Packet) × (rest : List ℕ) × IsCut file packets rest
   pub one : (file : List ℕ) (packets others : List Packet) (rest other : List ℕ) → IsCut file packets rest → IsCut file others other → (packets ≡ others) × (rest ≡ other)
   pub output : (file output other : List ℕ) → Unpacks file output → Unpacks file other → output ≡ other
+
+-- no code word begins another: bits that begin with the code words of two symbols have one symbol there
+abbrev pub CodeWordsArePrefixFree : Type 0
+CodeWordsArePrefixFree =
+    (lengths : List ℕ) (symbol other : ℕ) (rest more : List Bool) → AreCodeLengths lengths → 0 < slice_index lengths symbol → 0 < slice_index lengths other
+    → code_word lengths symbol ++ rest ≡ code_word lengths other ++ more → symbol ≡ other
+
+-- what is decoded of a file that encodes symbols are these symbols, all of them
+abbrev pub EncodedFilesDecode : Type 0
+EncodedFilesDecode =
+    (lengths symbols file output : List ℕ) → length lengths ≡ 256 → length symbols < 2 ^ 32 → Encodes lengths symbols file → IsDecoded file output
+    → (output ≡ symbols) × (IsShort file output → ⊥)

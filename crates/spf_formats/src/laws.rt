@@ -1,5 +1,5 @@
 // Laws about formats. Each is the contract of a function that does nothing.
-ghost use Rattle.spf_formats.specs.Laws.{Huf1HasOneVerdict, Lex1HasOneVerdict, PackBitsIsCutOnce};
+ghost use Rattle.spf_formats.specs.Laws.{Huf1HasOneVerdict, Lex1HasOneVerdict, PackBitsIsCutOnce, CodeWordsArePrefixFree, EncodedFilesDecode};
 
 /// A file is HUF1, or it is refused at one place, and not both; and likewise LEX1, with one count of states and one of classes.
 pub fn files_have_one_verdict()
@@ -10,4 +10,10 @@ pub fn files_have_one_verdict()
 /// Each file is packets of PackBits and a rest that is cut off, in exactly one way.
 pub fn packbits_files_are_cut_once()
     ensures { PackBitsIsCutOnce }
+{}
+
+/// The code words of a code are prefix free, so what is decoded of an encoded file are the symbols that were encoded.
+pub fn encoded_files_decode_to_their_symbols()
+    ensures prefix_free { CodeWordsArePrefixFree }
+    ensures decode { EncodedFilesDecode }
 {}
