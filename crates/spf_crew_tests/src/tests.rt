@@ -37,10 +37,12 @@ use std::alloc::{AllocError, Global};
 use std::test::Fail;
 
 /// Each block doubles the carried value.
-const DOUBLING: &[u8] = b"main { specfold s = 1 for k in 0..5 predict 1 << k { next s * 2; } emit s; }";
+const DOUBLING: &[u8] =
+    b"main { specfold s = 1 for k in 0..5 predict 1 << k { next s * 2; } emit s; }";
 
 /// Each block fills its span and stores one of its cells, which its carried value chooses.
-const SCATTERED: &[u8] = b"array out[6]; main { specfold s = 0 for k in 0..3 predict 1 { fill out[2*k..2*k + 2] = 0; out[2*k + (s & 1)] = 7; next s + 1; } }";
+const SCATTERED: &[u8] =
+    b"array out[6]; main { specfold s = 0 for k in 0..3 predict 1 { fill out[2*k..2*k + 2] = 0; out[2*k + (s & 1)] = 7; next s + 1; } }";
 
 /// The program of a text.
 fn read(alloc: Global, text: &[u8]) -> Option<Program>
@@ -227,15 +229,11 @@ fn one_mate_does_all_where_the_guesses_are_right(rt: HostRuntime) -> Result<(), 
 
 #[test]
 fn one_mate_runs_each_block_again_where_its_guess_is_wrong(rt: HostRuntime) -> Result<(), Fail> {
-    let order = [
-        0, 0, 0, 0, 0, 0, 0, 0, 0, 0, 0, 0, 0, 0, 0, 0, 0, 0, 0, 1,
-    ];
+    let order = [0, 0, 0, 0, 0, 0, 0, 0, 0, 0, 0, 0, 0, 0, 0, 0, 0, 0, 0, 1];
     let Some(answers) = turns(rt.alloc(), DOUBLING, 1, &[1, 2, 3, 4], &order)? else {
         return Err(Fail::new("no turns"));
     };
-    let wanted = [
-        1, 1, 1, 1, 1, 1, 1, 1, 1, 1, 1, 1, 1, 1, 1, 1, 1, 1, 4, 4,
-    ];
+    let wanted = [1, 1, 1, 1, 1, 1, 1, 1, 1, 1, 1, 1, 1, 1, 1, 1, 1, 1, 4, 4];
     assert!(rt; answers.as_slice() == wanted.as_slice());
     Ok(())
 }

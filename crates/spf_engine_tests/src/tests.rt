@@ -22,22 +22,28 @@ use std::test::Fail;
 const DOUBLING: &[u8] = b"main { specfold s = 1 for k in 0..5 predict k { next s * 2; } emit s; }";
 
 /// The same; each guess is right.
-const GUESSED: &[u8] = b"main { specfold s = 1 for k in 0..5 predict 1 << k { next s * 2; } emit s; }";
+const GUESSED: &[u8] =
+    b"main { specfold s = 1 for k in 0..5 predict 1 << k { next s * 2; } emit s; }";
 
 /// Each block fills its span and stores one of its cells, which its carried value chooses. Block 2 begins at a wrong guess.
-const SCATTERED: &[u8] = b"array out[6]; main { specfold s = 0 for k in 0..3 predict 1 { fill out[2*k..2*k + 2] = 0; out[2*k + (s & 1)] = 7; next s + 1; } for i in 0..6 { emit out[i]; } }";
+const SCATTERED: &[u8] =
+    b"array out[6]; main { specfold s = 0 for k in 0..3 predict 1 { fill out[2*k..2*k + 2] = 0; out[2*k + (s & 1)] = 7; next s + 1; } for i in 0..6 { emit out[i]; } }";
 
 /// The consumer begins at a wrong guess.
-const PAIR: &[u8] = b"array out[2]; main { spec x = { give 3; } predict 4 { out[0] = x; out[1] = x * x; } emit out[1]; }";
+const PAIR: &[u8] =
+    b"array out[2]; main { spec x = { give 3; } predict 4 { out[0] = x; out[1] = x * x; } emit out[1]; }";
 
 /// The first block traps.
-const TRAPS: &[u8] = b"array out[1]; main { specfold s = 0 for k in -1..1 predict 0 { out[k] = 1; next 0; } }";
+const TRAPS: &[u8] =
+    b"array out[1]; main { specfold s = 0 for k in -1..1 predict 0 { out[k] = 1; next 0; } }";
 
 /// Two folds whose guesses are those of host 0.
-const HOSTED: &[u8] = b"main { specfold s = 7 for k in 0..3 predict host 0 { next s; } specfold t = 7 for k in 0..3 predict host 0 { next t; } emit s; emit t; }";
+const HOSTED: &[u8] =
+    b"main { specfold s = 7 for k in 0..3 predict host 0 { next s; } specfold t = 7 for k in 0..3 predict host 0 { next t; } emit s; emit t; }";
 
 /// Arrays with one cell too many.
-const WIDE: &[u8] = b"array a[4194305]; main { specfold s = 7 for k in 0..3 predict host 0 { next s; } }";
+const WIDE: &[u8] =
+    b"array a[4194305]; main { specfold s = 7 for k in 0..3 predict host 0 { next s; } }";
 
 /// Counts first attempts and second attempts.
 #[derive(Drop)]
@@ -49,7 +55,11 @@ struct Attempts {
 impl Gate for Attempts {
     fn at(&self, _block: u64, attempt: u64, place: Place) {
         if place == Place::Begin {
-            let counter = if attempt == 1 { &self.first } else { &self.second };
+            let counter = if attempt == 1 {
+                &self.first
+            } else {
+                &self.second
+            };
             let _before = counter.fetch_add(1, Ordering::SeqCst);
         }
     }
