@@ -1,7 +1,7 @@
 #!/usr/bin/env python3
 """Makes each allocation of some runs fail in turn, and looks at what the program then answers.
 
-With any one allocation failing, the status must be 8, and what was put on each of the two streams must be a front of what is put there
+With any one allocation failing, the status must be 8, and what was put on each of the two streams must be a prefix of what is put there
 when none fails; or the whole answer must be given, where the program could do without. Needs a C compiler, `cc`, and the built program; the
 first word may name it in the place of crates/spf/out/spf. Prints, for each run, how many allocations it makes and how many it could do
 without, and ends with status 1 where an answer is another one.
@@ -14,11 +14,12 @@ import tempfile
 
 HERE = os.path.dirname(os.path.abspath(__file__))
 SPF = sys.argv[1] if len(sys.argv) > 1 else os.path.join(HERE, "..", "crates", "spf", "out", "spf")
-WANT_OF_MEMORY = 8
+OUT_OF_MEMORY = 8
 
 DOUBLING = "main { specfold s = 1 for k in 0..5 predict k { next s * 2; } emit s; }"
 DIVIDING = "main {\n  emit 65;\n  specfold s = 0 for k in 0..5 predict 0 {\n    next 10 / (3 - k); } }"
 COUNTING = "main { let n = 0; specfold s = 0 for k in 0..2 predict 0 { n = n + 1; next s; } emit n; }"
+HOSTED = "main { specfold s = 7 for k in 0..3 predict host 0 { next s; } specfold t = 7 for k in 0..3 predict host 0 { next t; } emit s; emit t; }"
 FILLING = """array out[6];
 main {
   specfold s = 0 for k in 0..3 predict 1 {
@@ -44,6 +45,8 @@ RUNS = [
     ("a fold that counts", COUNTING, ["run"], ["INPUT", "--stats", "--plain"]),
     ("calls and a pair", CALLING, ["run"], ["INPUT", "--cells", "--plain"]),
     ("a run by blocks", DOUBLING, ["run"], ["INPUT", "--stats"]),
+    ("blocks that write an array", FILLING, ["run"], ["INPUT", "--stats", "--cells"]),
+    ("blocks that a host guesses", HOSTED, ["--host", "table", "run"], ["INPUT", "--stats"]),
     ("a check that accepts", FILLING, ["check"], []),
     ("a check that refuses", COUNTING, ["check"], []),
     ("an explanation", FILLING, ["explain"], []),
@@ -75,7 +78,7 @@ def fail_each(words, library):
             if not came:
                 return failing - 1, spare, wrong
             spare += 1
-        elif not came or status != WANT_OF_MEMORY or not whole[1].startswith(output) or not whole[2].startswith(messages):
+        elif not came or status != OUT_OF_MEMORY or not whole[1].startswith(output) or not whole[2].startswith(messages):
             wrong.append(failing)
             if not came:
                 return failing - 1, spare, wrong
