@@ -4,8 +4,9 @@ use Rattle.spf_edge.specs.Faults.{Rose}
 use Rattle.spf_ast.specs.View.{program}
 use Rattle.spf_cli.specs.Answering.{seen_answer}
 use Rattle.spf_cli.specs.Answer.{accepted}
-use Rattle.spf_cli.specs.Command.{Check}
-use Rattle.spf_cli.specs.Whole.{Is, IsFaultOf, IsOnly, Read, CheckedBy}
+use Rattle.spf_words.specs.Command.{Check}
+use Rattle.spf_words.specs.Only.{IsOnly}
+use Rattle.spf_cli.specs.Whole.{Is, IsFaultOf, Read, CheckedBy}
 use Rattle.spf_cli.proofs.Steps.{read_left, rule_left, checked_accepted, with_text, read_says, at_same, only_this}
 use Rattle.spf_cli.proofs.answer.check_file.Goals as goal
 

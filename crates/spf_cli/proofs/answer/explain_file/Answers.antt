@@ -5,7 +5,7 @@ use Rattle.spf_ast.specs.View.{program}
 use Rattle.spf_cli.specs.declared.status.Status.TheVariants.{Done}
 use Rattle.spf_cli.specs.Answering.{seen_answer}
 use Rattle.spf_cli.specs.Answer.{explained}
-use Rattle.spf_cli.specs.Command.{Explain}
+use Rattle.spf_words.specs.Command.{Explain}
 use Rattle.spf_cli.specs.Whole.{IsFaultOf, Read, Explained}
 use Rattle.spf_cli.proofs.Steps.{read_left, with_text, read_says, explained_so}
 use Rattle.spf_cli.proofs.answer.explain_file.Goals as goal

@@ -5,8 +5,9 @@ use Rattle.spf_ast.specs.View.{program}
 use Rattle.spf_cli.specs.declared.status.Status.TheVariants.{Done}
 use Rattle.spf_cli.specs.Answering.{seen_answer}
 use Rattle.spf_cli.specs.Answer.{printed}
-use Rattle.spf_cli.specs.Command.{Print}
-use Rattle.spf_cli.specs.Whole.{IsFaultOf, IsOnly, Read}
+use Rattle.spf_words.specs.Command.{Print}
+use Rattle.spf_words.specs.Only.{IsOnly}
+use Rattle.spf_cli.specs.Whole.{IsFaultOf, Read}
 use Rattle.spf_cli.proofs.Steps.{read_left, with_text, read_says, at_same, only_this}
 use Rattle.spf_cli.proofs.answer.print_file.Goals as goal
 

@@ -2,8 +2,9 @@ use Rattle.std.proofs.Common.{rules, ◌≡◌, subst, map}
 use Rattle.std.proofs.lemmas.Result.{err_from_is_err_and}
 use Rattle.spf_ast.specs.View.{program}
 use Rattle.spf_edge.specs.Faults.{Rose}
-use Rattle.spf_cli.specs.Asked.{seen_options}
-use Rattle.spf_cli.specs.Whole.{handed, IsOnly, Runs, RunsOn, IsInputFault}
+use Rattle.spf_words.specs.Asked.{seen_options}
+use Rattle.spf_words.specs.Only.{IsOnly}
+use Rattle.spf_cli.specs.Whole.{handed, Runs, RunsOn, IsInputFault}
 use Rattle.spf_cli.specs.Answering.{AnswersWith, IsWholeUnless, IsCaused}
 use Rattle.spf_cli.proofs.Steps.{on_whole, on_input_left, answers_with, run_cause, fetch_cause}
 use Rattle.spf_cli.proofs.answer.run_by_blocks_on.Goals as goal

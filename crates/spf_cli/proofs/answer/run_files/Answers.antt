@@ -2,8 +2,8 @@ use Rattle.std.proofs.Common.{rules, ◌≡◌, inl, inr}
 use Rattle.std.proofs.lemmas.Result.{err_from_is_err_and}
 use Rattle.spf_ast.specs.View.{program}
 use Rattle.spf_edge.specs.Faults.{Rose}
-use Rattle.spf_cli.specs.Command.{Run}
-use Rattle.spf_cli.specs.Asked.{seen_options}
+use Rattle.spf_words.specs.Command.{Run}
+use Rattle.spf_words.specs.Asked.{seen_options}
 use Rattle.spf_cli.specs.Whole.{IsFaultOf}
 use Rattle.spf_cli.proofs.Steps.{read_left, behind_text, run_passed, run_refused, rose_since}
 use Rattle.spf_cli.proofs.answer.run_files.Goals as goal
