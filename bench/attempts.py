@@ -15,7 +15,7 @@ import tempfile
 HERE = os.path.dirname(os.path.abspath(__file__))
 TOP = os.path.dirname(HERE)
 ITERATIONS = {"polls": 20000000, "loads": 20000000, "stores": 20000000, "sums": 20000000, "mixed": 10000000}
-NEEDED = "spf_ast spf_text spf_grammar spf_parse spf_size spf_types spf_region spf_layout spf_exec spf_effects spf_rollback spf_check spf_laws spf_edge spf_entry spf_ticket spf_chain spf_construct"
+NEEDED = "spf_ast spf_text spf_grammar spf_parse spf_size spf_types spf_region spf_layout spf_exec spf_effects spf_rollback spf_check spf_laws spf_cells spf_edge spf_entry spf_ticket spf_chain spf_guess spf_predictors spf_construct spf_engine"
 
 
 def lay_out(folder):
@@ -23,7 +23,7 @@ def lay_out(folder):
     with open(os.path.join(TOP, "crates.txt")) as lines:
         rows = [line for line in lines if line[0] != "#" and "_tests" not in line.split(":")[0]]
     names = [row.split(":")[0].split(" ")[0] for row in rows]
-    last = names.index("spf_construct")
+    last = names.index("spf_engine")
     with open(os.path.join(folder, "crates.txt"), "w") as out:
         out.writelines(rows[: last + 1] + [f"attempts_bench: {NEEDED}\n"])
     shutil.copy(os.path.join(TOP, "HANDLES"), folder)

@@ -1,17 +1,17 @@
 -- Lists of mates, and of hands.
-use Rattle.std.proofs.Common.{◌≡◌, ◌⊎◌, ℕ, zero, suc, ◌+◌, ◌<◌, ◌≤◌, Bool, true, List, [], ◌∷◌, ◌++◌, length, length-append, get_or, remove, set, replicate, false, ◌≢◌, sym, refl, ap, ◌∙◌, subst, ⊎_elim, arith}
-use mathlib.Core.Option.{some, some-injective}
+use Rattle.std.proofs.Common.{◌≡◌, ℕ, zero, suc, ◌+◌, ◌<◌, true, List, [], ◌∷◌, ◌++◌, length, length-append, get_or, remove, set, replicate, false, ◌≢◌, sym, refl, ap, ◌∙◌, subst, ⊎_elim, arith}
+use mathlib.Core.Option.{some}
 use lib.ListN.{get_elem?, length-replicate}
 use Rattle.atomic_table.proofs.Lists.{at_longer, at_last, at_set}
 use Rattle.spf_pool.specs.Hands.{HandValue}
 use Rattle.spf_crew.specs.declared.view.CrewSetting.{CrewSetting}
-use Rattle.spf_crew.specs.Values.{CrewValue, PlaceValue, IsPlaceOf}
-use Rattle.spf_crew.specs.Mates.{MateValue, IsMateOf}
+use Rattle.spf_crew.specs.Values.{CrewValue, PlaceValue}
+use Rattle.spf_crew.specs.Mates.{MateValue}
 use Rattle.spf_crew.specs.Crews.{IsNumbered, AreFirstMates, AreAllMates, HaveRead, dealt, IsDealtTo, AreDealt, IsNewMate}
 use Rattle.spf_crew.specs.declared.held.Held.TheVariants as held
 use Rattle.spf_pool.specs.Made.{new_hand, AreNewHands}
 use Rattle.atomic_table.specs.Seated.{TableId}
-use Rattle.spf_crew.proofs.Steps.{snoc_at, below}
+use Rattle.spf_crew.proofs.Steps.{snoc_at}
 
 pub behead : {A : Type 0} (l : List A) (i : ℕ) → get_elem? (remove l 0) i ≡ get_elem? l (suc i)
 behead [] zero = refl
@@ -63,7 +63,7 @@ new-mate k tickets m p h is seen read d = subst (IsNewMate tickets) (sym is) (re
 
 -- ---- new hands
 
-nothing-given : (n i : ℕ) → get_or (replicate n 0) i 0 ≡ 0
+nothing-given : (n i : ℕ) → ◌≡◌ {A = ℕ} (get_or (replicate n 0) i 0) 0
 nothing-given zero i = refl
 nothing-given (suc n) zero = refl
 nothing-given (suc n) (suc i) = nothing-given n i
@@ -74,13 +74,13 @@ new-dealt k capacity deques own h is = subst (IsDealtTo k 0) (sym is) (record { 
 -- the first hand has all tickets, and the others have none
 pub all-dealt : (k : CrewSetting) (capacity workers tickets : ℕ) (hands : List (HandValue CrewSetting)) (first : HandValue CrewSetting) → AreNewHands k capacity workers hands → IsDealtTo k tickets first → AreDealt k tickets 0 (set hands 0 first)
 all-dealt k capacity workers tickets hands first new deal = λ i h at. ⊎_elim
-    (λ (t : (i ≡ 0) × (first ≡ h)). subst (λ (y : ℕ × HandValue CrewSetting). IsDealtTo k (dealt tickets y.0) y.1) (λ j. (sym t.0 j, t.1 j)) deal)
+    (λ (t : (i ≡ 0) × (first ≡ h)). subst (λ (y : ℕ × HandValue CrewSetting). IsDealtTo k (dealt tickets (0 + y.0)) y.1) (λ j. (sym t.0 j, t.1 j)) deal)
     (λ (t : (i ≢ 0) × (get_elem? hands i ≡ some h)). other i h t.0 (new-dealt k capacity new.deques i h (new.each i h t.1)))
     (at_set hands 0 i first h at)
   where
     other : (i : ℕ) (h : HandValue CrewSetting) → i ≢ 0 → IsDealtTo k 0 h → IsDealtTo k (dealt tickets (0 + i)) h
     other zero h ne d = absurd (ne refl)
-    other (suc i) h ne d = d
+    other (suc i) h ne d = let e : suc i ≡ 0 + suc i = omega arith in subst (λ n. IsDealtTo k (dealt tickets n) h) e d
 
 -- what may be asked of the first of new hands
 pub record CanTakeAll (k : CrewSetting) (capacity : ℕ) (h : HandValue CrewSetting) : Type 0 where
@@ -90,9 +90,9 @@ pub record CanTakeAll (k : CrewSetting) (capacity : ℕ) (h : HandValue CrewSett
   pub given : get_or h.given h.own 0 ≡ 0
 
 pub first-hand : (k : CrewSetting) (capacity workers : ℕ) (hands : List (HandValue CrewSetting)) (h : HandValue CrewSetting) → AreNewHands k capacity workers hands → 0 < workers → get_elem? hands 0 ≡ some h → CanTakeAll k capacity h
-first-hand k capacity workers hands h new some at = subst (CanTakeAll k capacity) (sym (new.each 0 h at)) (record {
+first-hand k capacity workers hands h new more at = subst (CanTakeAll k capacity) (sym (new.each 0 h at)) (record {
   key = refl;
   capacity_is = refl;
-  own = (let n = new.size in omega (arith, some, n, length-replicate (length new.deques) 0));
+  own = (let n = new.size in omega (arith, more, n, length-replicate {A = ℕ} (length new.deques) 0));
   given = nothing-given (length new.deques) 0;
 })

@@ -1,11 +1,11 @@
 -- The truth value says whether the chain has ended.
-use Rattle.std.proofs.Common.{◌≡◌, ◌⊎◌, ℕ, zero, suc, Bool, true, false, ◌&&◌, ◌||◌, ◌==◌, List, [], ◌∷◌, refl, sym, ap, ◌∙◌, inl, inr, Option, Some, None, slice_get}
+use Rattle.std.proofs.Common.{◌≡◌, ◌⊎◌, ℕ, zero, suc, Bool, true, false, ◌&&◌, ◌||◌, ◌==◌, List, [], ◌∷◌, refl, ap, inl, inr, Option, Some, None, slice_get}
 use Rattle.std.proofs.lemmas.Bool.Decides.{Decides-eqb}
 use Rattle.spf_ast.specs.declared.outcome.Trap.{Trap}
 use Rattle.spf_ticket.specs.declared.ticket.Report.{Report}
 use Rattle.spf_chain.specs.declared.validated.Settled.{Settled}
 use Rattle.spf_chain.specs.declared.validated.Settled.TheVariants.{Carried, Trapped}
-use Rattle.spf_chain.specs.Chains.{ChainValue, next_block, HasEnded, HasTrapped}
+use Rattle.spf_chain.specs.Chains.{ChainValue, next_block, HasEnded}
 use Rattle.spf_crew.specs.Endings.{all_home, is_trapped, has_ended}
 
 both-true : (a b : Bool) → (a && b) ≡ true → (a ≡ true) × (b ≡ true)

@@ -1,16 +1,19 @@
 -- What a filed report makes of a chain of a crew.
-use Rattle.std.proofs.Common.{◌≡◌, ℕ, ◌+◌, ◌<◌, Bool, true, false, refl, sym, ap, ◌∙◌, subst, arith, min, ◌-◌, ◌^◌}
+use Rattle.std.proofs.Common.{◌≡◌, ◌⊎◌, ℕ, ◌+◌, ◌<◌, Bool, true, false, if◌then◌else◌, refl, sym, ap, ◌∙◌, subst, inl, inr, arith}
 use Rattle.spf_edge.specs.Faults.{one_more}
 use Rattle.spf_ticket.specs.declared.ticket.Report.{Report}
 use Rattle.spf_chain.specs.declared.chain.Filed.{Filed}
 use Rattle.spf_chain.specs.declared.chain.Filed.TheVariants.{Rerun, Waiting, Ended}
-use Rattle.spf_chain.specs.Chains.{ChainValue, cells_of, HasEnded, IsFiled, IsAnswer, IsSameChain, IsOut, Raises, Validates}
+use Rattle.spf_chain.specs.Chains.{ChainValue, cells_of, HasEnded, IsFiled, IsAnswer, IsSameChain, IsOut, Raises}
 use Rattle.spf_entry.specs.Sites.{entry_at, guess_at}
-use Rattle.spf_ticket.specs.Tickets.{IsFresh}
+use Rattle.spf_cells.specs.Values.{CellsValue}
+use Rattle.spf_ticket.specs.declared.ticket.Ticket.{Ticket}
+use Rattle.spf_ticket.specs.Tickets.{IsFresh, IsLawfulReport}
 use Rattle.spf_crew.specs.declared.view.CrewSetting.{CrewSetting}
 use Rattle.spf_crew.specs.Rule.{IsChainOf}
 use Rattle.spf_crew.specs.Endings.{has_ended}
-use Rattle.spf_crew.specs.Filing.{RerunsFresh, IsFiledAt}
+use Rattle.spf_crew.specs.Tickets.{IsLawfulOf}
+use Rattle.spf_crew.specs.Filing.{RerunsFresh, IsFiledAt, read_after}
 use Rattle.spf_crew.proofs.Endings.{ended-of, ended-is}
 
 pub still-of : (k : CrewSetting) (before after : ChainValue) → IsChainOf k before → IsSameChain before after → IsChainOf k after
@@ -60,3 +63,34 @@ filed-ended before after r answer is f = ended-is after (answered-ended f.raised
 -- no report is filed with a chain that has ended
 pub not-ended : (before : ChainValue) (block : ℕ) → IsOut before block → has_ended before ≡ true → ⊥
 not-ended before block out ended = (ended-of before ended).home block out
+
+-- a report of this crew may be filed with a chain of it
+pub lawful-on : (k crew : CrewSetting) (c : ChainValue) (cells : CellsValue) (r : Report) → k ≡ crew → IsChainOf crew c → cells ≡ crew.cells → IsLawfulOf k r → IsLawfulReport (entry_at c.site) (guess_at c.site) cells r
+lawful-on k crew c cells r same of own l =
+    subst (λ x. IsLawfulReport (entry_at c.site) (guess_at c.site) x r) (sym own)
+    (subst (λ s. IsLawfulReport (entry_at s) (guess_at s) crew.cells r) (sym of.site) (subst (λ x. IsLawfulOf x r) same l))
+
+-- the end is announced where it was before, or where it has come
+announced-by : (b e : Bool) → (if b then true else e) ≡ true → (b ≡ true) ⊎ (e ≡ true)
+announced-by true e h = inl refl
+announced-by false e h = inr h
+
+pub announced-ended : (before after : ChainValue) (r : Report) (answer : Filed) (b said : Bool) → said ≡ (if b then true else has_ended before) → (b ≡ true → answer ≡ Ended) → IsOut before r.ticket.block → IsFiled before r answer after → said ≡ true → has_ended after ≡ true
+announced-ended before after r answer b said is ended out f now = elim (announced-by b (has_ended before) (sym is ∙ now)) [
+  | inl here ↦ filed-ended before after r answer (ended here) f
+  | inr was ↦ absurd (not-ended before r.ticket.block out was)
+]
+
+pub read-is : (b read : Bool) (answer : Filed) → (b ≡ true → answer ≡ Ended) → (answer ≡ Ended → b ≡ true) → (if b then true else read) ≡ read_after answer read
+read-is true read (Rerun t) h g = absurd (rerun-not t (h refl))
+  where
+    rerun-not : (t : Ticket) → Rerun t ≡ Ended → ⊥
+    rerun-not t e = cc
+read-is true read (Waiting block) h g = absurd (waiting-not block (h refl))
+  where
+    waiting-not : (block : ℕ) → Waiting block ≡ Ended → ⊥
+    waiting-not block e = cc
+read-is true read Ended h g = refl
+read-is false read (Rerun t) h g = refl
+read-is false read (Waiting block) h g = refl
+read-is false read Ended h g = absurd (let e = g refl in cc)

@@ -2,3 +2,4 @@ pub mod Endings
 pub mod Steps
 pub mod Crews
 pub mod Filed
+pub mod Turns

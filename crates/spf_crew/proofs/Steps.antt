@@ -1,20 +1,20 @@
 -- Each step of a mate keeps the rule of the table.
-use Rattle.std.proofs.Common.{◌≡◌, ◌≢◌, ◌⊎◌, ℕ, zero, suc, ◌+◌, ◌*◌, ◌<◌, ◌≤◌, ◌==◌, eqb, eqb-true, eq-eqb, ne_eqb, cond, Bool, true, false, true≢false, List, [], ◌∷◌, ◌++◌, length, get_or, set, sym, refl, ap, ◌∙◌, subst, ⊎_elim, inl, inr, arith, length-set, get_or-set_same, get_or-set_other, Option, Some, None}
+use Rattle.std.proofs.Common.{◌≡◌, ◌≢◌, ◌⊎◌, ℕ, zero, suc, ◌+◌, ◌*◌, ◌<◌, ◌≤◌, ◌==◌, eqb-true, eq-eqb, ne_eqb, cond, Bool, true, false, true≢false, List, [], ◌∷◌, ◌++◌, length, get_or, set, sym, refl, ap, ◌∙◌, subst, ⊎_elim, inl, inr, arith, length-set, get_or-set_same, get_or-set_other, Option, Some}
 use Rattle.std.proofs.lemmas.List.{set-get_or}
 use Rattle.std.proofs.lemmas.Option.{same_Some}
 use mathlib.Core.Option.{some, none, some-injective, some-ne-none}
 use mathlib.Core.Option as maybe
 use mathlib.Core.Logic.{dite}
-use native.Mathlib.Decide.{ℕ_discrete, dec_le}
+use native.Mathlib.Decide.{dec_le}
 use lib.ListN.{get_elem?}
 use prog.Atomic.{either}
-use Rattle.atomic_table.specs.Table.{State, Me, step, Act, keeps, takes, gives, stepped, Allows, Splits, Joins, Valid, carried_after, homes_after, opening, Final, Seen}
+use Rattle.atomic_table.specs.Table.{State, step, Act, keeps, takes, gives, stepped, Allows, Splits, Joins, Valid, carried_after, opening, Final, Seen}
 use Rattle.atomic_table.proofs.Lists.{at_set, exchanged, set_here, set_else, at_longer}
 use Rattle.spf_chain.specs.Chains.{ChainValue}
 use Rattle.spf_crew.specs.Endings.{has_ended}
 use Rattle.spf_crew.specs.declared.view.CrewSetting.{CrewSetting}
 use Rattle.spf_crew.specs.declared.view.CrewView.{CrewView}
-use Rattle.spf_crew.specs.Rule.{resting, holding, first, IsChainOf, IsAtHome, IsHolder, Knows, IsCrewTable, IsTake, IsLook, IsAnnounce, IsGive, IsRead, after_enlisting, enlisted, after_dismissing, spent_view}
+use Rattle.spf_crew.specs.Rule.{resting, holding, first, IsChainOf, IsAtHome, IsHolder, Knows, IsCrewTable, IsTake, IsLook, IsAnnounce, IsGive, IsRead, spent_view}
 
 abbrev St : Type 0
 St = State (Option ChainValue) CrewView
@@ -133,31 +133,31 @@ takes_chain k id a b half seen rd number small s r deep at low =
     let F : ℕ → Type 0 = λ x. (w : CrewView) × (a' : Act (Option ChainValue)) × Valid s.homes [] a' × IsCrewTable k (stepped s 0 x id [] w a') × IsTake (step 1 0 (2 * half) (2 * half + 1) none) (resting k a b seen rd, []) n (w, carried_after [] a') in
     exchanged n (2 * half) (2 * half + 1) F
     (λ e. let h = r.home half e in
-        let c : ChainValue = h.0 in
-        let new : CrewView = holding k a b (2 * half + 1) (has_ended c) rd in
-        let words' : List ℕ = set s.words 0 (2 * half + 1) in
-        let there : get_or words' 0 0 ≡ 2 * half + 1 = get_or-set_same s.words 0 (2 * half + 1) 0 (omega arith) in
-        let ending : get_or words' 1 0 ≡ get_or s.words 1 0 = get_or-set_other s.words 0 1 (2 * half + 1) 0 (λ q. omega arith) in
-        let room : id < length s.views = below s.views id (resting k a b seen rd) at in
-        let flag = r.flag in (
-          new,
-          takes 0 (Some c),
-          ap (λ (l : List (maybe.Option (Option ChainValue))). get_elem? l 0) h.1,
-          seat_step k s r id new words' (set s.homes 0 none) id (length-set s.words 0 (2 * half + 1) ∙ r.wide) (omega arith) (omega arith)
-              (λ other is. absurd (omega arith))
-              (λ other is. (ap (λ (l : List (maybe.Option (Option ChainValue))). set l 0 none) h.1, (new, set_here s.views id new room, record { number = number; holds = refl; announced = λ one. h.2.ended (sym ending ∙ one) })))
-              (omega arith) (λ one. ending ∙ one)
-              (λ j v ne out is seen other odd. absurd (omega arith))
-              (λ _. record {
-                setting = mine.setting;
-                within = mine.within;
-                own = mine.own;
-                seen = omega arith;
-                holds = λ _. (refl, sym there, (half, there));
-                read = λ yes. ending ∙ mine.read yes;
-              }),
-          (r.last, (λ _. (c, (λ t. (holding k a b (sym e t + 1) (has_ended c) rd, (0, Some c) ∷ [])), (let x = h.2.reports in omega arith), (λ z is. subst (λ y. IsChainOf y c) (same_Some k z is) h.2.of))), (λ ne. absurd (ne e))),
-        ))
+    let c : ChainValue = h.0 in
+    let new : CrewView = holding k a b (2 * half + 1) (has_ended c) rd in
+    let words' : List ℕ = set s.words 0 (2 * half + 1) in
+    let there : get_or words' 0 0 ≡ 2 * half + 1 = get_or-set_same s.words 0 (2 * half + 1) 0 (omega arith) in
+    let ending : get_or words' 1 0 ≡ get_or s.words 1 0 = get_or-set_other s.words 0 1 (2 * half + 1) 0 (λ q. omega arith) in
+    let room : id < length s.views = below s.views id (resting k a b seen rd) at in
+    let flag = r.flag in (
+      new,
+      takes 0 (Some c),
+      ap (λ (l : List (maybe.Option (Option ChainValue))). get_elem? l 0) h.1,
+      seat_step k s r id new words' (set s.homes 0 none) id (length-set s.words 0 (2 * half + 1) ∙ r.wide) (omega arith) (omega arith)
+          (λ other is. absurd (omega arith))
+          (λ other is. (ap (λ (l : List (maybe.Option (Option ChainValue))). set l 0 none) h.1, (new, set_here s.views id new room, record { number = number; holds = refl; announced = λ one. h.2.ended (sym ending ∙ one) })))
+          (omega arith) (λ one. ending ∙ one)
+          (λ j v ne out is seen other odd. absurd (omega arith))
+          (λ _. record {
+            setting = mine.setting;
+            within = mine.within;
+            own = mine.own;
+            seen = omega arith;
+            holds = λ _. (refl, sym there, (half, there));
+            read = λ yes. ending ∙ mine.read yes;
+          }),
+      (r.last, (λ _. (c, (λ t. (holding k a b (sym e t + 1) (has_ended c) rd, (0, Some c) ∷ [])), (let x = h.2.reports in omega arith), (λ z is. subst (λ y. IsChainOf y c) (same_Some k z is) h.2.of))), (λ ne. absurd (ne e))),
+    ))
     (λ ne. (
       resting k a b n rd,
       keeps,
@@ -297,16 +297,16 @@ enlists k id a b seen rd number s r at =
       away = λ half odd. let h = away_else k s r id (resting k a b seen rd) left at refl half odd in (h.0, (h.1.0, at_longer (set s.views id left) (right ∷ []) r.holder h.1.0 h.1.1, h.1.2));
       seats = λ j v e some_number. ⊎_elim
           (λ e. ⊎_elim
-              (λ (t : (j ≡ id) × (left ≡ v)). subst (λ (y : ℕ × CrewView). Knows k n x r.holder owner' y.0 y.1) (λ i. (sym t.0 i, t.1 i)) record {
-                setting = mine.setting;
-                within = mine.within;
-                own = λ m low high. put_else r.owner a to m (λ e. omega arith) ∙ mine.own m (omega arith) high;
-                seen = mine.seen;
-                holds = λ no. absurd (true≢false (sym no));
-                read = mine.read;
-              })
-              (λ (t : (j ≢ id) × (get_elem? s.views j ≡ some v)). keeps_own k n x r.holder r.owner owner' j v (λ m low high is. put_else r.owner a to m (λ e. t.0 (sym is ∙ (ap r.owner e ∙ mine.own a (omega arith) number))) ∙ is) (r.seats j v t.1 some_number))
-              (at_set s.views id j left v e))
+          (λ (t : (j ≡ id) × (left ≡ v)). subst (λ (y : ℕ × CrewView). Knows k n x r.holder owner' y.0 y.1) (λ i. (sym t.0 i, t.1 i)) record {
+            setting = mine.setting;
+            within = mine.within;
+            own = λ m low high. put_else r.owner a to m (λ e. omega arith) ∙ mine.own m (omega arith) high;
+            seen = mine.seen;
+            holds = λ no. absurd (true≢false (sym no));
+            read = mine.read;
+          })
+          (λ (t : (j ≢ id) × (get_elem? s.views j ≡ some v)). keeps_own k n x r.holder r.owner owner' j v (λ m low high is. put_else r.owner a to m (λ e. t.0 (sym is ∙ (ap r.owner e ∙ mine.own a (omega arith) number))) ∙ is) (r.seats j v t.1 some_number))
+          (at_set s.views id j left v e))
           (λ (t : (j ≡ length (set s.views id left)) × (right ≡ v)). subst (λ (y : ℕ × CrewView). Knows k n x r.holder owner' y.0 y.1) (λ i. (sym (t.0 ∙ long) i, t.1 i)) record {
             setting = mine.setting;
             within = omega arith;
@@ -329,7 +329,7 @@ dismisses k id other a b c seen seen' rd rd' number also s r at apart there =
     let its = r.seats other (resting k b c seen' rd') was also in
     let owner' : ℕ → ℕ = moved r.owner other id in
     let left_out : (half : ℕ) → n ≡ 2 * half + 1 → r.holder ≢ other = λ half odd e. let h = r.away half odd in
-        true≢false (sym h.1.2.holds ∙ ap (λ (w : CrewView). w.holds) (some-injective h.1.0 (resting k b c seen' rd') (sym h.1.1 ∙ (ap (get_elem? s.views) e ∙ was)))) in record {
+    true≢false (sym h.1.2.holds ∙ ap (λ (w : CrewView). w.holds) (some-injective h.1.0 (resting k b c seen' rd') (sym h.1.1 ∙ (ap (get_elem? s.views) e ∙ was)))) in record {
       holder = r.holder;
       owner = owner';
       wide = r.wide;
@@ -340,18 +340,18 @@ dismisses k id other a b c seen seen' rd rd' number also s r at apart there =
       seats = λ j v e some_number. ⊎_elim
           (λ (t : (j ≡ other) × (spent_view ≡ v)). absurd (let low = subst (λ (w : CrewView). w.from < w.to) (sym t.1) some_number in omega arith))
           (λ (out : (j ≢ other) × (get_elem? (set s.views id both) j ≡ some v)). ⊎_elim
-              (λ (t : (j ≡ id) × (both ≡ v)). subst (λ (w : ℕ × CrewView). Knows k n x r.holder owner' w.0 w.1) (λ i. (sym t.0 i, t.1 i)) record {
-                setting = mine.setting;
-                within = its.within;
-                own = λ m low high. dite (dec_le b m)
-                    (λ up. moved_there r.owner other id m (its.own m up high))
-                    (λ down. let is : r.owner m ≡ id = mine.own m low (omega arith) in moved_else r.owner other id m (λ e. apart (sym e ∙ is)) ∙ is);
-                seen = mine.seen;
-                holds = λ no. absurd (true≢false (sym no));
-                read = mine.read;
-              })
-              (λ (t : (j ≢ id) × (get_elem? s.views j ≡ some v)). keeps_own k n x r.holder r.owner owner' j v (λ m low high is. moved_else r.owner other id m (λ e. out.0 (sym is ∙ e)) ∙ is) (r.seats j v t.1 some_number))
-              (at_set s.views id j both v out.1))
+          (λ (t : (j ≡ id) × (both ≡ v)). subst (λ (w : ℕ × CrewView). Knows k n x r.holder owner' w.0 w.1) (λ i. (sym t.0 i, t.1 i)) record {
+            setting = mine.setting;
+            within = its.within;
+            own = λ m low high. dite (dec_le b m)
+                (λ up. moved_there r.owner other id m (its.own m up high))
+                (λ down. let is : r.owner m ≡ id = mine.own m low (omega arith) in moved_else r.owner other id m (λ e. apart (sym e ∙ is)) ∙ is);
+            seen = mine.seen;
+            holds = λ no. absurd (true≢false (sym no));
+            read = mine.read;
+          })
+          (λ (t : (j ≢ id) × (get_elem? s.views j ≡ some v)). keeps_own k n x r.holder r.owner owner' j v (λ m low high is. moved_else r.owner other id m (λ e. out.0 (sym is ∙ e)) ∙ is) (r.seats j v t.1 some_number))
+          (at_set s.views id j both v out.1))
           (at_set (set s.views id both) other j spent_view v e);
     }
 
@@ -397,12 +397,12 @@ closes k id seen s r at number =
     ⊎_elim
     (λ (even : (half : ℕ) × (n ≡ 2 * half)). let h = r.home even.0 even.1 in (h.0, h.1, h.2.of, h.2.ended one))
     (λ (odd : (half : ℕ) × (n ≡ 2 * half + 1)). let h = r.away odd.0 odd.1 in
-        let v : CrewView = h.1.0 in
-        let its = r.seats r.holder v h.1.1 h.1.2.number in
-        let number_of = h.1.2.number in
-        let within = its.within in
-        let same : r.holder ≡ id = sym (its.own v.from (omega arith) h.1.2.number) ∙ mine.own v.from (omega arith) (omega arith) in
-        absurd (true≢false (sym h.1.2.holds ∙ ap (λ (w : CrewView). w.holds) (some-injective v (resting k 0 k.mates seen true) (sym h.1.1 ∙ (ap (get_elem? s.views) same ∙ at))))))
+    let v : CrewView = h.1.0 in
+    let its = r.seats r.holder v h.1.1 h.1.2.number in
+    let number_of = h.1.2.number in
+    let within = its.within in
+    let same : r.holder ≡ id = sym (its.own v.from (omega arith) h.1.2.number) ∙ mine.own v.from (omega arith) (omega arith) in
+    absurd (true≢false (sym h.1.2.holds ∙ ap (λ (w : CrewView). w.holds) (some-injective v (resting k 0 k.mates seen true) (sym h.1.1 ∙ (ap (get_elem? s.views) same ∙ at))))))
     (parity n)
 
 -- what is taken out of the slot at the end, where one seat has all numbers and has read 1

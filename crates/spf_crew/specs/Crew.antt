@@ -19,7 +19,7 @@ pub record CanServe (k : CrewSetting) (cells : CellsValue) (job : Job) : Type 0 
   pub mates : 0 < k.mates
   pub same : cells ≡ k.cells
   pub ground : IsGround k.site k.cells
-  pub job : CanRun job
+  pub runs : CanRun job
   pub entry : IsJobOf (entry_at k.site) job
 
 -- what every crew keeps

@@ -61,11 +61,7 @@ impl<'a> Crew<'a> {
         let Ok((table, seat)) = Table::new(alloc, &[0, 0], slots, &key) else {
             return Err(AllocError);
         };
-        let place = Place {
-            key,
-            seen: 0,
-            seat,
-        };
+        let place = Place { key, seen: 0, seat };
         Ok((Crew { table, cells, job }, place))
     }
 
@@ -74,9 +70,9 @@ impl<'a> Crew<'a> {
         requires own { IsPlaceOf self place }
         requires all { (place.from ≡ 0) × (place.to ≡ self.setting.mates) }
         requires read { place.read ≡ true }
-        ensures same { IsChainOf self.setting result.0 }
+        ensures same { IsChainOf self.entry.setting result.0 }
         ensures ended { has_ended result.0 ≡ true }
-        ensures cells { result.1 ≡ self.setting.cells }
+        ensures cells { result.1 ≡ self.entry.setting.cells }
     {
         let Place {
             key: _,

@@ -107,12 +107,7 @@ impl Place {
     }
 
     // Files a report where the turn number is the one expected. Else the report comes back, with the number that was found.
-    fn take_turn(
-        &mut self,
-        crew: &Crew,
-        half: u64,
-        report: Report,
-    ) -> Result<Filed, (Report, u64)>
+    fn take_turn(&mut self, crew: &Crew, half: u64, report: Report) -> Result<Filed, (Report, u64)>
         requires own { IsPlaceOf crew.now self.old }
         requires lawful { IsLawfulOf self.old.setting report }
         requires room { half < 8192 }

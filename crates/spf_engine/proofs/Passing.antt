@@ -8,7 +8,7 @@ use Rattle.spf_ast.specs.Interaction.{State, Ending, Value, Trapped as trapped_a
 use Rattle.spf_ast.specs.Syntax.{Program, Predictor, By, Host}
 use Rattle.spf_ast.specs.Meaning.{Environment}
 use Rattle.spf_ast.specs.Program.{environment_of, Stopped}
-use Rattle.spf_ast.specs.Construct.{Construct, fold, pair, Header, header_means, Moment, plainly}
+use Rattle.spf_ast.specs.Construct.{Construct, fold, pair, Header, header_means, carried_of, Moment, plainly}
 use Rattle.spf_ast.specs.Pieces.{construct_first}
 use Rattle.spf_ast.specs.Silence.{FunctionsAreSilent}
 use Rattle.spf_check.specs.Plans.{AreBlocksOf}
@@ -40,7 +40,7 @@ use Rattle.spf_engine.specs.Runs.{SettlesSo, LeadsTo}
 
 -- ---- blocks of a header
 
-blocks-in : Ending Header → ℕ
+abbrev blocks-in : Ending Header → ℕ
 blocks-in (Value h s) = h.blocks
 blocks-in (trapped_at t o) = 0
 
@@ -58,6 +58,20 @@ pub record IsLeftThere (before after now : Stand) : Type 0 where
   pub output : now.output ≡ after.output
   pub same_place : now.place ≡ after.place
 
+-- how the run is settled with it
+settles-with : ConstructsSettle → ConstructsEndRuns → (hosts : Hosts) (p : Program) (input : List ℕ) (before after now : Stand) (progress : Progress) (c : Construct) (h : Header) (values : List carried.Carried) (traces : List Trace)
+    → GoesOn hosts p input before progress → construct_first (ahead p before) ≡ Some c → EndsAt p (header_means (environment_of p input) c) before after h
+    → FunctionsAreSilent p.functions → KeepsTheRules p c → IsLeftThere before after now → (r : Settled)
+    → BlocksComeTo (entry_there p input c h after) (guess_there hosts progress.telling p input c h after) (result_as r) values now.cells traces
+    → SettlesSo hosts p input now c r (with_construct (guess_there hosts progress.telling p input c h after) c h values traces progress)
+settles-with settle ends hosts p input before after now progress c h values traces goes first went silent keeps left (Carried v) o = λ last s.
+    settle hosts p input before after last progress c h v values traces goes first went silent keeps
+    (subst (λ cells. BlocksComeTo (entry_there p input c h after) (guess_there hosts progress.telling p input c h after) (Ok v) values cells traces) (sym s.cells) o)
+    (s.slots ∙ ap (λ f. carried.with_carried (carried_of c) v (main_slots p f)) left.frame) (s.output ∙ left.output) (s.place ∙ ap (λ n. n + 1) (left.same_place ∙ left.place))
+settles-with settle ends hosts p input before after now progress c h values traces goes first went silent keeps left (Trapped t) o =
+    subst (λ out. HasCome hosts p input (Stopped t out) (with_construct (guess_there hosts progress.telling p input c h after) c h values traces progress)) (sym left.output)
+    (ends hosts p input before after progress c h t values now.cells traces goes first went silent keeps o)
+
 pub leads : ConstructsSettle → ConstructsEndRuns → (hosts : Hosts) (p : Program) (input : List ℕ) (before after now : Stand) (progress : Progress) (c : Construct) (h : Header) (passed : Passed) (told : Hosts) (values : List carried.Carried)
     → GoesOn hosts p input before progress → construct_first (ahead p before) ≡ Some c → EndsAt p (header_means (environment_of p input) c) before after h
     → FunctionsAreSilent p.functions → KeepsTheRules p c → IsLeftThere before after now
@@ -71,24 +85,18 @@ leads settle ends hosts p input before after now progress c h passed told values
       stats = ap (plus progress.stats) (sym stats);
       traces = refl;
       told = were;
-      settles = go passed.settled came;
+      settles = settles-with settle ends hosts p input before after now progress c h values (option_to_list passed.trace) goes first went silent keeps left passed.settled came;
     }
-  where
-    go : (r : Settled) → BlocksComeTo (entry_there p input c h after) (guess_there hosts progress.telling p input c h after) (result_as r) values now.cells (option_to_list passed.trace)
-        → SettlesSo hosts p input now c r (with_construct (guess_there hosts progress.telling p input c h after) c h values (option_to_list passed.trace) progress)
-    go (Carried v) o = λ last s.
-        settle hosts p input before after last progress c h v values (option_to_list passed.trace) goes first went silent keeps
-        (subst (λ cells. BlocksComeTo (entry_there p input c h after) (guess_there hosts progress.telling p input c h after) (Ok v) values cells (option_to_list passed.trace)) (sym s.cells) o)
-        (s.slots ∙ ap (λ f. carried.with_carried _ v (main_slots p f)) left.frame) (s.output ∙ left.output) (s.place ∙ ap (λ n. n + 1) (left.same_place ∙ left.place))
-    go (Trapped t) o =
-        subst (λ out. HasCome hosts p input (Stopped t out) (with_construct (guess_there hosts progress.telling p input c h after) c h values (option_to_list passed.trace) progress)) (sym left.output)
-        (ends hosts p input before after progress c h t values now.cells (option_to_list passed.trace) goes first went silent keeps o)
 
 -- ---- with blocks
 
 one-trace : (blocks : ℕ) (First : Trace → Type 0) (trace : Trace) → 1 ≤ blocks → First trace → begin_with blocks First (λ others. others ≡ []) (trace ∷ [])
 one-trace zero First trace some is = absurd (omega (arith, some))
 one-trace (suc n) First trace some is = (is, refl)
+
+carried-as : (s : Settled) (v : carried.Carried) → result_as s ≡ Ok v → s ≡ Carried v
+carried-as (Carried w) v is = (let same : w ≡ v = cc in ap Carried same)
+carried-as (Trapped t) v is = cc
 
 -- what they came to
 pub blocks-come : (e : Entry) (guess : ℕ → Guess) (report : ConstructReport) (memory : List ℤ) → 1 ≤ e.header.blocks → ComesTo e guess report memory
@@ -99,14 +107,6 @@ blocks-come e guess report memory some c = record {
   memory_is = λ v is. c.plain_memory v (carried-as report.settled v is);
   traces_are = one-trace e.header.blocks _ report.trace some c.merging;
 }
-  where
-    carried-as : (s : Settled) (v : carried.Carried) → result_as s ≡ Ok v → s ≡ Carried v
-    carried-as (Carried w) v is = ap Carried (ap (ok-or w) is)
-      where
-        ok-or : carried.Carried → Result carried.Carried _ → carried.Carried
-        ok-or x (Ok y) = y
-        ok-or x (Err t) = x
-    carried-as (Trapped t) v is = cc
 
 -- ---- without blocks
 

@@ -1,17 +1,32 @@
 -- What a step leads to.
-use Rattle.std.proofs.Common.{◌≡◌, ℕ, List, [], ◌∷◌, ◌++◌, refl, sym, ap, ◌∙◌, subst, append_assoc}
+use Rattle.std.proofs.Common.{◌≡◌, ℕ, ◌+◌, ◌-◌, ◌*◌, ◌<◌, ◌≤◌, length, List, [], ◌∷◌, ◌++◌, refl, sym, ap, ◌∙◌, subst, append_assoc, arith}
+use Rattle.std.specs.Prelude.{Some, Result, Ok, Err, IfOk, IfErr}
 use Rattle.std.proofs.lemmas.List.{append-nil}
 use Rattle.std.specs.Option.{option_to_list}
-use Rattle.spf_ast.specs.Syntax.{Program}
-use Rattle.spf_ast.specs.Construct.{Construct, constructs_in, Reached, reached_from}
+use Rattle.spf_ast.specs.Syntax.{Program, Block}
+use Rattle.spf_ast.specs.Pieces.{construct_first, rest_from, statement_count}
+use Rattle.spf_ast.specs.Construct.{Construct, constructs_in, Reached, reached_from, reals}
 use Rattle.spf_guess.specs.Guess.{Hosts, Telling, tells}
 use Rattle.spf_guess.specs.Statistics.{tally_from, tally}
 use Rattle.spf_predictors.specs.Answers.{WereTold}
-use Rattle.spf_ast.specs.Program.{environment_of}
-use Rattle.spf_exec.specs.Pieces.{Stand, ahead}
+use Rattle.spf_ast.specs.declared.outcome.Trap.{Trap}
+use Rattle.spf_ast.specs.Program.{environment_of, Outcome, outcome, Done, Stopped}
+use Rattle.spf_exec.specs.declared.pieces.Pause.{Pause}
+use Rattle.spf_exec.specs.Pieces.{Stand, Advanced, ahead}
 use Rattle.spf_progress.specs.Progress.{Progress, IsCompletedBy, GoesOn, HasCome}
 use Rattle.spf_engine.specs.declared.account.Account.{Account}
-use Rattle.spf_engine.specs.Runs.{AgreesWith, WereToldFirst}
+use Rattle.spf_progress.specs.Laws.{RunsAdvance, IsPausedSo}
+use Rattle.spf_progress.specs.Traces.{AreTraces}
+use Rattle.spf_chain.specs.declared.validated.Settled.{Settled}
+use Rattle.spf_chain.specs.declared.validated.Settled.TheVariants.{Carried, Trapped}
+use Rattle.spf_construct.specs.Guesses.{AreAtMost}
+use Rattle.spf_guess.specs.declared.stats.Stats.{Stats}
+use Rattle.spf_guess.specs.Statistics.{plus}
+use Rattle.spf_engine.specs.declared.construct.Passed.{Passed}
+use Rattle.spf_engine.specs.declared.step.Step.{Step}
+use Rattle.spf_engine.specs.declared.step.Step.TheVariants as step
+use Rattle.spf_engine.specs.Runs.{SettlesSo, LeadsTo, IsSettledSo, AreFew, AgreesWith, IsThere, StepsTo, GoesFurther, WereToldFirst}
+use Rattle.spf_engine.proofs.Ending.{goes-past, few-past}
 
 -- what is told later comes after what was told
 record TellsOn (hosts : Hosts) (p : Program) (input : List ℕ) (constructs : List Construct) (others : List Reached) (telling : List Telling) : Type 0 where
@@ -34,3 +49,127 @@ told-first hosts p input s progress now goes told =
 -- those of a run that has come to its end were told all
 pub told-all : (hosts : Hosts) (p : Program) (input : List ℕ) (telling : List Telling) (now : Hosts) → telling ≡ (tally hosts p input).telling → WereTold hosts telling now → WereToldFirst hosts p input now
 told-all hosts p input telling now is told = record { telling = telling; more = []; all = append-nil telling ∙ is; told = told }
+
+-- ---- after a construct
+
+-- hosts were told the first pairs
+pub first-after : (hosts : Hosts) (p : Program) (input : List ℕ) (progress : Progress) (s last : Stand) (c : Construct) (passed : Passed) (now : Hosts) (taken : Step)
+    → LeadsTo hosts p input progress s c passed now → IsSettledSo p c s last passed.settled taken → WereToldFirst hosts p input now
+first-after hosts p input progress s last c passed now taken l is = go passed.settled l.settles is
+  where
+    go : (r : Settled) → SettlesSo hosts p input s c r l.later → IsSettledSo p c s last r taken → WereToldFirst hosts p input now
+    go (Carried v) settles so = told-first hosts p input last l.later now (settles last so.1) l.told
+    go (Trapped t) come so = told-all hosts p input l.later.telling now come.whole.telling_is l.told
+
+-- and the account agrees with the further progress
+pub steps-after : (hosts : Hosts) (p : Program) (input : List ℕ) (progress : Progress) (s last : Stand) (c : Construct) (passed : Passed) (now : Hosts) (taken : Step) (before after : Account)
+    → LeadsTo hosts p input progress s c passed now → IsSettledSo p c s last passed.settled taken → AgreesWith progress before
+    → after.stats ≡ plus before.stats passed.stats → after.traces.items ≡ before.traces.items ++ option_to_list passed.trace
+    → StepsTo hosts p input taken last after now
+steps-after hosts p input progress s last c passed now taken before after l is agrees stats traces = record {
+  later = l.later;
+  agrees = record {
+    stats = stats ∙ ap (λ x. plus x passed.stats) agrees.stats ∙ sym l.stats;
+    traces = traces ∙ ap (λ x. x ++ option_to_list passed.trace) agrees.traces ∙ sym l.traces;
+  };
+  told = l.told;
+  there = go passed.settled l.settles is;
+}
+  where
+    go : (r : Settled) → SettlesSo hosts p input s c r l.later → IsSettledSo p c s last r taken → IsThere hosts p input taken last l.later
+    go (Carried v) settles so = subst (λ t. IsThere hosts p input t last l.later) (sym so.0) (settles last so.1)
+    go (Trapped t) come so =
+        subst (λ x. IsThere hosts p input x last l.later) (sym so.0)
+        (subst (λ (x : Stand). HasCome hosts p input (Stopped t x.output) l.later) (sym so.1) come)
+
+-- where the run goes on, it is past the construct
+pub further-after : (p : Program) (before s last : Stand) (c : Construct) (settled : Settled) (taken : Step) (counted more : Stats)
+    → construct_first (ahead p before) ≡ Some c → s.place ≡ before.place → IsSettledSo p c s last settled taken
+    → s.passed + length (constructs_in (ahead p s)) ≡ length (constructs_in p.main) → AreFew p before counted → AreAtMost more 4096
+    → GoesFurther p taken before last (plus counted more)
+further-after p before s last c (Carried v) taken counted more first place so count few at_most =
+    let same : ahead p s ≡ ahead p before = ap (λ n. rest_from n p.main) place in
+    let past = goes-past p s last c (ap construct_first same ∙ first) so.1.place in
+    let fewer = past.statements in
+    let left = ap statement_count same in
+    let few_here : AreFew p s counted = subst (λ (x : Block). AreAtMost counted (4096 * (length (constructs_in p.main) - length (constructs_in x)))) (sym same) few in
+    subst (λ t. GoesFurther p t before last (plus counted more)) (sym so.0) (omega (arith, fewer, left), few-past p s last counted more count past few_here at_most)
+further-after p before s last c (Trapped t) taken counted more first place so count few at_most =
+    subst (λ x. GoesFurther p x before last (plus counted more)) (sym so.0) tt
+
+-- it is further also from before
+pub further-from : (p : Program) (before between last : Stand) (taken : Step) (counted : Stats) → statement_count (ahead p between) ≤ statement_count (ahead p before)
+    → GoesFurther p taken between last counted → GoesFurther p taken before last counted
+further-from p before between last step.Next counted nearer h = (let fewer = h.0 in (omega (arith, fewer, nearer), h.1))
+further-from p before between last step.Finished counted nearer h = tt
+further-from p before between last (step.Trapped t) counted nearer h = tt
+
+-- whatever hosts there were before
+pub all-told-first : (p : Program) (input : List ℕ) (s : Stand) (was now : Hosts) → ((before : Hosts) (telling : List Telling) → WereTold before telling was → WereTold before telling now)
+    → (before : Hosts) (progress : Progress) → WereTold before progress.telling was → GoesOn before p input s progress → WereToldFirst before p input now
+all-told-first p input s was now keeps before progress were goes = told-first before p input s progress now goes (keeps before progress.telling were)
+
+pub same-told-first : (p : Program) (input : List ℕ) (s : Stand) (was : Hosts) (before : Hosts) (progress : Progress) → WereTold before progress.telling was → GoesOn before p input s progress → WereToldFirst before p input was
+same-told-first p input s was before progress were goes = told-first before p input s progress was goes were
+
+pub all-first-after : (p : Program) (input : List ℕ) (begin s last : Stand) (c : Construct) (passed : Passed) (was now : Hosts) (taken : Step)
+    → ((before : Hosts) (progress : Progress) → WereTold before progress.telling was → GoesOn before p input begin progress → LeadsTo before p input progress s c passed now)
+    → IsSettledSo p c s last passed.settled taken
+    → (before : Hosts) (progress : Progress) → WereTold before progress.telling was → GoesOn before p input begin progress → WereToldFirst before p input now
+all-first-after p input begin s last c passed was now taken leads is before progress were goes = first-after before p input progress s last c passed now taken (leads before progress were goes) is
+
+-- ---- results
+
+-- what follows from a good result, and from an error
+pub over-ok : {A E : Type 0} (P Q : A → Type 0) → ((a : A) → P a → Q a) → (r : Result A E) → IfOk r P → IfOk r Q
+over-ok P Q f (Ok a) h = f a h
+over-ok P Q f (Err e) h = tt
+
+pub over-err : {A E : Type 0} (P Q : E → Type 0) → ((e : E) → P e → Q e) → (r : Result A E) → IfErr r P → IfErr r Q
+over-err P Q f (Ok a) h = tt
+over-err P Q f (Err e) h = f e h
+
+pub if-err : {A E : Type 0} {X : Type 0} (r : Result A E) → X → IfErr r (λ e. X)
+if-err (Ok a) x = tt
+if-err (Err e) x = x
+
+-- where a run paused, by what the pause is
+pub paused-so : RunsAdvance → (hosts : Hosts) (p : Program) (input : List ℕ) (before after : Stand) (progress : Progress) {one other : Pause} → one ≡ other → GoesOn hosts p input before progress → Advanced p input before after one → IsPausedSo hosts p input after progress other
+paused-so advance hosts p input before after progress {one} e goes a = subst (IsPausedSo hosts p input after progress) e (advance hosts p input before after progress one goes a)
+
+-- ---- the end
+
+-- a run has ended so: with the program's outcome and its statistics, with its traces, and all was told
+pub record EndsSo (hosts : Hosts) (p : Program) (input : List ℕ) (o : Outcome) (account : Account) (now : Hosts) : Type 0 where
+  pub outcome_is : o ≡ outcome p input
+  pub stats : account.stats ≡ (tally hosts p input).stats
+  pub traces : AreTraces hosts p input (constructs_in p.main) (reals p input) [] account.traces.items
+  pub told : WereTold hosts (tally hosts p input).telling now
+
+ends-so : (hosts : Hosts) (p : Program) (input : List ℕ) (o : Outcome) (later : Progress) (account : Account) (now : Hosts) → AgreesWith later account → WereTold hosts later.telling now → HasCome hosts p input o later → EndsSo hosts p input o account now
+ends-so hosts p input o later account now agrees told come = record {
+  outcome_is = come.outcome_is;
+  stats = agrees.stats ∙ come.whole.stats_are;
+  traces = subst (AreTraces hosts p input (constructs_in p.main) (reals p input) []) (sym agrees.traces) come.whole.traces_are;
+  told = subst (λ telling. WereTold hosts telling now) come.whole.telling_is told;
+}
+
+pub finishes-so : (hosts : Hosts) (p : Program) (input : List ℕ) (taken : Step) (s : Stand) (account : Account) (now : Hosts) → StepsTo hosts p input taken s account now → taken ≡ step.Finished → EndsSo hosts p input (Done s.cells s.output) account now
+finishes-so hosts p input taken s account now to is =
+    ends-so hosts p input (Done s.cells s.output) to.later account now to.agrees to.told (subst (λ t. IsThere hosts p input t s to.later) is to.there)
+
+pub traps-so : (hosts : Hosts) (p : Program) (input : List ℕ) (taken : Step) (t : Trap) (s : Stand) (account : Account) (now : Hosts) → StepsTo hosts p input taken s account now → taken ≡ step.Trapped t → EndsSo hosts p input (Stopped t s.output) account now
+traps-so hosts p input taken t s account now to is =
+    ends-so hosts p input (Stopped t s.output) to.later account now to.agrees to.told (subst (λ x. IsThere hosts p input x s to.later) is to.there)
+
+-- hosts that were told nothing
+pub told-nothing : (hosts : Hosts) (p : Program) (input : List ℕ) → WereToldFirst hosts p input hosts
+told-nothing hosts p input = record { telling = []; more = (tally hosts p input).telling; all = refl; told = λ host pairs block. refl }
+
+-- after a step the run goes on
+pub goes-on-so : (hosts : Hosts) (p : Program) (input : List ℕ) (taken : Step) (s : Stand) (later : Progress) → IsThere hosts p input taken s later → taken ≡ step.Next → GoesOn hosts p input s later
+goes-on-so hosts p input taken s later there is = subst (λ t. IsThere hosts p input t s later) is there
+
+-- all was told, of the same program and input
+pub retold-as : (hosts now : Hosts) (p q : Program) (input other : List ℕ) → p ≡ q → input ≡ other → WereTold hosts (tally hosts p input).telling now → WereTold hosts (tally hosts q other).telling now
+retold-as hosts now p q input other same given were = subst (λ t. WereTold hosts t now) (λ i. (tally hosts (same i) (given i)).telling) were

@@ -63,10 +63,10 @@ pub record StepsTo (hosts : Hosts) (p : Program) (input : List ℕ) (taken : Ste
   pub told : WereTold hosts later.telling now
   pub there : IsThere hosts p input taken s later
 
--- fewer statements are still to come, where the run goes on
-abbrev pub ComesNearer : Program → Step → Stand → Stand → Type 0
-ComesNearer p step.Next before after = statement_count (ahead p after) < statement_count (ahead p before)
-ComesNearer p _ before after = Unit {0}
+-- where the run goes on, fewer statements are still to come, and each construct before it has counted so much at most
+abbrev pub GoesFurther : Program → Step → Stand → Stand → Stats → Type 0
+GoesFurther p step.Next before after counted = (statement_count (ahead p after) < statement_count (ahead p before)) × AreFew p after counted
+GoesFurther p _ before after counted = Unit {0}
 
 -- hosts were told the first of the pairs that they are told in the whole run
 pub record WereToldFirst (hosts : Hosts) (p : Program) (input : List ℕ) (now : Hosts) : Type 0 where

@@ -95,7 +95,15 @@ pub fn run_instance<G: Gate>(
     let mut run = Run::start(alloc, instance)?;
     let mut account = Account::new(alloc);
     loop {
-        match take_step(alloc, checked, instance, &mut run, &mut account, hosts, gate)? {
+        match take_step(
+            alloc,
+            checked,
+            instance,
+            &mut run,
+            &mut account,
+            hosts,
+            gate,
+        )? {
             Step::Next => {}
             Step::Finished => return Ok(finished(run, account)),
             Step::Trapped(trap) => return Ok(trapped(run, trap, account)),

@@ -10,7 +10,7 @@ ghost use Rattle.spf_guess.specs.Guess.{Hosts};
 ghost use Rattle.spf_predictors.specs.Answers.{handed_in, WereTold};
 ghost use Rattle.spf_predictors.specs.Missing.{missing_host};
 ghost use Rattle.spf_progress.specs.Progress.{Progress, GoesOn};
-ghost use Rattle.spf_engine.specs.Runs.{IsSettledSo, AreFew, AgreesWith, StepsTo, ComesNearer, WereToldFirst};
+ghost use Rattle.spf_engine.specs.Runs.{IsSettledSo, AreFew, AgreesWith, StepsTo, GoesFurther, WereToldFirst};
 
 use crate::account::Account;
 use crate::construct::pass_construct;
@@ -81,8 +81,7 @@ fn pass<G: Gate>(
         → WereToldFirst before (program_of instance.now) instance.now.input (handed_in (map (λ h. answer h) hosts.new.items))) }
     ensures count { length hosts.new.items ≡ length hosts.old.items }
     ensures run { IsRunOf (program_of instance.now) (length instance.now.input) run.new }
-    ensures few { IfOk result (λ s. AreFew (program_of instance.now) run.new account.new.stats) }
-    ensures nearer { IfOk result (λ s. ComesNearer (program_of instance.now) s run.old run.new) }
+    ensures further { IfOk result (λ s. GoesFurther (program_of instance.now) s run.old run.new account.new.stats) }
 {
     lawful_programs_are_quiet_and_small();
     let _program = checked.program();
@@ -118,8 +117,7 @@ pub(crate) fn take_step<G: Gate>(
         → WereToldFirst before (program_of instance.now) instance.now.input (handed_in (map (λ h. answer h) hosts.new.items))) }
     ensures count { length hosts.new.items ≡ length hosts.old.items }
     ensures run { IsRunOf (program_of instance.now) (length instance.now.input) run.new }
-    ensures few { IfOk result (λ s. AreFew (program_of instance.now) run.new account.new.stats) }
-    ensures nearer { IfOk result (λ s. ComesNearer (program_of instance.now) s run.old run.new) }
+    ensures further { IfOk result (λ s. GoesFurther (program_of instance.now) s run.old run.new account.new.stats) }
 {
     runs_in_pieces_go_on();
     lawful_programs_are_quiet_and_small();

@@ -1,11 +1,10 @@
-use Rattle.std.proofs.Common.{◌≡◌, ℕ, zero, suc, ◌+◌, ◌<◌, List, [], ◌∷◌, ◌++◌, length, length-append, length-set, append_assoc, get_or, set, get_or-set_same, refl, sym, ap, ◌∙◌, subst, arith}
+use Rattle.std.proofs.Common.{◌≡◌, ℕ, ◌+◌, ◌<◌, List, [], ◌∷◌, ◌++◌, length, length-append, length-set, append_assoc, get_or, get_or-set_same, refl, sym, ap, ◌∙◌, subst, arith}
 use Rattle.std.specs.List.{All}
 use Rattle.std.proofs.lemmas.List.{append-nil}
 use Rattle.spf_pool.specs.Hands.{HandValue, after_giving}
 use Rattle.spf_ticket.specs.declared.ticket.Ticket.{Ticket}
 use Rattle.spf_crew.specs.declared.view.CrewSetting.{CrewSetting}
 use Rattle.spf_crew.specs.Tickets.{IsFreshOf}
-use Rattle.spf_crew.specs.Crews.{IsDealtTo}
 use Rattle.spf_crew.proofs.make.give_all.Goals as goal
 
 no-rest : {A : Type 0} (n : ℕ) (l : List A) → n ≡ 0 → n ≡ length l → l ≡ []
@@ -40,7 +39,7 @@ pub give_one-requires : goal.give_one-requires
 give_one-requires c =
     let i = c.loop-ticket.invariant in
     let n = next-of (IsFreshOf c.args.hand.now.key) c.args.tickets.items c.loop-ticket.yielded c.next.new.self.rest.items c.in-Some.ticket c.requires.fresh
-        (all-left _ _ _ _ _ _ c.into_iter-ticket-iterator.ensures.into_iter_gives.0 i.left c.in-Some.ensures.steps.0) in
+    (all-left _ _ _ _ _ _ c.into_iter-ticket-iterator.ensures.into_iter_gives.0 i.left c.in-Some.ensures.steps.0) in
     let more = n.more in
     let given = i.given in
     let room = i.capacity ∙ c.requires.room in

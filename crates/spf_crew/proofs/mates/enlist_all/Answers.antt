@@ -1,4 +1,4 @@
-use Rattle.std.proofs.Common.{◌≡◌, ℕ, ◌+◌, ◌<◌, List, ◌∷◌, ◌++◌, [], length, length-append, get_or, remove, suc, sym, refl, ap, ◌∙◌, subst, arith}
+use Rattle.std.proofs.Common.{◌≡◌, ℕ, ◌+◌, List, ◌∷◌, ◌++◌, [], length, length-append, sym, ap, ◌∙◌, subst, arith}
 use mathlib.Core.Option.{some}
 use lib.ListN.{get_elem?}
 use Rattle.spf_pool.specs.Hands.{HandValue}
@@ -6,7 +6,7 @@ use Rattle.spf_crew.specs.declared.view.CrewSetting.{CrewSetting}
 use Rattle.spf_crew.specs.Values.{PlaceValue, CrewValue}
 use Rattle.spf_crew.specs.Mates.{MateValue}
 use Rattle.spf_crew.specs.Mates.{new_place}
-use Rattle.spf_crew.specs.Crews.{IsNumbered, AreFirstMates, AreAllMates, dealt, IsNewMate}
+use Rattle.spf_crew.specs.Crews.{AreFirstMates, dealt, AreDealt, IsNewMate}
 use Rattle.spf_crew.proofs.Crews.{beheaded, first_of, numbered-snoc, all-snoc, each-snoc, dealt-on, dealt-first, new-mate}
 use Rattle.spf_crew.proofs.mates.enlist_all.Goals as goal
 
@@ -38,7 +38,7 @@ loop-hands-preserved c =
     let d = dealt-first crew.setting c.args.tickets (length mates) hands c.remove-hand.result i.hands (first_of hands c.remove-hand.result i.some c.remove-hand.ensures.value) in
     let count = i.count in
     let more = c.loop-hands-test.true in
-    let len = c.len-2.ensures in
+    let len = c.len-in-loop-hands.ensures in
     let ok = c.loop-hands.hands.ok.0 in record {
       rest = c.enlist-place.ensures.rest ∙ (ap (λ (p : PlaceValue). record p { from = p.from + 1 }) i.rest ∙ ap (new_place crew) (sym long));
       mates = subst (AreFirstMates crew) (sym grown) (numbered-snoc crew mates m i.mates record { of = (ap (λ (p : PlaceValue). p.table) place, ap (λ (p : PlaceValue). p.setting) place); from = ap (λ (p : PlaceValue). p.from) place; to = ap (λ (p : PlaceValue). p.to) place });
@@ -59,7 +59,7 @@ returns-clause-all c =
     let count = i.count in
     let some = i.some in
     let less = c.loop-hands-test.false in
-    let len = c.len-2.ensures in
+    let len = c.len-in-loop-hands.ensures in
     let ok = c.loop-hands.hands.ok.0 in
     let one : length mates + 1 ≡ crew.setting.mates = omega (arith, count, some, less, len, ok) in
     all-snoc crew mates c.push-2.new.self.items m c.in_ok-push-2.ensures.items i.mates
@@ -74,3 +74,20 @@ returns-clause-new c =
     let d = dealt-first crew.setting c.args.tickets (length mates) hands c.remove-hand-2.result i.hands (first_of hands c.remove-hand-2.result i.some c.remove-hand-2.ensures.value) in
     each-snoc (λ n. IsNewMate (dealt c.args.tickets n)) mates c.push-2.new.self.items c.new-2.result c.in_ok-push-2.ensures.items i.fresh
     (new-mate crew.setting (dealt c.args.tickets (length mates)) c.new-2.result c.loop-hands.rest c.remove-hand-2.result c.new-2.ensures (ap (λ (p : PlaceValue). p.seen) i.rest) (ap (λ (p : PlaceValue). p.read) i.rest) d)
+
+no-mate : (mates : List MateValue) (i : ℕ) (m : MateValue) → mates ≡ [] → get_elem? mates i ≡ some m → ⊥
+no-mate mates i m none at = let e : get_elem? [] i ≡ some m = ap (λ l. get_elem? l i) (sym none) ∙ at in cc
+
+pub loop-hands-init : goal.loop-hands-init
+loop-hands-init c =
+    let none = c.in_ok-mates.ensures.items in
+    let size = ap length none in
+    let count = c.requires.count.0 in
+    record {
+      rest = subst (λ (l : List MateValue). c.args.founder ≡ new_place c.args.crew.now (length l)) (sym none) c.requires.new;
+      mates = λ i m at. absurd (no-mate c.in_ok-mates.mates.items i m none at);
+      fresh = λ i m at. absurd (no-mate c.in_ok-mates.mates.items i m none at);
+      hands = subst (λ (l : List MateValue). AreDealt c.args.crew.now.setting c.args.tickets (length l) c.args.hands.items) (sym none) c.requires.hands;
+      count = omega (arith, size, count);
+      some = c.requires.count.1;
+    }

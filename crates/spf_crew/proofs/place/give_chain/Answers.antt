@@ -1,4 +1,4 @@
-use Rattle.std.proofs.Common.{rules, ◌≡◌, ℕ, ◌+◌, ◌*◌, ◌<◌, Bool, true, List, [], ◌∷◌, sym, refl, ap, ◌∙◌, subst, arith, Option, Some, None}
+use Rattle.std.proofs.Common.{◌≡◌, ℕ, ◌+◌, ◌*◌, List, [], ◌∷◌, sym, ap, ◌∙◌, subst, arith, Option, Some}
 use mathlib.Core.Option.{none}
 use Rattle.atomic_table.specs.Table.{Me, step, Allows, rest}
 use Rattle.spf_chain.specs.Chains.{ChainValue}
@@ -26,6 +26,6 @@ store-requires c =
     let half : ℕ = c.args.half in
     let h = c.requires.holds.0 in
     let me : c.exchange.new.seat.me ≡ (holding c.crew.inside.table.shared.key.value v.from v.to (2 * half + 1) v.announced v.read, (0, Some c.args.chain) ∷ []) =
-        x.3 ∙ ((λ t. ((h.view t).0, (0, Some c.args.chain) ∷ rest (h.view t).1)) ∙ (λ t. (holding (mine t) v.from v.to (c.requires.holds.1 t) v.announced v.read, (0, Some c.args.chain) ∷ []))) in
+    x.3 ∙ ((λ t. ((h.view t).0, (0, Some c.args.chain) ∷ rest (h.view t).1)) ∙ (λ t. (holding (mine t) v.from v.to (c.requires.holds.1 t) v.announced v.read, (0, Some c.args.chain) ∷ []))) in
     let P : Me (Option ChainValue) CrewView × ℕ → Type 0 = λ y. Allows (IsCrewTable c.crew.inside.table.shared.key.value) y.1 c.exchange.new.seat.id y.0 0 (λ _. 2 * half + 2) (λ _. IsGive (step y.1 0 (2 * half + 2) 0 none) y.0 (2 * half + 2)) in
     (x.0 ∙ same, omega arith, subst P (λ t. (sym me t, sym slots t)) (gives_chain c.crew.inside.table.shared.key.value c.exchange.new.seat.id v.from v.to half v.announced v.read c.args.chain h.number c.requires.room c.requires.chain.0 (subst (λ k. IsChainOf k c.args.chain) mine c.requires.chain.1) c.requires.chain.2))

@@ -1,11 +1,10 @@
-use Rattle.std.proofs.Common.{rules, ◌≡◌, ◌≢◌, ℕ, ◌+◌, ◌*◌, ◌<◌, ◌≤◌, ◌==◌, Bool, List, [], ◌∷◌, sym, refl, ap, ◌∙◌, subst, arith, Option, Some, None}
+use Rattle.std.proofs.Common.{◌≡◌, ℕ, ◌+◌, ◌*◌, ◌==◌, List, [], ◌∷◌, sym, ap, ◌∙◌, subst, arith, Option, Some}
 use mathlib.Core.Option.{none}
 use prog.Atomic.{either}
 use Rattle.atomic_table.specs.Table.{Me, step, Allows, rest}
 use Rattle.spf_chain.specs.Chains.{ChainValue}
 use Rattle.spf_crew.specs.declared.view.CrewView.{CrewView}
-use Rattle.spf_crew.specs.Rule.{resting, holding, IsCrewTable, IsTake}
-use Rattle.spf_crew.specs.Seats.{Holds}
+use Rattle.spf_crew.specs.Rule.{resting, IsCrewTable, IsTake}
 use Rattle.spf_crew.proofs.Steps.{takes_chain}
 use Rattle.spf_crew.proofs.place.take_chain.Goals as goal
 

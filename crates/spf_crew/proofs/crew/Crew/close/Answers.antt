@@ -1,7 +1,8 @@
-use Rattle.std.proofs.Common.{◌≡◌, ℕ, ◌+◌, true, List, [], ◌∷◌, ◌++◌, length, sym, refl, ap, ◌∙◌, subst, arith, Some, option_to_list}
+use Rattle.std.proofs.Common.{◌≡◌, [], ◌∷◌, ◌++◌, sym, ap, ◌∙◌, option_to_list}
 use Rattle.spf_crew.specs.Values.{PlaceValue}
 use Rattle.spf_crew.specs.Mates.{MateValue}
 use Rattle.spf_crew.proofs.Crews.{fewer, fewer_read, last_one}
+use Rattle.spf_crew.proofs.Endings.{ended-of}
 use Rattle.spf_crew.proofs.crew.Crew.close.Goals as goal
 
 pub dismiss_all-all-requires-clause-last : goal.dismiss_all-all-requires-clause-last
@@ -22,3 +23,9 @@ dismiss_all-all-requires-clause-mates c =
     let m : MateValue = c.unwrap.result in
     let is : c.args.mates.items ≡ c.pop.new.self.items ++ m ∷ [] = c.pop.ensures.items ∙ ap (λ o. c.pop.new.self.items ++ option_to_list o) c.unwrap.ensures in
     (fewer c.args.self c.args.mates.items c.pop.new.self.items m is c.requires.all.each, fewer_read c.args.mates.items c.pop.new.self.items m is c.requires.ended)
+
+pub merged_logs_are_speculative_runs-requires : goal.merged_logs_are_speculative_runs-requires
+merged_logs_are_speculative_runs-requires c = record { ended = ended-of c.end-chain.result.0 c.end-chain.ensures.ended }
+
+pub returns-clause-ended : goal.returns-clause-ended
+returns-clause-ended c = ended-of c.end-chain.result.0 c.end-chain.ensures.ended

@@ -1,17 +1,16 @@
-use Rattle.std.proofs.Common.{◌≡◌, ℕ, ◌<◌, ◌≤◌, List, length, get_or, refl, sym, ap, ◌∙◌, subst, arith, Some, slice_get}
+use Rattle.std.proofs.Common.{◌≡◌, ℕ, ◌<◌, ◌≤◌, List, length, length-set, get_or, set, sym, ap, ◌∙◌, subst, arith}
 use Rattle.std.specs.List.{All}
 use Rattle.std.proofs.lemmas.Option.{slice_get-get_or}
-use mathlib.Core.Option.{some}
-use lib.ListN.{get_elem?}
 use Rattle.spf_cells.specs.Values.{CellsValue}
-use Rattle.spf_chain.specs.Chains.{ChainValue, cells_of}
+use Rattle.spf_chain.specs.Chains.{ChainValue}
 use Rattle.spf_chain.specs.Beginning.{IsStarted}
 use Rattle.spf_entry.specs.Sites.{entry_at, guess_at}
 use Rattle.spf_pool.specs.Hands.{HandValue}
+use Rattle.spf_pool.specs.Made.{AreNewHands}
 use Rattle.spf_ticket.specs.Tickets.{IsFresh}
 use Rattle.spf_ticket.specs.declared.ticket.Ticket.{Ticket}
 use Rattle.spf_crew.specs.declared.view.CrewSetting.{CrewSetting}
-use Rattle.spf_crew.specs.Crews.{AreDealt, IsDealtTo}
+use Rattle.spf_crew.specs.Crews.{AreDealt, IsDealtTo, AreNewMates}
 use Rattle.spf_crew.specs.Tickets.{IsFreshOf}
 use Rattle.spf_crew.specs.Values.{setting_of}
 use Rattle.spf_crew.proofs.Crews.{first_of, first-hand, all-dealt, CanTakeAll}
@@ -28,14 +27,45 @@ few c cells tickets n s is = let f = s.ground.few in let count = s.count in omeg
 pub hands_of-requires-clause-capacity : goal.hands_of-requires-clause-capacity
 hands_of-requires-clause-capacity c = few c.args.chain c.args.cells c.args.tickets.items c.len-count.result c.requires.started (c.len-count.ensures ∙ c.args.tickets.ok.0)
 
-first : (k : CrewSetting) (capacity workers : ℕ) (hands : List (HandValue CrewSetting)) (h : HandValue CrewSetting) → Rattle.spf_pool.specs.Made.AreNewHands k capacity workers hands → 0 < workers → h ≡ get_or hands 0 h → CanTakeAll k capacity h
-first k capacity workers hands h new some is = first-hand k capacity workers hands h new some (first_of hands h (let n = new.count in omega (arith, n, some)) is)
+first : (k : CrewSetting) (capacity workers : ℕ) (hands : List (HandValue CrewSetting)) (h : HandValue CrewSetting) → AreNewHands k capacity workers hands → 0 < workers → h ≡ get_or hands 0 h → CanTakeAll k capacity h
+first k capacity workers hands h new more is = first-hand k capacity workers hands h new more (first_of hands h (let n = new.count in omega (arith, n, more)) is)
 
 pub give_all-requires : goal.give_all-requires
-give_all-requires c = ?
+give_all-requires c =
+    let k : CrewSetting = setting_of c.args.chain c.args.workers in
+    let h = first k c.len-count.result c.args.workers c.in_ok-hands.hands.items c.index_mut.result.now c.in_ok-hands.ensures c.requires.workers.0 c.index_mut.ensures.value in
+    record {
+      fresh = subst (λ x. All (IsFreshOf x) c.args.tickets.items) (sym h.key) (all-fresh c.args.chain c.args.cells c.args.tickets.items c.args.workers c.requires.started);
+      room = h.capacity_is ∙ (c.len-count.ensures ∙ c.args.tickets.ok.0);
+      own = (h.own, h.given);
+    }
 
 pub open-requires : goal.open-requires
-open-requires c = ?
+open-requires c = record {
+  cells = c.requires.started.its_cells;
+  ground = c.requires.started.ground;
+  mates = c.requires.workers.0;
+  new = ap (λ (x : ChainValue). x.reports) c.requires.started.chain;
+  job = c.requires.job;
+  entry = c.requires.entry;
+}
+
+sized : (workers mates : ℕ) (hands all : List (HandValue CrewSetting)) → 0 < workers → length hands ≡ workers → mates ≡ workers → length all ≡ length hands → (length all ≡ mates) × (0 < length all)
+sized workers mates hands all more count same size = (size ∙ (count ∙ sym same), omega (arith, more, count, size))
 
 pub enlist_all-requires : goal.enlist_all-requires
-enlist_all-requires c = ?
+enlist_all-requires c =
+    let k : CrewSetting = setting_of c.args.chain c.args.workers in
+    let h = first k c.len-count.result c.args.workers c.in_ok-hands.hands.items c.index_mut.result.now c.in_ok-hands.ensures c.requires.workers.0 c.index_mut.ensures.value in
+    let count : length c.args.tickets.items ≡ c.len-count.result = sym (c.len-count.ensures ∙ c.args.tickets.ok.0) in
+    let deal : IsDealtTo k c.len-count.result c.give_all.new.hand = subst (λ n. IsDealtTo k n c.give_all.new.hand) count (subst (λ x. IsDealtTo x (length c.args.tickets.items) c.give_all.new.hand) h.key c.give_all.ensures) in
+    let dealt = all-dealt k c.len-count.result c.args.workers c.len-count.result c.in_ok-hands.hands.items c.give_all.new.hand c.in_ok-hands.ensures deal in
+    record {
+      new = c.in_ok-crew.ensures.place;
+      hands = subst (λ x. AreDealt x c.len-count.result 0 (set c.in_ok-hands.hands.items 0 c.give_all.new.hand)) (sym c.in_ok-crew.ensures.setting) dealt;
+      count = sized c.args.workers c.in_ok-crew.crew.setting.mates c.in_ok-hands.hands.items (set c.in_ok-hands.hands.items 0 c.give_all.new.hand) c.requires.workers.0 c.in_ok-hands.ensures.count
+          (ap (λ (x : CrewSetting). x.mates) c.in_ok-crew.ensures.setting) (length-set c.in_ok-hands.hands.items 0 c.give_all.new.hand);
+    }
+
+pub returns-clause-new : goal.returns-clause-new
+returns-clause-new c = subst (λ n. AreNewMates n c.in_ok-mates.mates.items) (c.len-count.ensures ∙ c.args.tickets.ok.0) c.in_ok-mates.ensures.new

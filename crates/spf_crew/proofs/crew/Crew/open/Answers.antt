@@ -1,4 +1,4 @@
-use Rattle.std.proofs.Common.{◌≡◌, ◌∷◌, [], sym, refl, List, Option, Some}
+use Rattle.std.proofs.Common.{◌∷◌, [], sym, refl, List, Option}
 use Rattle.std.proofs.Common.{subst}
 use Rattle.atomic_table.specs.Table.{opening}
 use Rattle.spf_chain.specs.Chains.{ChainValue}

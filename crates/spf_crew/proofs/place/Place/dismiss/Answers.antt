@@ -1,4 +1,4 @@
-use Rattle.std.proofs.Common.{◌≡◌, ℕ, ◌+◌, ◌<◌, [], sym, refl, ap, ◌∙◌, subst, arith, Option}
+use Rattle.std.proofs.Common.{◌≡◌, sym, ap, ◌∙◌, subst, arith}
 use Rattle.atomic_table.specs.Table.{Joins}
 use Rattle.spf_crew.specs.declared.view.CrewView.{CrewView}
 use Rattle.spf_crew.specs.Rule.{resting, IsCrewTable, after_dismissing, spent_view}

@@ -1,6 +1,5 @@
-use Rattle.std.proofs.Common.{◌≡◌, ℕ, ◌+◌, ◌<◌, [], sym, refl, ap, ◌∙◌, subst, arith, Option}
+use Rattle.std.proofs.Common.{◌≡◌, sym, ap, ◌∙◌, subst, arith}
 use Rattle.atomic_table.specs.Table.{Splits}
-use Rattle.spf_chain.specs.Chains.{ChainValue}
 use Rattle.spf_crew.specs.declared.view.CrewView.{CrewView}
 use Rattle.spf_crew.specs.Rule.{resting, IsCrewTable, after_enlisting, enlisted}
 use Rattle.spf_crew.proofs.Steps.{enlists}

@@ -1,0 +1,64 @@
+-- The program that unpacks PackBits is accepted.
+use Rattle.std.proofs.Common.{◌≡◌, ℕ, zero, suc, ◌-◌, ◌≤◌, ◌^◌, Bool, true, false, List, [], ◌∷◌, Some, ℤ, pos, refl, sym, ap, ◌∙◌, subst, arith}
+use Rattle.std.specs.Prelude.{slice_get, ◌≤ℤ◌, ◌<ℤ◌}
+use Rattle.spf_lemmas.proofs.Members.{some_is}
+use Rattle.spf_region.specs.declared.bound.Bound.{Bound}
+use Rattle.spf_region.specs.declared.bound.Bound.TheVariants.{Known, Unknown}
+use Rattle.spf_region.specs.Bounds.{number, plus, times}
+use Rattle.spf_region.specs.Ranges.{Offsets}
+use Rattle.spf_ast.specs.Syntax.{Program, Block, Let, on_line, Local}
+use Rattle.spf_ast.specs.Construct.{Construct, fold, constructs_in}
+use Rattle.spf_effects.specs.Found.{turn_bound}
+use Rattle.spf_effects.specs.Parts.{main_setting, within_fold}
+use Rattle.spf_rollback.specs.Rules.{KeepsTheRules}
+use Rattle.spf_check.specs.Accepting.{IsAccepted}
+use Rattle.spf_programs.specs.Laws.{IsBlockSize}
+use Rattle.spf_programs.specs.PackBits.{packbits_program, head, body, block_begin, block_end, block_bytes, one_byte, header, data_byte}
+use Rattle.spf_programs.specs.Writing as writing
+use Rattle.spf_apps.proofs.Tame.{NoWrite, range_of, tame-nothing, quiet_block-stores, calls-tame}
+use Rattle.spf_apps.proofs.Filled.{BeginsWithFill, filled-tame, filled-fills}
+use Rattle.spf_apps.proofs.Rules.{IsInside, FillsItsBlocks, fold-keeps}
+use Rattle.spf_apps.proofs.Ends.{begin-is, end-is, turn-is, inside, range-tame, range-fills}
+
+-- what follows the fill
+abbrev rest : ℕ → Block
+rest size = on_line 5 (Let 2 (Local 0)) (writing.only 6 (block_bytes size))
+
+pub few : (size : ℕ) → size ≤ 65536 → size ≤ 2 ^ 40
+few size h = omega (arith, h)
+
+-- a place of the block is inside it
+pub place_inside : (size : ℕ) → IsBlockSize size → IsInside 0 (pos size) (range_of 0 (turn_bound (times (number (pos size)) (Known (pos 1) (pos 0) (pos 0))) (plus (times (number (pos size)) (Known (pos 1) (pos 0) (pos 0))) (number (pos size)))))
+place_inside size h =
+    subst (λ b. IsInside 0 (pos size) (range_of 0 b)) (sym ((λ i. turn_bound (begin-is size (few size h.1) i) (end-is size (few size h.1) i)) ∙ turn-is size h.0 (few size h.1))) (inside 0 size h.0)
+
+filled : (size : ℕ) → IsBlockSize size → BeginsWithFill (main_setting (packbits_program size)) (within_fold (packbits_program size) (head size)) 0 size (block_begin size) (block_end size) (writing.number 0) (rest size) (Local 2)
+filled size h = record {
+  calls = calls-tame 0 [] refl 0;
+  some = h.0;
+  low_is = begin-is size (few size h.1);
+  high_is = end-is size (few size h.1);
+  low_avoids = refl;
+  high_avoids = refl;
+  value_avoids = refl;
+  stores = (refl, ((refl, ((refl, (refl, ((refl, ((refl, (refl, tt), tt), ((refl, (refl, tt), tt), tt)), ((refl, ((refl, place_inside size h), (refl, tt)), ((refl, place_inside size h), (refl, tt))), tt)), tt)), tt), tt)), tt));
+  next_avoids = refl;
+}
+
+fold_filled : (size : ℕ) → IsBlockSize size → FillsItsBlocks (packbits_program size) (fold 3 (head size) (body size)) 0 (pos size)
+fold_filled size h =
+    let g = main_setting (packbits_program size) in
+    let slots = within_fold (packbits_program size) (head size) in
+    record {
+      body = filled-tame g slots 0 size 4 (block_begin size) (block_end size) (writing.number 0) (rest size) (Local 2) (filled size h);
+      fills = filled-fills g slots 0 size 4 (block_begin size) (block_end size) (writing.number 0) (rest size) (Local 2) (filled size h);
+      guess = tame-nothing 0 NoWrite;
+      assigns_no_outer = refl;
+      emits_nothing = refl;
+    }
+
+pub packbits_accepted : (size : ℕ) → IsBlockSize size → IsAccepted (packbits_program size)
+packbits_accepted size h zero construct e =
+    subst (KeepsTheRules (packbits_program size)) (some_is (fold 3 (head size) (body size)) construct e)
+    (fold-keeps (packbits_program size) 3 (head size) (body size) 0 (pos size) (fold_filled size h))
+packbits_accepted size h (suc number) construct e = absurd cc

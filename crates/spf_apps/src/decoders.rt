@@ -1,0 +1,53 @@
+// The three programs, with what the checker says of them.
+ghost use Rattle.std.specs.Prelude.{◌≡◌, ◌≤◌, IfOk};
+ghost use Rattle.spf_ast.specs.Lawful.{IsLawful};
+ghost use Rattle.spf_ast.specs.View.{program as seen_program};
+ghost use Rattle.spf_check.specs.Accepting.{IsAccepted};
+ghost use Rattle.spf_programs.specs.PackBits.{packbits_program};
+ghost use Rattle.spf_programs.specs.Huffman.{huffman_program};
+ghost use Rattle.spf_programs.specs.Lexer.{lexer_program};
+
+use crate::laws::decoders_are_accepted;
+use spf_ast::syntax::Program;
+use std::alloc::{AllocError, Global};
+
+/// The program that unpacks PackBits by blocks of `block` bytes, 1 to 65,536. It is lawful and accepted.
+pub fn packbits(alloc: Global, block: u64) -> Result<Program, AllocError>
+    requires some { 1 ≤ block }
+    requires few { block ≤ 65536 }
+    ensures program { IfOk result (λ p. seen_program p ≡ packbits_program block) }
+    ensures lawful { IfOk result (λ p. IsLawful (seen_program p)) }
+    ensures accepted { IfOk result (λ p. IsAccepted (seen_program p)) }
+{
+    decoders_are_accepted();
+    spf_programs::packbits::packbits(alloc, block)
+}
+
+/// The program that decodes HUF1 by blocks of `block` bytes, 1 to 65,536. It is lawful and accepted.
+pub fn huffman(alloc: Global, block: u64) -> Result<Program, AllocError>
+    requires some { 1 ≤ block }
+    requires few { block ≤ 65536 }
+    ensures program { IfOk result (λ p. seen_program p ≡ huffman_program block) }
+    ensures lawful { IfOk result (λ p. IsLawful (seen_program p)) }
+    ensures accepted { IfOk result (λ p. IsAccepted (seen_program p)) }
+{
+    decoders_are_accepted();
+    spf_programs::huffman::huffman(alloc, block)
+}
+
+/// The program that runs LEX1 machines with so many states and classes, 1 to 64 each, by blocks of `block` bytes, 1 to 65,536. It
+/// is lawful and accepted.
+pub fn lexer(alloc: Global, block: u64, states: u64, classes: u64) -> Result<Program, AllocError>
+    requires some { 1 ≤ block }
+    requires few { block ≤ 65536 }
+    requires some_states { 1 ≤ states }
+    requires few_states { states ≤ 64 }
+    requires some_classes { 1 ≤ classes }
+    requires few_classes { classes ≤ 64 }
+    ensures program { IfOk result (λ p. seen_program p ≡ lexer_program block states classes) }
+    ensures lawful { IfOk result (λ p. IsLawful (seen_program p)) }
+    ensures accepted { IfOk result (λ p. IsAccepted (seen_program p)) }
+{
+    decoders_are_accepted();
+    spf_programs::lexer::lexer(alloc, block, states, classes)
+}

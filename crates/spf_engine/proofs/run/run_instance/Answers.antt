@@ -1,0 +1,87 @@
+use Rattle.std.proofs.Common.{◌≡◌, ◌∙◌, sym, ap, subst, refl, [], length}
+use Rattle.spf_ast.specs.Lawful.{IsLawful}
+use Rattle.spf_ast.specs.Construct.{constructs_in, reals}
+use Rattle.spf_layout.specs.Instance.{program_of}
+use Rattle.spf_progress.specs.Progress.{no_progress}
+use Rattle.spf_progress.specs.Traces.{AreTraces}
+use Rattle.spf_engine.specs.Runs.{AreFew, GoesFurther}
+use Rattle.spf_engine.proofs.Ending.{few-none}
+use Rattle.spf_engine.proofs.Stepping.{if-err, finishes-so, traps-so, goes-on-so}
+use Rattle.spf_engine.proofs.run.run_instance.Goals as goal
+
+pub loop-account-init : goal.loop-account-init
+loop-account-init g c = record {
+  run = c.in_ok-run.ensures.run;
+  count = refl;
+  progress = no_progress;
+  agrees = record { stats = c.new-account.ensures.stats; traces = c.new-account.ensures.traces };
+  told = λ host pairs block. refl;
+  goes = c.runs_in_pieces_go_on.ensures.begin _ (program_of c.args.instance.now) c.args.instance.now.input c.in_ok-run.run' (subst IsLawful (sym c.requires.program) c.program-program.ensures.lawful) c.in_ok-run.ensures.begins;
+  few = subst (λ s. AreFew (program_of c.args.instance.now) c.in_ok-run.run' s) (sym c.new-account.ensures.stats) (few-none _);
+}
+
+pub returns-in_err-take_step-clause-told_first : goal.returns-in_err-take_step-clause-told_first
+returns-in_err-take_step-clause-told_first g c =
+    let i = c.loop-account.invariant in
+    if-err _ (c.in_err-take_step.ensures.told_first _ i.progress i.told i.goes)
+
+pub loop-account-preserved : goal.loop-account-preserved
+loop-account-preserved g c =
+    let i = c.loop-account.invariant in
+    let to = c.in_ok-take_step.ensures.steps _ i.progress i.agrees i.told i.goes in
+    let further = subst (λ t. GoesFurther (program_of c.args.instance.now) t c.loop-account.run c.take_step.new.run c.take_step.new.account.stats) c.in-Next.is c.in_ok-take_step.ensures.further in
+    record {
+      run = c.take_step.ensures.run;
+      count = c.take_step.ensures.count ∙ i.count;
+      progress = to.later;
+      agrees = to.agrees;
+      told = to.told;
+      goes = goes-on-so _ (program_of c.args.instance.now) c.args.instance.now.input c.in_ok-take_step.field-0 c.take_step.new.run to.later to.there c.in-Next.is;
+      few = further.1;
+    }
+
+pub returns-in-Finished-clause-outcome : goal.returns-in-Finished-clause-outcome
+returns-in-Finished-clause-outcome g c =
+    let i = c.loop-account.invariant in
+    c.finished.ensures.outcome
+    ∙ (finishes-so _ (program_of c.args.instance.now) c.args.instance.now.input c.in_ok-take_step.field-0 c.take_step.new.run c.take_step.new.account _ (c.in_ok-take_step.ensures.steps _ i.progress i.agrees i.told i.goes) c.in-Finished.is).outcome_is
+
+pub returns-in-Finished-clause-statistics : goal.returns-in-Finished-clause-statistics
+returns-in-Finished-clause-statistics g c =
+    let i = c.loop-account.invariant in
+    c.finished.ensures.stats
+    ∙ (finishes-so _ (program_of c.args.instance.now) c.args.instance.now.input c.in_ok-take_step.field-0 c.take_step.new.run c.take_step.new.account _ (c.in_ok-take_step.ensures.steps _ i.progress i.agrees i.told i.goes) c.in-Finished.is).stats
+
+pub returns-in-Finished-clause-traces : goal.returns-in-Finished-clause-traces
+returns-in-Finished-clause-traces g c =
+    let i = c.loop-account.invariant in
+    subst (AreTraces _ (program_of c.args.instance.now) c.args.instance.now.input (constructs_in (program_of c.args.instance.now).main) (reals (program_of c.args.instance.now) c.args.instance.now.input) []) (sym c.finished.ensures.traces)
+    (finishes-so _ (program_of c.args.instance.now) c.args.instance.now.input c.in_ok-take_step.field-0 c.take_step.new.run c.take_step.new.account _ (c.in_ok-take_step.ensures.steps _ i.progress i.agrees i.told i.goes) c.in-Finished.is).traces
+
+pub returns-in-Finished-clause-told : goal.returns-in-Finished-clause-told
+returns-in-Finished-clause-told g c =
+    let i = c.loop-account.invariant in
+    (finishes-so _ (program_of c.args.instance.now) c.args.instance.now.input c.in_ok-take_step.field-0 c.take_step.new.run c.take_step.new.account _ (c.in_ok-take_step.ensures.steps _ i.progress i.agrees i.told i.goes) c.in-Finished.is).told
+
+pub returns-in-Trapped-clause-outcome : goal.returns-in-Trapped-clause-outcome
+returns-in-Trapped-clause-outcome g c =
+    let i = c.loop-account.invariant in
+    c.trapped.ensures.outcome
+    ∙ (traps-so _ (program_of c.args.instance.now) c.args.instance.now.input c.in_ok-take_step.field-0 c.in-Trapped.trap c.take_step.new.run c.take_step.new.account _ (c.in_ok-take_step.ensures.steps _ i.progress i.agrees i.told i.goes) c.in-Trapped.is).outcome_is
+
+pub returns-in-Trapped-clause-statistics : goal.returns-in-Trapped-clause-statistics
+returns-in-Trapped-clause-statistics g c =
+    let i = c.loop-account.invariant in
+    c.trapped.ensures.stats
+    ∙ (traps-so _ (program_of c.args.instance.now) c.args.instance.now.input c.in_ok-take_step.field-0 c.in-Trapped.trap c.take_step.new.run c.take_step.new.account _ (c.in_ok-take_step.ensures.steps _ i.progress i.agrees i.told i.goes) c.in-Trapped.is).stats
+
+pub returns-in-Trapped-clause-traces : goal.returns-in-Trapped-clause-traces
+returns-in-Trapped-clause-traces g c =
+    let i = c.loop-account.invariant in
+    subst (AreTraces _ (program_of c.args.instance.now) c.args.instance.now.input (constructs_in (program_of c.args.instance.now).main) (reals (program_of c.args.instance.now) c.args.instance.now.input) []) (sym c.trapped.ensures.traces)
+    (traps-so _ (program_of c.args.instance.now) c.args.instance.now.input c.in_ok-take_step.field-0 c.in-Trapped.trap c.take_step.new.run c.take_step.new.account _ (c.in_ok-take_step.ensures.steps _ i.progress i.agrees i.told i.goes) c.in-Trapped.is).traces
+
+pub returns-in-Trapped-clause-told : goal.returns-in-Trapped-clause-told
+returns-in-Trapped-clause-told g c =
+    let i = c.loop-account.invariant in
+    (traps-so _ (program_of c.args.instance.now) c.args.instance.now.input c.in_ok-take_step.field-0 c.in-Trapped.trap c.take_step.new.run c.take_step.new.account _ (c.in_ok-take_step.ensures.steps _ i.progress i.agrees i.told i.goes) c.in-Trapped.is).told

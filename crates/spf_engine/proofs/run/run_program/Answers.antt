@@ -1,0 +1,12 @@
+use Rattle.std.proofs.Common.{◌≡◌, map}
+use Rattle.spf_ast.specs.View.{program as seen_program}
+use Rattle.spf_predictors.specs.Answers.{handed_in}
+use Rattle.spf_engine.proofs.Stepping.{told-nothing, retold-as}
+use Rattle.spf_engine.proofs.run.run_program.Goals as goal
+
+pub returns-in-Some-clause-told_first : goal.returns-in-Some-clause-told_first
+returns-in-Some-clause-told_first g c = told-nothing _ (seen_program c.args.checked.now) c.args.input.now
+
+pub returns-clause-told : goal.returns-clause-told
+returns-clause-told g c =
+    retold-as (handed_in (map (λ h. (goal.Predictor-dyn g (h.vtable, h.value)).answer h.value) c.args.hosts.now.items)) _ _ _ _ _ c.in_ok-instance.ensures.program c.in_ok-instance.ensures.input c.in_ok-report.ensures.told

@@ -1,0 +1,12 @@
+pub mod Signatures
+pub mod Huffman
+pub mod Huf1
+pub mod Lex1
+pub mod Toy
+pub mod Draws
+pub mod Written
+pub mod Refusals
+pub mod PackBits
+pub mod Decoded
+pub mod Tokens
+pub mod Laws
