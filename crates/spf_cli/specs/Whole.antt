@@ -8,6 +8,7 @@ use Rattle.spf_edge.specs.Entries.{Entry, lookup}
 use Rattle.spf_edge.specs.Bytes.{Adds, AddsPrefix, Hands}
 use Rattle.spf_cli.specs.Answer.{Answer, not_understood, text_refused, accepted, rule_refused, explained, file_failed, file_too_long, too_many_cells, host_missing, printed, ran}
 use Rattle.spf_words.specs.Command.{Command, Run, Check, Explain, Print, Options, Asks}
+use Rattle.spf_words.specs.Only.{IsOnly}
 use Rattle.spf_region.specs.declared.range.Range.{Range}
 use Rattle.spf_check.specs.declared.rule.Rule.{Rule}
 use Rattle.spf_check.specs.Accepting.{IsAccepted, IsFirstRefusal}

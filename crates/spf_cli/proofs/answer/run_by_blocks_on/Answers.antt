@@ -11,7 +11,7 @@ use Rattle.spf_cli.proofs.answer.run_by_blocks_on.Goals as goal
 
 pub returns-in_err-content-clause-whole : goal.returns-in_err-content-clause-whole
 returns-in_err-content-clause-whole g c =
-    let q = err_from_is_err_and c.from_residual-in_err-content.result c.from_residual-in_err-content.ensures.1 in
+    let q = err_from_is_err_and c.from_residual.result c.from_residual.ensures.1 in
     let options = seen_options c.args.options in
     let p = program c.args.checked.now in
     let given = handed (map (λ h. (goal.Predictor-dyn g (h.vtable, h.value)).answer h.value) c.args.hosts.now.items) in
@@ -19,7 +19,7 @@ returns-in_err-content-clause-whole g c =
 
 pub returns-in_err-content-clause-cause : goal.returns-in_err-content-clause-cause
 returns-in_err-content-clause-cause g c =
-    let q = err_from_is_err_and c.from_residual-in_err-content.result c.from_residual-in_err-content.ensures.1 in
+    let q = err_from_is_err_and c.from_residual.result c.from_residual.ensures.1 in
     rw (q.1, q.2) (fetch_cause (g.F.Files.told c.args.files.now) c.args.input.now _ _ _ _ (λ f. f) c.in_err-content.ensures.left)
 
 pub returns-clause-whole : goal.returns-clause-whole
