@@ -2,12 +2,24 @@
 #![tactic(auto)]
 
 use spf_cli::spf_main;
-use spf_edge::{RealFiles, RealSink, StandardStream};
+use spf_edge::{Open, RealFiles, RealSink, Sink, StandardStream};
+use spf_host_words::{HostKind, WordsError, read_hosts};
+use spf_predictors::{Fixed, Last, Most, Predictor, Table};
+use std::alloc::{AllocError, Global};
 use std::process::ExitCode;
 use std::{env, io};
 
-/// The status where there is too little memory for the words.
+/// The status where the words that ask for hosts aren't understood.
+const NOT_UNDERSTOOD: u8 = 2;
+
+/// The status where there is too little memory for the words or the hosts.
 const NO_MEMORY: u8 = 8;
+
+/// How many different values a host counts that guesses the one it was told most often.
+const MOST_ROOM: u64 = 256;
+
+/// For how many blocks a host keeps a value that guesses by block numbers.
+const TABLE_ROOM: u64 = 4096;
 
 /// The words behind the program's name. Words that are no text are no words of a command, so there are none then.
 fn words(rt: &(impl env::Env + AllocGlobal)) -> io::Result<Vec<String>> {
@@ -22,12 +34,46 @@ fn words(rt: &(impl env::Env + AllocGlobal)) -> io::Result<Vec<String>> {
     Ok(words)
 }
 
+/// Adds a host of this kind, which was told nothing.
+fn push_host(
+    alloc: Global,
+    hosts: &mut Vec<Box<dyn Predictor>>,
+    kind: HostKind,
+) -> Result<(), AllocError> {
+    match kind {
+        HostKind::Fixed(value) => hosts.push(Box::new(alloc, Fixed::make(value))?)?,
+        HostKind::Last => hosts.push(Box::new(alloc, Last::make())?)?,
+        HostKind::Most => hosts.push(Box::new(alloc, Most::make(alloc, MOST_ROOM)?)?)?,
+        HostKind::Table => hosts.push(Box::new(alloc, Table::make(alloc, TABLE_ROOM)?)?)?,
+    }
+    Ok(())
+}
+
 fn main(rt: HostRuntime) -> ExitCode {
+    let alloc = rt.alloc();
     let Ok(words) = words(&rt) else {
         return ExitCode::from(NO_MEMORY);
     };
     let mut files = RealFiles::make(&rt);
     let mut out = RealSink::make(StandardStream::Output(rt.stdout()));
     let mut err = RealSink::make(StandardStream::Error(rt.stderr()));
-    ExitCode::from(spf_main(rt.alloc(), &words, &mut files, &mut out, &mut err))
+    let asked = match read_hosts(alloc, &words) {
+        Ok(asked) => asked,
+        Err(WordsError::NotUnderstood) => {
+            // Where this can't be put either, the status alone tells it.
+            let _ = err.put(b"words not understood\n");
+            return ExitCode::from(NOT_UNDERSTOOD);
+        }
+        Err(WordsError::OutOfMemory) => return ExitCode::from(NO_MEMORY),
+    };
+    let mut hosts: Vec<Box<dyn Predictor>> = Vec::new(alloc);
+    for kind in &asked.kinds {
+        if push_host(alloc, &mut hosts, *kind).is_err() {
+            return ExitCode::from(NO_MEMORY);
+        }
+    }
+    let (_, command) = words.split_at((asked.rest as usize).min(words.len()));
+    ExitCode::from(spf_main(
+        alloc, command, &mut files, &mut out, &mut err, hosts, &Open,
+    ))
 }

@@ -1,4 +1,3 @@
-pub mod Words
 pub mod Verdicts
 pub mod Lines
 pub mod Steps

@@ -23,12 +23,13 @@ use Rattle.spf_edge.proofs.Taking.{adds_empty_prefix}
 use Rattle.spf_cli.specs.Answer.{Answer, text_refused, rule_refused, explained, file_failed, file_too_long, too_many_cells, host_missing, ran}
 use Rattle.spf_cli.specs.Answering.{seen_answer, FetchAnswer, IsFetchExit, IsReadExit, IsRuleExit, IsNotAccepted, IsWholeUnless, IsCaused, AnswersWith, IsPutFault, IsOneLine}
 use Rattle.spf_cli.specs.Message.{failed_line}
-use Rattle.spf_cli.specs.Command.{Command, Run, Options, Asks}
+use Rattle.spf_words.specs.Command.{Command, Run, Options, Asks}
 use Rattle.spf_cli.specs.Reading.{Says, Refuses, IsVerdict, Refusal}
 use Rattle.spf_cli.specs.Status.{put_status}
 use Rattle.spf_cli.specs.Laws.{RuleLaws}
 use Rattle.spf_guess.specs.declared.stats.Stats.{Stats}
-use Rattle.spf_cli.specs.Whole.{Handed, Wanted, Is, Either, Fetched, Judged, Read, CheckedBy, Explained, WithHosts, host_wanted, Runs, RunsOn, MayRun, IsInputFault, stats_of, WholeOf, Whole, IsOnly, IsFaultOf, IsFaultAnswer, IsGiven, IsGivenInPart, IsAnswered, IsAnsweredInPart, max_program, max_input}
+use Rattle.spf_words.specs.Only.{IsOnly}
+use Rattle.spf_cli.specs.Whole.{Handed, Wanted, Is, Either, Fetched, Judged, Read, CheckedBy, Explained, WithHosts, host_wanted, Runs, RunsOn, MayRun, IsInputFault, stats_of, WholeOf, Whole, IsFaultOf, IsFaultAnswer, IsGiven, IsGivenInPart, IsAnswered, IsAnsweredInPart, max_program, max_input}
 use Rattle.spf_cli.specs.declared.answer.Answer as made
 use Rattle.spf_cli.specs.declared.answer.Exit.{Exit}
 use Rattle.spf_cli.specs.declared.answer.Exit.TheVariants.{Answered, NoMemory}

@@ -17,7 +17,7 @@ use Rattle.spf_cli.specs.Reading.{Refusal, text_too_long, bad_byte, number_too_l
 use Rattle.spf_cli.specs.Unread.{refusal_of, seen_refusal, IsRefusalOf, IsUnread, IsAtByte, HasNoByteFault}
 use Rattle.spf_cli.specs.declared.reading.Unread.{Unread}
 use Rattle.spf_cli.specs.declared.reading.Unread.TheVariants.{Refused, NoMemory}
-use Rattle.spf_cli.specs.Whole.{IsOnly}
+use Rattle.spf_words.specs.Only.{IsOnly}
 
 -- a text that is refused at a byte is refused so by the parser, unless memory was short
 abbrev pub IsExact : {A : Type 0} → List ℕ → Result A ParseError → Type 0

@@ -18,7 +18,8 @@ use Rattle.spf_cli.specs.Answer as said
 use Rattle.spf_cli.specs.Answer.{text_refused, rule_refused, file_failed, file_too_long, too_many_cells}
 use Rattle.spf_cli.specs.Reading.{Refusal, Refuses, IsVerdict}
 use Rattle.spf_cli.specs.Status.{status_number}
-use Rattle.spf_cli.specs.Whole.{Wanted, IsOnly}
+use Rattle.spf_words.specs.Only.{IsOnly}
+use Rattle.spf_cli.specs.Whole.{Wanted}
 use Rattle.spf_cli.specs.declared.answer.Answer.{Answer}
 use Rattle.spf_cli.specs.declared.answer.Exit.{Exit}
 use Rattle.spf_cli.specs.declared.answer.Exit.TheVariants.{Answered, NoMemory}

@@ -3,9 +3,10 @@ use Rattle.std.specs.Prelude.{◌≡◌, ◌⊎◌, ℕ, List}
 use Rattle.spf_edge.specs.Entries.{Entry}
 use Rattle.spf_check.specs.Laws.{AreAcceptedOrRefused, FirstRefusalsAreTheSame, RefusedAreNotAccepted, AreExplained, ExplanationsAreTheSame}
 use Rattle.spf_cli.specs.Answer.{Answer}
-use Rattle.spf_cli.specs.Command.{Command, Asks}
+use Rattle.spf_words.specs.Command.{Command, Asks}
 use Rattle.spf_cli.specs.Reading.{Verdict, IsVerdict}
-use Rattle.spf_cli.specs.Whole.{Handed, Whole, IsOnly}
+use Rattle.spf_words.specs.Only.{IsOnly}
+use Rattle.spf_cli.specs.Whole.{Handed, Whole}
 
 -- one thing is said of each program, by the laws on refusals and explanations
 pub record RuleLaws : Type 0 where
@@ -26,10 +27,6 @@ abbrev pub NoTextIsLeftUnjudged : Type 0
 NoTextIsLeftUnjudged = (text : List ℕ) → ((verdict : Verdict) → IsVerdict text verdict → ⊥) → ⊥
 
 -- ---- lists of words
-
--- each list of words asks for one command, or for none
-abbrev pub EachAsksForOneOrNone : Type 0
-EachAsksForOneOrNone = (words : List (List ℕ)) → ((command : Command) × IsOnly (Asks words) command) ⊎ ((command : Command) → Asks words command → ⊥)
 
 -- a list of words has at most one answer, with what is handed in and over files
 abbrev pub NoneHasTwoAnswers : Type 0

@@ -1,11 +1,8 @@
 pub mod Message
-pub mod Command
 pub mod Reading
 pub mod Answer
 pub mod Status
 pub mod Whole
-pub mod Asked
-pub mod Options
 pub mod Unread
 pub mod Answering
 pub mod Putting

@@ -5,7 +5,7 @@ use Rattle.spf_parse.specs.declared.program.ParseError.TheVariants as error
 use Rattle.spf_text.specs.declared.scanner.ScanError.TheVariants as scan
 use Rattle.spf_cli.specs.Reading as said
 use Rattle.spf_cli.specs.Reading.{Refuses, IsVerdict, IsTextRefused}
-use Rattle.spf_cli.specs.Whole.{IsOnly}
+use Rattle.spf_words.specs.Only.{IsOnly}
 use Rattle.spf_cli.specs.declared.reading.Refusal.{Refusal}
 use Rattle.spf_cli.specs.declared.reading.Refusal.TheVariants as r
 use Rattle.spf_cli.specs.declared.reading.Unread.{Unread}

@@ -7,7 +7,8 @@ use Rattle.spf_layout.specs.RunErrors.{counted}
 use Rattle.spf_edge.specs.Entries.{Entry, lookup}
 use Rattle.spf_edge.specs.Bytes.{Adds, AddsPrefix, Hands}
 use Rattle.spf_cli.specs.Answer.{Answer, not_understood, text_refused, accepted, rule_refused, explained, file_failed, file_too_long, too_many_cells, host_missing, printed, ran}
-use Rattle.spf_cli.specs.Command.{Command, Run, Check, Explain, Print, Options, Asks}
+use Rattle.spf_words.specs.Command.{Command, Run, Check, Explain, Print, Options, Asks}
+use Rattle.spf_words.specs.Only.{IsOnly}
 use Rattle.spf_region.specs.declared.range.Range.{Range}
 use Rattle.spf_check.specs.declared.rule.Rule.{Rule}
 use Rattle.spf_check.specs.Accepting.{IsAccepted, IsFirstRefusal}
@@ -118,11 +119,6 @@ abbrev pub Whole : Handed → List (List ℕ) → List Entry → Wanted
 Whole given words files answer =
     ((command : Command) × Asks words command × WholeOf given command files answer)
     ⊎ (((command : Command) → Asks words command → ⊥) × (answer ≡ not_understood))
-
--- this is so of the one, and of no other
-pub record IsOnly {A : Type 0} (P : A → Type 0) (a : A) : Type 0 where
-  pub is : P a
-  pub only : (b : A) → P b → b ≡ a
 
 -- the file of this name is reached: it is the program's, or it is the input's and nothing before it is refused
 abbrev pub IsReached : Command → List Entry → List ℕ → Type 0

@@ -8,16 +8,16 @@ ghost use Rattle.spf_layout.specs.Instance.{program_of as instance_program};
 ghost use Rattle.spf_edge.specs.Entries.{Entry, HasContent};
 ghost use Rattle.spf_edge.specs.Faults.{Rose};
 ghost use Rattle.spf_cli.specs.Message.{array_lines};
-ghost use Rattle.spf_cli.specs.Command.{Run as run_command, Check as check_command, Explain as explain_command, Print as print_command};
+ghost use Rattle.spf_words.specs.Command.{Run as run_command, Check as check_command, Explain as explain_command, Print as print_command};
 ghost use Rattle.spf_cli.specs.Reading.{IsVerdict, Says};
 ghost use Rattle.spf_check.specs.Accepting.{IsAccepted};
 ghost use Rattle.spf_cli.specs.Answer.{refused as refused_answer, accepted as accepted_answer, rule_refused as rule_refused_answer, file_failed, too_many_cells, host_missing, printed, stats_lines, ran as ran_answer};
-ghost use Rattle.spf_cli.specs.Asked.{seen_command, seen_options};
+ghost use Rattle.spf_words.specs.Asked.{seen_command, seen_options};
 ghost use Rattle.spf_cli.specs.Status.{status_number};
-ghost use Rattle.spf_cli.specs.Whole.{Handed, handed, IsOnly, Runs, RunsOn, IsInputFault, Whole, WholeOf, IsFaultOf, IsFaultAnswer};
+ghost use Rattle.spf_words.specs.Only.{IsOnly};
+ghost use Rattle.spf_cli.specs.Whole.{Handed, handed, Runs, RunsOn, IsInputFault, Whole, WholeOf, IsFaultOf, IsFaultAnswer};
 ghost use Rattle.spf_cli.specs.Answering.{lines_of, seen_answer, IsFetchExit, IsReadExit, IsRuleExit, IsNotAccepted, IsNotRun, IsWholeUnless, IsCaused, AnswersWith};
 
-use crate::command::{Command, Options, read_words};
 use crate::laws::rules_say_one_thing;
 use crate::message::{
     array_line, failed_line, host_line, long_line, rule_line, stats_line, too_many_line, trap_line,
@@ -39,6 +39,7 @@ use spf_layout::instance::Instance;
 use spf_layout::layout::RunError;
 use spf_predictors::Predictor;
 use spf_predictors::missing::first_missing;
+use spf_words::{Command, Options, read_words};
 use std::alloc::{AllocError, Global};
 
 /// How many bytes the file of a program may have.

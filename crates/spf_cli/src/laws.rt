@@ -1,11 +1,12 @@
 //! Laws about the answers of the program. Each is the contract of a function that does nothing.
-ghost use Rattle.spf_cli.specs.Laws.{RuleLaws, VerdictsAreTheSame, NoTextIsLeftUnjudged, EachAsksForOneOrNone, NoneHasTwoAnswers, NoneIsLeftUnanswered};
+ghost use Rattle.spf_cli.specs.Laws.{RuleLaws, VerdictsAreTheSame, NoTextIsLeftUnjudged, NoneHasTwoAnswers, NoneIsLeftUnanswered};
 
 use spf_check::laws::{one_explanation, one_first_refusal};
 use spf_parse::laws::{texts_say_writable_programs, tokens_go_wrong_once};
 use spf_roundtrip::laws::tokens_are_of_one_program;
 use spf_text::laws::{each_text_has_tokens_or_one_fault, texts_determine_their_tokens};
 use spf_types::laws::each_raw_program_resolves_or_is_refused;
+use spf_words::laws::each_list_of_words_asks_for_one_command_or_none;
 
 /// One thing is said of each program: it is accepted or has one first refusal, and it has one explanation.
 pub(crate) fn rules_say_one_thing()
@@ -28,12 +29,12 @@ pub fn each_text_has_one_verdict()
     each_raw_program_resolves_or_is_refused();
 }
 
-/// Each list of words asks for one command or for none. It has at most one answer over any files, and none is left without an answer.
+/// A list of words has at most one answer, with what is handed in and over any files, and none is left without an answer.
 pub fn each_list_of_words_has_one_answer()
-    ensures commands { EachAsksForOneOrNone }
     ensures one { NoneHasTwoAnswers }
     ensures left { NoneIsLeftUnanswered }
 {
     rules_say_one_thing();
     each_text_has_one_verdict();
+    each_list_of_words_asks_for_one_command_or_none();
 }

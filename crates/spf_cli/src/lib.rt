@@ -2,7 +2,6 @@
 #![tactic(auto)]
 
 mod answer;
-mod command;
 pub mod laws;
 mod message;
 mod reading;

@@ -7,7 +7,7 @@ ghost use Rattle.spf_ast.specs.Spelling.{IsWritable};
 ghost use Rattle.spf_grammar.specs.Texts.{IsProgramOf};
 ghost use Rattle.spf_cli.specs.Reading.{IsVerdict, Says, refusal_line as refusal_line_of};
 ghost use Rattle.spf_cli.specs.Unread.{seen_refusal, IsUnread, HasNoByteFault, IsRefusalOf};
-ghost use Rattle.spf_cli.specs.Whole.{IsOnly};
+ghost use Rattle.spf_words.specs.Only.{IsOnly};
 
 use crate::message::{byte_line, fault_line};
 use spf_ast::raw::RawProgram;

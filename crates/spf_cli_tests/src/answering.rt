@@ -1,6 +1,7 @@
 // What the top call answers, over files and sinks in memory.
 use spf_cli::spf_main;
-use spf_edge::{MemFiles, MemSink};
+use spf_edge::{MemFiles, MemSink, Open};
+use spf_predictors::{Last, Predictor};
 use std::alloc::{AllocError, Global};
 use std::test::Fail;
 
@@ -27,6 +28,10 @@ const OUTER_COUNT: &str =
 
 /// Puts out the number of each block.
 const EMITTING: &str = "main { specfold s = 0 for k in 0..3 predict 0 { emit k; next s; } }";
+
+/// Folds twice over blocks that all begin at 7, and has host 0 guess.
+const HOSTED: &str =
+    "main { specfold s = 7 for k in 0..3 predict host 0 { next s; } specfold t = 7 for k in 0..3 predict host 0 { next t; } emit s; emit t; }";
 
 /// Folds over one block more than a fold may have.
 const TOO_MANY_BLOCKS: &str =
@@ -60,20 +65,30 @@ pub(crate) struct Given {
     pub(crate) err: MemSink,
 }
 
-/// The answer to these words, where the file of the program has this text.
-pub(crate) fn answer(alloc: Global, words: &[&str], program: &str) -> Result<Given, AllocError> {
+/// The answer to these words, where the file of the program has this text and these hosts are handed in.
+fn answer_with(
+    alloc: Global,
+    words: &[&str],
+    program: &str,
+    hosts: Vec<Box<dyn Predictor>>,
+) -> Result<Given, AllocError> {
     let words = texts(alloc, words)?;
     let mut files = files(alloc, program)?;
     let mut out = MemSink::make(Vec::new(alloc), 0);
     let mut err = MemSink::make(Vec::new(alloc), 0);
-    let status = spf_main(alloc, &words, &mut files, &mut out, &mut err);
+    let status = spf_main(alloc, &words, &mut files, &mut out, &mut err, hosts, &Open);
     Ok(Given { status, out, err })
 }
 
+/// The same, where no host is handed in.
+pub(crate) fn answer(alloc: Global, words: &[&str], program: &str) -> Result<Given, AllocError> {
+    answer_with(alloc, words, program, Vec::new(alloc))
+}
+
 #[test]
-fn programs_of_the_first_form_are_run_by_blocks(rt: HostRuntime) -> Result<(), Fail> {
+fn programs_are_run_by_blocks(rt: HostRuntime) -> Result<(), Fail> {
     let alloc = rt.alloc();
-    let rows: [(&str, u8, &[u8], &str); 11] = [
+    let rows: [(&str, u8, &[u8], &str); 14] = [
         (DOUBLING, 0, &[32], "blocks 5 hits 0 misses 4 blind 0\n"),
         (
             "main { specfold s = 1 for k in 0..5 predict 1 << k { next s * 2; } emit s; }",
@@ -134,6 +149,24 @@ fn programs_of_the_first_form_are_run_by_blocks(rt: HostRuntime) -> Result<(), F
             1,
             &[65],
             "trap emit line 1\nblocks 0 hits 0 misses 0 blind 0\n",
+        ),
+        (
+            PAIRS,
+            0,
+            &[7, 0, 0, 7, 7, 0],
+            "blocks 3 hits 1 misses 1 blind 0\n",
+        ),
+        (
+            "array out[1]; main { specfold s = 0 for k in -1..1 predict 0 { out[k] = 1; next 0; } }",
+            1,
+            &[],
+            "trap index line 1\nblocks 1 hits 0 misses 0 blind 0\n",
+        ),
+        (
+            "main { specfold s = 1 for k in 0..2 predict 1 << 62 { for i in 0..s { } next 1; } emit s; }",
+            0,
+            &[1],
+            "blocks 2 hits 0 misses 1 blind 0\n",
         ),
     ];
     for (program, status, output, message) in rows {
@@ -281,7 +314,7 @@ fn all_programs_are_run_plainly(rt: HostRuntime) -> Result<(), Fail> {
             &[7, 0, 0, 7, 7, 0],
             "",
         ),
-        (PAIRS, &RUN, 4, &[], "refused not-built\n"),
+        (PAIRS, &RUN, 0, &[7, 0, 0, 7, 7, 0], ""),
         (DOUBLING, &RUN, 0, &[32], ""),
         (
             "main { while 1 == 1 max 2 { } }",
@@ -311,6 +344,114 @@ fn all_programs_are_run_plainly(rt: HostRuntime) -> Result<(), Fail> {
             7,
             &[],
             "cells 4194305 over 4194304\n",
+        ),
+    ];
+    for (program, words, status, output, message) in rows {
+        let given = answer(alloc, words, program)?;
+        assert_eq!(rt; given.status, status, "of {program}");
+        assert_eq!(rt; given.out.bytes(), output, "of {program}");
+        assert_eq!(rt; given.err.bytes(), message.as_bytes(), "of {program}");
+    }
+    Ok(())
+}
+
+#[test]
+fn the_cells_of_a_run_by_blocks_are_shown(rt: HostRuntime) -> Result<(), Fail> {
+    let alloc = rt.alloc();
+    let rows: [(&str, &[u8], &str); 2] = [
+        (
+            PAIRS,
+            &[7, 0, 0, 7, 7, 0],
+            "blocks 3 hits 1 misses 1 blind 0\ncells out 7 0 0 7 7 0\n",
+        ),
+        (
+            "array out[2]; main { spec x = { give 3; } predict 4 { out[0] = x; out[1] = x * x; } emit out[1]; }",
+            &[9],
+            "blocks 2 hits 0 misses 1 blind 0\ncells out 3 9\n",
+        ),
+    ];
+    for (program, output, message) in rows {
+        let given = answer(alloc, &["run", "P", "I", "--stats", "--cells"], program)?;
+        assert_eq!(rt; given.status, 0, "of {program}");
+        assert_eq!(rt; given.out.bytes(), output, "of {program}");
+        assert_eq!(rt; given.err.bytes(), message.as_bytes(), "of {program}");
+    }
+    Ok(())
+}
+
+#[test]
+fn the_number_of_workers_changes_no_answer(rt: HostRuntime) -> Result<(), Fail> {
+    let alloc = rt.alloc();
+    for count in ["1", "2", "8", "64"] {
+        let given = answer(
+            alloc,
+            &["run", "P", "I", "--workers", count, "--stats", "--cells"],
+            PAIRS,
+        )?;
+        assert_eq!(rt; given.status, 0, "with {count}");
+        assert_eq!(rt; given.out.bytes(), [7, 0, 0, 7, 7, 0].as_slice(), "with {count}");
+        assert_eq!(rt;
+            given.err.bytes(),
+            b"blocks 3 hits 1 misses 1 blind 0\ncells out 7 0 0 7 7 0\n".as_slice(),
+            "with {count}"
+        );
+    }
+    for count in ["0", "65", "08", "+8", "-1", "8x", "", "--stats"] {
+        let given = answer(alloc, &["run", "P", "I", "--workers", count], PAIRS)?;
+        assert_eq!(rt; given.status, 2, "with {count}");
+        assert_eq!(rt; given.out.bytes().len(), 0, "with {count}");
+        assert_eq!(rt; given.err.bytes(), b"words not understood\n".as_slice(), "with {count}");
+    }
+    Ok(())
+}
+
+#[test]
+fn hosts_that_are_handed_in_guess(rt: HostRuntime) -> Result<(), Fail> {
+    let alloc = rt.alloc();
+    let mut hosts: Vec<Box<dyn Predictor>> = Vec::new(alloc);
+    hosts.push(Box::new(alloc, Last::make())?)?;
+    let given = answer_with(alloc, &["run", "P", "I", "--stats"], HOSTED, hosts)?;
+    assert_eq!(rt; given.status, 0);
+    assert_eq!(rt; given.out.bytes(), [7, 7].as_slice());
+    assert_eq!(rt;
+        given.err.bytes(),
+        b"blocks 6 hits 2 misses 2 blind 0\n".as_slice()
+    );
+    Ok(())
+}
+
+#[test]
+fn hosts_that_are_missing_are_named(rt: HostRuntime) -> Result<(), Fail> {
+    let alloc = rt.alloc();
+    let rows: [(&str, &[&str], u8, &[u8], &str); 5] = [
+        (HOSTED, &RUN, 7, &[], "host 0 not handed in\n"),
+        (
+            HOSTED,
+            &["run", "P", "I", "--workers", "2", "--stats", "--cells"],
+            7,
+            &[],
+            "host 0 not handed in\n",
+        ),
+        (
+            "main { specfold s = 7 for k in 0..3 predict host 4 { next s; } specfold t = 7 for k in 0..3 predict host 1 { next t; } }",
+            &RUN,
+            7,
+            &[],
+            "host 4 not handed in\n",
+        ),
+        (
+            "array a[4194305]; main { specfold s = 7 for k in 0..3 predict host 0 { next s; } }",
+            &RUN,
+            7,
+            &[],
+            "cells 4194305 over 4194304\n",
+        ),
+        (
+            HOSTED,
+            &["run", "P", "I", "--stats", "--plain"],
+            0,
+            &[7, 7],
+            "blocks 0 hits 0 misses 0 blind 0\n",
         ),
     ];
     for (program, words, status, output, message) in rows {
@@ -443,7 +584,7 @@ fn programs_are_printed(rt: HostRuntime) -> Result<(), Fail> {
 #[test]
 fn other_words_and_files_are_refused(rt: HostRuntime) -> Result<(), Fail> {
     let alloc = rt.alloc();
-    let rows: [(&[&str], u8, &str); 18] = [
+    let rows: [(&[&str], u8, &str); 20] = [
         (&["run", "P", "J"], 5, "file J failed\n"),
         (&["run", "Q", "I"], 5, "file Q failed\n"),
         (&["print", "Q"], 5, "file Q failed\n"),
@@ -474,6 +615,16 @@ fn other_words_and_files_are_refused(rt: HostRuntime) -> Result<(), Fail> {
             2,
             "words not understood\n",
         ),
+        (
+            &["run", "P", "I", "--workers"],
+            2,
+            "words not understood\n",
+        ),
+        (
+            &["run", "P", "I", "--stats", "--workers", "2"],
+            2,
+            "words not understood\n",
+        ),
     ];
     for (words, status, message) in rows {
         let given = answer(alloc, words, "main { emit 1; }")?;
@@ -495,7 +646,15 @@ fn faults_end_the_run(rt: HostRuntime) -> Result<(), Fail> {
     failing.push(0)?;
     let mut out = MemSink::make(failing, 1);
     let mut err = MemSink::make(Vec::new(alloc), 0);
-    let got = spf_main(alloc, &words, &mut told, &mut out, &mut err);
+    let got = spf_main(
+        alloc,
+        &words,
+        &mut told,
+        &mut out,
+        &mut err,
+        Vec::new(alloc),
+        &Open,
+    );
     assert_eq!(rt;
         (got, out.bytes(), err.bytes().len()),
         (6, b"A".as_slice(), 0)
@@ -508,7 +667,15 @@ fn faults_end_the_run(rt: HostRuntime) -> Result<(), Fail> {
     failing.push(1)?;
     let mut out = MemSink::make(failing, 100);
     let mut err = MemSink::make(Vec::new(alloc), 0);
-    let got = spf_main(alloc, &words, &mut told, &mut out, &mut err);
+    let got = spf_main(
+        alloc,
+        &words,
+        &mut told,
+        &mut out,
+        &mut err,
+        Vec::new(alloc),
+        &Open,
+    );
     assert_eq!(rt; (got, out.bytes().len(), err.bytes().len()), (6, 4196, 0));
 
     // The second fetch fails, although the file is there.
@@ -520,7 +687,15 @@ fn faults_end_the_run(rt: HostRuntime) -> Result<(), Fail> {
     failing.push(1)?;
     let mut told = MemFiles::make(entries, failing);
     let mut out = MemSink::make(Vec::new(alloc), 0);
-    let got = spf_main(alloc, &words, &mut told, &mut out, &mut err);
+    let got = spf_main(
+        alloc,
+        &words,
+        &mut told,
+        &mut out,
+        &mut err,
+        Vec::new(alloc),
+        &Open,
+    );
     assert_eq!(rt; (got, err.bytes()), (5, b"file I failed\n".as_slice()));
     Ok(())
 }

@@ -1,13 +1,14 @@
 use Rattle.std.proofs.Common.{map, string_bytes}
 use Rattle.spf_edge.specs.Faults.{Rose}
 use Rattle.spf_cli.specs.Answering.{seen_answer}
+use Rattle.spf_cli.specs.Whole.{handed}
 use Rattle.spf_cli.proofs.Steps.{whole_words}
 use Rattle.spf_cli.proofs.answer.answer_words.Goals as goal
 
 pub returns-in-Ok-clause-whole : goal.returns-in-Ok-clause-whole
 returns-in-Ok-clause-whole g c =
-    whole_words (map string_bytes c.args.words.now) _ (c.in-Some.ensures {u = tt}) (g.F.Files.told c.args.files.now) (Rose (g.F.Files.faults c.args.files.now) (g.F.Files.faults c.answer_command.new.files)) (seen_answer c.in-Ok.given) c.in-Ok.ensures.whole
+    whole_words (handed (map (λ h. (goal.Predictor-dyn g (h.vtable, h.value)).answer h.value) c.args.hosts.now.items)) (map string_bytes c.args.words.now) _ (c.in-Some.ensures {u = tt}) (g.F.Files.told c.args.files.now) (Rose (g.F.Files.faults c.args.files.now) (g.F.Files.faults c.answer_command.new.files)) (seen_answer c.in-Ok.given) c.in-Ok.ensures.whole
 
 pub returns-in-Err-Answered-clause-whole : goal.returns-in-Err-Answered-clause-whole
 returns-in-Err-Answered-clause-whole g c =
-    whole_words (map string_bytes c.args.words.now) _ (c.in-Some.ensures {u = tt}) (g.F.Files.told c.args.files.now) (Rose (g.F.Files.faults c.args.files.now) (g.F.Files.faults c.answer_command.new.files)) (seen_answer c.in-Err-Answered.given) (rw c.in-Err-Answered.field-0-is at c.in-Err-Answered.ensures.whole)
+    whole_words (handed (map (λ h. (goal.Predictor-dyn g (h.vtable, h.value)).answer h.value) c.args.hosts.now.items)) (map string_bytes c.args.words.now) _ (c.in-Some.ensures {u = tt}) (g.F.Files.told c.args.files.now) (Rose (g.F.Files.faults c.args.files.now) (g.F.Files.faults c.answer_command.new.files)) (seen_answer c.in-Err-Answered.given) (rw c.in-Err-Answered.field-0-is at c.in-Err-Answered.ensures.whole)

@@ -5,13 +5,13 @@ use Rattle.spf_ast.specs.View.{program}
 use Rattle.spf_cli.specs.declared.status.Status.TheVariants.{Done}
 use Rattle.spf_cli.specs.Answering.{seen_answer}
 use Rattle.spf_cli.specs.Answer.{explained}
-use Rattle.spf_cli.specs.Command.{Explain}
+use Rattle.spf_words.specs.Command.{Explain}
 use Rattle.spf_cli.specs.Whole.{IsFaultOf, Read, Explained}
 use Rattle.spf_cli.proofs.Steps.{read_left, with_text, read_says, explained_so}
 use Rattle.spf_cli.proofs.answer.explain_file.Goals as goal
 
 pub returns-in_err-parsed-clause-whole : goal.returns-in_err-parsed-clause-whole
-returns-in_err-parsed-clause-whole g c =
+returns-in_err-parsed-clause-whole g c given =
     let q = err_from_is_err_and c.from_residual-in_err-parsed.result c.from_residual-in_err-parsed.ensures.1 in
     let told = g.F.Files.told c.args.files.now in
     let Fault = Rose (g.F.Files.faults c.args.files.now) (g.F.Files.faults c.fetch.new.files) in
@@ -19,7 +19,7 @@ returns-in_err-parsed-clause-whole g c =
     (read_left (IsFaultOf (Explain c.args.program.now)) (λ files p. Explained p) told c.args.program.now c.in_ok-text.text.items Fault _ c.in_ok-text.ensures.content c.in_ok-text.ensures.within (rw c.deref.ensures.value at c.in_err-parsed.ensures.left))
 
 pub returns-clause-whole : goal.returns-clause-whole
-returns-clause-whole g c files is =
+returns-clause-whole g c given files is =
     let v = rw c.deref.ensures.value at c.in_ok-parsed.ensures.program in
     let p = program c.in_ok-parsed.parsed in
     let text = c.in_ok-explanation.explanation.items in

@@ -5,13 +5,14 @@ use Rattle.spf_ast.specs.View.{program}
 use Rattle.spf_cli.specs.declared.status.Status.TheVariants.{Done}
 use Rattle.spf_cli.specs.Answering.{seen_answer}
 use Rattle.spf_cli.specs.Answer.{printed}
-use Rattle.spf_cli.specs.Command.{Print}
-use Rattle.spf_cli.specs.Whole.{IsFaultOf, IsOnly, Read}
+use Rattle.spf_words.specs.Command.{Print}
+use Rattle.spf_words.specs.Only.{IsOnly}
+use Rattle.spf_cli.specs.Whole.{IsFaultOf, Read}
 use Rattle.spf_cli.proofs.Steps.{read_left, with_text, read_says, at_same, only_this}
 use Rattle.spf_cli.proofs.answer.print_file.Goals as goal
 
 pub returns-in_err-parsed-clause-whole : goal.returns-in_err-parsed-clause-whole
-returns-in_err-parsed-clause-whole g c =
+returns-in_err-parsed-clause-whole g c given =
     let p = err_from_is_err_and c.from_residual-in_err-parsed.result c.from_residual-in_err-parsed.ensures.1 in
     let told = g.F.Files.told c.args.files.now in
     let Fault = Rose (g.F.Files.faults c.args.files.now) (g.F.Files.faults c.fetch.new.files) in
@@ -19,7 +20,7 @@ returns-in_err-parsed-clause-whole g c =
     (read_left (IsFaultOf (Print c.args.program.now)) (λ files p a. a ≡ printed p) told c.args.program.now c.in_ok-text.text.items Fault _ c.in_ok-text.ensures.content c.in_ok-text.ensures.within (rw c.deref.ensures.value at c.in_err-parsed.ensures.left))
 
 pub returns-clause-whole : goal.returns-clause-whole
-returns-clause-whole g c files is =
+returns-clause-whole g c given files is =
     let v = rw c.deref.ensures.value at c.in_ok-parsed.ensures.program in
     let p = program c.in_ok-parsed.parsed in
     let made : seen_answer (record { status = Done; output = c.in_ok-print.field-0; messages = c.new.result }) ≡ printed p = search rules in

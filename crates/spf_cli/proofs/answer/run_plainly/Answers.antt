@@ -6,7 +6,7 @@ use Rattle.spf_ast.specs.Construct.{constructs_in}
 use Rattle.spf_guess.specs.Statistics.{none, tally}
 use Rattle.spf_predictors.specs.Missing.{missing_host}
 use Rattle.spf_cli.specs.Answer.{ran}
-use Rattle.spf_cli.specs.Asked.{seen_options}
+use Rattle.spf_words.specs.Asked.{seen_options}
 use Rattle.spf_cli.specs.Whole.{stats_of, host_wanted}
 use Rattle.spf_cli.proofs.Steps.{run_done}
 use Rattle.spf_cli.proofs.answer.run_plainly.Goals as goal

@@ -2,22 +2,23 @@ use Rattle.std.proofs.Common.{rules, ◌≡◌, subst}
 use Rattle.std.proofs.lemmas.Result.{err_from_is_err_and}
 use Rattle.spf_ast.specs.View.{program}
 use Rattle.spf_edge.specs.Faults.{Rose}
-use Rattle.spf_cli.specs.Asked.{seen_options}
-use Rattle.spf_cli.specs.Whole.{Handed, IsOnly, Runs, RunsOn, IsInputFault}
+use Rattle.spf_words.specs.Asked.{seen_options}
+use Rattle.spf_words.specs.Only.{IsOnly}
+use Rattle.spf_cli.specs.Whole.{Handed, Runs, RunsOn, IsInputFault}
 use Rattle.spf_cli.specs.Answering.{AnswersWith, IsWholeUnless, IsCaused}
 use Rattle.spf_cli.proofs.Steps.{on_whole, on_input_left, answers_with, run_cause, fetch_cause}
 use Rattle.spf_cli.proofs.answer.run_plainly_on.Goals as goal
 
 pub returns-in_err-content-clause-whole : goal.returns-in_err-content-clause-whole
 returns-in_err-content-clause-whole g c given =
-    let q = err_from_is_err_and c.from_residual-in_err-content.result c.from_residual-in_err-content.ensures.1 in
+    let q = err_from_is_err_and c.from_residual.result c.from_residual.ensures.1 in
     let options = seen_options c.args.options in
     let p = program c.args.program.now in
     rw (q.1, q.2) (on_input_left (g.F.Files.told c.args.files.now) c.args.input.now options given p _ _ c.in_err-content.ensures.left)
 
 pub returns-in_err-content-clause-cause : goal.returns-in_err-content-clause-cause
 returns-in_err-content-clause-cause g c =
-    let q = err_from_is_err_and c.from_residual-in_err-content.result c.from_residual-in_err-content.ensures.1 in
+    let q = err_from_is_err_and c.from_residual.result c.from_residual.ensures.1 in
     rw (q.1, q.2) (fetch_cause (g.F.Files.told c.args.files.now) c.args.input.now _ _ _ _ (λ f. f) c.in_err-content.ensures.left)
 
 pub returns-clause-whole : goal.returns-clause-whole

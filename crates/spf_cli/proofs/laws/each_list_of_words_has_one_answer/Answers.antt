@@ -1,8 +1,9 @@
-use Rattle.spf_cli.proofs.OneAnswer.{one_or_none, answers_same, none_unanswered}
+use Rattle.spf_cli.proofs.OneAnswer.{answers_same, none_unanswered}
 use Rattle.spf_cli.proofs.laws.each_list_of_words_has_one_answer.Goals as goal
 
 pub returns : goal.returns
 returns c =
     let rules = c.rules_say_one_thing.ensures in
     let texts = c.each_text_has_one_verdict.ensures in
-    record { commands = one_or_none; one = answers_same rules texts.one; left = none_unanswered rules texts.left }
+    let asks = c.each_list_of_words_asks_for_one_command_or_none.ensures in
+    record { one = answers_same rules texts.one asks; left = none_unanswered rules texts.left asks }

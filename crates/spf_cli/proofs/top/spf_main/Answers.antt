@@ -7,7 +7,7 @@ use Rattle.spf_cli.proofs.top.spf_main.Goals as goal
 
 pub returns-clause-answered : goal.returns-clause-answered
 returns-clause-answered g c told e =
-    answered_without _ told _ _ _ _ _ _ _ _ _ (put_failed _ c.in-Err.error _ c.in-Err.ensures.failed (c.number-in-Err.ensures ∙ c.put_status.ensures))
+    answered_without _ _ told _ _ _ _ _ _ _ _ _ (put_failed _ c.in-Err.error _ c.in-Err.ensures.failed (c.number-in-Err.ensures ∙ c.put_status.ensures))
 
 pub returns-clause-file_fault : goal.returns-clause-file_fault
 returns-clause-file_fault g c s =
@@ -19,11 +19,11 @@ returns-clause-put_fault g c s =
 
 pub returns-in-Ok-put-clause-in_part : goal.returns-in-Ok-put-clause-in_part
 returns-in-Ok-put-clause-in_part g c told e =
-    given_in_part (map string_bytes c.args.words.now) told (Rose (g.F.Files.faults c.args.files.now) (g.F.Files.faults c.answer_words.new.files)) (seen_answer c.in-Ok.given) c.number-in-Ok-put.result (g.S.Sink.taken c.args.out.now) (g.S.Sink.taken c.put.new.out) (g.S.Sink.taken c.args.err.now) (g.S.Sink.taken c.put.new.err) (c.in-Ok.ensures.whole told e) c.put.ensures.front
+    given_in_part _ (map string_bytes c.args.words.now) told (Rose (g.F.Files.faults c.args.files.now) (g.F.Files.faults c.answer_words.new.files)) (seen_answer c.in-Ok.given) c.number-in-Ok-put.result (g.S.Sink.taken c.args.out.now) (g.S.Sink.taken c.put.new.out) (g.S.Sink.taken c.args.err.now) (g.S.Sink.taken c.put.new.err) (c.in-Ok.ensures.whole told e) c.put.ensures.front
     (λ f. inl (c.number-in-Ok-put.ensures ∙ fault_status (map string_bytes c.args.words.now) told (seen_answer c.in-Ok.given) f))
 
 pub returns-clause-in_part : goal.returns-clause-in_part
 returns-clause-in_part g c told e =
-    given_in_part (map string_bytes c.args.words.now) told (Rose (g.F.Files.faults c.args.files.now) (g.F.Files.faults c.answer_words.new.files)) (seen_answer c.in-Ok.given) c.number-in-Err.result (g.S.Sink.taken c.args.out.now) (g.S.Sink.taken c.put.new.out) (g.S.Sink.taken c.args.err.now) (g.S.Sink.taken c.put.new.err) (c.in-Ok.ensures.whole told e) c.put.ensures.front
+    given_in_part _ (map string_bytes c.args.words.now) told (Rose (g.F.Files.faults c.args.files.now) (g.F.Files.faults c.answer_words.new.files)) (seen_answer c.in-Ok.given) c.number-in-Err.result (g.S.Sink.taken c.args.out.now) (g.S.Sink.taken c.put.new.out) (g.S.Sink.taken c.args.err.now) (g.S.Sink.taken c.put.new.err) (c.in-Ok.ensures.whole told e) c.put.ensures.front
     (λ f. fault_ends c.in-Err.error c.number-in-Err.result (g.S.Sink.taken c.args.out.now) (g.S.Sink.taken c.put.new.out) (g.S.Sink.taken c.args.err.now) (g.S.Sink.taken c.put.new.err) (c.number-in-Err.ensures ∙ c.put_status.ensures)
     (λ short. c.put.ensures.nothing (fault_line (map string_bytes c.args.words.now) told (seen_answer c.in-Ok.given) f) (c.in-Err.is ∙ ap Err short)))

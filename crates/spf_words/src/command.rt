@@ -1,34 +1,42 @@
-// The words of the command line.
+//! The words of a command line.
 
 ghost use Rattle.std.specs.Prelude.{◌≡◌, ◌∷◌, ℕ, List, [], codes, Some, None, map, string_bytes, MatchOption, IsTrue, ◌↔◌};
-ghost use Rattle.spf_cli.specs.Whole.{IsOnly};
-ghost use Rattle.spf_cli.specs.Command.{IsFileName, Asks, Command as Wish};
-ghost use Rattle.spf_cli.specs.Asked.{seen_command, seen_options};
-ghost use Rattle.spf_cli.specs.Options.{taken, count_in, shown_in, options_in};
+ghost use Rattle.spf_words.specs.Only.{IsOnly};
+ghost use Rattle.spf_words.specs.Command.{IsFileName, Asks, Command as Wish};
+ghost use Rattle.spf_words.specs.Asked.{seen_command, seen_options};
+ghost use Rattle.spf_words.specs.Options.{taken, count_in, shown_in, options_in};
 
-/// How many workers run the blocks, where that is said; what a run is to show; and whether it goes by the plain meaning alone.
+/// The options of a run.
 #[derive(Clone, Copy, Debug)]
-pub(crate) struct Options {
+pub struct Options {
+    /// How many workers run the blocks, from 1 to 64, where that is said.
     pub workers: Option<u64>,
+    /// Whether the statistics are shown.
     pub stats: bool,
+    /// Whether the cells of the arrays are shown.
     pub cells: bool,
+    /// Whether the program runs by the plain meaning alone.
     pub plain: bool,
 }
 
 /// A command, with the names of its files.
 #[derive(Clone, Copy, Debug)]
-pub(crate) enum Command<'a> {
+pub enum Command<'a> {
+    /// A program is run on an input.
     Run {
         program: &'a str,
         input: &'a str,
         options: Options,
     },
+    /// A program is held against the rules.
     Check {
         program: &'a str,
     },
+    /// It is told what each construct of a program reads and writes.
     Explain {
         program: &'a str,
     },
+    /// A program is printed in its canonical form.
     Print {
         program: &'a str,
     },
@@ -59,10 +67,9 @@ fn take_word<'a>(words: &'a [String], name: &str) -> (bool, &'a [String])
 fn read_count(word: &str) -> Option<u64>
     ensures { result ≡ count_in word.now }
 {
-    let first = word.as_bytes().first()?;
-    if !(b'1'..=b'9').contains(first) {
+    let Some(b'1'..=b'9') = word.as_bytes().first() else {
         return None;
-    }
+    };
     let count = word.parse::<u64>().ok()?;
     if count <= 64 { Some(count) } else { None }
 }
@@ -167,8 +174,12 @@ fn read_print(words: &[String]) -> Option<Command>
     Some(Command::Print { program })
 }
 
-/// The command that the words ask for.
-pub(crate) fn read_words(words: &[String]) -> Option<Command>
+/// Reads the words of a command, or tells that they aren't those of one.
+///
+/// They are `run PROGRAM INPUT` and then, each at most once and in this order, `--workers N`, `--stats`, `--cells` and `--plain`; or
+/// `check PROGRAM`, `explain PROGRAM` or `print PROGRAM`. The name of a file isn't empty and doesn't begin with `-`. N is a decimal
+/// number from 1 to 64, without a sign or a leading zero.
+pub fn read_words(words: &[String]) -> Option<Command>
     ensures { MatchOption result
         ((command : Wish) → Asks (map string_bytes words.now) command → ⊥)
         (λ command. IsOnly (Asks (map string_bytes words.now)) (seen_command command)) }

@@ -2,7 +2,7 @@
 use Rattle.std.specs.Prelude.{ℕ, Bool, true, false, List, [], ◌∷◌, codes, Option, Some, None, if◌then◌else◌, bytes_eq, find}
 use Rattle.std.specs.Fmt.{decimal}
 use Rattle.std.specs.List.{range_with_len}
-use Rattle.spf_cli.specs.Command.{Options}
+use Rattle.spf_words.specs.Command.{Options}
 
 -- whether words begin with this one, and the words after it then
 abbrev pub taken : List ℕ → List (List ℕ) → Bool × List (List ℕ)
@@ -23,7 +23,7 @@ shown_in workers words =
     whole_options workers stats.0 cells.0 plain.0 plain.1
 
 -- the number from 1 to 64 that a word is
-abbrev pub count_in : List ℕ → Option ℕ
+unfoldable pub count_in : List ℕ → Option ℕ
 count_in word = find (λ count. bytes_eq word (decimal count)) (range_with_len 1 64)
 
 -- options whose number of workers is this word

@@ -1,8 +1,8 @@
 -- What contracts see of commands.
-use Rattle.spf_cli.specs.Command as asked
-use Rattle.spf_cli.specs.declared.command.Command.{Command}
-use Rattle.spf_cli.specs.declared.command.Command.TheVariants as command
-use Rattle.spf_cli.specs.declared.command.Options.{Options}
+use Rattle.spf_words.specs.Command as asked
+use Rattle.spf_words.specs.declared.command.Command.{Command}
+use Rattle.spf_words.specs.declared.command.Command.TheVariants as command
+use Rattle.spf_words.specs.declared.command.Options.{Options}
 
 -- what contracts see of options
 abbrev pub seen_options : Options → asked.Options

@@ -1,80 +1,12 @@
 -- Words and the options that they are.
 use Rattle.std.proofs.lemmas.List.{append-nil}
 use Rattle.std.proofs.lemmas.Slice.Eq.{bytes_eq-Decides}
-use Rattle.std.specs.Prelude.{bytes_eq, find, Option, None}
-use Rattle.std.specs.Fmt.{decimal}
-use Rattle.std.specs.List.{range_with_len}
-use Rattle.std.proofs.lemmas.Fmt.{decimal_injective}
-use Rattle.std.proofs.Common.{◌≡◌, ◌⊎◌, inl, inr, ◌<◌, ◌≤◌, ◌+◌, zero, suc, subst, arith, ℕ, Bool, true, false, List, [], ◌∷◌, ◌++◌, codes, Some, refl, sym, ap, ◌∙◌, if◌then◌else◌}
-use Rattle.spf_cli.specs.Command.{Options, option, workers_words, option_words, words_of, AreWorkers, HasWorkers, Command, Run, Check, Explain, Print, IsFileName, Asks}
-use Rattle.spf_cli.specs.Whole.{IsOnly}
-use Rattle.spf_cli.specs.Options.{taken, whole_options, shown_in, count_in, counted_in, workers_in, options_in}
-
--- ---- numbers of workers
-
-abbrev is_count : List ℕ → ℕ → Bool
-is_count word count = bytes_eq word (decimal count)
-
--- what is found among numbers
-record Found (P : ℕ → Bool) (a n found : ℕ) : Type 0 where
-  holds : P found ≡ true
-  low : a ≤ found
-  high : found < a + n
-
-found-in : (P : ℕ → Bool) (a n found : ℕ) → find P (range_with_len a n) ≡ Some found → Found P a n found
-found-in P a zero found e = cc
-found-in P a (suc n) found e = go (P a) refl
-  where
-    go : (b : Bool) → P a ≡ b → Found P a (suc n) found
-    go true is = (let here : a ≡ found = some-is a found (rw is at e) in record { holds = subst (λ x. P x ≡ true) here is; low = omega (arith, here); high = omega (arith, here) })
-      where
-        some-is : (x y : ℕ) → Some x ≡ Some y → x ≡ y
-        some-is x y s = cc
-    go false is =
-        (let later = found-in P (a + 1) n found (rw is at e) in
-        let low = later.low in let high = later.high in
-        record { holds = later.holds; low = omega (arith, low); high = omega (arith, high) })
-
-find-only : (P : ℕ → Bool) (a n m : ℕ) → a ≤ m → m < a + n → P m ≡ true → ((k : ℕ) → a ≤ k → k < a + n → P k ≡ true → k ≡ m) → find P (range_with_len a n) ≡ Some m
-find-only P a zero m low high is only = absurd (omega (arith, low, high))
-find-only P a (suc n) m low high is only = go (P a) refl
-  where
-    go : (b : Bool) → P a ≡ b → find P (range_with_len a (suc n)) ≡ Some m
-    go true here = (let same = only a (omega arith) (omega arith) here in rw here (ap Some same))
-    go false here = rw here (find-only P (a + 1) n m (apart (a_or m low) ) (omega (arith, high)) is (λ k l h p. only k (omega (arith, l)) (omega (arith, h)) p))
-      where
-        a_or : (m : ℕ) → a ≤ m → (a ≡ m) ⊎ (a + 1 ≤ m)
-        a_or m l = grind (arith, l)
-
-        apart : (a ≡ m) ⊎ (a + 1 ≤ m) → a + 1 ≤ m
-        apart (inl same) = absurd (true-not (sym (subst (λ x. P x ≡ true) (sym same) is) ∙ here))
-          where
-            true-not : true ≡ false → ⊥
-            true-not e = cc
-        apart (inr l) = l
-
--- a word that is found is that number
-pub count-is : (word : List ℕ) (count : ℕ) → count_in word ≡ Some count → (word ≡ decimal count) × (1 ≤ count) × (count ≤ 64)
-count-is word count e =
-    let f = found-in (is_count word) 1 64 count e in
-    let low = f.low in let high = f.high in
-    ((bytes_eq-Decides word (decimal count)).0 f.holds, omega (arith, low), omega (arith, high))
-
--- the decimal text of a number is found
-pub count-of : (count : ℕ) → 1 ≤ count → count ≤ 64 → count_in (decimal count) ≡ Some count
-count-of count low high =
-    find-only (is_count (decimal count)) 1 64 count low (omega (arith, high)) ((bytes_eq-Decides (decimal count) (decimal count)).1 refl)
-    (λ k l h p. sym (decimal_injective count k (omega (arith, high)) (omega (arith, h)) ((bytes_eq-Decides (decimal count) (decimal k)).0 p)))
-
--- a word that no number has is none
-pub count-none : (word : List ℕ) → ((count : ℕ) → 1 ≤ count → count ≤ 64 → decimal count ≡ word → ⊥) → count_in word ≡ None
-count-none word never = go (count_in word) refl
-  where
-    go : (found : Option ℕ) → count_in word ≡ found → count_in word ≡ None
-    go None e = e
-    go (Some count) e = (let is = count-is word count e in absurd (never count is.1 is.2 (sym is.0)))
-
--- ---- options
+use Rattle.std.specs.Prelude.{bytes_eq, Option, None}
+use Rattle.std.proofs.Common.{◌≡◌, subst, ℕ, Bool, true, false, List, [], ◌∷◌, ◌++◌, codes, Some, refl, sym, ap, ◌∙◌, if◌then◌else◌}
+use Rattle.spf_words.specs.Command.{Options, option, workers_words, option_words, words_of, AreWorkers, HasWorkers, Command, Run, Check, Explain, Print, IsFileName, Asks}
+use Rattle.spf_words.specs.Only.{IsOnly}
+use Rattle.spf_words.specs.Options.{taken, whole_options, shown_in, count_in, counted_in, workers_in, options_in}
+use Rattle.spf_words.proofs.Counts.{count-is, count-of}
 
 -- the words of options are those options
 shown_are : (workers : Option ℕ) (stats cells plain : Bool) → shown_in workers (option stats (codes "--stats") ++ (option cells (codes "--cells") ++ option plain (codes "--plain"))) ≡ Some (record { workers = workers; stats = stats; cells = cells; plain = plain })
@@ -194,3 +126,16 @@ run_asked program input words o e p i = record {
     other (Check program') w workers = absurd (cc)
     other (Explain program') w workers = absurd (cc)
     other (Print program') w workers = absurd (cc)
+
+-- words after the names of a run that are no options ask for nothing
+pub run_never : (program input : List ℕ) (words : List (List ℕ)) → options_in words ≡ None → (command : Command) → Asks (codes "run" ∷ program ∷ input ∷ words) command → ⊥
+run_never program input words e command asks = other command asks.words_are asks.workers_are
+  where
+    other : (d : Command) → codes "run" ∷ program ∷ input ∷ words ≡ words_of d → HasWorkers d → ⊥
+    other (Run program' input' options) w workers =
+        let behind : words ≡ option_words options = cc in
+        let some : None ≡ Some options = sym e ∙ ap options_in behind ∙ options_are options workers in
+        cc
+    other (Check program') w workers = cc
+    other (Explain program') w workers = cc
+    other (Print program') w workers = cc

@@ -1,0 +1,5 @@
+pub mod Only
+pub mod Command
+pub mod Options
+pub mod Asked
+pub mod Laws
