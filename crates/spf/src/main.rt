@@ -73,7 +73,5 @@ fn main(rt: HostRuntime) -> ExitCode {
         }
     }
     let (_, command) = words.split_at((asked.rest as usize).min(words.len()));
-    ExitCode::from(spf_main(
-        alloc, command, &mut files, &mut out, &mut err, hosts, &Open,
-    ))
+    ExitCode::from(spf_main(alloc, command, &mut files, &mut out, &mut err, hosts, &Open))
 }

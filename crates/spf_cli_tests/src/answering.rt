@@ -389,7 +389,11 @@ fn the_number_of_workers_changes_no_answer(rt: HostRuntime) -> Result<(), Fail> 
             PAIRS,
         )?;
         assert_eq!(rt; given.status, 0, "with {count}");
-        assert_eq!(rt; given.out.bytes(), [7, 0, 0, 7, 7, 0].as_slice(), "with {count}");
+        assert_eq!(rt;
+            given.out.bytes(),
+            [7, 0, 0, 7, 7, 0].as_slice(),
+            "with {count}"
+        );
         assert_eq!(rt;
             given.err.bytes(),
             b"blocks 3 hits 1 misses 1 blind 0\ncells out 7 0 0 7 7 0\n".as_slice(),
@@ -400,7 +404,11 @@ fn the_number_of_workers_changes_no_answer(rt: HostRuntime) -> Result<(), Fail> 
         let given = answer(alloc, &["run", "P", "I", "--workers", count], PAIRS)?;
         assert_eq!(rt; given.status, 2, "with {count}");
         assert_eq!(rt; given.out.bytes().len(), 0, "with {count}");
-        assert_eq!(rt; given.err.bytes(), b"words not understood\n".as_slice(), "with {count}");
+        assert_eq!(rt;
+            given.err.bytes(),
+            b"words not understood\n".as_slice(),
+            "with {count}"
+        );
     }
     Ok(())
 }
@@ -615,11 +623,7 @@ fn other_words_and_files_are_refused(rt: HostRuntime) -> Result<(), Fail> {
             2,
             "words not understood\n",
         ),
-        (
-            &["run", "P", "I", "--workers"],
-            2,
-            "words not understood\n",
-        ),
+        (&["run", "P", "I", "--workers"], 2, "words not understood\n"),
         (
             &["run", "P", "I", "--stats", "--workers", "2"],
             2,
