@@ -1,6 +1,6 @@
 use Rattle.std.proofs.Common.{rules, ◌≡◌, ◌<◌, subst, length, ◌∙◌, sym, ap, map}
 use Rattle.std.proofs.lemmas.List.{length-map}
-use Rattle.std.specs.Prelude.{if◌then◌else◌, Option, None, Some}
+use Rattle.std.specs.Prelude.{if◌then◌else◌, None, Some}
 use Rattle.spf_ast.specs.View.{program as program_of}
 use Rattle.spf_ast.specs.Program.{outcome, seen_outcome, cell_count_of, max_cells}
 use Rattle.spf_ast.specs.Construct.{constructs_in}
@@ -20,10 +20,10 @@ returns-in-Some g c =
     let counted : length c.args.hosts.now.items ≡ given.count = sym (length-map c.args.hosts.now.items (λ h. (goal.Predictor-dyn g (h.vtable, h.value)).answer h.value)) in
     let missing : missing_host (length c.args.hosts.now.items) (constructs_in p.main) ≡ Some c.in-Some.host = search rules in
     let wanted : host_wanted options given p ≡ Some c.in-Some.host =
-        ap (λ b. if b then None else missing_host given.count (constructs_in p.main)) c.requires.blocks
-        ∙ ap (λ n. missing_host n (constructs_in p.main)) (sym counted) ∙ missing in
+    ap (λ b. if b then None else missing_host given.count (constructs_in p.main)) c.requires.blocks
+    ∙ ap (λ n. missing_host n (constructs_in p.main)) (sym counted) ∙ missing in
     let few : max_cells < cell_count_of p (length c.args.input.now) → ⊥ =
-        subst (λ q. max_cells < cell_count_of (program_of q) (length c.args.input.now) → ⊥) c.program-program.ensures.program (λ many. c.in-Ok.ensures.too_many many) in
+    subst (λ q. max_cells < cell_count_of (program_of q) (length c.args.input.now) → ⊥) c.program-program.ensures.program (λ many. c.in-Ok.ensures.too_many many) in
     host_left options given p c.args.input.now c.in-Some.host _ few wanted c.in_ok-without_host.ensures
 
 pub returns : goal.returns
@@ -34,15 +34,15 @@ returns g c =
     let counted : length c.args.hosts.now.items ≡ given.count = sym (length-map c.args.hosts.now.items (λ h. (goal.Predictor-dyn g (h.vtable, h.value)).answer h.value)) in
     let all : missing_host (length c.args.hosts.now.items) (constructs_in p.main) ≡ None = search rules in
     let asked : host_wanted options given p ≡ None =
-        ap (λ b. if b then None else missing_host given.count (constructs_in p.main)) c.requires.blocks
-        ∙ ap (λ n. missing_host n (constructs_in p.main)) (sym counted) ∙ all in
+    ap (λ b. if b then None else missing_host given.count (constructs_in p.main)) c.requires.blocks
+    ∙ ap (λ n. missing_host n (constructs_in p.main)) (sym counted) ∙ all in
     let same = c.in-Ok.ensures.program ∙ ap program_of c.program-program.ensures.program in
     let content = c.in-Ok.ensures.input in
     let came : seen_outcome c.in_ok-report.report.outcome ≡ outcome p c.args.input.now = c.in_ok-report.ensures.outcome ∙ (λ i. outcome (same i) (content i)) in
     let stats : c.in_ok-report.report.stats ≡ stats_of options given p c.args.input.now =
-        c.in_ok-report.ensures.statistics ∙ (λ i. (tally given.hosts (same i) (content i)).stats)
-        ∙ ap (λ b. if b then none else (tally given.hosts p c.args.input.now).stats) (sym c.requires.blocks) in
+    c.in_ok-report.ensures.statistics ∙ (λ i. (tally given.hosts (same i) (content i)).stats)
+    ∙ ap (λ b. if b then none else (tally given.hosts p c.args.input.now).stats) (sym c.requires.blocks) in
     let few : max_cells < cell_count_of p (length c.args.input.now) → ⊥ =
-        subst (λ q. max_cells < cell_count_of (program_of q) (length c.args.input.now) → ⊥) c.program-program.ensures.program (λ many. c.in-Ok.ensures.too_many many) in
+    subst (λ q. max_cells < cell_count_of (program_of q) (length c.args.input.now) → ⊥) c.program-program.ensures.program (λ many. c.in-Ok.ensures.too_many many) in
     run_done options given p c.args.input.now _ few asked
     (c.in_ok-ran.ensures ∙ (λ i. ran options (same i) (length (content i)) (came i) (stats i)))
