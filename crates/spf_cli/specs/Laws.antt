@@ -1,9 +1,11 @@
 -- Laws about the answers of the program.
-use Rattle.std.specs.Prelude.{◌≡◌, ℕ, List}
+use Rattle.std.specs.Prelude.{◌≡◌, ◌⊎◌, ℕ, List}
 use Rattle.spf_edge.specs.Entries.{Entry}
 use Rattle.spf_check.specs.Laws.{AreAcceptedOrRefused, FirstRefusalsAreTheSame, RefusedAreNotAccepted, AreExplained, ExplanationsAreTheSame}
 use Rattle.spf_cli.specs.Answer.{Answer}
+use Rattle.spf_words.specs.Command.{Command, Asks}
 use Rattle.spf_cli.specs.Reading.{Verdict, IsVerdict}
+use Rattle.spf_words.specs.Only.{IsOnly}
 use Rattle.spf_cli.specs.Whole.{Handed, Whole}
 
 -- one thing is said of each program, by the laws on refusals and explanations
