@@ -2,10 +2,10 @@
 #![tactic(auto)]
 
 use spf_cli::spf_main;
-use spf_edge::{Open, RealFiles, RealSink, Sink, StandardStream};
+use spf_edge::{Files, Open, RealFiles, RealSink, Sink, StandardStream};
 use spf_host_words::{HostKind, WordsError, read_hosts};
 use spf_predictors::{Fixed, Last, Most, Predictor, Table};
-use std::alloc::{AllocError, Global};
+use std::alloc::Global;
 use std::process::ExitCode;
 use std::{env, io};
 
@@ -34,19 +34,33 @@ fn words(rt: &(impl env::Env + AllocGlobal)) -> io::Result<Vec<String>> {
     Ok(words)
 }
 
-/// Adds a host of this kind, which was told nothing.
-fn push_host(
+/// Makes the hosts that the words ask for, does what the words after them ask for, and gives the status.
+fn answer<F: Files, S: Sink>(
     alloc: Global,
-    hosts: &mut Vec<Box<dyn Predictor>>,
-    kind: HostKind,
-) -> Result<(), AllocError> {
-    match kind {
-        HostKind::Fixed(value) => hosts.push(Box::new(alloc, Fixed::make(value))?)?,
-        HostKind::Last => hosts.push(Box::new(alloc, Last::make())?)?,
-        HostKind::Most => hosts.push(Box::new(alloc, Most::make(alloc, MOST_ROOM)?)?)?,
-        HostKind::Table => hosts.push(Box::new(alloc, Table::make(alloc, TABLE_ROOM)?)?)?,
+    words: &[String],
+    files: &mut F,
+    out: &mut S,
+    err: &mut S,
+) -> Result<u8, WordsError> {
+    let asked = read_hosts(alloc, words)?;
+    let mut hosts: Vec<Box<dyn Predictor>> = Vec::new(alloc);
+    for kind in &asked.kinds {
+        match *kind {
+            HostKind::Fixed(value) => hosts.push(Box::new(alloc, Fixed::make(value))?)?,
+            HostKind::Last => hosts.push(Box::new(alloc, Last::make())?)?,
+            HostKind::Most => hosts.push(Box::new(alloc, Most::make(alloc, MOST_ROOM)?)?)?,
+            HostKind::Table => hosts.push(Box::new(alloc, Table::make(alloc, TABLE_ROOM)?)?)?,
+        }
     }
-    Ok(())
+    let (_, command) = words.split_at((asked.rest as usize).min(words.len()));
+    Ok(spf_main(alloc, command, files, out, err, hosts, &Open))
+}
+
+/// The status where the words that ask for hosts aren't understood, after a line on the error stream. Where that can't be put, the status
+/// alone tells it.
+fn not_understood<S: Sink>(err: &mut S) -> u8 {
+    let _ = err.put(b"words not understood\n");
+    NOT_UNDERSTOOD
 }
 
 fn main(rt: HostRuntime) -> ExitCode {
@@ -57,21 +71,10 @@ fn main(rt: HostRuntime) -> ExitCode {
     let mut files = RealFiles::make(&rt);
     let mut out = RealSink::make(StandardStream::Output(rt.stdout()));
     let mut err = RealSink::make(StandardStream::Error(rt.stderr()));
-    let asked = match read_hosts(alloc, &words) {
-        Ok(asked) => asked,
-        Err(WordsError::NotUnderstood) => {
-            // Where this can't be put either, the status alone tells it.
-            let _ = err.put(b"words not understood\n");
-            return ExitCode::from(NOT_UNDERSTOOD);
-        }
-        Err(WordsError::OutOfMemory) => return ExitCode::from(NO_MEMORY),
+    let status = match answer(alloc, &words, &mut files, &mut out, &mut err) {
+        Ok(status) => status,
+        Err(WordsError::NotUnderstood) => not_understood(&mut err),
+        Err(WordsError::OutOfMemory) => NO_MEMORY,
     };
-    let mut hosts: Vec<Box<dyn Predictor>> = Vec::new(alloc);
-    for kind in &asked.kinds {
-        if push_host(alloc, &mut hosts, *kind).is_err() {
-            return ExitCode::from(NO_MEMORY);
-        }
-    }
-    let (_, command) = words.split_at((asked.rest as usize).min(words.len()));
-    ExitCode::from(spf_main(alloc, command, &mut files, &mut out, &mut err, hosts, &Open))
+    ExitCode::from(status)
 }
