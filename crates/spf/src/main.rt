@@ -7,6 +7,8 @@ use spf_host_words::{HostKind, WordsError, read_hosts};
 use spf_predictors::{Fixed, Last, Most, Predictor, Table};
 use std::alloc::Global;
 use std::process::ExitCode;
+use std::sync::Wait;
+use std::thread::Threads;
 use std::{env, io};
 
 /// The status where the words that ask for hosts aren't understood.
@@ -21,7 +23,7 @@ const MOST_ROOM: u64 = 256;
 /// For how many blocks a host keeps a value that guesses by block numbers.
 const TABLE_ROOM: u64 = 4096;
 
-/// The words behind the program's name. Words that are no text are no words of a command, so there are none then.
+/// The words after the program's name. Words that are no text are no words of a command, so there are none then.
 fn words(rt: &(impl env::Env + AllocGlobal)) -> io::Result<Vec<String>> {
     let mut words = Vec::new(rt.alloc());
     let args = match env::args(rt) {
@@ -35,7 +37,8 @@ fn words(rt: &(impl env::Env + AllocGlobal)) -> io::Result<Vec<String>> {
 }
 
 /// Makes the hosts that the words ask for, does what the words after them ask for, and gives the status.
-fn answer<F: Files, S: Sink>(
+fn answer<R: Threads + Wait + Sync, F: Files, S: Sink>(
+    rt: &R,
     alloc: Global,
     words: &[String],
     files: &mut F,
@@ -53,7 +56,7 @@ fn answer<F: Files, S: Sink>(
         }
     }
     let (_, command) = words.split_at((asked.rest as usize).min(words.len()));
-    Ok(spf_main(alloc, command, files, out, err, hosts, &Open))
+    Ok(spf_main(rt, alloc, command, files, out, err, hosts, &Open))
 }
 
 /// The status where the words that ask for hosts aren't understood, after a line on the error stream. Where that can't be put, the status
@@ -71,7 +74,7 @@ fn main(rt: HostRuntime) -> ExitCode {
     let mut files = RealFiles::make(&rt);
     let mut out = RealSink::make(StandardStream::Output(rt.stdout()));
     let mut err = RealSink::make(StandardStream::Error(rt.stderr()));
-    let status = match answer(alloc, &words, &mut files, &mut out, &mut err) {
+    let status = match answer(&rt, alloc, &words, &mut files, &mut out, &mut err) {
         Ok(status) => status,
         Err(WordsError::NotUnderstood) => not_understood(&mut err),
         Err(WordsError::OutOfMemory) => NO_MEMORY,

@@ -8,7 +8,7 @@ ghost use Rattle.spf_layout.specs.Instance.{program_of as instance_program};
 ghost use Rattle.spf_edge.specs.Entries.{Entry, HasContent};
 ghost use Rattle.spf_edge.specs.Faults.{Rose};
 ghost use Rattle.spf_cli.specs.Message.{array_lines};
-ghost use Rattle.spf_words.specs.Command.{Run as run_command, Check as check_command, Explain as explain_command, Print as print_command};
+ghost use Rattle.spf_words.specs.Command.{Run as run_command, Check as check_command, Explain as explain_command, Print as print_command, AreWorkers, HasWorkers};
 ghost use Rattle.spf_cli.specs.Reading.{IsVerdict, Says};
 ghost use Rattle.spf_check.specs.Accepting.{IsAccepted};
 ghost use Rattle.spf_cli.specs.Answer.{refused as refused_answer, accepted as accepted_answer, rule_refused as rule_refused_answer, file_failed, too_many_cells, host_missing, printed, stats_lines, ran as ran_answer};
@@ -41,12 +41,17 @@ use spf_predictors::Predictor;
 use spf_predictors::missing::first_missing;
 use spf_words::{Command, Options, read_words};
 use std::alloc::{AllocError, Global};
+use std::sync::Wait;
+use std::thread::Threads;
 
 /// How many bytes the file of a program may have.
 const MAX_PROGRAM: u64 = 1_048_576;
 
 /// How many bytes the file of an input may have.
 const MAX_INPUT: u64 = 4_194_304;
+
+/// How many workers run the blocks where the words don't say it.
+const DEFAULT_WORKERS: u64 = 4;
 
 /// A status, with the bytes for the output and the lines for the error stream.
 #[derive(Drop)]
@@ -313,8 +318,17 @@ fn run_plainly(
     Ok(ran(alloc, options, &instance, outcome, Stats::none())?)
 }
 
+/// How many workers run the blocks: as many as the options say, else 4.
+fn worker_count(options: Options) -> u64
+    requires workers { AreWorkers options.workers }
+    ensures { (0 < result) × (result ≤ 64) }
+{
+    options.workers.unwrap_or(DEFAULT_WORKERS)
+}
+
 /// The answer of a run by blocks from guesses.
-fn run_by_blocks<G: Gate>(
+fn run_by_blocks<R: Threads + Wait + Sync, G: Gate + Sync>(
+    rt: &R,
     alloc: Global,
     options: Options,
     checked: &Checked,
@@ -323,6 +337,7 @@ fn run_by_blocks<G: Gate>(
     gate: &G,
 ) -> Result<Answer, Exit>
     requires blocks { options.plain ≡ false }
+    requires workers { AreWorkers options.workers }
     ensures { AnswersWith (IsOnly (Runs (seen_options options) (handed (map (λ h. answer h) hosts.old.items)) (program_of checked.now) input.now)) result }
 {
     let program = checked.program();
@@ -333,7 +348,8 @@ fn run_by_blocks<G: Gate>(
     if let Some(host) = first_missing(program, hosts.len() as u64) {
         return Ok(without_host(alloc, host)?);
     }
-    let report = run_instance(alloc, checked, &instance, hosts, gate)?;
+    let workers = worker_count(options);
+    let report = run_instance(rt, alloc, checked, &instance, workers, hosts, gate)?;
     Ok(ran(alloc, options, &instance, report.outcome, report.stats)?)
 }
 
@@ -357,7 +373,8 @@ fn run_plainly_on<F: Files>(
 }
 
 /// The answer of `run` over an accepted program, on the file of an input.
-fn run_by_blocks_on<F: Files, G: Gate>(
+fn run_by_blocks_on<R: Threads + Wait + Sync, F: Files, G: Gate + Sync>(
+    rt: &R,
     alloc: Global,
     checked: &Checked,
     input: &str,
@@ -367,17 +384,19 @@ fn run_by_blocks_on<F: Files, G: Gate>(
     gate: &G,
 ) -> Result<Answer, Exit>
     requires blocks { options.plain ≡ false }
+    requires workers { AreWorkers options.workers }
     ensures whole { let o = seen_options options in let p = program_of checked.now in
         AnswersWith (IsWholeUnless (RunsOn o (handed (map (λ h. answer h) hosts.old.items)) input.now p) (IsInputFault input.now) (F.told files.old) (Rose (F.faults files.old) (F.faults files.new))) result }
     ensures cause { AnswersWith (IsCaused (F.told files.old) (Rose (F.faults files.old) (F.faults files.new))) result }
     ensures later { F.faults files.old ≤ F.faults files.new }
 {
     let content = fetch(alloc, files, input, MAX_INPUT)?;
-    run_by_blocks(alloc, options, checked, &content, hosts, gate)
+    run_by_blocks(rt, alloc, options, checked, &content, hosts, gate)
 }
 
 /// The answer of `run` over two files.
-fn run_files<F: Files, G: Gate>(
+fn run_files<R: Threads + Wait + Sync, F: Files, G: Gate + Sync>(
+    rt: &R,
     alloc: Global,
     program: &str,
     input: &str,
@@ -386,6 +405,7 @@ fn run_files<F: Files, G: Gate>(
     hosts: &mut Vec<Box<dyn Predictor>>,
     gate: &G,
 ) -> Result<Answer, Exit>
+    requires workers { AreWorkers options.workers }
     ensures whole { let command = run_command program.now input.now (seen_options options) in
         AnswersWith (IsWholeUnless (WholeOf (handed (map (λ h. answer h) hosts.old.items)) command) (IsFaultOf command) (F.told files.old) (Rose (F.faults files.old) (F.faults files.new))) result }
     ensures cause { AnswersWith (IsCaused (F.told files.old) (Rose (F.faults files.old) (F.faults files.new))) result }
@@ -398,7 +418,7 @@ fn run_files<F: Files, G: Gate>(
         return run_plainly_on(alloc, &parsed, input, options, files);
     }
     let checked = accept(alloc, parsed)?;
-    run_by_blocks_on(alloc, &checked, input, options, files, hosts, gate)
+    run_by_blocks_on(rt, alloc, &checked, input, options, files, hosts, gate)
 }
 
 /// The answer of `check` over a file.
@@ -450,13 +470,15 @@ fn print_file<F: Files>(alloc: Global, program: &str, files: &mut F) -> Result<A
 }
 
 /// The answer of a command.
-fn answer_command<F: Files, G: Gate>(
+fn answer_command<R: Threads + Wait + Sync, F: Files, G: Gate + Sync>(
+    rt: &R,
     alloc: Global,
     command: Command,
     files: &mut F,
     hosts: &mut Vec<Box<dyn Predictor>>,
     gate: &G,
 ) -> Result<Answer, Exit>
+    requires workers { HasWorkers (seen_command command) }
     ensures whole { AnswersWith (IsWholeUnless (WholeOf (handed (map (λ h. answer h) hosts.old.items)) (seen_command command.entry)) (IsFaultOf (seen_command command.entry)) (F.told files.old) (Rose (F.faults files.old) (F.faults files.new))) result }
     ensures cause { AnswersWith (IsCaused (F.told files.old) (Rose (F.faults files.old) (F.faults files.new))) result }
     ensures later { F.faults files.old ≤ F.faults files.new }
@@ -466,7 +488,7 @@ fn answer_command<F: Files, G: Gate>(
             program,
             input,
             options,
-        } => run_files(alloc, program, input, options, files, hosts, gate),
+        } => run_files(rt, alloc, program, input, options, files, hosts, gate),
         Command::Check { program } => check_file(alloc, program, files),
         Command::Explain { program } => explain_file(alloc, program, files),
         Command::Print { program } => print_file(alloc, program, files),
@@ -474,7 +496,8 @@ fn answer_command<F: Files, G: Gate>(
 }
 
 /// The answer to the words of a command line.
-pub(crate) fn answer_words<F: Files, G: Gate>(
+pub(crate) fn answer_words<R: Threads + Wait + Sync, F: Files, G: Gate + Sync>(
+    rt: &R,
     alloc: Global,
     words: &[String],
     files: &mut F,
@@ -488,7 +511,7 @@ pub(crate) fn answer_words<F: Files, G: Gate>(
         let line = String::from_str(alloc, "words not understood\n")?;
         return refused(alloc, Status::NotUnderstood, line);
     };
-    match answer_command(alloc, command, files, hosts, gate) {
+    match answer_command(rt, alloc, command, files, hosts, gate) {
         Ok(given) => Ok(given),
         Err(Exit::Answered(given)) => Ok(given),
         Err(Exit::NoMemory) => Err(AllocError),

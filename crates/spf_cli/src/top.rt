@@ -15,6 +15,8 @@ use crate::status::{Status, number};
 use spf_edge::{Files, Gate, PutError, Sink};
 use spf_predictors::Predictor;
 use std::alloc::Global;
+use std::sync::Wait;
+use std::thread::Threads;
 
 /// How many bytes of output are put at once.
 const PIECE: usize = 4096;
@@ -75,11 +77,12 @@ fn put<S: Sink>(given: &Answer, out: &mut S, err: &mut S) -> Result<(), PutError
 /// name, and puts the answer.
 ///
 /// `words` are the words after the program's name and after those that ask for hosts. `hosts` are the predictors that a program names
-/// by number; they are asked, told and dropped here. `gate` watches the attempts. The status is 0 where the command is done, 1 where
+/// by number; they are asked, told and dropped here. `gate` watches the attempts. Blocks run in threads, and the call waits for them. The status is 0 where the command is done, 1 where
 /// the program trapped, 2 where the words aren't understood, 3 where the text has no lawful program, 4 where the checker refuses the
 /// program, 5 where a file could not be read, 6 where a sink failed, 7 where a limit was passed or a host isn't handed in, and 8
 /// where memory ran out.
-pub fn spf_main<F: Files, S: Sink, G: Gate>(
+pub fn spf_main<R: Threads + Wait + Sync, F: Files, S: Sink, G: Gate + Sync>(
+    rt: &R,
     alloc: Global,
     words: &[String],
     files: &mut F,
@@ -104,7 +107,7 @@ pub fn spf_main<F: Files, S: Sink, G: Gate>(
     ensures put_fault { result ≡ 6 → Rose (S.faults out.old) (S.faults out.new) ⊎ Rose (S.faults err.old) (S.faults err.new) }
 {
     let mut hosts = hosts;
-    let Ok(given) = answer_words(alloc, words, files, &mut hosts, gate) else {
+    let Ok(given) = answer_words(rt, alloc, words, files, &mut hosts, gate) else {
         return number(Status::NoMemory);
     };
     match put(&given, out, err) {

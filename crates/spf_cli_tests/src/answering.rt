@@ -3,7 +3,9 @@ use spf_cli::spf_main;
 use spf_edge::{MemFiles, MemSink, Open};
 use spf_predictors::{Last, Predictor};
 use std::alloc::{AllocError, Global};
+use std::sync::Wait;
 use std::test::Fail;
+use std::thread::Threads;
 
 /// The file of the program in each test.
 const PROGRAM: &str = "P";
@@ -66,7 +68,8 @@ pub(crate) struct Given {
 }
 
 /// The answer to these words, where the file of the program has this text and these hosts are handed in.
-fn answer_with(
+fn answer_with<R: Threads + Wait + Sync>(
+    rt: &R,
     alloc: Global,
     words: &[&str],
     program: &str,
@@ -76,13 +79,20 @@ fn answer_with(
     let mut files = files(alloc, program)?;
     let mut out = MemSink::make(Vec::new(alloc), 0);
     let mut err = MemSink::make(Vec::new(alloc), 0);
-    let status = spf_main(alloc, &words, &mut files, &mut out, &mut err, hosts, &Open);
+    let status = spf_main(
+        rt, alloc, &words, &mut files, &mut out, &mut err, hosts, &Open,
+    );
     Ok(Given { status, out, err })
 }
 
 /// The same, where no host is handed in.
-pub(crate) fn answer(alloc: Global, words: &[&str], program: &str) -> Result<Given, AllocError> {
-    answer_with(alloc, words, program, Vec::new(alloc))
+pub(crate) fn answer<R: Threads + Wait + Sync>(
+    rt: &R,
+    alloc: Global,
+    words: &[&str],
+    program: &str,
+) -> Result<Given, AllocError> {
+    answer_with(rt, alloc, words, program, Vec::new(alloc))
 }
 
 #[test]
@@ -170,7 +180,7 @@ fn programs_are_run_by_blocks(rt: HostRuntime) -> Result<(), Fail> {
         ),
     ];
     for (program, status, output, message) in rows {
-        let given = answer(alloc, &["run", "P", "I", "--stats"], program)?;
+        let given = answer(&rt, alloc, &["run", "P", "I", "--stats"], program)?;
         assert_eq!(rt; given.status, status, "of {program}");
         assert_eq!(rt; given.out.bytes(), output, "of {program}");
         assert_eq!(rt; given.err.bytes(), message.as_bytes(), "of {program}");
@@ -239,7 +249,7 @@ fn programs_that_break_a_rule_are_refused(rt: HostRuntime) -> Result<(), Fail> {
     ];
     for (program, message) in rows {
         for words in [&RUN[..], &["check", "P"], &["run", "P", "J", "--stats"]] {
-            let given = answer(alloc, words, program)?;
+            let given = answer(&rt, alloc, words, program)?;
             assert_eq!(rt; given.status, 4, "of {program}");
             assert_eq!(rt; given.out.bytes().len(), 0, "of {program}");
             assert_eq!(rt; given.err.bytes(), message.as_bytes(), "of {program}");
@@ -288,7 +298,7 @@ fn the_check_of_a_program_is_told(rt: HostRuntime) -> Result<(), Fail> {
         ("main { emit @; }", 3, "text byte 12: bad byte\n"),
     ];
     for (program, status, message) in rows {
-        let given = answer(alloc, &["check", "P"], program)?;
+        let given = answer(&rt, alloc, &["check", "P"], program)?;
         assert_eq!(rt; given.status, status, "of {program}");
         assert_eq!(rt; given.out.bytes().len(), 0, "of {program}");
         assert_eq!(rt; given.err.bytes(), message.as_bytes(), "of {program}");
@@ -347,7 +357,7 @@ fn all_programs_are_run_plainly(rt: HostRuntime) -> Result<(), Fail> {
         ),
     ];
     for (program, words, status, output, message) in rows {
-        let given = answer(alloc, words, program)?;
+        let given = answer(&rt, alloc, words, program)?;
         assert_eq!(rt; given.status, status, "of {program}");
         assert_eq!(rt; given.out.bytes(), output, "of {program}");
         assert_eq!(rt; given.err.bytes(), message.as_bytes(), "of {program}");
@@ -371,7 +381,7 @@ fn the_cells_of_a_run_by_blocks_are_shown(rt: HostRuntime) -> Result<(), Fail> {
         ),
     ];
     for (program, output, message) in rows {
-        let given = answer(alloc, &["run", "P", "I", "--stats", "--cells"], program)?;
+        let given = answer(&rt, alloc, &["run", "P", "I", "--stats", "--cells"], program)?;
         assert_eq!(rt; given.status, 0, "of {program}");
         assert_eq!(rt; given.out.bytes(), output, "of {program}");
         assert_eq!(rt; given.err.bytes(), message.as_bytes(), "of {program}");
@@ -384,6 +394,7 @@ fn the_number_of_workers_changes_no_answer(rt: HostRuntime) -> Result<(), Fail> 
     let alloc = rt.alloc();
     for count in ["1", "2", "8", "64"] {
         let given = answer(
+            &rt,
             alloc,
             &["run", "P", "I", "--workers", count, "--stats", "--cells"],
             PAIRS,
@@ -401,7 +412,7 @@ fn the_number_of_workers_changes_no_answer(rt: HostRuntime) -> Result<(), Fail> 
         );
     }
     for count in ["0", "65", "08", "+8", "-1", "8x", "", "--stats"] {
-        let given = answer(alloc, &["run", "P", "I", "--workers", count], PAIRS)?;
+        let given = answer(&rt, alloc, &["run", "P", "I", "--workers", count], PAIRS)?;
         assert_eq!(rt; given.status, 2, "with {count}");
         assert_eq!(rt; given.out.bytes().len(), 0, "with {count}");
         assert_eq!(rt;
@@ -418,7 +429,7 @@ fn hosts_that_are_handed_in_guess(rt: HostRuntime) -> Result<(), Fail> {
     let alloc = rt.alloc();
     let mut hosts: Vec<Box<dyn Predictor>> = Vec::new(alloc);
     hosts.push(Box::new(alloc, Last::make())?)?;
-    let given = answer_with(alloc, &["run", "P", "I", "--stats"], HOSTED, hosts)?;
+    let given = answer_with(&rt, alloc, &["run", "P", "I", "--stats"], HOSTED, hosts)?;
     assert_eq!(rt; given.status, 0);
     assert_eq!(rt; given.out.bytes(), [7, 7].as_slice());
     assert_eq!(rt;
@@ -463,7 +474,7 @@ fn hosts_that_are_missing_are_named(rt: HostRuntime) -> Result<(), Fail> {
         ),
     ];
     for (program, words, status, output, message) in rows {
-        let given = answer(alloc, words, program)?;
+        let given = answer(&rt, alloc, words, program)?;
         assert_eq!(rt; given.status, status, "of {program}");
         assert_eq!(rt; given.out.bytes(), output, "of {program}");
         assert_eq!(rt; given.err.bytes(), message.as_bytes(), "of {program}");
@@ -489,7 +500,7 @@ fn arrays_have_as_many_cells_as_the_limit_and_no_more(rt: HostRuntime) -> Result
         ),
     ];
     for (program, status, output, message) in rows {
-        let given = answer(alloc, &["run", "P", "I", "--plain"], program)?;
+        let given = answer(&rt, alloc, &["run", "P", "I", "--plain"], program)?;
         assert_eq!(rt; given.status, status, "of {program}");
         assert_eq!(rt; given.out.bytes(), output, "of {program}");
         assert_eq!(rt; given.err.bytes(), message.as_bytes(), "of {program}");
@@ -536,7 +547,7 @@ fn refused_texts_have_their_places(rt: HostRuntime) -> Result<(), Fail> {
             &["check", "P"],
             &["explain", "P"],
         ] {
-            let given = answer(alloc, words, program)?;
+            let given = answer(&rt, alloc, words, program)?;
             assert_eq!(rt; given.status, 3, "of {program}");
             assert_eq!(rt; given.out.bytes().len(), 0, "of {program}");
             assert_eq!(rt; given.err.bytes(), message.as_bytes(), "of {program}");
@@ -568,7 +579,7 @@ fn programs_are_explained(rt: HostRuntime) -> Result<(), Fail> {
         ("main { emit 1; }", ""),
     ];
     for (program, text) in rows {
-        let given = answer(alloc, &["explain", "P"], program)?;
+        let given = answer(&rt, alloc, &["explain", "P"], program)?;
         assert_eq!(rt; given.status, 0, "of {program}");
         assert_eq!(rt; given.out.bytes(), text.as_bytes(), "of {program}");
         assert_eq!(rt; given.err.bytes().len(), 0, "of {program}");
@@ -579,7 +590,7 @@ fn programs_are_explained(rt: HostRuntime) -> Result<(), Fail> {
 #[test]
 fn programs_are_printed(rt: HostRuntime) -> Result<(), Fail> {
     let alloc = rt.alloc();
-    let given = answer(alloc, &["print", "P"], DOUBLING)?;
+    let given = answer(&rt, alloc, &["print", "P"], DOUBLING)?;
     let text =
         b"main {\n  specfold s = 1 for k in 0..5 predict k {\n    next s * 2;\n  }\n  emit s;\n}\n";
     assert_eq!(rt;
@@ -631,7 +642,7 @@ fn other_words_and_files_are_refused(rt: HostRuntime) -> Result<(), Fail> {
         ),
     ];
     for (words, status, message) in rows {
-        let given = answer(alloc, words, "main { emit 1; }")?;
+        let given = answer(&rt, alloc, words, "main { emit 1; }")?;
         assert_eq!(rt; given.status, status, "{message}");
         assert_eq!(rt; given.out.bytes().len(), 0, "{message}");
         assert_eq!(rt; given.err.bytes(), message.as_bytes(), "{message}");
@@ -651,6 +662,7 @@ fn faults_end_the_run(rt: HostRuntime) -> Result<(), Fail> {
     let mut out = MemSink::make(failing, 1);
     let mut err = MemSink::make(Vec::new(alloc), 0);
     let got = spf_main(
+        &rt,
         alloc,
         &words,
         &mut told,
@@ -672,6 +684,7 @@ fn faults_end_the_run(rt: HostRuntime) -> Result<(), Fail> {
     let mut out = MemSink::make(failing, 100);
     let mut err = MemSink::make(Vec::new(alloc), 0);
     let got = spf_main(
+        &rt,
         alloc,
         &words,
         &mut told,
@@ -692,6 +705,7 @@ fn faults_end_the_run(rt: HostRuntime) -> Result<(), Fail> {
     let mut told = MemFiles::make(entries, failing);
     let mut out = MemSink::make(Vec::new(alloc), 0);
     let got = spf_main(
+        &rt,
         alloc,
         &words,
         &mut told,

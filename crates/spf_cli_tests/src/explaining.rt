@@ -148,11 +148,11 @@ fn decoders_are_accepted(rt: HostRuntime) -> Result<(), Fail> {
         (LEXER, 10, "", "mark[1024*k+0..1024*k+1024]"),
     ];
     for (program, line, reads, range) in rows {
-        let given = answer(alloc, &["explain", "P"], program)?;
+        let given = answer(&rt, alloc, &["explain", "P"], program)?;
         let wanted = whole_blocks(alloc, line, reads, range)?;
         assert_eq!(rt; given.status, 0, "{range}");
         assert_eq!(rt; given.out.bytes(), wanted.as_bytes(), "{range}");
-        let given = answer(alloc, &["check", "P"], program)?;
+        let given = answer(&rt, alloc, &["check", "P"], program)?;
         assert_eq!(rt;
             (given.status, given.err.bytes()),
             (0, b"accepted\n".as_slice()),
@@ -196,7 +196,7 @@ fn effects_of_worked_bodies_are_told(rt: HostRuntime) -> Result<(), Fail> {
         ),
     ];
     for (program, body) in rows {
-        let given = answer(alloc, &["explain", "P"], program)?;
+        let given = answer(&rt, alloc, &["explain", "P"], program)?;
         let wanted = format!(in alloc;
             "fold line 1\npredictor uncovered\npredictor may\npredictor must\n{body}"
         )?;

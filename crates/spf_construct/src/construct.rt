@@ -1,5 +1,5 @@
 //! Constructs, from their header on.
-ghost use Rattle.std.specs.Prelude.{◌≡◌, ◌+◌, ◌++◌, ◌+ℤ◌, ◌≤ℤ◌, List, length, map, pos, IfOk, IfErr};
+ghost use Rattle.std.specs.Prelude.{◌≡◌, ◌<◌, ◌≤◌, ◌+◌, ◌++◌, ◌+ℤ◌, ◌≤ℤ◌, List, length, map, pos, IfOk, IfErr};
 ghost use Rattle.spf_ast.specs.View.{program as seen_program};
 ghost use Rattle.spf_chain.specs.Beginning.{site_of};
 ghost use Rattle.spf_chain.specs.Chains.{cells_of, HasEnded};
@@ -23,14 +23,16 @@ use spf_chain::chain::Chain;
 use spf_chain::laws::accepted_constructs_can_run;
 use spf_chain::validated::{Guess, Settled};
 use spf_check::checked::Checked;
+use spf_drive::run_crew;
 use spf_edge::Gate;
 use spf_exec::frame::Frame;
 use spf_exec::pieces::Header;
 use spf_guess::stats::Stats;
 use spf_predictors::Predictor;
-use spf_serial::run_in_order;
 use spf_ticket::run::Job;
 use std::alloc::{AllocError, Global};
+use std::sync::Wait;
+use std::thread::Threads;
 
 /// What the blocks of a construct came to.
 #[derive(Drop)]
@@ -54,17 +56,20 @@ pub struct Blocks {
     pub stats: Stats,
 }
 
-/// Runs the blocks, each from its guess, and again from its real value where the guess was wrong, until all are validated or one
-/// has trapped.
-fn run_from<G: Gate>(
+/// Runs the blocks on so many workers, each block from its guess, and again from its real value where the guess was wrong, until all
+/// are validated or one has trapped.
+fn run_from<R: Threads + Wait + Sync, G: Gate + Sync>(
+    rt: &R,
     alloc: Global,
     checked: &Checked,
     at: Stand,
     number: u32,
     header: Header,
     guesses: &[Guess],
+    workers: u64,
     gate: &G,
 ) -> Result<(Chain, Cells), AllocError>
+    requires workers { (0 < workers) × (workers ≤ 64) }
     requires there { IsAtConstruct (seen_program checked.now) at number header }
     requires fits { (header.low +ℤ pos header.blocks) ≤ℤ i64.MAX }
     requires guesses { length guesses.now + 1 ≡ header.blocks }
@@ -74,7 +79,7 @@ fn run_from<G: Gate>(
 {
     accepted_constructs_can_run();
     let _program = checked.program();
-    let (mut chain, cells, tickets) = Chain::start(
+    let (chain, cells, tickets) = Chain::start(
         alloc,
         checked,
         at.instance,
@@ -89,26 +94,28 @@ fn run_from<G: Gate>(
         construct: at.construct,
         entry: at.cells,
     };
-    run_in_order(&mut chain, &cells, &job, gate, tickets);
-    Ok((chain, cells))
+    run_crew(rt, alloc, chain, cells, tickets, workers, job, gate)
 }
 
 /// Runs the blocks of a top construct whose header is done. `at` is where the run stands, and `number` is the construct's number
-/// among the top constructs. A host is asked for each block but the first, in order, before the first attempt, and told their real
-/// values, in order, when all is run.
+/// among the top constructs. There are 1 to 64 workers, each in a thread of its own. A host is asked for each block but the first, in
+/// order, before the first attempt, and told their real values, in order, when all is run.
 ///
 /// # Errors
 ///
 /// `AllocError` where there is no memory for the blocks; nothing was told then.
-pub fn run_blocks<G: Gate>(
+pub fn run_blocks<R: Threads + Wait + Sync, G: Gate + Sync>(
+    rt: &R,
     alloc: Global,
     checked: &Checked,
     at: Stand,
     number: u32,
     header: Header,
+    workers: u64,
     hosts: &mut Vec<Box<dyn Predictor>>,
     gate: &G,
 ) -> Result<Blocks, AllocError>
+    requires workers { (0 < workers) × (workers ≤ 64) }
     requires there { IsAtConstruct (seen_program checked.now) at number header }
     requires fits { (header.low +ℤ pos header.blocks) ≤ℤ i64.MAX }
     requires host { IsHandedIn (length hosts.old.items) (construct_seen at.construct) }
@@ -131,7 +138,9 @@ pub fn run_blocks<G: Gate>(
     lawful_programs_are_quiet_and_small();
     let _program = checked.program();
     let guesses = take_guesses(alloc, at, header, hosts)?;
-    let (chain, cells) = run_from(alloc, checked, at, number, header, &guesses, gate)?;
+    let (chain, cells) = run_from(
+        rt, alloc, checked, at, number, header, &guesses, workers, gate,
+    )?;
     chain.merged_logs_are_speculative_runs();
     let history = chain.history();
     let stats = count_blocks(history, &guesses);

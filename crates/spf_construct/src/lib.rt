@@ -1,4 +1,4 @@
-//! One construct of an accepted program, run by blocks from guesses on the calling thread.
+//! One construct of an accepted program, run by blocks from guesses on many threads.
 #![tactic(auto)]
 
 pub mod construct;

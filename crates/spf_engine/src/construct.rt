@@ -30,6 +30,8 @@ use spf_layout::instance::Instance;
 use spf_predictors::Predictor;
 use spf_progress::runs_in_pieces_go_on;
 use std::alloc::{AllocError, Global};
+use std::sync::Wait;
+use std::thread::Threads;
 
 /// What a construct came to.
 #[derive(Drop)]
@@ -54,7 +56,8 @@ fn without_blocks(settled: Settled) -> Passed
 }
 
 /// Runs the blocks of the construct that stands next, whose header is done.
-fn run_at<G: Gate>(
+fn run_at<R: Threads + Wait + Sync, G: Gate + Sync>(
+    rt: &R,
     alloc: Global,
     checked: &Checked,
     instance: &Instance,
@@ -62,9 +65,11 @@ fn run_at<G: Gate>(
     number: u32,
     header: Header,
     run: &mut Run,
+    workers: u64,
     hosts: &mut Vec<Box<dyn Predictor>>,
     gate: &G,
 ) -> Result<ConstructReport, AllocError>
+    requires workers { (0 < workers) × (workers ≤ 64) }
     requires program { program_of instance.now ≡ seen_program checked.now }
     requires run { IsRunOf (program_of instance.now) (length instance.now.input) run.old }
     requires construct { slice_get (constructs_in (program_of instance.now).main) number ≡ Some (construct_seen construct) }
@@ -97,21 +102,26 @@ fn run_at<G: Gate>(
         frame: run.frame(),
         cells: run.cells(),
     };
-    let blocks = run_blocks(alloc, checked, at, number, header, hosts, gate)?;
+    let blocks = run_blocks(
+        rt, alloc, checked, at, number, header, workers, hosts, gate,
+    )?;
     Ok(blocks.write_back(run.cells_mut()))
 }
 
 /// Performs the header of the construct that stands next and runs its blocks. The run stays before the construct.
-pub(crate) fn pass_construct<G: Gate>(
+pub(crate) fn pass_construct<R: Threads + Wait + Sync, G: Gate + Sync>(
+    rt: &R,
     alloc: Global,
     checked: &Checked,
     instance: &Instance,
     construct: TopConstruct,
     number: u32,
     run: &mut Run,
+    workers: u64,
     hosts: &mut Vec<Box<dyn Predictor>>,
     gate: &G,
 ) -> Result<Passed, AllocError>
+    requires workers { (0 < workers) × (workers ≤ 64) }
     requires program { program_of instance.now ≡ seen_program checked.now }
     requires run { IsRunOf (program_of instance.now) (length instance.now.input) run.old }
     requires next { construct_first (ahead (program_of instance.now) run.old) ≡ Some (construct_seen construct) }
@@ -140,7 +150,7 @@ pub(crate) fn pass_construct<G: Gate>(
         return Ok(without_blocks(Settled::Carried(header.start)));
     }
     let report = run_at(
-        alloc, checked, instance, construct, number, header, run, hosts, gate,
+        rt, alloc, checked, instance, construct, number, header, run, workers, hosts, gate,
     )?;
     Ok(Passed {
         settled: report.settled,

@@ -26,6 +26,8 @@ use spf_predictors::Predictor;
 use spf_predictors::missing::first_missing;
 use spf_progress::runs_in_pieces_go_on;
 use std::alloc::{AllocError, Global};
+use std::sync::Wait;
+use std::thread::Threads;
 
 /// How a whole run came out.
 #[derive(Drop)]
@@ -66,18 +68,21 @@ fn trapped(run: Run, trap: Trap, account: Account) -> RunReport
     }
 }
 
-/// Runs an instance of an accepted program. All hosts that its constructs name are handed in.
+/// Runs an instance of an accepted program on 1 to 64 workers. All hosts that its constructs name are handed in.
 ///
 /// # Errors
 ///
 /// `AllocError` where there is no memory for the run; the hosts were told the first of what they are told in the whole run.
-pub fn run_instance<G: Gate>(
+pub fn run_instance<R: Threads + Wait + Sync, G: Gate + Sync>(
+    rt: &R,
     alloc: Global,
     checked: &Checked,
     instance: &Instance,
+    workers: u64,
     hosts: &mut Vec<Box<dyn Predictor>>,
     gate: &G,
 ) -> Result<RunReport, AllocError>
+    requires workers { (0 < workers) × (workers ≤ 64) }
     requires program { program_of instance.now ≡ seen_program checked.now }
     requires hosts { missing_host (length hosts.old.items) (constructs_in (program_of instance.now).main) ≡ None }
     ensures outcome { IfOk result (λ r. seen_outcome r.outcome ≡ outcome_of (program_of instance.now) instance.now.input) }
@@ -96,11 +101,13 @@ pub fn run_instance<G: Gate>(
     let mut account = Account::new(alloc);
     loop {
         match take_step(
+            rt,
             alloc,
             checked,
             instance,
             &mut run,
             &mut account,
+            workers,
             hosts,
             gate,
         )? {
@@ -132,7 +139,8 @@ fn lay_out<'a>(
 }
 
 /// Runs an accepted program on an input by blocks, each from its guess, and those again whose guesses were wrong. What comes of it is
-/// the plain outcome, whatever the guesses are.
+/// the plain outcome, whatever the guesses are, and however the attempts of the 1 to 64 workers interleave. Each worker has a thread of
+/// its own; where one can't be started, the calling thread does its work. The call waits until all have ended.
 ///
 /// `hosts` are the predictors that the program names by number. Each is asked once for each block but the first of its constructs, in
 /// order, before the first attempt, and told their real values, in order, after the construct. `gate` watches the attempts.
@@ -141,13 +149,16 @@ fn lay_out<'a>(
 ///
 /// `TooManyCells` where the arrays have more than 4,194,304 cells; `NoHost` where the program names a host that isn't handed in; and
 /// `OutOfMemory`. The hosts were told the first of what they are told in the whole run; after the first two errors nothing.
-pub fn run_program<G: Gate>(
+pub fn run_program<R: Threads + Wait + Sync, G: Gate + Sync>(
+    rt: &R,
     alloc: Global,
     checked: &Checked,
     input: &[u8],
+    workers: u64,
     hosts: &mut Vec<Box<dyn Predictor>>,
     gate: &G,
 ) -> Result<RunReport, EngineError>
+    requires workers { (0 < workers) × (workers ≤ 64) }
     ensures outcome { IfOk result (λ r. seen_outcome r.outcome ≡ outcome_of (seen_program checked.now) input.now) }
     ensures statistics { IfOk result (λ r. r.stats ≡ (tally (handed_in (map (λ h. answer h) hosts.old.items)) (seen_program checked.now) input.now).stats) }
     ensures traces { IfOk result (λ r. AreTraces (handed_in (map (λ h. answer h) hosts.old.items)) (seen_program checked.now) input.now
@@ -168,6 +179,6 @@ pub fn run_program<G: Gate>(
     if let Some(number) = first_missing(checked.program(), hosts.len() as u64) {
         return Err(EngineError::NoHost { number });
     }
-    let report = run_instance(alloc, checked, &instance, hosts, gate)?;
+    let report = run_instance(rt, alloc, checked, &instance, workers, hosts, gate)?;
     Ok(report)
 }

@@ -1,5 +1,5 @@
 //! Steps of a run: from one construct past the next.
-ghost use Rattle.std.specs.Prelude.{◌≡◌, ◌+◌, List, length, map, None, Some, IfOk, IfErr};
+ghost use Rattle.std.specs.Prelude.{◌≡◌, ◌<◌, ◌≤◌, ◌+◌, List, length, map, None, Some, IfOk, IfErr};
 ghost use Rattle.spf_ast.specs.View.{program as seen_program};
 ghost use Rattle.spf_ast.specs.ConstructView.{construct as construct_seen};
 ghost use Rattle.spf_ast.specs.Construct.{constructs_in};
@@ -25,6 +25,8 @@ use spf_layout::instance::Instance;
 use spf_predictors::Predictor;
 use spf_progress::runs_in_pieces_go_on;
 use std::alloc::{AllocError, Global};
+use std::sync::Wait;
+use std::thread::Threads;
 
 /// Where a step ends.
 #[derive(Clone, Copy, PartialEq, Eq, Debug)]
@@ -54,7 +56,8 @@ fn settle(run: &mut Run, instance: &Instance, construct: TopConstruct, settled: 
 }
 
 /// Passes the construct that stands next, and adds to the account what it counted and recorded.
-fn pass<G: Gate>(
+fn pass<R: Threads + Wait + Sync, G: Gate + Sync>(
+    rt: &R,
     alloc: Global,
     checked: &Checked,
     instance: &Instance,
@@ -62,9 +65,11 @@ fn pass<G: Gate>(
     number: u32,
     run: &mut Run,
     account: &mut Account,
+    workers: u64,
     hosts: &mut Vec<Box<dyn Predictor>>,
     gate: &G,
 ) -> Result<Step, AllocError>
+    requires workers { (0 < workers) × (workers ≤ 64) }
     requires program { program_of instance.now ≡ seen_program checked.now }
     requires hosts { missing_host (length hosts.old.items) (constructs_in (program_of instance.now).main) ≡ None }
     requires run { IsRunOf (program_of instance.now) (length instance.now.input) run.old }
@@ -86,7 +91,7 @@ fn pass<G: Gate>(
     lawful_programs_are_quiet_and_small();
     let _program = checked.program();
     let passed = pass_construct(
-        alloc, checked, instance, construct, number, run, hosts, gate,
+        rt, alloc, checked, instance, construct, number, run, workers, hosts, gate,
     )?;
     let step = settle(run, instance, construct, passed.settled);
     account.add(passed.stats, passed.trace)?;
@@ -94,15 +99,18 @@ fn pass<G: Gate>(
 }
 
 /// Runs `main` up to the next construct and past it, or to its end.
-pub(crate) fn take_step<G: Gate>(
+pub(crate) fn take_step<R: Threads + Wait + Sync, G: Gate + Sync>(
+    rt: &R,
     alloc: Global,
     checked: &Checked,
     instance: &Instance,
     run: &mut Run,
     account: &mut Account,
+    workers: u64,
     hosts: &mut Vec<Box<dyn Predictor>>,
     gate: &G,
 ) -> Result<Step, AllocError>
+    requires workers { (0 < workers) × (workers ≤ 64) }
     requires program { program_of instance.now ≡ seen_program checked.now }
     requires hosts { missing_host (length hosts.old.items) (constructs_in (program_of instance.now).main) ≡ None }
     requires run { IsRunOf (program_of instance.now) (length instance.now.input) run.old }
@@ -126,7 +134,7 @@ pub(crate) fn take_step<G: Gate>(
         Pause::Finished => Ok(Step::Finished),
         Pause::Trapped(trap) => Ok(Step::Trapped(trap)),
         Pause::AtConstruct { number, construct } => pass(
-            alloc, checked, instance, construct, number, run, account, hosts, gate,
+            rt, alloc, checked, instance, construct, number, run, account, workers, hosts, gate,
         ),
     }
 }

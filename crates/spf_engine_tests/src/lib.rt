@@ -2,4 +2,10 @@
 #![tactic(auto)]
 
 #[cfg(test)]
-mod tests;
+mod hosts;
+#[cfg(test)]
+mod outcomes;
+#[cfg(test)]
+mod programs;
+#[cfg(test)]
+mod schedules;

@@ -4,10 +4,9 @@ ghost use Rattle.std.specs.Prelude.{Some, unwrap_or};
 ghost use Rattle.spf_ast.specs.Carried.{no_value};
 ghost use Rattle.spf_predictors.specs.Kinds.{blocks_told};
 
-use crate::hosts::{ask, tell, tell_all, tell_blocks};
+use crate::hosts::{ask, tell};
 use crate::{Fixed, Last, Most, Predictor, Table};
 use spf_ast::carried::Carried;
-use spf_ast::syntax::Predict;
 use std::test::Fail;
 
 #[test]
@@ -111,13 +110,12 @@ fn hosts_in_a_list_are_asked_and_told_by_their_numbers(rt: HostRuntime) -> Resul
     hosts.push(Box::new(alloc, Table::make(alloc, 8)?)?)?;
     hosts.push(Box::new(alloc, LastBlock { block: 0 })?)?;
     tell(&mut hosts, 0, 1, 5);
-    tell_all(&mut hosts, 1, 4, &[40, 50, 60]);
-    tell_all(&mut hosts, 2, -1, &[1, 2, 3]);
-    tell_all(&mut hosts, 2, 8, &[]);
+    tell(&mut hosts, 1, 5, 50);
+    tell(&mut hosts, 2, -1, 1);
+    tell(&mut hosts, 1, 6, 60);
+    tell(&mut hosts, 2, 1, 3);
     assert_eq!(rt; ask(&mut hosts, 0, 9), 5);
-    tell_blocks(&mut hosts, &Predict::Host(0), 3, &[6]);
-    assert_eq!(rt; ask(&mut hosts, 0, 9), 5);
-    tell_blocks(&mut hosts, &Predict::Host(0), 3, &[6, 7, 8]);
+    tell(&mut hosts, 0, 4, 8);
     assert_eq!(rt; ask(&mut hosts, 0, 9), 8);
     assert_eq!(rt; ask(&mut hosts, 1, 5), 50);
     assert_eq!(rt; ask(&mut hosts, 1, 6), 60);

@@ -1,0 +1,94 @@
+//! Runs the mates of a crew, each in a thread of its own, until the chain has ended.
+#![tactic(auto)]
+
+ghost use Rattle.std.specs.Prelude.{◌≡◌, ◌<◌, ◌≤◌, ℕ, length, slice_index_or, IfOk};
+ghost use Rattle.std.specs.List.{All};
+ghost use Rattle.spf_chain.specs.Beginning.{IsStarted};
+ghost use Rattle.spf_chain.specs.Chains.{cells_of, HasEnded};
+ghost use Rattle.spf_chain.specs.Finishing.{EveryMergingRuns};
+ghost use Rattle.spf_chain.specs.Homes.{log_in};
+ghost use Rattle.spf_chain.specs.Jobs.{CanRun};
+ghost use Rattle.spf_entry.specs.Sites.{entry_at};
+ghost use Rattle.spf_ticket.specs.Tickets.{IsJobOf};
+ghost use Rattle.spf_crew.specs.Mates.{MateValue, IsMateOf};
+ghost use Rattle.spf_drive.specs.Driving.{HasReadAt};
+
+use crossbeam_utils::Backoff;
+use spf_cells::cells::Cells;
+use spf_chain::chain::Chain;
+use spf_crew::crew::Crew;
+use spf_crew::mate::Mate;
+use spf_crew::turn::Turn;
+use spf_edge::Gate;
+use spf_ticket::run::Job;
+use spf_ticket::ticket::Ticket;
+use std::alloc::{AllocError, Global};
+use std::sync::Wait;
+use std::thread::{Threads, for_each_mut};
+
+/// A mate takes turns until it has ended. It pauses where a turn was idle.
+fn drive<R: Wait, G: Gate>(rt: &R, crew: &Crew, gate: &G, mate: &mut Mate)
+    requires { IsMateOf crew.now mate.old }
+    ensures { HasReadAt crew.now mate.old mate.new }
+{
+    let backoff = Backoff::new();
+    for _ in rt.forever() {
+        match mate.turn(crew, gate) {
+            Turn::Worked => backoff.reset(),
+            Turn::Idle { why: _ } => backoff.snooze(),
+            Turn::Ended => break,
+        }
+    }
+}
+
+/// The mates take turns, each in a thread of its own, until each has ended.
+fn drive_all<R: Threads + Wait + Sync, G: Gate + Sync>(
+    rt: &R,
+    crew: &Crew,
+    gate: &G,
+    mates: &mut [Mate],
+)
+    requires { All (IsMateOf crew.now) mates.old }
+    ensures count { length mates.new ≡ length mates.old }
+    ensures each { (i : ℕ) (d : MateValue) → i < length mates.old → HasReadAt crew.now (slice_index_or mates.old i d) (slice_index_or mates.new i d) }
+{
+    for_each_mut(rt, mates, 64, &|_, mate|
+        requires { IsMateOf crew.now mate.old }
+        ensures { HasReadAt crew.entry.now mate.old mate.new }
+    {
+        drive(rt, crew, gate, mate)
+    });
+}
+
+/// Runs the blocks of a construct whose chain has just started, by 1 to 64 workers, each in a thread of its own. Where a thread can't be
+/// started, the calling thread does its work. Each block is attempted from its guess, and again from its real value where the guess was
+/// wrong; afterwards the chain has ended. `job` is the construct with the memory at its entry. The gate is called before and after each
+/// attempt. It waits until all workers have ended.
+///
+/// # Errors
+///
+/// `AllocError` where there is no memory for the crew.
+pub fn run_crew<R: Threads + Wait + Sync, G: Gate + Sync>(
+    rt: &R,
+    alloc: Global,
+    chain: Chain,
+    cells: Cells,
+    tickets: Vec<Ticket>,
+    workers: u64,
+    job: Job,
+    gate: &G,
+) -> Result<(Chain, Cells), AllocError>
+    requires workers { (0 < workers) × (workers ≤ 64) }
+    requires started { IsStarted chain.site chain cells tickets.items }
+    requires job { CanRun job }
+    requires entry { IsJobOf (entry_at chain.site) job }
+    ensures ended { IfOk result (λ r. HasEnded r.0) }
+    ensures site { IfOk result (λ r. r.0.site ≡ chain.site) }
+    ensures own { IfOk result (λ r. r.1 ≡ cells_of r.0) }
+    ensures cells { IfOk result (λ r. r.1 ≡ cells) }
+    ensures merging { IfOk result (λ r. EveryMergingRuns r.0 (log_in r.0.homes)) }
+{
+    let (crew, mut mates) = Crew::make(alloc, chain, cells, tickets, workers, job)?;
+    drive_all(rt, &crew, gate, mates.as_mut_slice());
+    Ok(crew.close(mates))
+}
