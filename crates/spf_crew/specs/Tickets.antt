@@ -1,10 +1,17 @@
--- Tickets and reports of a crew.
+-- The job, the tickets and the reports of a crew.
 use Rattle.std.specs.Prelude.{◌≡◌}
+use Rattle.spf_chain.specs.Jobs.{CanRun}
 use Rattle.spf_entry.specs.Sites.{entry_at, guess_at}
+use Rattle.spf_ticket.specs.declared.run.Job.{Job}
 use Rattle.spf_ticket.specs.declared.ticket.Ticket.{Ticket}
 use Rattle.spf_ticket.specs.declared.ticket.Report.{Report}
-use Rattle.spf_ticket.specs.Tickets.{IsFresh, IsLawfulReport, Ran}
+use Rattle.spf_ticket.specs.Tickets.{IsFresh, IsJobOf, IsLawfulReport, Ran}
 use Rattle.spf_crew.specs.declared.view.CrewSetting.{CrewSetting}
+
+-- the job is that of the crew's construct, with the memory at its entry, and its blocks can be run
+pub record ServesCrew (k : CrewSetting) (job : Job) : Type 0 where
+  pub runs : CanRun job
+  pub entry : IsJobOf (entry_at k.site) job
 
 -- a ticket of this crew whose attempt can be made
 abbrev pub IsFreshOf : CrewSetting → Ticket → Type 0

@@ -12,7 +12,7 @@ use crate::place::Place;
 use spf_cells::cells::Cells;
 use spf_chain::chain::Chain;
 
-impl<'a> Crew<'a> {
+impl Crew {
     // All places are put together.
     fn dismiss_all(&self, last: Place, mut mates: Vec<Mate>) -> Place
         requires last { IsPlaceOf self.now last × (last.read ≡ true) × (last.from ≡ length mates.items) × (last.to ≡ self.now.setting.mates) }
@@ -34,9 +34,9 @@ impl<'a> Crew<'a> {
         requires all { AreAllMates self mates.items }
         requires ended { HaveRead mates.items }
         ensures ended { HasEnded result.0 }
-        ensures site { result.0.site ≡ self.entry.setting.site }
+        ensures site { result.0.site ≡ self.setting.site }
         ensures own { result.1 ≡ cells_of result.0 }
-        ensures cells { result.1 ≡ self.entry.setting.cells }
+        ensures cells { result.1 ≡ self.setting.cells }
         ensures merging { EveryMergingRuns result.0 (log_in result.0.homes) }
     {
         let last = mates.pop().unwrap().into_place();

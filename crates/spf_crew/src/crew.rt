@@ -1,20 +1,18 @@
 //! What mates share.
 use crate::rule::CrewTable;
 use spf_cells::cells::Cells;
-use spf_ticket::run::Job;
 use std::marker::Model;
 
-/// The turn word, the ending word, the slot of the chain, the cells, and what all attempts have in common.
+/// The turn word, the ending word, the slot of the chain, and the cells.
 ///
 /// Contracts see of it its table, and what is fixed for it: the site and the cells of its chain, and how many mates it has.
 #[derive(Drop)]
-pub struct Crew<'a> {
+pub struct Crew {
     pub(crate) table: CrewTable,
     pub(crate) cells: Cells,
-    pub(crate) job: Job<'a>,
 }
 
-impl<'a> Model for Crew<'a> {
+impl Model for Crew {
     ghost use Rattle.std.specs.Coded.{codes};
     ghost use Rattle.spf_crew.specs.contracts.view.CrewSetting as setting_row;
 

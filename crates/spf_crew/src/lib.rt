@@ -5,7 +5,7 @@
 //! its slot, and is then twice the number of reports filed. A mate without a report takes a ticket from a pool and runs it.
 #![tactic(auto)]
 
-mod attempt;
+pub mod attempt;
 mod close;
 pub mod crew;
 pub mod held;

@@ -2,11 +2,8 @@
 ghost use Rattle.std.specs.Prelude.{◌≡◌, ◌+◌, ◌<◌, ◌≤◌, length, slice_index, IfOk};
 ghost use Rattle.std.specs.List.{All};
 ghost use Rattle.spf_chain.specs.Beginning.{IsStarted};
-ghost use Rattle.spf_chain.specs.Jobs.{CanRun};
-ghost use Rattle.spf_entry.specs.Sites.{entry_at};
 ghost use Rattle.spf_pool.specs.Hands.{after_giving};
 ghost use Rattle.spf_pool.specs.Made.{AreNewHands};
-ghost use Rattle.spf_ticket.specs.Tickets.{IsJobOf};
 ghost use Rattle.spf_crew.specs.Tickets.{IsFreshOf};
 ghost use Rattle.spf_crew.specs.Values.{setting_of};
 ghost use Rattle.spf_crew.specs.Crews.{AreAllMates, AreNewMates, IsDealtTo};
@@ -20,7 +17,6 @@ use spf_cells::cells::Cells;
 use spf_chain::chain::Chain;
 use spf_pool::hand::Hand;
 use spf_pool::pool::Pool;
-use spf_ticket::run::Job;
 use spf_ticket::ticket::Ticket;
 use std::alloc::{AllocError, Global};
 
@@ -63,10 +59,9 @@ fn give_all(hand: &mut Hand<Ticket, CrewSetting>, tickets: Vec<Ticket>)
     }
 }
 
-impl<'a> Crew<'a> {
+impl Crew {
     /// A crew of 1 to 64 mates over a chain that has just started, with its cells and its tickets. All tickets go into the first mate's
-    /// deque, in their order, and the chain into its slot. `job` is the construct with the memory at its entry. All memory of the crew
-    /// is taken here.
+    /// deque, in their order, and the chain into its slot. All memory of the crew is taken here.
     ///
     /// # Errors
     ///
@@ -77,12 +72,9 @@ impl<'a> Crew<'a> {
         cells: Cells,
         tickets: Vec<Ticket>,
         workers: u64,
-        job: Job<'a>,
-    ) -> Result<(Crew<'a>, Vec<Mate>), AllocError>
+    ) -> Result<(Crew, Vec<Mate>), AllocError>
         requires workers { (0 < workers) × (workers ≤ 64) }
         requires started { IsStarted chain.site chain cells tickets.items }
-        requires job { CanRun job }
-        requires entry { IsJobOf (entry_at chain.site) job }
         ensures setting { IfOk result (λ r. r.0.setting ≡ setting_of chain workers) }
         ensures all { IfOk result (λ r. AreAllMates r.0 r.1.items) }
         ensures new { IfOk result (λ r. AreNewMates (length tickets.items) r.1.items) }
@@ -90,7 +82,7 @@ impl<'a> Crew<'a> {
         let count = tickets.len() as u64;
         let mut hands = hands_of(alloc, &chain, workers, count)?;
         give_all(&mut hands[0], tickets);
-        let (crew, founder) = Crew::open(alloc, chain, cells, workers, job)?;
+        let (crew, founder) = Crew::open(alloc, chain, cells, workers)?;
         let mates = enlist_all(alloc, &crew, founder, hands, count)?;
         Ok((crew, mates))
     }

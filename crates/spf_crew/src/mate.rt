@@ -6,13 +6,13 @@ ghost use Rattle.spf_ticket.specs.declared.ticket.Report.{Report as SeenReport};
 ghost use Rattle.spf_crew.specs.Tickets.{IsFreshOf, IsLawfulOf, IsAttemptBy};
 ghost use Rattle.spf_crew.specs.Mates.{IsMateOf, IsTurn};
 
+use crate::attempt::Attempter;
 use crate::crew::Crew;
 use crate::held::Held;
 use crate::place::Place;
 use crate::turn::{Turn, Why};
 use crate::view::CrewSetting;
 use spf_chain::chain::Filed;
-use spf_edge::Gate;
 use spf_pool::hand::Hand;
 use spf_pool::next::Next;
 use spf_ticket::ticket::{Report, Ticket};
@@ -100,19 +100,21 @@ impl Mate {
     }
 
     // Runs a ticket.
-    fn run<G: Gate>(&mut self, crew: &Crew, gate: &G, ticket: Ticket) -> Turn
+    fn run<A: Attempter>(&mut self, crew: &Crew, attempter: &A, ticket: Ticket) -> Turn
         requires own { IsMateOf crew.now self.old }
+        requires serves { A.serves crew.now.setting attempter.now }
         requires fresh { IsFreshOf self.old.place.setting ticket }
         ensures worked { result ≡ turn.Worked }
         ensures report { (r : SeenReport) × IsAttemptBy self.old.place.setting ticket r × (self.new ≡ record self.old { held = held.Report r }) }
     {
-        self.held = Held::Report(crew.attempt(gate, ticket));
+        self.held = Held::Report(attempter.attempt(crew, ticket));
         Turn::Worked
     }
 
     // Looks whether the chain has ended, and else for a ticket.
-    fn look<G: Gate>(&mut self, crew: &Crew, gate: &G) -> Turn
+    fn look<A: Attempter>(&mut self, crew: &Crew, attempter: &A) -> Turn
         requires own { IsMateOf crew.now self.old }
+        requires serves { A.serves crew.now.setting attempter.now }
         requires free { self.old.held ≡ held.Nothing }
         ensures turn { IsTurn self.old result self.new }
         ensures own { IsMateOf crew.now self.new }
@@ -123,21 +125,22 @@ impl Mate {
             return Turn::Ended;
         }
         match self.hand.next() {
-            Next::Got(ticket) => self.run(crew, gate, ticket),
+            Next::Got(ticket) => self.run(crew, attempter, ticket),
             Next::Empty => Turn::Idle { why: Why::Empty },
             Next::Again => Turn::Idle { why: Why::Again },
         }
     }
 
     /// One turn. A mate with a report tries once to take the chain, and files it. A mate with a ticket to rerun runs it. Any other one
-    /// looks whether the chain has ended; if not, it takes a ticket and runs it. The gate is called before and after an attempt.
+    /// looks whether the chain has ended; if not, it takes a ticket and runs it. `attempter` makes the attempts.
     ///
     /// `Ended` comes exactly where the mate held nothing and read 1 in the ending word, and from then on. `Idle` with `ChainOut` comes
     /// only where it has a report and found another turn number than the even one at or after that which it saw last, or 16,384, at
     /// which no report is filed; it keeps the report. `Idle` with `Empty` or `Again` comes exactly where it held nothing and its hand
     /// found no ticket. It neither takes memory nor waits.
-    pub fn turn<G: Gate>(&mut self, crew: &Crew, gate: &G) -> Turn
+    pub fn turn<A: Attempter>(&mut self, crew: &Crew, attempter: &A) -> Turn
         requires own { IsMateOf crew.now self.old }
+        requires serves { A.serves crew.now.setting attempter.now }
         ensures turn { IsTurn self.old result self.new }
         ensures own { IsMateOf crew.now self.new }
         ensures numbers { (self.new.place.from ≡ self.old.place.from) × (self.new.place.to ≡ self.old.place.to) }
@@ -145,8 +148,8 @@ impl Mate {
     {
         match mem::replace(&mut self.held, Held::Nothing) {
             Held::Report(report) => self.file(crew, report),
-            Held::Ticket(ticket) => self.run(crew, gate, ticket),
-            Held::Nothing => self.look(crew, gate),
+            Held::Ticket(ticket) => self.run(crew, attempter, ticket),
+            Held::Nothing => self.look(crew, attempter),
         }
     }
 }

@@ -1,10 +1,7 @@
 // The table is made with the chain in its slot, places are split off and joined again, and the chain comes back.
 ghost use Rattle.std.specs.Prelude.{◌≡◌, ◌+◌, ◌<◌, true, false, IfOk};
 ghost use Rattle.spf_chain.specs.Chains.{cells_of};
-ghost use Rattle.spf_chain.specs.Jobs.{CanRun};
 ghost use Rattle.spf_chain.specs.Sites.{IsGround};
-ghost use Rattle.spf_entry.specs.Sites.{entry_at};
-ghost use Rattle.spf_ticket.specs.Tickets.{IsJobOf};
 ghost use Rattle.spf_crew.specs.declared.view.CrewSetting.{CrewSetting};
 ghost use Rattle.spf_crew.specs.Endings.{has_ended};
 ghost use Rattle.spf_crew.specs.Rule.{IsChainOf};
@@ -19,7 +16,6 @@ use atomic_table::Table;
 use spf_cells::cells::Cells;
 use spf_chain::chain::Chain;
 use spf_key::key::{GhostKey, ghost_key};
-use spf_ticket::run::Job;
 use std::alloc::{AllocError, Global};
 
 // A key with the setting of a crew. A ghost value is named by a call's arguments alone, so the call has those that the name speaks of.
@@ -38,21 +34,18 @@ fn named(chain: &Chain, mates: u64) -> GhostKey<CrewSetting>
     ghost_key::<CrewSetting>()
 }
 
-impl<'a> Crew<'a> {
+impl Crew {
     // The table with the chain, and a place with all numbers.
     pub(crate) fn open(
         alloc: Global,
         chain: Chain,
         cells: Cells,
         mates: u64,
-        job: Job<'a>,
-    ) -> Result<(Crew<'a>, Place), AllocError>
+    ) -> Result<(Crew, Place), AllocError>
         requires cells { cells ≡ cells_of chain }
         requires ground { IsGround chain.site cells }
         requires mates { 0 < mates }
         requires new { chain.reports ≡ 0 }
-        requires job { CanRun job }
-        requires entry { IsJobOf (entry_at chain.site) job }
         ensures setting { IfOk result (λ r. r.0.setting ≡ setting_of chain mates) }
         ensures place { IfOk result (λ r. r.1 ≡ new_place r.0 0) }
     {
@@ -62,7 +55,7 @@ impl<'a> Crew<'a> {
             return Err(AllocError);
         };
         let place = Place { key, seen: 0, seat };
-        Ok((Crew { table, cells, job }, place))
+        Ok((Crew { table, cells }, place))
     }
 
     // The chain, which has ended, where one place has all numbers and has read 1.
@@ -70,20 +63,16 @@ impl<'a> Crew<'a> {
         requires own { IsPlaceOf self place }
         requires all { (place.from ≡ 0) × (place.to ≡ self.setting.mates) }
         requires read { place.read ≡ true }
-        ensures same { IsChainOf self.entry.setting result.0 }
+        ensures same { IsChainOf self.setting result.0 }
         ensures ended { has_ended result.0 ≡ true }
-        ensures cells { result.1 ≡ self.entry.setting.cells }
+        ensures cells { result.1 ≡ self.setting.cells }
     {
         let Place {
             key: _,
             seen: _,
             seat,
         } = place;
-        let Crew {
-            table,
-            cells,
-            job: _,
-        } = self;
+        let Crew { table, cells } = self;
         let mut closed = table.close_with(seat);
         let chain = closed.take(0).unwrap();
         closed.free();

@@ -11,11 +11,12 @@ ghost use Rattle.spf_chain.specs.Jobs.{CanRun};
 ghost use Rattle.spf_entry.specs.Sites.{entry_at};
 ghost use Rattle.spf_ticket.specs.Tickets.{IsJobOf};
 ghost use Rattle.spf_crew.specs.Mates.{MateValue, IsMateOf};
-ghost use Rattle.spf_drive.specs.Driving.{HasReadAt};
+ghost use Rattle.spf_drive.specs.Driving.{HasReadAt, MakesAttempts};
 
 use crossbeam_utils::Backoff;
 use spf_cells::cells::Cells;
 use spf_chain::chain::Chain;
+use spf_crew::attempt::{Attempter, GatedJob, HasConstruct, HasInstance};
 use spf_crew::crew::Crew;
 use spf_crew::mate::Mate;
 use spf_crew::turn::Turn;
@@ -27,13 +28,14 @@ use std::sync::Wait;
 use std::thread::{Threads, for_each_mut};
 
 /// A mate takes turns until it has ended. It pauses where a turn was idle.
-fn drive<R: Wait, G: Gate>(rt: &R, crew: &Crew, gate: &G, mate: &mut Mate)
-    requires { IsMateOf crew.now mate.old }
+fn drive<R: Wait, A: Attempter>(rt: &R, crew: &Crew, attempter: &A, mate: &mut Mate)
+    requires own { IsMateOf crew.now mate.old }
+    requires serves { A.serves crew.now.setting attempter.now }
     ensures { HasReadAt crew.now mate.old mate.new }
 {
     let backoff = Backoff::new();
     for _ in rt.forever() {
-        match mate.turn(crew, gate) {
+        match mate.turn(crew, attempter) {
             Turn::Worked => backoff.reset(),
             Turn::Idle { why: _ } => backoff.snooze(),
             Turn::Ended => break,
@@ -42,22 +44,72 @@ fn drive<R: Wait, G: Gate>(rt: &R, crew: &Crew, gate: &G, mate: &mut Mate)
 }
 
 /// The mates take turns, each in a thread of its own, until each has ended.
-fn drive_all<R: Threads + Wait + Sync, G: Gate + Sync>(
+fn in_threads<R: Threads + Wait + Sync, A: Attempter + Sync>(
     rt: &R,
     crew: &Crew,
-    gate: &G,
+    attempter: &A,
     mates: &mut [Mate],
 )
-    requires { All (IsMateOf crew.now) mates.old }
+    requires own { All (IsMateOf crew.now) mates.old }
+    requires serves { A.serves crew.now.setting attempter.now }
     ensures count { length mates.new ≡ length mates.old }
     ensures each { (i : ℕ) (d : MateValue) → i < length mates.old → HasReadAt crew.now (slice_index_or mates.old i d) (slice_index_or mates.new i d) }
 {
-    for_each_mut(rt, mates, 64, &|_, mate|
-        requires { IsMateOf crew.now mate.old }
-        ensures { HasReadAt crew.entry.now mate.old mate.new }
-    {
-        drive(rt, crew, gate, mate)
-    });
+    for_each_mut(
+        rt,
+        mates,
+        64,
+        &|_, mate|
+            requires own { IsMateOf crew.now mate.old }
+            requires serves { A.serves crew.now.setting attempter.now }
+            ensures { HasReadAt crew.entry.now mate.old mate.new }
+        { drive(rt, crew, attempter, mate) },
+    );
+}
+
+/// The same, where the attempts are those of a construct's blocks.
+fn drive_blocks<
+    R: Threads + Wait + Sync,
+    I: HasInstance + Sync,
+    C: HasConstruct + Sync,
+    G: Gate + Sync,
+>(rt: &R, crew: &Crew, instance: &I, construct: &C, entry: &[i64], gate: &G, mates: &mut [Mate])
+    requires own { All (IsMateOf crew.now) mates.old }
+    requires serves { MakesAttempts crew.now.setting (record { instance = I.instance instance.now; construct = C.construct construct.now; entry = entry }) }
+    ensures count { length mates.new ≡ length mates.old }
+    ensures each { (i : ℕ) (d : MateValue) → i < length mates.old → HasReadAt crew.now (slice_index_or mates.old i d) (slice_index_or mates.new i d) }
+{
+    let attempter = GatedJob {
+        instance,
+        construct,
+        entry,
+        gate,
+    };
+    in_threads(rt, crew, &attempter, mates);
+}
+
+/// The same, where they are those of this job.
+fn drive_all<R: Threads + Wait + Sync, G: Gate + Sync>(
+    rt: &R,
+    crew: &Crew,
+    job: Job,
+    gate: &G,
+    mates: &mut [Mate],
+)
+    requires own { All (IsMateOf crew.now) mates.old }
+    requires serves { MakesAttempts crew.now.setting job }
+    ensures count { length mates.new ≡ length mates.old }
+    ensures each { (i : ℕ) (d : MateValue) → i < length mates.old → HasReadAt crew.now (slice_index_or mates.old i d) (slice_index_or mates.new i d) }
+{
+    drive_blocks(
+        rt,
+        crew,
+        &job.instance,
+        &job.construct,
+        job.entry,
+        gate,
+        mates,
+    );
 }
 
 /// Runs the blocks of a construct whose chain has just started, by 1 to 64 workers, each in a thread of its own. Where a thread can't be
@@ -88,7 +140,7 @@ pub fn run_crew<R: Threads + Wait + Sync, G: Gate + Sync>(
     ensures cells { IfOk result (λ r. r.1 ≡ cells) }
     ensures merging { IfOk result (λ r. EveryMergingRuns r.0 (log_in r.0.homes)) }
 {
-    let (crew, mut mates) = Crew::make(alloc, chain, cells, tickets, workers, job)?;
-    drive_all(rt, &crew, gate, mates.as_mut_slice());
+    let (crew, mut mates) = Crew::make(alloc, chain, cells, tickets, workers)?;
+    drive_all(rt, &crew, job, gate, mates.as_mut_slice());
     Ok(crew.close(mates))
 }

@@ -46,8 +46,6 @@ open-requires c = record {
   ground = c.requires.started.ground;
   mates = c.requires.workers.0;
   new = ap (λ (x : ChainValue). x.reports) c.requires.started.chain;
-  job = c.requires.job;
-  entry = c.requires.entry;
 }
 
 sized : (workers mates : ℕ) (hands all : List (HandValue CrewSetting)) → 0 < workers → length hands ≡ workers → mates ≡ workers → length all ≡ length hands → (length all ≡ mates) × (0 < length all)

@@ -7,7 +7,7 @@ use Rattle.spf_crew.proofs.Turns.{fresh-at, lawful-at}
 use Rattle.spf_crew.proofs.mate.Mate.run.Goals as goal
 
 pub attempt-requires : goal.attempt-requires
-attempt-requires g c = record { fresh = fresh-at c.args.self.now.place.setting c.args.crew.now.setting c.args.ticket c.requires.fresh c.requires.own.1 }
+attempt-requires g c = record { serves = c.requires.serves; fresh = fresh-at c.args.self.now.place.setting c.args.crew.now.setting c.args.ticket c.requires.fresh c.requires.own.1 }
 
 pub invariant_of-self : goal.invariant_of-self
 invariant_of-self g c = record {
