@@ -1,23 +1,22 @@
 -- The blocks of the program that unpacks PackBits.
-use Rattle.std.proofs.Common.{◌≡◌, ◌⊎◌, inl, inr, ℕ, zero, suc, ◌+◌, ◌-◌, ◌*◌, ◌/◌, ◌<◌, ◌≤◌, ◌^◌, Bool, true, false, List, [], ◌∷◌, ◌++◌, length, replicate, Ok, ℤ, pos, negsuc, refl, ap, sym, ◌∙◌, subst, arith}
-use Rattle.std.specs.Prelude.{nat_lt, if◌then◌else◌, slice_index, slice_set, slice_index_or, ◌+ℤ◌, ◌-ℤ◌, ◌*ℤ◌}
+use Rattle.std.proofs.Common.{◌≡◌, ◌⊎◌, ℕ, zero, suc, ◌+◌, ◌-◌, ◌*◌, ◌<◌, ◌≤◌, List, [], ◌∷◌, ◌++◌, length, replicate, ℤ, pos, negsuc, refl, ap, sym, ◌∙◌, subst, arith}
+use Rattle.std.specs.Prelude.{slice_index, slice_set, slice_index_or, ◌+ℤ◌}
 use Rattle.std.proofs.lemmas.Int.{ints}
-use Rattle.std.proofs.lemmas.Nat.{mul-le}
-use Rattle.std.proofs.Math.Nat.{mul_comm, mul-suc}
+use Rattle.std.proofs.Math.Nat.{mul-suc}
 use Rattle.spf_lemmas.proofs.Members.{cases}
 use Rattle.spf_ast.specs.declared.syntax.Op.TheVariants.{Add, Mul}
-use Rattle.spf_ast.specs.Word.{exact, binary_words}
-use Rattle.spf_ast.specs.Interaction.{State, Value, Meaning, ◌>>=◌, ◌>>◌}
-use Rattle.spf_ast.specs.Syntax.{Local, Len, Compare, Let, Fill, For, If, Block, end, on_line}
+use Rattle.spf_ast.specs.Word.{exact}
+use Rattle.spf_ast.specs.Interaction.{State, Meaning, ◌>>=◌}
+use Rattle.spf_ast.specs.Syntax.{Local, Len, Compare, Let, Fill, If, end, on_line}
 use Rattle.spf_ast.specs.declared.syntax.Test.TheVariants.{Lt}
-use Rattle.spf_ast.specs.Meaning.{Environment, block_means, statement_means, expression_means, extent_in, for_turns, stores_each}
-use Rattle.spf_laws.proofs.Plainly.{Comes, comes-then}
-use Rattle.spf_programs.specs.Writing.{number, plus, times, only}
+use Rattle.spf_ast.specs.Meaning.{Environment, block_means, statement_means, expression_means, extent_in}
+use Rattle.spf_laws.proofs.Plainly.{comes-then}
+use Rattle.spf_programs.specs.Writing.{number, only}
 use Rattle.spf_programs.specs.PackBits.{block_begin, block_end, block_bytes, one_byte, body}
 use Rattle.spf_decoding.proofs.Bytes.{times_of}
-use Rattle.spf_decoding.proofs.Places.{left_at, times_at, times_before, memory_at, left_inside, left_outside, times_inside, times_outside, times_count, left_small, set_next, keep_next, zero_behind}
+use Rattle.spf_decoding.proofs.Places.{left_at, times_before, memory_at, left_inside, left_outside, times_inside, times_outside, times_count, left_small, set_next, keep_next, zero_behind}
 use Rattle.spf_decoding.proofs.Body.{at, stored, place-inside, place-outside}
-use Rattle.spf_decoding.proofs.Steps.{Gives, gives-number, gives-local, gives-binary, comes-let, comes-fill, zeros-stay, with_slot, Reaches, Yields, reached, reaches-then, reaches-on, reaches-end, reaches-for, for-reaches, word-ok}
+use Rattle.spf_decoding.proofs.Steps.{Gives, gives-number, gives-local, gives-binary, comes-let, comes-fill, zeros-stay, with_slot, Reaches, Yields, reached, reaches-on, reaches-end, reaches-for, for-reaches, word-ok}
 
 -- where the program runs: its one array is as long as the input and a block, and its cells are few
 pub record Runs (g : Environment) (size : ℕ) : Type 0 where

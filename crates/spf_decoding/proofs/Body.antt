@@ -1,6 +1,6 @@
 -- A byte of a block.
-use Rattle.std.proofs.Common.{◌≡◌, ℕ, zero, suc, ◌+◌, ◌-◌, ◌<◌, ◌≤◌, ◌^◌, Bool, true, false, List, [], ◌∷◌, ◌++◌, length, replicate, Ok, Err, ℤ, pos, negsuc, refl, ap, sym, ◌∙◌, subst, arith}
-use Rattle.std.specs.Prelude.{nat_lt, if◌then◌else◌, slice_index, slice_set, slice_index_or, ◌+ℤ◌, ◌-ℤ◌, int_lt}
+use Rattle.std.proofs.Common.{◌≡◌, ℕ, zero, suc, ◌+◌, ◌-◌, ◌<◌, ◌≤◌, ◌^◌, Bool, true, false, List, [], ◌∷◌, length, Ok, Err, ℤ, pos, negsuc, refl, ap, sym, ◌∙◌, subst, arith}
+use Rattle.std.specs.Prelude.{if◌then◌else◌, slice_index, slice_set, ◌+ℤ◌, ◌-ℤ◌, int_lt}
 use Rattle.std.specs.Ordering.{int_eq}
 use Rattle.std.proofs.lemmas.Int.{ints}
 use Rattle.std.proofs.lemmas.Bool.{lt-ltb}
@@ -9,14 +9,14 @@ use Rattle.spf_ast.specs.declared.syntax.Op.TheVariants.{Add, Sub}
 use Rattle.spf_ast.specs.declared.syntax.Test.TheVariants.{Eq, Lt, Gt}
 use Rattle.spf_ast.specs.Word.{exact, binary_words}
 use Rattle.spf_ast.specs.Interaction.{State, Value}
-use Rattle.spf_ast.specs.Syntax.{Condition, Block, Local, Len, Input, Load, Compare, Let, Assign, Store, If, end, on_line}
+use Rattle.spf_ast.specs.Syntax.{Condition, Block, Local, Len, Input, Compare, Let, Assign, Store, If, end}
 use Rattle.spf_ast.specs.Meaning.{Environment, block_means, statement_means, extent_in, condition_means}
 use Rattle.spf_laws.proofs.Plainly.{Comes}
 use Rattle.spf_programs.specs.Writing.{number, plus, minus, only}
 use Rattle.spf_programs.specs.PackBits.{header, copied, repeated, data_byte, one_byte}
-use Rattle.spf_decoding.proofs.Bytes.{Header, header_of, copies, skips, repeats, after_header, next_left, times_of, copies_left, repeats_left}
+use Rattle.spf_decoding.proofs.Bytes.{Header, header_of, copies, skips, repeats, after_header, next_left, copies_left, repeats_left}
 use Rattle.spf_decoding.proofs.Places.{IsSmall}
-use Rattle.spf_decoding.proofs.Steps.{Gives, gives-number, gives-local, gives-len, gives-input, gives-binary, tells, comes-let, comes-assign, comes-store, comes-on, comes-end, comes-only, comes-then_branch, comes-else_branch, word-ok}
+use Rattle.spf_decoding.proofs.Steps.{gives-number, gives-local, gives-len, gives-input, gives-binary, tells, comes-let, comes-assign, comes-store, comes-on, comes-end, comes-only, comes-then_branch, comes-else_branch, word-ok}
 
 -- the state with these words in the slots, and no output
 abbrev pub at : (carried number left place byte out turn : ℤ) → State

@@ -5,7 +5,7 @@ use Rattle.std.specs.List.{AllByRecursion, flat_map}
 use Rattle.std.proofs.lemmas.Int.{ints}
 use Rattle.std.proofs.lemmas.Bool.Decides.{nat_tests}
 use Rattle.std.proofs.lemmas.List.{append-nil}
-use Rattle.spf_formats.specs.PackBits.{Packet, data_size, IsPacket, packet_bytes, unpacked, IsRest, IsCut, Unpacks}
+use Rattle.spf_formats.specs.PackBits.{Packet, data_size, IsPacket, packet_bytes, unpacked, IsRest, Unpacks}
 
 -- what a header leaves to be done
 abbrev pub after_header : ℕ → ℤ

@@ -1,20 +1,20 @@
 -- The blocks of the program that runs a machine.
-use Rattle.std.proofs.Common.{◌≡◌, ◌⊎◌, inl, inr, ℕ, zero, suc, ◌+◌, ◌-◌, ◌*◌, ◌<◌, ◌≤◌, ◌^◌, Bool, true, false, List, [], ◌∷◌, ◌++◌, length, replicate, ℤ, pos, refl, ap, sym, ◌∙◌, subst, arith}
+use Rattle.std.proofs.Common.{◌≡◌, ℕ, suc, ◌+◌, ◌-◌, ◌*◌, ◌<◌, ◌≤◌, List, [], ◌∷◌, ◌++◌, length, replicate, ℤ, pos, refl, ap, sym, ◌∙◌, subst, arith}
 use Rattle.std.specs.Prelude.{slice_index, slice_set, slice_index_or}
 use Rattle.std.proofs.Math.Nat.{mul-suc}
 use Rattle.spf_lemmas.proofs.Members.{cases}
-use Rattle.spf_ast.specs.Interaction.{State, Value, Meaning, ◌>>=◌, ◌>>◌}
-use Rattle.spf_ast.specs.Syntax.{Local, Let, Fill, For, Block, end, on_line}
+use Rattle.spf_ast.specs.Interaction.{State, Meaning, ◌>>=◌}
+use Rattle.spf_ast.specs.Syntax.{Local, Let, Fill, For, end, on_line}
 use Rattle.spf_ast.specs.Meaning.{Environment, block_means, statement_means, expression_means, extent_in}
-use Rattle.spf_laws.proofs.Plainly.{Comes, comes-then}
+use Rattle.spf_laws.proofs.Plainly.{comes-then}
 use Rattle.spf_programs.specs.Writing.{number, only}
 use Rattle.spf_programs.specs.Lexer.{block_begin, block_end, one_byte, body}
 use Rattle.spf_formats.specs.Tokens.{next_state, mark}
-use Rattle.spf_decoding.proofs.LexPlaces.{state_at, mark_of, mark_at, marks_before, marks_at, state_inside, state_outside, mark_inside, mark_outside, marks_count, state_below, entry_number}
+use Rattle.spf_decoding.proofs.LexPlaces.{state_at, marks_before, marks_at, state_inside, state_outside, mark_inside, mark_outside, marks_count, state_below, entry_number}
 use Rattle.spf_decoding.proofs.LexBody.{Lexes, at, place-inside, place-outside}
 use Rattle.spf_decoding.proofs.Places.{set_next, keep_next, zero_behind}
 use Rattle.spf_decoding.proofs.Blocks.{gives-begin, gives-end, in_or_out}
-use Rattle.spf_decoding.proofs.Steps.{Gives, gives-number, gives-local, comes-let, comes-fill, zeros-stay, with_slot, Reaches, Yields, reached, reaches-on, reaches-end, reaches-for, for-reaches}
+use Rattle.spf_decoding.proofs.Steps.{gives-number, gives-local, comes-let, comes-fill, zeros-stay, with_slot, Reaches, Yields, reached, reaches-on, reaches-end, reaches-for, for-reaches}
 
 -- how many cells there are
 abbrev pub cells_for : (size : ℕ) (machine content : List ℕ) → ℕ

@@ -1,6 +1,6 @@
 -- A step of a machine.
-use Rattle.std.proofs.Common.{◌≡◌, ℕ, zero, suc, ◌+◌, ◌-◌, ◌*◌, ◌<◌, ◌≤◌, ◌^◌, Bool, true, false, List, [], ◌∷◌, ◌++◌, length, Ok, ℤ, pos, refl, ap, sym, ◌∙◌, subst, arith, length-append}
-use Rattle.std.specs.Prelude.{slice_index, slice_set, slice_index_or, ◌+ℤ◌, ◌-ℤ◌, ◌*ℤ◌, int_lt}
+use Rattle.std.proofs.Common.{◌≡◌, ℕ, ◌+◌, ◌*◌, ◌<◌, ◌≤◌, ◌^◌, Bool, true, false, List, [], ◌∷◌, ◌++◌, length, Ok, ℤ, pos, refl, ap, sym, ◌∙◌, subst, arith, length-append}
+use Rattle.std.specs.Prelude.{slice_index, slice_set, slice_index_or, ◌+ℤ◌, ◌-ℤ◌, int_lt}
 use Rattle.std.proofs.lemmas.Int.{ints}
 use Rattle.std.proofs.lemmas.Nat.{mul-le}
 use Rattle.std.proofs.lemmas.List.{get_or-append-add, get_or_append_left}
@@ -8,15 +8,15 @@ use Rattle.spf_ast.specs.declared.syntax.Op.TheVariants.{Add, Sub, Mul}
 use Rattle.spf_ast.specs.declared.syntax.Test.TheVariants.{Lt}
 use Rattle.spf_ast.specs.Word.{exact, binary_words}
 use Rattle.spf_ast.specs.Interaction.{State, Value}
-use Rattle.spf_ast.specs.Syntax.{Condition, Block, Expression, Local, Len, Input, Compare, Let, Assign, Store, If, end, on_line}
-use Rattle.spf_ast.specs.Meaning.{Environment, block_means, statement_means, extent_in, condition_means}
+use Rattle.spf_ast.specs.Syntax.{Condition, Local, Len, Input, Compare, Let, Assign, Store, If, end, on_line}
+use Rattle.spf_ast.specs.Meaning.{Environment, block_means, extent_in, condition_means}
 use Rattle.spf_laws.proofs.Plainly.{Comes}
 use Rattle.spf_formats.specs.Lex1.{IsLex1, class_at}
 use Rattle.spf_formats.specs.Tokens.{next_state, mark}
 use Rattle.spf_programs.specs.Writing.{number, plus, minus, times, only}
 use Rattle.spf_programs.specs.Lexer.{entry_at, step, one_byte}
 use Rattle.spf_programs.specs.Lexer as lexer
-use Rattle.spf_decoding.proofs.LexPlaces.{entry_number, entry_below, entry_is, class_below}
+use Rattle.spf_decoding.proofs.LexPlaces.{entry_number, entry_below, entry_is}
 use Rattle.spf_decoding.proofs.Steps.{Gives, gives-number, gives-local, gives-len, gives-input, gives-binary, tells, comes-let, comes-assign, comes-store, comes-on, comes-end, comes-only, comes-then_branch, comes-else_branch, word-ok}
 
 -- where the program runs: its input is a machine and a content, and its one array has enough cells
@@ -48,10 +48,10 @@ input_long g size states classes machine content d = ap (λ (l : List ℕ). leng
 
 -- ---- sums and products of words
 
-sum_ok : (a b : ℕ) → a + b < 2 ^ 63 → binary_words Add (pos a) (pos b) ≡ Ok (pos (a + b))
+pub sum_ok : (a b : ℕ) → a + b < 2 ^ 63 → binary_words Add (pos a) (pos b) ≡ Ok (pos (a + b))
 sum_ok a b h = let sum : pos a +ℤ pos b ≡ pos (a + b) = omega (arith, ints) in ap exact sum ∙ word-ok (a + b) h
 
-product_ok : (a b : ℕ) → a * b < 2 ^ 63 → binary_words Mul (pos a) (pos b) ≡ Ok (pos (a * b))
+pub product_ok : (a b : ℕ) → a * b < 2 ^ 63 → binary_words Mul (pos a) (pos b) ≡ Ok (pos (a * b))
 product_ok a b h = word-ok (a * b) h
 
 -- the entry of the state in a slot for the byte at the place in a slot

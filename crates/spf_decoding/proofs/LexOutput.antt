@@ -1,6 +1,6 @@
 -- What the program that runs a machine writes at its end.
-use Rattle.std.proofs.Common.{◌≡◌, ℕ, zero, suc, ◌+◌, ◌-◌, ◌*◌, ◌/◌, ◌%◌, ◌<◌, ◌≤◌, ◌^◌, Bool, true, false, List, [], ◌∷◌, ◌++◌, length, Ok, ℤ, pos, refl, ap, sym, ◌∙◌, subst, arith, append-nil, length-append, get_or-set_same}
-use Rattle.std.specs.Prelude.{not, slice_index, slice_index_or, ◌-ℤ◌}
+use Rattle.std.proofs.Common.{◌≡◌, ℕ, zero, suc, ◌+◌, ◌/◌, ◌%◌, ◌<◌, ◌≤◌, ◌^◌, true, false, List, [], ◌∷◌, ◌++◌, length, Ok, ℤ, pos, refl, ap, sym, ◌∙◌, subst, arith, append-nil, length-append, get_or-set_same}
+use Rattle.std.specs.Prelude.{not, slice_index_or, ◌-ℤ◌}
 use Rattle.std.specs.Ordering.{int_eq}
 use Rattle.std.specs.Int.{int_bit_and, w64, byte_at}
 use Rattle.std.specs.Int.Bits.{bit_and}
@@ -13,16 +13,16 @@ use Rattle.spf_ast.specs.declared.syntax.Op.TheVariants.{Sub, Shr, And}
 use Rattle.spf_ast.specs.declared.syntax.Test.TheVariants.{Ne}
 use Rattle.spf_ast.specs.Word.{exact, binary_words}
 use Rattle.spf_ast.specs.Interaction.{State, Value}
-use Rattle.spf_ast.specs.Syntax.{Condition, Block, Expression, Local, Len, Load, Compare, Emit, If, For, end, on_line}
-use Rattle.spf_ast.specs.Meaning.{Environment, block_means, statement_means, condition_means, extent_in, max_output}
+use Rattle.spf_ast.specs.Syntax.{Condition, Block, Local, Len, Load, Compare, Emit, If, end, on_line}
+use Rattle.spf_ast.specs.Meaning.{Environment, block_means, statement_means, extent_in, max_output}
 use Rattle.spf_laws.proofs.Plainly.{Comes}
 use Rattle.spf_formats.specs.Tokens.{token}
-use Rattle.spf_programs.specs.Writing.{number, minus, shifted_right, masked, only}
+use Rattle.spf_programs.specs.Writing.{number, shifted_right, masked, only}
 use Rattle.spf_programs.specs.Lexer as lexer
 use Rattle.spf_decoding.proofs.LexPlaces.{mark_of, marks_before, tokens_before, tokens_short, marks_word, mark_inside}
 use Rattle.spf_decoding.proofs.LexBody.{Lexes}
 use Rattle.spf_decoding.proofs.Output.{comes-emit}
-use Rattle.spf_decoding.proofs.Steps.{Gives, gives-number, gives-local, gives-len, gives-load, gives-binary, tells, with_slot, Reaches, reached, reaches-on, reaches-end, reaches-for, for-reaches, comes-on, comes-only, comes-end, comes-then_branch, comes-else_branch, word-ok}
+use Rattle.spf_decoding.proofs.Steps.{Gives, gives-number, gives-local, gives-len, gives-load, gives-binary, tells, with_slot, Reaches, reached, reaches-for, for-reaches, comes-on, comes-only, comes-end, comes-then_branch, comes-else_branch, word-ok}
 
 -- ---- bytes of a place
 

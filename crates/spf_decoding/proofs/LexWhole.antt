@@ -1,6 +1,6 @@
 -- The program that runs a machine, from its start to its end.
-use Rattle.std.proofs.Common.{◌≡◌, ℕ, zero, suc, ◌+◌, ◌-◌, ◌*◌, ◌/◌, ◌<◌, ◌≤◌, ◌^◌, Bool, true, false, List, [], ◌∷◌, ◌++◌, length, replicate, Ok, Err, ℤ, pos, refl, ap, sym, ◌∙◌, subst, arith, length-append}
-use Rattle.std.specs.Prelude.{nat_lt, if◌then◌else◌, slice_index, slice_index_or, ◌+ℤ◌, ◌-ℤ◌, ◌*ℤ◌, int_div}
+use Rattle.std.proofs.Common.{◌≡◌, ℕ, ◌+◌, ◌-◌, ◌*◌, ◌<◌, ◌≤◌, false, List, ◌++◌, length, replicate, Err, ℤ, pos, refl, ap, sym, ◌∙◌, subst, arith, length-append}
+use Rattle.std.specs.Prelude.{nat_lt, if◌then◌else◌, ◌+ℤ◌, ◌-ℤ◌, ◌*ℤ◌, int_div}
 use Rattle.std.specs.List.{AllByRecursion}
 use Rattle.std.specs.Int.{int_gap}
 use Rattle.std.specs.Ordering.{int_eq}
@@ -9,25 +9,25 @@ use Rattle.std.proofs.lemmas.Bool.Decides.{nat_tests}
 use Rattle.std.proofs.Math.Nat.{div-le_self}
 use Rattle.spf_ast.specs.declared.outcome.TrapKind.TheVariants as trap
 use Rattle.spf_ast.specs.declared.syntax.Op.TheVariants.{Add, Sub, Div}
-use Rattle.spf_ast.specs.Word.{exact, binary_words}
-use Rattle.spf_ast.specs.Interaction.{State, Value, Meaning, ◌>>=◌, ◌>>◌}
-use Rattle.spf_ast.specs.Syntax.{Local, Len, Fold, end, on_line}
-use Rattle.spf_ast.specs.Meaning.{Environment, block_means, statement_means, expression_means, extent_in, sets, fold_range, fold_blocks, max_blocks, traps}
-use Rattle.spf_ast.specs.Program.{environment_of, start_of, zeros_of, cell_count_of, size_or_none, outcome, outcome_from, Outcome, Done, max_cells}
+use Rattle.spf_ast.specs.Word.{exact}
+use Rattle.spf_ast.specs.Interaction.{State, Value, ◌>>=◌}
+use Rattle.spf_ast.specs.Syntax.{Local, Len, Fold, end}
+use Rattle.spf_ast.specs.Meaning.{Environment, block_means, statement_means, expression_means, sets, fold_range, fold_blocks, max_blocks, traps}
+use Rattle.spf_ast.specs.Program.{environment_of, start_of, zeros_of, cell_count_of, size_or_none, outcome, outcome_from, Done, max_cells}
 use Rattle.spf_laws.proofs.Plainly.{Comes, comes-then}
 use Rattle.spf_formats.specs.Lex1.{IsLex1}
 use Rattle.spf_formats.specs.Tokens.{tokens}
 use Rattle.spf_programs.specs.Laws.{IsBlockSize}
-use Rattle.spf_programs.specs.Writing.{number, plus, minus, over, only, blocks_for}
+use Rattle.spf_programs.specs.Writing.{number, plus, only, blocks_for}
 use Rattle.spf_programs.specs.Lexer.{program_for, lexer_program, head, body}
 use Rattle.spf_programs.specs.Lexer as lexer
-use Rattle.spf_decoding.proofs.LexPlaces.{state_at, marks_before, marks_at, tokens_all}
+use Rattle.spf_decoding.proofs.LexPlaces.{state_at, marks_at, tokens_all}
 use Rattle.spf_decoding.proofs.LexBody.{Lexes}
 use Rattle.spf_decoding.proofs.LexBlocks.{cells_for, BlockAt, block-yields}
 use Rattle.spf_decoding.proofs.LexOutput.{Written, output-written}
 use Rattle.spf_decoding.proofs.Places.{bytes_small}
 use Rattle.spf_decoding.proofs.Whole.{blocks_of, blocks_few, block_inside, blocks_enough}
-use Rattle.spf_decoding.proofs.Steps.{Gives, gives-number, gives-len, gives-binary, with_slot, Reaches, Yields, reached, reaches-on, reaches-end, fold-yields, gap-is, word-ok, comes-sets}
+use Rattle.spf_decoding.proofs.Steps.{Gives, gives-number, gives-len, gives-binary, with_slot, Reaches, reached, reaches-on, reaches-end, fold-yields, gap-is, word-ok, comes-sets}
 
 gives-blocks : (g : Environment) (size states classes : ℕ) (machine content : List ℕ) → Lexes g size states classes machine content → length g.input ≡ length machine + length content → (s : State) (m : List ℤ) → Gives g 10 (blocks_for (lexer.content (length machine)) size) s m (pos (blocks_of (length content) size))
 gives-blocks g size states classes machine content d long s m =

@@ -10,3 +10,11 @@ pub mod LexBody
 pub mod LexBlocks
 pub mod LexOutput
 pub mod LexWhole
+pub mod HufWords
+pub mod HufPlaces
+pub mod HufTable
+pub mod HufBits
+pub mod HufBlocks
+pub mod HufOutput
+pub mod HufWhole
+pub mod Overflow

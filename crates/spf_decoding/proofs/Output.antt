@@ -1,20 +1,20 @@
 -- What the program that unpacks PackBits writes at its end.
-use Rattle.std.proofs.Common.{◌≡◌, ◌≢◌, ◌⊎◌, inl, inr, ℕ, zero, suc, ◌+◌, ◌-◌, ◌<◌, ◌≤◌, ◌^◌, Bool, true, false, List, [], ◌∷◌, ◌++◌, length, replicate, drop, Ok, ℤ, pos, negsuc, refl, ap, sym, ◌∙◌, subst, arith, append_assoc, append-nil, length-append, get_or-set_same, get_or-set_other}
-use Rattle.std.specs.Prelude.{nat_lt, ◌&&◌, if◌then◌else◌, slice_index, slice_set, slice_index_or}
+use Rattle.std.proofs.Common.{◌≡◌, ◌≢◌, ◌⊎◌, ℕ, zero, suc, ◌+◌, ◌<◌, ◌≤◌, List, [], ◌∷◌, ◌++◌, length, replicate, drop, ℤ, pos, refl, ap, sym, ◌∙◌, subst, arith, append_assoc, append-nil, length-append, get_or-set_same, get_or-set_other}
+use Rattle.std.specs.Prelude.{◌&&◌, if◌then◌else◌, slice_index, slice_index_or}
 use Rattle.std.proofs.lemmas.Bool.{lt-ltb}
 use Rattle.std.proofs.lemmas.List.{length-set, length-replicate}
 use Rattle.spf_lemmas.proofs.Members.{cases}
 use Rattle.spf_ast.specs.Event.{word_at}
-use Rattle.spf_ast.specs.Interaction.{State, Value, Answer, Meaning, ◌>>=◌, ◌>>◌}
+use Rattle.spf_ast.specs.Interaction.{State, Value, Answer}
 use Rattle.spf_ast.specs.Plain.{plain_answer, plain_memory}
-use Rattle.spf_ast.specs.Syntax.{Expression, Local, Len, Input, Load, Emit, For, Block, end, on_line}
-use Rattle.spf_ast.specs.Meaning.{Environment, block_means, statement_means, expression_means, extent_in, for_turns, emits, max_output, traps}
+use Rattle.spf_ast.specs.Syntax.{Expression, Local, Len, Input, Load, Emit, For, Block, end}
+use Rattle.spf_ast.specs.Meaning.{Environment, block_means, statement_means, extent_in, emits, max_output, traps}
 use Rattle.spf_ast.specs.declared.outcome.TrapKind.TheVariants as trap
 use Rattle.spf_laws.proofs.Plainly.{Comes, comes-then}
 use Rattle.spf_programs.specs.Writing.{number, only}
 use Rattle.spf_programs.specs.PackBits.{output}
 use Rattle.spf_decoding.proofs.Bytes.{times_of, read_on}
-use Rattle.spf_decoding.proofs.Places.{left_at, times_at, times_before, written_before, memory_at, times_inside, times_count, written_on}
+use Rattle.spf_decoding.proofs.Places.{left_at, times_at, times_before, written_before, times_inside, times_count, written_on}
 use Rattle.spf_decoding.proofs.Blocks.{Runs}
 use Rattle.spf_decoding.proofs.Steps.{Gives, gives-number, gives-local, gives-len, gives-input, gives-load, with_slot, Reaches, reached, reaches-on, reaches-end, reaches-for, for-reaches, comes-only}
 
@@ -28,7 +28,7 @@ comes-emit g line e s m b p small room = comes-then (emits line) p put
     }
 
 -- the cell of a place that was read
-times_word : (input : List ℕ) (far : ℕ) (behind : List ℤ) (p : ℕ) → p < far → slice_index_or (times_before input far ++ behind) p (pos 0) ≡ pos (times_at input p)
+pub times_word : (input : List ℕ) (far : ℕ) (behind : List ℤ) (p : ℕ) → p < far → slice_index_or (times_before input far ++ behind) p (pos 0) ≡ pos (times_at input p)
 times_word input zero behind p h = absurd (omega (arith, h))
 times_word input (suc far) behind p h =
     let whole = append_assoc (times_before input far) (pos (times_at input far) ∷ []) behind in
@@ -46,11 +46,11 @@ times_word input (suc far) behind p h =
 
 -- ---- the byte at a place, as often as it is written
 
-record Repeats (g : Environment) (cells : List ℤ) (p n : ℕ) (s : State) (m : List ℤ) : Type 0 where
-  output_is : s.output ≡ written_before g.input p ++ replicate n (slice_index g.input p)
-  memory_is : m ≡ cells
-  slots_are : length s.slots ≡ 7
-  place_is : slice_index_or s.slots 5 (pos 0) ≡ pos p
+pub record Repeats (g : Environment) (cells : List ℤ) (p n : ℕ) (s : State) (m : List ℤ) : Type 0 where
+  pub output_is : s.output ≡ written_before g.input p ++ replicate n (slice_index g.input p)
+  pub memory_is : m ≡ cells
+  pub slots_are : length s.slots ≡ 7
+  pub place_is : slice_index_or s.slots 5 (pos 0) ≡ pos p
 
 more_repeated : (before : List ℕ) (n b : ℕ) → (before ++ replicate n b) ++ b ∷ [] ≡ before ++ replicate (suc n) b
 more_repeated before n b = append_assoc before (replicate n b) (b ∷ []) ∙ ap (λ l. before ++ l) (ends n)
@@ -59,10 +59,10 @@ more_repeated before n b = append_assoc before (replicate n b) (b ∷ []) ∙ ap
     ends zero = refl
     ends (suc k) = ap (λ l. b ∷ l) (ends k)
 
-abbrev emitted : Block
+abbrev pub emitted : Block
 emitted = only 31 (Emit (Input (Local 5)))
 
-emit-turn : (g : Environment) (size : ℕ) (cells : List ℤ) (p n : ℕ) (s : State) (m : List ℤ) → Runs g size → p < length g.input → length (written_before g.input p) + n < max_output → Repeats g cells p n s m → Reaches (block_means g emitted) (Repeats g cells p (suc n)) (with_slot 6 (pos n) s) m
+pub emit-turn : (g : Environment) (size : ℕ) (cells : List ℤ) (p n : ℕ) (s : State) (m : List ℤ) → Runs g size → p < length g.input → length (written_before g.input p) + n < max_output → Repeats g cells p n s m → Reaches (block_means g emitted) (Repeats g cells p (suc n)) (with_slot 6 (pos n) s) m
 emit-turn g size cells p n s m d there room h =
     let b = slice_index g.input p in
     let t = with_slot 6 (pos n) s in
@@ -87,7 +87,7 @@ pub record Written (g : Environment) (cells : List ℤ) (p : ℕ) (s : State) (m
   pub memory_is : m ≡ cells
   pub slots_are : length s.slots ≡ 7
 
-abbrev repeated : Block
+abbrev pub repeated : Block
 repeated = only 30 (For 6 (number 0) (Load 0 (Local 5)) emitted)
 
 -- nothing that is written before a place goes beyond the whole

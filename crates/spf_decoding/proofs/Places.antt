@@ -1,5 +1,5 @@
 -- What is left to be done at each place of a file, and how often each of its bytes is written.
-use Rattle.std.proofs.Common.{◌≡◌, ◌⊎◌, inl, inr, ℕ, zero, suc, ◌+◌, ◌-◌, ◌<◌, ◌≤◌, Bool, true, false, List, [], ◌∷◌, ◌++◌, length, take, drop, replicate, get_or, ℤ, pos, negsuc, refl, ap, sym, ◌∙◌, subst, arith, append_assoc, length-append}
+use Rattle.std.proofs.Common.{◌≡◌, ℕ, zero, suc, ◌-◌, ◌<◌, ◌≤◌, Bool, true, false, List, [], ◌∷◌, ◌++◌, length, drop, replicate, ℤ, pos, negsuc, refl, ap, sym, ◌∙◌, subst, arith, append_assoc, length-append}
 use Rattle.std.specs.Prelude.{nat_lt, if◌then◌else◌, slice_index, slice_set, slice_index_or}
 use Rattle.std.specs.List.{AllByRecursion}
 use Rattle.std.proofs.lemmas.Bool.Decides.{nat_tests}
@@ -110,7 +110,7 @@ keep_next before n = sym (append_assoc before (pos 0 ∷ []) (replicate n (pos 0
 
 -- ---- what is written in all
 
-drop_next : (input : List ℕ) (p : ℕ) → p < length input → drop p input ≡ slice_index input p ∷ drop (suc p) input
+pub drop_next : (input : List ℕ) (p : ℕ) → p < length input → drop p input ≡ slice_index input p ∷ drop (suc p) input
 drop_next [] p h = absurd (omega (arith, h))
 drop_next (b ∷ input) zero h = refl
 drop_next (b ∷ input) (suc p) h = drop_next input p (omega (arith, h))

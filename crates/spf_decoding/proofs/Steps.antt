@@ -1,27 +1,33 @@
 -- Plain runs of single forms.
-use Rattle.std.proofs.Common.{◌≡◌, ℕ, zero, suc, ◌+◌, ◌-◌, ◌*◌, ◌/◌, ◌<◌, ◌≤◌, ◌^◌, Bool, true, false, List, [], ◌∷◌, ◌++◌, length, Result, Ok, Err, ℤ, pos, negsuc, refl, ap, sym, ◌∙◌, subst, arith}
-use Rattle.std.specs.Prelude.{nat_lt, nat_le, ◌&&◌, if◌then◌else◌, slice_index_or, slice_index, slice_set, ◌+ℤ◌, ◌-ℤ◌, ◌*ℤ◌}
+use Rattle.std.proofs.Common.{◌≡◌, ◌≢◌, ◌⊎◌, inl, inr, ℕ, zero, suc, ◌+◌, ◌-◌, ◌<◌, ◌≤◌, ◌^◌, Bool, true, false, List, length, Result, Ok, Err, ℤ, pos, refl, ap, sym, ◌∙◌, subst, arith}
+use Rattle.std.specs.Prelude.{nat_le, ◌&&◌, if◌then◌else◌, slice_index_or, slice_index, slice_set, ◌+ℤ◌}
 use Rattle.std.proofs.lemmas.Int.{ints}
 use Rattle.std.proofs.lemmas.Bool.{lt-ltb}
 use Rattle.std.proofs.lemmas.Bool.Decides.{nat_tests}
 use Rattle.std.proofs.lemmas.List.{set-get_or}
 use Rattle.std.specs.Int.{int_gap}
+use Rattle.spf_ast.specs.declared.outcome.Trap.{Trap}
 use Rattle.spf_ast.specs.declared.outcome.TrapKind.{TrapKind}
 use Rattle.spf_ast.specs.declared.outcome.TrapKind.TheVariants.{Overflow, Index, Range}
 use Rattle.spf_ast.specs.declared.syntax.Op.{Op}
 use Rattle.spf_ast.specs.declared.syntax.Test.{Test}
 use Rattle.spf_ast.specs.Event.{word_at}
-use Rattle.spf_ast.specs.Word.{exact, is_word, binary_words}
-use Rattle.spf_ast.specs.Interaction.{State, Ending, Value, Meaning, ◌>>=◌, ◌>>◌}
+use Rattle.spf_ast.specs.Word.{exact, binary_words}
+use Rattle.spf_ast.specs.Interaction.{State, Ending, Value, Trapped, Meaning, ◌>>=◌, ◌>>◌}
 use Rattle.spf_ast.specs.Plain.{plain_answer, plain_memory}
-use Rattle.spf_ast.specs.Syntax.{Expression, Number, Local, Len, Input, Load, Binary, Condition, Compare, Statement, Let, Assign, Store, Fill, Emit, If, For, Block, end, on_line}
-use Rattle.spf_ast.specs.Meaning.{Environment, expression_means, condition_means, statement_means, block_means, checked, reads, sets, loads, stores, emits, done, gives, byte_of, cell_of, extent_in, compares, max_output, turns, for_turns, cells_of, stores_each, fold_blocks}
-use Rattle.spf_laws.proofs.Plainly.{Comes, comes-then}
+use Rattle.spf_ast.specs.Syntax.{Expression, Number, Local, Len, Input, Load, Binary, Condition, Compare, Statement, Let, Assign, Store, Fill, If, For, Block, end, on_line}
+use Rattle.spf_ast.specs.Meaning.{Environment, expression_means, condition_means, statement_means, block_means, checked, sets, loads, stores, gives, byte_of, cell_of, extent_in, compares, turns, for_turns, cells_of, stores_each, fold_blocks}
+use Rattle.spf_laws.proofs.Plainly.{Comes, comes-then, comes-trap}
 
 -- ---- words
 
 pub word-ok : (n : ℕ) → n < 2 ^ 63 → exact (pos n) ≡ Ok (pos n)
 word-ok n h = ap (λ b. if b then Ok (pos n) else Err Overflow) (lt-ltb n (2 ^ 63) h)
+
+-- ---- slots
+
+pub below_differs : (a b : ℕ) → a < b → a ≢ b
+below_differs a b h e = omega (arith, h, e)
 
 -- ---- expressions
 
@@ -120,6 +126,11 @@ reaches-then first next P Q s m r f =
 -- a form that comes to a state reaches it
 pub reached : (form : Meaning (Unit {0})) (P : State → List ℤ → Type 0) (s t : State) (m x : List ℤ) → Comes form s m (Value tt t) x → P t x → Reaches form P s m
 reached form P s t m x c h = record { state = t; memory = x; comes = c; holds = h }
+
+-- the branch that is taken
+pub reaches-then_branch : (g : Environment) (line : ℕ) (c : Condition) (a b : Block) (P : State → List ℤ → Type 0) (s : State) (m : List ℤ) → Comes (condition_means g line c) s m (Value true s) m → Reaches (block_means g a) P s m → Reaches (statement_means g line (If c a b)) P s m
+reaches-then_branch g line c a b P s m p r =
+    record { state = r.state; memory = r.memory; comes = comes-then_branch g line c a b s m r.memory (Value tt r.state) p r.comes; holds = r.holds }
 
 pub comes-turn : (s : State) (m : List ℤ) → Comes turns s m (Value tt s) m
 comes-turn s m = record { answer = refl; memory = refl }
@@ -232,3 +243,69 @@ fold-yields block carried body values P from (suc count) step s m h =
           (subst (λ n. Comes (fold_blocks count (pos (suc from)) block carried (values (suc from)) body) one.state one.memory (Value (values n) rest.state) rest.memory) far rest.comes)))));
       holds = subst (λ n. P n rest.state rest.memory) far rest.holds;
     }
+
+-- ---- forms that end in some way
+
+-- a form comes to an ending and a memory that pass a test
+pub record Ends (form : Meaning (Unit {0})) (Q : Ending (Unit {0}) → List ℤ → Type 0) (s : State) (m : List ℤ) : Type 0 where
+  pub ending : Ending (Unit {0})
+  pub memory : List ℤ
+  pub comes : Comes form s m ending memory
+  pub holds : Q ending memory
+
+-- one statement, and then the rest
+pub ends-on : (g : Environment) (line : ℕ) (first : Statement) (rest : Block) (P : State → List ℤ → Type 0) (Q : Ending (Unit {0}) → List ℤ → Type 0) (s : State) (m : List ℤ) → Reaches (statement_means g line first) P s m → ((t : State) (x : List ℤ) → P t x → Ends (block_means g rest) Q t x) → Ends (block_means g (on_line line first rest)) Q s m
+ends-on g line first rest P Q s m r f =
+    let q = f r.state r.memory r.holds in
+    record { ending = q.ending; memory = q.memory; comes = comes-on g line first rest s r.state m r.memory q.memory q.ending r.comes q.comes; holds = q.holds }
+
+-- ---- forms that reach a state, or trap
+
+pub record Halts (form : Meaning (Unit {0})) (t : Trap) (output : List ℕ) (s : State) (m : List ℤ) : Type 0 where
+  pub memory : List ℤ
+  pub comes : Comes form s m (Trapped t output) memory
+
+abbrev pub Goes : Meaning (Unit {0}) → (State → List ℤ → Type 0) → Trap → List ℕ → State → List ℤ → Type 0
+Goes form P t output s m = Reaches form P s m ⊎ Halts form t output s m
+
+-- a form that ends well, and then one that reaches a state or traps
+goes-after : (first next : Meaning (Unit {0})) (Q : State → List ℤ → Type 0) (t : Trap) (output : List ℕ) (s between : State) (m x : List ℤ) → Comes first s m (Value tt between) x → Goes next Q t output between x → Goes (first >> next) Q t output s m
+goes-after first next Q t output s between m x c (inl r) = inl (record { state = r.state; memory = r.memory; comes = comes-then (λ _. next) c r.comes; holds = r.holds })
+goes-after first next Q t output s between m x c (inr h) = inr (record { memory = h.memory; comes = comes-then (λ _. next) c h.comes })
+
+pub goes-then : (first next : Meaning (Unit {0})) (P Q : State → List ℤ → Type 0) (t : Trap) (output : List ℕ) (s : State) (m : List ℤ) → Goes first P t output s m → ((u : State) (x : List ℤ) → P u x → Goes next Q t output u x) → Goes (first >> next) Q t output s m
+goes-then first next P Q t output s m (inl r) f = goes-after first next Q t output s r.state m r.memory r.comes (f r.state r.memory r.holds)
+goes-then first next P Q t output s m (inr h) f = inr (record { memory = h.memory; comes = comes-trap (λ _. next) h.comes })
+
+-- one statement, and then the rest
+pub goes-on : (g : Environment) (line : ℕ) (first : Statement) (rest : Block) (P Q : State → List ℤ → Type 0) (t : Trap) (output : List ℕ) (s : State) (m : List ℤ) → Goes (statement_means g line first) P t output s m → ((u : State) (x : List ℤ) → P u x → Goes (block_means g rest) Q t output u x) → Goes (block_means g (on_line line first rest)) Q t output s m
+goes-on g line first rest P Q t output s m p f = goes-then (statement_means g line first) (block_means g rest) P Q t output s m p f
+
+-- the turns of a `for`
+pub for-goes : (slot : ℕ) (body : Meaning (Unit {0})) (P : ℕ → State → List ℤ → Type 0) (t : Trap) (output : List ℕ) (from count : ℕ)
+    → ((p : ℕ) (s : State) (m : List ℤ) → from ≤ p → p < from + count → P p s m → Goes body (P (suc p)) t output (with_slot slot (pos p) s) m)
+    → (s : State) (m : List ℤ) → P from s m → Goes (for_turns count (pos from) slot body) (P (from + count)) t output s m
+for-goes slot body P t output from zero step s m h =
+    inl (reached (for_turns 0 (pos from) slot body) (P (from + 0)) s s m m (record { answer = refl; memory = refl }) (subst (λ n. P n s m) (let e : from ≡ from + 0 = omega arith in e) h))
+for-goes slot body P t output from (suc count) step s m h =
+    let next : pos from +ℤ pos 1 ≡ pos (suc from) = omega (arith, ints) in
+    let far : suc from + count ≡ from + suc count = omega arith in
+    let rest = for_turns count (pos from +ℤ pos 1) slot body in
+    goes-after turns (sets slot (pos from) >> (body >> rest)) (P (from + suc count)) t output s s m m (comes-turn s m)
+    (goes-after (sets slot (pos from)) (body >> rest) (P (from + suc count)) t output s (with_slot slot (pos from) s) m m (comes-sets slot (pos from) s m)
+    (goes-then body rest (P (suc from)) (P (from + suc count)) t output (with_slot slot (pos from) s) m
+    (step from s m (omega arith) (omega arith) h)
+    (λ u x q. subst (λ z. Goes (for_turns count z slot body) (P (from + suc count)) t output u x) (sym next)
+    (subst (λ n. Goes (for_turns count (pos (suc from)) slot body) (P n) t output u x) far
+    (for-goes slot body P t output (suc from) count (λ p s2 m2 low high. step p s2 m2 (omega (arith, low)) (omega (arith, high))) u x q)))))
+
+pub goes-for : (g : Environment) (line slot : ℕ) (low high : Expression) (body : Block) (P : State → List ℤ → Type 0) (t : Trap) (output : List ℕ) (s : State) (m : List ℤ) (i count : ℕ) → Gives g line low s m (pos i) → Gives g line high s m (pos (i + count)) → Goes (for_turns count (pos i) slot (block_means g body)) P t output s m → Goes (statement_means g line (For slot low high body)) P t output s m
+goes-for g line slot low high body P t output s m i count p q (inl r) = inl (reaches-for g line slot low high body P s m i count p q r)
+goes-for g line slot low high body P t output s m i count p q (inr h) =
+    inr (record {
+      memory = h.memory;
+      comes =
+          comes-then (λ k. expression_means g line high >>= λ l. for_turns (int_gap k l) k slot (block_means g body)) p
+          (comes-then (λ l. for_turns (int_gap (pos i) l) (pos i) slot (block_means g body)) q
+          (subst (λ n. Comes (for_turns n (pos i) slot (block_means g body)) s m (Trapped t output) h.memory) (sym (gap-is i count)) h.comes));
+    })

@@ -1,33 +1,30 @@
 -- The program that unpacks PackBits, from its start to its end.
-use Rattle.std.proofs.Common.{◌≡◌, ℕ, zero, suc, ◌+◌, ◌-◌, ◌*◌, ◌/◌, ◌<◌, ◌≤◌, ◌^◌, Bool, true, false, List, [], ◌∷◌, ◌++◌, length, replicate, Ok, Err, Result, ℤ, pos, refl, ap, sym, ◌∙◌, subst, arith}
-use Rattle.std.specs.Prelude.{nat_lt, if◌then◌else◌, slice_index, slice_index_or, ◌+ℤ◌, ◌*ℤ◌, int_div}
+use Rattle.std.proofs.Common.{◌≡◌, ℕ, suc, ◌+◌, ◌-◌, ◌*◌, ◌/◌, ◌<◌, ◌≤◌, false, List, length, replicate, Err, ℤ, pos, refl, ap, sym, ◌∙◌, subst, arith}
+use Rattle.std.specs.Prelude.{nat_lt, if◌then◌else◌, ◌+ℤ◌, ◌*ℤ◌, int_div}
 use Rattle.std.specs.List.{AllByRecursion}
 use Rattle.std.specs.Int.{int_gap}
 use Rattle.std.specs.Ordering.{int_eq}
 use Rattle.std.proofs.lemmas.Int.{ints}
-use Rattle.std.proofs.lemmas.List.{length-set}
 use Rattle.std.proofs.lemmas.Bool.Decides.{nat_tests}
 use Rattle.std.proofs.lemmas.Nat.{div_below, mul-le}
 use Rattle.std.proofs.Math.Nat.{lt-div-mul-add, div-mul-le_self, div-le_self, mul_comm, mul-suc}
-use Rattle.spf_ast.specs.declared.outcome.TrapKind.{TrapKind}
 use Rattle.spf_ast.specs.declared.outcome.TrapKind.TheVariants as trap
 use Rattle.spf_ast.specs.declared.syntax.Op.TheVariants.{Add, Div}
-use Rattle.spf_ast.specs.Word.{exact, binary_words}
-use Rattle.spf_ast.specs.Interaction.{State, Value, Meaning, ◌>>=◌, ◌>>◌}
-use Rattle.spf_ast.specs.Plain.{plain_answer, plain_memory}
-use Rattle.spf_ast.specs.Syntax.{Local, Len, Fold, end, on_line}
-use Rattle.spf_ast.specs.Meaning.{Environment, block_means, statement_means, expression_means, extent_in, sets, fold_range, fold_blocks, max_blocks, max_output, traps}
-use Rattle.spf_ast.specs.Program.{environment_of, start_of, zeros_of, cell_count_of, size_of, size_or_none, main_asks, outcome, outcome_from, Outcome, Done, max_cells}
+use Rattle.spf_ast.specs.Word.{exact}
+use Rattle.spf_ast.specs.Interaction.{State, Value, ◌>>=◌}
+use Rattle.spf_ast.specs.Syntax.{Local, Len, Fold, end}
+use Rattle.spf_ast.specs.Meaning.{Environment, block_means, statement_means, expression_means, sets, fold_range, fold_blocks, max_blocks, max_output, traps}
+use Rattle.spf_ast.specs.Program.{environment_of, start_of, zeros_of, cell_count_of, size_or_none, outcome, outcome_from, Done, max_cells}
 use Rattle.spf_laws.proofs.Plainly.{Comes, comes-then}
 use Rattle.spf_formats.specs.PackBits.{Unpacks}
 use Rattle.spf_programs.specs.Laws.{IsBlockSize}
-use Rattle.spf_programs.specs.Writing.{number, plus, over, only, blocks_for}
+use Rattle.spf_programs.specs.Writing.{number, plus, only, blocks_for}
 use Rattle.spf_programs.specs.PackBits.{packbits_program, head, body, output}
 use Rattle.spf_decoding.proofs.Bytes.{read_on, file_read}
-use Rattle.spf_decoding.proofs.Places.{left_at, times_before, memory_at, written_all, bytes_small}
+use Rattle.spf_decoding.proofs.Places.{left_at, memory_at, written_all, bytes_small}
 use Rattle.spf_decoding.proofs.Blocks.{Runs, BlockAt, block-yields}
 use Rattle.spf_decoding.proofs.Output.{Written, output-written}
-use Rattle.spf_decoding.proofs.Steps.{Gives, gives-number, gives-len, gives-binary, with_slot, Reaches, Yields, reached, reaches-on, reaches-end, fold-yields, gap-is, word-ok, comes-sets}
+use Rattle.spf_decoding.proofs.Steps.{Gives, gives-number, gives-len, gives-binary, with_slot, Reaches, reached, reaches-on, reaches-end, fold-yields, gap-is, word-ok, comes-sets}
 
 -- ---- how many blocks there are
 
@@ -66,7 +63,7 @@ gives-blocks g size s m some few =
 
 -- ---- the fold
 
-fold-comes : (g : Environment) (size : ℕ) (s : State) (m : List ℤ) → Runs g size → length g.input ≤ 4096 * size → BlockAt g size 0 s m → Reaches (statement_means g 3 (Fold (head size) (body size))) (BlockAt g size (blocks_of (length g.input) size)) s m
+pub fold-comes : (g : Environment) (size : ℕ) (s : State) (m : List ℤ) → Runs g size → length g.input ≤ 4096 * size → BlockAt g size 0 s m → Reaches (statement_means g 3 (Fold (head size) (body size))) (BlockAt g size (blocks_of (length g.input) size)) s m
 fold-comes g size s m d limit h =
     let n = length g.input in
     let count = blocks_of n size in
@@ -118,7 +115,7 @@ main-reaches g size s m d limit room h =
     (λ a b r. reaches-end g (Written g cells (length g.input)) a b r))
 
 -- how many cells the array has
-cells_are : (n size : ℕ) → size_or_none (pos 1 *ℤ pos n +ℤ pos size) ≡ n + size
+pub cells_are : (n size : ℕ) → size_or_none (pos 1 *ℤ pos n +ℤ pos size) ≡ n + size
 cells_are n size = ap size_or_none (let sum : pos 1 *ℤ pos n +ℤ pos size ≡ pos (n + size) = omega (arith, ints) in sum)
 
 pub unpacks : (size : ℕ) (file output : List ℕ) → IsBlockSize size → AllByRecursion (λ b. b < 256) file → length file + size ≤ max_cells → length file ≤ max_blocks * size → Unpacks file output → length output ≤ max_output

@@ -108,7 +108,7 @@ rank_grows lengths y z less h same =
 
 -- ---- bits
 
-bits_length : (n v : ℕ) → length (bits n v) ≡ n
+pub bits_length : (n v : ℕ) → length (bits n v) ≡ n
 bits_length zero v = refl
 bits_length (suc n) v = ap suc (bits_length n v)
 
@@ -181,14 +181,14 @@ pub record HasWord (lengths : List ℕ) (y : ℕ) : Type 0 where
   pub inside : y < length lengths
   pub some : 0 < slice_index lengths y
 
-words_are : (lengths : List ℕ) (n : ℕ) → 0 < n → words_of_length lengths n ≡ count_by (λ l. l == n) lengths
+pub words_are : (lengths : List ℕ) (n : ℕ) → 0 < n → words_of_length lengths n ≡ count_by (λ l. l == n) lengths
 words_are lengths zero h = absurd (omega (arith, h))
 words_are lengths (suc n) h = refl
 
 word_below : (lengths : List ℕ) (y : ℕ) → HasWord lengths y → word_number lengths y < first_word lengths (slice_index lengths y) + words_of_length lengths (slice_index lengths y)
 word_below lengths y h = omega (arith, rank_below lengths y h.inside, words_are lengths (slice_index lengths y) h.some)
 
-word_small : (lengths : List ℕ) (y : ℕ) → AreCodeLengths lengths → HasWord lengths y → word_number lengths y < 2 ^ slice_index lengths y
+pub word_small : (lengths : List ℕ) (y : ℕ) → AreCodeLengths lengths → HasWord lengths y → word_number lengths y < 2 ^ slice_index lengths y
 word_small lengths y a h = omega (arith, word_below lengths y h, words_fit lengths (slice_index lengths y) a (a.short y h.inside))
 
 -- a shorter code word doesn't begin a longer one

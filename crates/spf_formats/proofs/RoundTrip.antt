@@ -10,7 +10,7 @@ use Rattle.spf_formats.proofs.PrefixFree.{HasWord, one_symbol, begin_alike}
 
 -- ---- code words
 
-within : (xs : List ℕ) (y : ℕ) → 0 < slice_index xs y → y < length xs
+pub within : (xs : List ℕ) (y : ℕ) → 0 < slice_index xs y → y < length xs
 within [] y h = absurd (omega (arith, h))
 within (x ∷ xs) zero h = omega arith
 within (x ∷ xs) (suc y) h = omega (arith, within xs y h)

@@ -4,7 +4,7 @@ use Rattle.spf_formats.specs.declared.generate.Kind.{Kind}
 use Rattle.spf_formats.specs.declared.generate.Kind.TheVariants.{Unpack, Unhuff, Lex}
 use Rattle.spf_formats.specs.Huf1.{Encodes}
 
--- the state behind a draw
+-- the state after a draw
 abbrev pub next_state : ℕ → ℕ
 next_state x = (x * 6364136223846793005 + 1442695040888963407) % 2 ^ 64
 
@@ -12,7 +12,7 @@ next_state x = (x * 6364136223846793005 + 1442695040888963407) % 2 ^ 64
 abbrev pub given_by : ℕ → ℕ
 given_by x = x / 2 ^ 32
 
--- the state behind so many draws
+-- the state after so many draws
 abbrev pub state_after : ℕ → ℕ → ℕ
 state_after zero x = x
 state_after (suc n) x = state_after n (next_state x)
@@ -32,23 +32,23 @@ picked_bytes table n x = map (λ d. slice_index table (d % 16)) (draws n x)
 
 -- ---- PackBits
 
--- n + 1 bytes that are copied, and the state behind them
+-- n + 1 bytes that are copied, and the state after them
 abbrev pub literal : ℕ → ℕ → List ℕ × ℕ
 literal n x = (n ∷ drawn_bytes (n + 1) x, state_after (n + 1) x)
 
--- a byte that is repeated n times, and the state behind it
+-- a byte that is repeated n times, and the state after it
 abbrev pub repeat : ℕ → ℕ → List ℕ × ℕ
 repeat n x = ((257 - n) ∷ drawn_bytes 1 x, state_after 1 x)
 
--- the packet that a draw of d begins, with the state behind that draw
+-- the packet that a draw of d begins, with the state after that draw
 abbrev pub packet_of : ℕ → ℕ → List ℕ × ℕ
 packet_of d x = if d % 2 == 0 then literal (d / 2 % 128) x else repeat (2 + d / 2 % 127) x
 
--- the next packet, and the state behind it
+-- the next packet, and the state after it
 abbrev pub packet_from : ℕ → List ℕ × ℕ
 packet_from x = packet_of (given_by (next_state x)) (next_state x)
 
--- so many packets, and the state behind them
+-- so many packets, and the state after them
 abbrev pub packets : ℕ → ℕ → List ℕ × ℕ
 packets zero x = ([], x)
 packets (suc n) x =

@@ -51,7 +51,7 @@ abbrev pub words_of_length : List ℕ → ℕ → ℕ
 words_of_length lengths zero = 0
 words_of_length lengths (suc n) = count_by (λ length. length == suc n) lengths
 
--- the first code word of a length, as a number: it follows the last one that is shorter by a bit, with a zero behind it (RFC 1951, section 3.2.2)
+-- the first code word of a length, as a number: the number after the last one that is shorter by a bit, followed by a zero (RFC 1951, section 3.2.2)
 abbrev pub first_word : List ℕ → ℕ → ℕ
 first_word lengths zero = 0
 first_word lengths (suc n) = 2 * (first_word lengths n + words_of_length lengths n)

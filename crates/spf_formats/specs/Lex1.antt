@@ -23,7 +23,7 @@ size_of states classes = 262 + 2 * (states * classes)
 abbrev pub class_at : ℕ → ℕ
 class_at byte = 6 + byte
 
--- where the next state of an entry stands, and behind it the mark; the entry of a state and a class is the one at state * classes + class
+-- where the next state of an entry stands, and after it the mark; the entry of a state and a class is the one at state * classes + class
 abbrev pub next_at : ℕ → ℕ
 next_at entry = 262 + 2 * entry
 

@@ -2,7 +2,7 @@
 use Rattle.std.specs.Prelude.{◌≡◌, ℕ, ◌+◌, ◌-◌, ◌<◌, if◌then◌else◌, ◌==◌, nat_lt, List, [], ◌∷◌, ◌++◌, length, drop, replicate}
 use Rattle.std.specs.List.{AllByRecursion, flat_map}
 
--- a header byte, and the bytes behind it
+-- a header byte, and the bytes after it
 pub record Packet : Type 0 where
   pub header : ℕ
   pub bytes : List ℕ

@@ -7,7 +7,7 @@ use Rattle.spf_formats.specs.Lex1.{class_at, next_at}
 abbrev pub entry_of : List ℕ → ℕ → ℕ → ℕ
 entry_of machine state byte = next_at (state * slice_index machine 5 + slice_index machine (class_at byte))
 
--- the state behind a byte
+-- the state after a byte
 abbrev pub next_state : List ℕ → ℕ → ℕ → ℕ
 next_state machine state byte = slice_index machine (entry_of machine state byte)
 
