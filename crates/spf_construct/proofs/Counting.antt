@@ -19,18 +19,6 @@ pub guesses-length : (guess : ℕ → Guess) (place count : ℕ) → length (gue
 guesses-length guess place zero = refl
 guesses-length guess place (suc count) = ap suc (guesses-length guess (suc place) count)
 
--- what guesses alike has the same guesses
-pub guesses-alike : (one other : ℕ → Guess) → ((n : ℕ) → one n ≡ other n) → (place count : ℕ) → guesses_from one place count ≡ guesses_from other place count
-guesses-alike one other same place zero = refl
-guesses-alike one other same place (suc count) = λ i. same place i ∷ guesses-alike one other same (suc place) count i
-
--- guesses in two parts
-pub guesses-append : (guess : ℕ → Guess) (place first second : ℕ) → guesses_from guess place (first + second) ≡ guesses_from guess place first ++ guesses_from guess (place + first) second
-guesses-append guess place zero second = let e : place ≡ place + 0 = omega arith in ap (λ n. guesses_from guess n second) e
-guesses-append guess place (suc first) second =
-    let e : suc place + first ≡ place + suc first = omega arith in
-    ap (λ l. guess place ∷ l) (guesses-append guess (suc place) first second ∙ ap (λ n. guesses_from guess (suc place) first ++ guesses_from guess n second) e)
-
 -- the block at a place with its guess
 pub pair-step : (gs : List code_guess.Guess) (bs : List Validated) (place : ℕ) (g : code_guess.Guess) (b : Validated) → place < length gs → place < length bs
     → paired (drop place (map seen_guess gs)) (drop place (real_values bs)) ≡ record { guess = seen_guess (get_or gs place g); real = (get_or bs place b).real } ∷ paired (drop (suc place) (map seen_guess gs)) (drop (suc place) (real_values bs))

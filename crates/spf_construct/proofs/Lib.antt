@@ -1,4 +1,3 @@
 pub mod Counting
-pub mod PieceSizes
 pub mod Coming
 pub mod Hosts

@@ -23,10 +23,6 @@ seen_guess guess = record { value = guess.value; blind = guess.blind }
 abbrev pub predicted : Stand → ℤ → Guess
 predicted at number = guess_of (predicts (program_of at.instance.now) at.instance.now.input (construct_seen at.construct) (main_slots (program_of at.instance.now) at.frame.now) at.cells.now number)
 
--- the same for a block of a construct with this header, by the block's index
-abbrev pub predicted_at : Stand → Header → ℕ → Guess
-predicted_at at header n = predicted at (header.low +ℤ pos n)
-
 -- the guess there for a block number, where these hosts were told so much
 abbrev pub guess_there : Hosts → List Telling → Stand → ℤ → Guess
 guess_there hosts telling at number = guess_for hosts telling (program_of at.instance.now) at.instance.now.input (construct_seen at.construct) (main_slots (program_of at.instance.now) at.frame.now) at.cells.now number

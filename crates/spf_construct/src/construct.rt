@@ -138,7 +138,7 @@ pub fn run_blocks<R: Threads + Wait + Sync, G: Gate + Sync>(
     speculative_runs_see_visible_slots_alone();
     lawful_programs_are_quiet_and_small();
     let _program = checked.program();
-    let guesses = take_guesses(rt, alloc, at, header, workers, hosts)?;
+    let guesses = take_guesses(alloc, at, header, hosts)?;
     let (chain, cells) = run_from(
         rt, alloc, checked, at, number, header, &guesses, workers, gate,
     )?;

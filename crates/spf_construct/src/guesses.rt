@@ -1,5 +1,5 @@
 //! The guesses for a construct's blocks.
-ghost use Rattle.std.specs.Prelude.{◌≡◌, ◌<◌, ◌≤◌, ◌-◌, ◌+◌, ◌+ℤ◌, ◌≤ℤ◌, ◌∷◌, [], List, length, map, pos, IfOk};
+ghost use Rattle.std.specs.Prelude.{◌≡◌, ◌<◌, ◌≤◌, ◌-◌, ◌+◌, ◌+ℤ◌, ◌≤ℤ◌, List, length, map, pos, IfOk};
 ghost use Rattle.std.specs.List.{Contains};
 ghost use Rattle.spf_ast.specs.Construct.{constructs_in};
 ghost use Rattle.spf_ast.specs.ConstructView.{construct as construct_seen};
@@ -7,12 +7,10 @@ ghost use Rattle.spf_ast.specs.Program.{cell_count_of};
 ghost use Rattle.spf_ast.specs.Silence.{FunctionsAreSilent};
 ghost use Rattle.spf_layout.specs.Frame.{frame_size};
 ghost use Rattle.spf_layout.specs.Instance.{program_of};
-ghost use Rattle.spf_guess.specs.Guess.{Hosts, Telling, predictor_of};
+ghost use Rattle.spf_guess.specs.Guess.{Hosts, Telling};
 ghost use Rattle.spf_predictors.specs.Answers.{handed_in, WereTold};
-ghost use Rattle.spf_predictors.specs.Missing.{host_named_by};
 ghost use Rattle.spf_construct.specs.Guesses.{seen_guess, predicted, guess_there, block_guess, guesses_from, IsHandedIn};
 
-use crate::pieces::predict_all;
 use spf_ast::construct::TopConstruct;
 use spf_chain::validated::Guess;
 use spf_exec::block_run::exec_predictor;
@@ -23,7 +21,6 @@ use spf_predictors::Predictor;
 use spf_predictors::hosts::ask;
 use spf_predictors::missing::host_of;
 use std::alloc::{AllocError, Global};
-use std::thread::Threads;
 
 /// Where a run stands that has come to a top construct and done its header.
 #[derive(Clone, Copy)]
@@ -39,7 +36,7 @@ pub struct Stand<'a> {
 }
 
 /// What the construct's predictor comes to, an expression, for a block number; `frame` is a frame to run it in.
-pub(crate) fn predict(at: Stand, number: i64, frame: &mut Frame) -> Guess
+fn predict(at: Stand, number: i64, frame: &mut Frame) -> Guess
     requires construct { Contains (constructs_in (program_of at.instance.now).main) (construct_seen at.construct) }
     requires functions { FunctionsAreSilent (program_of at.instance.now).functions }
     requires own_frame { length at.frame.now ≡ frame_size (program_of at.instance.now) }
@@ -61,10 +58,19 @@ pub(crate) fn predict(at: Stand, number: i64, frame: &mut Frame) -> Guess
     }
 }
 
-/// The guess of a host for a block number.
-fn ask_host(at: Stand, host: u64, number: i64, hosts: &mut Vec<Box<dyn Predictor>>) -> Guess
-    requires handed_in { host < length hosts.old.items }
-    requires named { host ∷ [] ≡ host_named_by (predictor_of (construct_seen at.construct)) }
+/// Takes the guess for a block number, from a host or from an expression.
+fn take_guess(
+    at: Stand,
+    number: i64,
+    frame: &mut Frame,
+    hosts: &mut Vec<Box<dyn Predictor>>,
+) -> Guess
+    requires construct { Contains (constructs_in (program_of at.instance.now).main) (construct_seen at.construct) }
+    requires functions { FunctionsAreSilent (program_of at.instance.now).functions }
+    requires own_frame { length at.frame.now ≡ frame_size (program_of at.instance.now) }
+    requires own_cells { length at.cells.now ≡ cell_count_of (program_of at.instance.now) (length at.instance.now.input) }
+    requires size { length frame.old ≡ frame_size (program_of at.instance.now) }
+    requires host { IsHandedIn (length hosts.old.items) (construct_seen at.construct) }
     ensures guess { (before : Hosts) (telling : List Telling)
         → WereTold before telling (handed_in (map (λ h. answer h) hosts.old.items))
         → seen_guess result ≡ guess_there before telling at.entry number }
@@ -72,11 +78,14 @@ fn ask_host(at: Stand, host: u64, number: i64, hosts: &mut Vec<Box<dyn Predictor
         → WereTold before telling (handed_in (map (λ h. answer h) hosts.old.items))
         → WereTold before telling (handed_in (map (λ h. answer h) hosts.new.items)) }
     ensures count { length hosts.new.items ≡ length hosts.old.items }
+    ensures size { length frame.new ≡ length frame.old }
 {
-    let _ = at;
-    Guess {
-        value: ask(hosts, host, number),
-        blind: false,
+    match host_of(at.construct) {
+        Some(host) => Guess {
+            value: ask(hosts, host, number),
+            blind: false,
+        },
+        None => predict(at, number, frame),
     }
 }
 
@@ -89,51 +98,18 @@ pub(crate) fn number_at(header: Header, n: u64) -> i64
     header.low + n as i64
 }
 
-/// Asks a host for the guesses for all blocks but the first, in order, once for each.
-fn ask_all(
-    alloc: Global,
-    at: Stand,
-    header: Header,
-    host: u64,
-    hosts: &mut Vec<Box<dyn Predictor>>,
-) -> Result<Vec<Guess>, AllocError>
-    requires handed_in { host < length hosts.old.items }
-    requires named { host ∷ [] ≡ host_named_by (predictor_of (construct_seen at.construct)) }
-    requires some { 1 ≤ header.blocks }
-    requires few { header.blocks ≤ 4096 }
-    requires fits { (header.low +ℤ pos header.blocks) ≤ℤ i64.MAX }
-    ensures guesses { IfOk result (λ r. (before : Hosts) (telling : List Telling)
-        → WereTold before telling (handed_in (map (λ h. answer h) hosts.old.items))
-        → map seen_guess r.items ≡ guesses_from (block_guess before telling at.entry header) 1 (header.blocks - 1)) }
-    ensures told { (before : Hosts) (telling : List Telling)
-        → WereTold before telling (handed_in (map (λ h. answer h) hosts.old.items))
-        → WereTold before telling (handed_in (map (λ h. answer h) hosts.new.items)) }
-    ensures count { length hosts.new.items ≡ length hosts.old.items }
-    ensures size { IfOk result (λ r. length r.items + 1 ≡ header.blocks) }
-{
-    let mut guesses = Vec::with_capacity(alloc, header.blocks as usize)?;
-    for n in 1..header.blocks {
-        let guess = ask_host(at, host, number_at(header, n), hosts);
-        guesses.push(guess)?;
-    }
-    Ok(guesses)
-}
-
 /// Takes the guesses for all blocks but the first, in order: what the construct's predictor comes to where the run stands, or 0 and
-/// blind where it traps. A host is asked once for each; an expression is computed by the workers, in pieces.
+/// blind where it traps. A host is asked once for each.
 ///
 /// # Errors
 ///
 /// `AllocError` where there is no memory for them.
-pub(crate) fn take_guesses<R: Threads + Sync>(
-    rt: &R,
+pub(crate) fn take_guesses(
     alloc: Global,
     at: Stand,
     header: Header,
-    workers: u64,
     hosts: &mut Vec<Box<dyn Predictor>>,
 ) -> Result<Vec<Guess>, AllocError>
-    requires workers { 0 < workers }
     requires construct { Contains (constructs_in (program_of at.instance.now).main) (construct_seen at.construct) }
     requires functions { FunctionsAreSilent (program_of at.instance.now).functions }
     requires own_frame { length at.frame.now ≡ frame_size (program_of at.instance.now) }
@@ -151,8 +127,11 @@ pub(crate) fn take_guesses<R: Threads + Sync>(
     ensures count { length hosts.new.items ≡ length hosts.old.items }
     ensures size { IfOk result (λ r. length r.items + 1 ≡ header.blocks) }
 {
-    match host_of(at.construct) {
-        Some(host) => ask_all(alloc, at, header, host, hosts),
-        None => predict_all(rt, alloc, at, header, workers),
+    let mut frame = at.frame.copy(alloc)?;
+    let mut guesses = Vec::with_capacity(alloc, header.blocks as usize)?;
+    for n in 1..header.blocks {
+        let guess = take_guess(at, number_at(header, n), &mut frame, hosts);
+        guesses.push(guess)?;
     }
+    Ok(guesses)
 }

@@ -4,5 +4,4 @@
 pub mod construct;
 mod counts;
 pub mod guesses;
-mod pieces;
 mod telling;

@@ -1,3 +1,3 @@
-pub mod Numbers
+pub mod Counts
 pub mod Words
 pub mod Commands

@@ -1,5 +1,5 @@
 pub mod Only
 pub mod Command
-pub mod Reading
+pub mod Options
 pub mod Asked
 pub mod Laws

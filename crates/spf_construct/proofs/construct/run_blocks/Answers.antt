@@ -22,7 +22,7 @@ take_guesses-requires-clause-functions g c =
     c.lawful_programs_are_quiet_and_small.ensures.functions (program_of c.args.at.instance.now) (subst IsLawful (sym c.requires.there.program) c.program-program.ensures.lawful)
 
 pub run_from-requires-clause-guesses : goal.run_from-requires-clause-guesses
-run_from-requires-clause-guesses g c = ap (λ (l : List code_guess.Guess). length l + 1) c.deref.ensures.value ∙ c.in_ok-guesses.ensures.size
+run_from-requires-clause-guesses g c κs within = ap (λ (l : List code_guess.Guess). length l + 1) c.deref.ensures.value ∙ c.in_ok-guesses.ensures.size
 
 pub count_blocks-stats-requires-clause-enough : goal.count_blocks-stats-requires-clause-enough
 count_blocks-stats-requires-clause-enough g c =

@@ -42,7 +42,7 @@ pub returns-then-header-eq0-clause-few : goal.returns-then-header-eq0-clause-few
 returns-then-header-eq0-clause-few g c = subst (λ (s : Stats). AreAtMost s 4096) (sym c.without_blocks-then-header-eq0.ensures.stats) (few-none 4096)
 
 pub run_at-requires-clause-blocks : goal.run_at-requires-clause-blocks
-run_at-requires-clause-blocks g c =
+run_at-requires-clause-blocks g c κs within =
     has-its-blocks (environment_of (program_of c.args.instance.now) c.args.instance.now.input) (construct_seen c.args.construct) (moment_of (program_of c.args.instance.now) c.args.run.now) c.in-Ok.header _ c.in-Ok.ensures.header.answer
 
 pub returns-clause-came : goal.returns-clause-came

@@ -6,7 +6,7 @@ use Rattle.spf_progress.specs.Progress.{no_progress}
 use Rattle.spf_progress.specs.Traces.{AreTraces}
 use Rattle.spf_engine.specs.Runs.{AreFew, GoesFurther}
 use Rattle.spf_engine.proofs.Ending.{few-none}
-use Rattle.spf_engine.proofs.Stepping.{if-err, finishes-so, traps-so, goes-on-so}
+use Rattle.spf_engine.proofs.Stepping.{if-err, told-nothing, finishes-so, traps-so, goes-on-so}
 use Rattle.spf_engine.proofs.run.run_instance.Goals as goal
 
 pub loop-account-init : goal.loop-account-init
@@ -19,6 +19,9 @@ loop-account-init g c = record {
   goes = c.runs_in_pieces_go_on.ensures.begin _ (program_of c.args.instance.now) c.args.instance.now.input c.in_ok-run.run' (subst IsLawful (sym c.requires.program) c.program-program.ensures.lawful) c.in_ok-run.ensures.begins;
   few = subst (λ s. AreFew (program_of c.args.instance.now) c.in_ok-run.run' s) (sym c.new-account.ensures.stats) (few-none _);
 }
+
+pub returns-in_err-run-clause-told_first : goal.returns-in_err-run-clause-told_first
+returns-in_err-run-clause-told_first g c = if-err _ (told-nothing _ (program_of c.args.instance.now) c.args.instance.now.input)
 
 pub returns-in_err-take_step-clause-told_first : goal.returns-in_err-take_step-clause-told_first
 returns-in_err-take_step-clause-told_first g c =

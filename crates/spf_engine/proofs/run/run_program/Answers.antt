@@ -1,8 +1,11 @@
 use Rattle.std.proofs.Common.{◌≡◌, map}
 use Rattle.spf_ast.specs.View.{program as seen_program}
 use Rattle.spf_predictors.specs.Answers.{handed_in}
-use Rattle.spf_engine.proofs.Stepping.{told-nothing, retold-as}
+use Rattle.spf_engine.proofs.Stepping.{if-err, told-nothing, retold-as}
 use Rattle.spf_engine.proofs.run.run_program.Goals as goal
+
+pub returns-in_err-instance-clause-told_first : goal.returns-in_err-instance-clause-told_first
+returns-in_err-instance-clause-told_first g c = if-err _ (told-nothing _ (seen_program c.args.checked.now) c.args.input.now)
 
 pub returns-in-Some-clause-told_first : goal.returns-in-Some-clause-told_first
 returns-in-Some-clause-told_first g c = told-nothing _ (seen_program c.args.checked.now) c.args.input.now

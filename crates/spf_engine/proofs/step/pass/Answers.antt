@@ -12,11 +12,11 @@ use Rattle.spf_engine.proofs.Stepping.{all-told-first, all-first-after, steps-af
 use Rattle.spf_engine.proofs.step.pass.Goals as goal
 
 pub pass_construct-requires-clause-construct : goal.pass_construct-requires-clause-construct
-pass_construct-requires-clause-construct g c =
+pass_construct-requires-clause-construct g c κs within =
     numbered c.args.run.now.place (program_of c.args.instance.now).main c.args.number (construct_seen c.args.construct) c.requires.number c.requires.next
 
 pub pass_construct-requires-clause-host : goal.pass_construct-requires-clause-host
-pass_construct-requires-clause-host g c =
+pass_construct-requires-clause-host g c κs within =
     handed-in (length c.args.hosts.now.items) (constructs_in (program_of c.args.instance.now).main) c.args.number (construct_seen c.args.construct) c.requires.hosts
     (numbered c.args.run.now.place (program_of c.args.instance.now).main c.args.number (construct_seen c.args.construct) c.requires.number c.requires.next)
 

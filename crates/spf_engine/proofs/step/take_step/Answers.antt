@@ -15,7 +15,7 @@ returns-in_err-advance-clause-told_first g c = if-err _
     (same-told-first (program_of c.args.instance.now) c.args.instance.now.input c.args.run.now _)
 
 pub pass-requires-clause-few : goal.pass-requires-clause-few
-pass-requires-clause-few g c =
+pass-requires-clause-few g c κs within =
     let p = program_of c.args.instance.now in
     let a = subst (Advanced p c.args.instance.now.input c.args.run.now c.advance.new.self) c.in-AtConstruct.is c.in_ok-advance.ensures.advanced in
     few-advanced p c.args.run.now c.advance.new.self c.args.account.now.stats a.at c.requires.few

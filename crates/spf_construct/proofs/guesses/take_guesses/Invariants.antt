@@ -1,8 +1,10 @@
 use Rattle.std.proofs.Common.{◌≡◌, ◌≤◌, ◌-◌, ◌+◌, map, length, List}
 use Rattle.spf_guess.specs.Guess.{Hosts, Telling}
+use Rattle.spf_layout.specs.Frame.{frame_size}
+use Rattle.spf_layout.specs.Instance.{program_of}
 use Rattle.spf_predictors.specs.Answers.{handed_in, WereTold}
 use Rattle.spf_construct.specs.Guesses.{seen_guess, block_guess, guesses_from}
-use Rattle.spf_construct.proofs.guesses.ask_all.Given as goal
+use Rattle.spf_construct.proofs.guesses.take_guesses.Given as goal
 
 -- the guesses for the blocks so far were taken
 abbrev pub invariant-loop-n : goal.invariant-loop-n
@@ -14,4 +16,5 @@ invariant-loop-n g l = record {
   count : length l.hosts.items ≡ length l.initial.hosts.items;
   begun : 1 ≤ l.n;
   taken : length l.guesses.items + 1 ≡ l.n;
+  size : length l.frame ≡ frame_size (program_of l.fn.at.instance.now);
 }
