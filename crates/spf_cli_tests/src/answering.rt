@@ -381,7 +381,12 @@ fn the_cells_of_a_run_by_blocks_are_shown(rt: HostRuntime) -> Result<(), Fail> {
         ),
     ];
     for (program, output, message) in rows {
-        let given = answer(&rt, alloc, &["run", "P", "I", "--stats", "--cells"], program)?;
+        let given = answer(
+            &rt,
+            alloc,
+            &["run", "P", "I", "--stats", "--cells"],
+            program,
+        )?;
         assert_eq!(rt; given.status, 0, "of {program}");
         assert_eq!(rt; given.out.bytes(), output, "of {program}");
         assert_eq!(rt; given.err.bytes(), message.as_bytes(), "of {program}");

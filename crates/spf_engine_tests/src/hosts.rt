@@ -29,7 +29,9 @@ impl Predictor for Digits {
 
     fn tell(&mut self, block: i64, real: Carried) {
         let shifted = self.number.wrapping_mul(100);
-        self.number = shifted.wrapping_add(block.wrapping_mul(10)).wrapping_add(real);
+        self.number = shifted
+            .wrapping_add(block.wrapping_mul(10))
+            .wrapping_add(real);
     }
 }
 

@@ -1,7 +1,5 @@
 //! Outcomes, statistics and attempts of whole runs, on one worker and on many.
-use crate::programs::{
-    DOUBLING, GUESSED, PAIR, SCATTERED, TRAPS, counts, gave, no_attempts, run,
-};
+use crate::programs::{DOUBLING, GUESSED, PAIR, SCATTERED, TRAPS, counts, gave, no_attempts, run};
 use spf_ast::outcome::Outcome;
 use std::sync::atomic::Ordering;
 use std::test::Fail;

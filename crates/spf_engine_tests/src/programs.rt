@@ -20,7 +20,8 @@ use std::test::Fail;
 use std::thread::Threads;
 
 /// Each block doubles the carried value; no guess is right.
-pub(crate) const DOUBLING: &[u8] = b"main { specfold s = 1 for k in 0..5 predict k { next s * 2; } emit s; }";
+pub(crate) const DOUBLING: &[u8] =
+    b"main { specfold s = 1 for k in 0..5 predict k { next s * 2; } emit s; }";
 
 /// The same; each guess is right.
 pub(crate) const GUESSED: &[u8] =
