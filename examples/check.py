@@ -55,7 +55,7 @@ RUNS = [
     ("not_overwritten", "check not_overwritten.spf", b"", "refused not-overwritten line 6 out[2*k+0..2*k+2]\n", 4),
     ("not_overwritten", "run not_overwritten.spf empty", b"", "refused not-overwritten line 6 out[2*k+0..2*k+2]\n", 4),
     ("not_overwritten", "run not_overwritten.spf empty --stats --plain", b"\7\0\0\7\7\0", stats(0, 0, 0), 0),
-    ("overflow", "run overflow.spf empty --stats", b"A", "trap overflow line 4\n" + stats(63, 0, 62), 1),
+    ("overflow", "run overflow.spf empty --stats", b"A", "trap overflow line 5\n" + stats(63, 0, 62), 1),
     ("unrun", "run unrun.spf runs --plain", b"aaabbccccc", "", 0),
 ]
 
