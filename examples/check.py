@@ -40,6 +40,7 @@ RUNS = [
     ("pcx", "run pcx.spf glider.pcx --stats", "glider.out", stats(27, 25, 1), 0),
     ("pcx", "check pcx.spf", b"", ACCEPTED, 0),
     ("hpack", "run hpack.spf hpack.bin --stats", "hpack.out", stats(29, 27, 1), 0),
+    ("hpack", "run hpack.spf authority.bin --stats", b"www.example.com", stats(1, 0, 0), 0),
     ("hpack", "check hpack.spf", b"", ACCEPTED, 0),
     # small ones
     ("worked", "run worked.spf empty --stats --cells", b"\x08", stats(3, 1, 1) + "cells a 2 4 8\n", 0),
