@@ -1,6 +1,6 @@
 -- A number whose digits are the pairs that a predictor was told.
 use Rattle.std.specs.Prelude.{List, [], ◌∷◌, ℤ, pos}
-use Rattle.core.specs.Int.{w64, int_wrapping_add, int_wrapping_mul}
+use Rattle.std.specs.Int.{w64, int_wrapping_add, int_wrapping_mul}
 use Rattle.spf_guess.specs.Guess.{Told}
 
 -- the number with two digits more, for one pair: 100 * n + 10 * block + real, wrapping
