@@ -28,7 +28,7 @@ and_then before piece now more e = rw e (append_assoc before piece more)
 pub both : (before piece now more after : List ℕ) → now ≡ before ++ piece → after ≡ now ++ more → after ≡ before ++ (piece ++ more)
 both before piece now more after e f = f ∙ and_then before piece now more e
 
--- a block that has a statement is written behind `else`
+-- a block that has a statement is written after `else`
 pub otherwise_is : (v : Vocabulary) (indent : List ℕ) (statements : List Stmt) → (length statements ≡ 0 → ⊥) → line indent (codes "} else {" ∷ []) ++ block_text (deeper indent) (spelled_block v (block statements)) ++ line indent (codes "}" ∷ []) ≡ otherwise_text indent (spelled_block v (block statements))
 otherwise_is v indent [] some = absurd (some refl)
 otherwise_is v indent (first ∷ rest) some =

@@ -18,7 +18,7 @@ abbrev pub joined : List (List ℕ) → List ℕ
 joined [] = []
 joined (piece ∷ pieces) = piece ++ joined pieces
 
--- a line of these pieces, behind its indentation
+-- a line of these pieces, after its indentation
 abbrev pub line : List ℕ → List (List ℕ) → List ℕ
 line indent pieces = indent ++ joined pieces ++ 10 ∷ []
 
@@ -125,7 +125,7 @@ fold_line indent head =
     line indent (codes "specfold " ∷ head.carried ∷ codes " = " ∷ expression_text head.start ∷ codes " for " ∷ head.block ∷ codes " in " ∷ expression_text head.low ∷ codes ".." ∷ expression_text head.high ∷ codes " predict " ∷ predictor_text head.predict ∷ codes " {" ∷ [])
 
 abbrev mutual
-  -- the lines of a statement, behind an indentation
+  -- the lines of a statement, after an indentation
   pub statement_text : List ℕ → RawStatement → List ℕ
   statement_text indent (Let x value) = line indent (codes "let " ∷ x ∷ codes " = " ∷ expression_text value ∷ codes ";" ∷ [])
   statement_text indent (Assign x value) = line indent (x ∷ codes " = " ∷ expression_text value ∷ codes ";" ∷ [])
@@ -185,7 +185,7 @@ size_text factor offset = joined (signed_decimal factor ∷ codes "*len + " ∷ 
 abbrev pub array_text : Array → List ℕ
 array_text a = line [] (codes "array " ∷ a.name ∷ codes "[" ∷ size_text a.factor a.offset ∷ codes "];" ∷ [])
 
--- names, each behind a comma and a space
+-- names, each after a comma and a space
 abbrev pub further_names_text : List (List ℕ) → List ℕ
 further_names_text [] = []
 further_names_text (x ∷ xs) = codes ", " ++ x ++ further_names_text xs

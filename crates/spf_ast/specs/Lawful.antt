@@ -56,7 +56,7 @@ pub record Scope : Type 0 where
   pub fixed : List ℕ
   pub next : ℕ
 
--- the scope behind so many declarations that can't be used any more
+-- the scope after so many declarations that can't be used any more
 abbrev pub behind : ℕ → Scope → Scope
 behind count scope = record scope { next = scope.next + count }
 
@@ -128,14 +128,14 @@ abbrev mutual
   declared_in end = 0
   declared_in (on_line line first rest) = declared first + declared_in rest
 
--- the slots that may be used behind a statement, and weren't before it
+-- the slots that may be used after a statement, and weren't before it
 abbrev pub shown_by : Statement → List ℕ
 shown_by (Let slot value) = slot ∷ []
 shown_by (Fold head body) = head.carried ∷ []
 shown_by (Pair head producer consumer) = head.carried ∷ []
 shown_by _ = []
 
--- the scope behind a statement
+-- the scope after a statement
 abbrev pub scope_after : Scope → Statement → Scope
 scope_after scope s =
     record { visible = shown_by s ++ scope.visible; fixed = scope.fixed; next = scope.next + declared s }
@@ -188,7 +188,7 @@ abbrev mutual
       × IsLawfulPredictor names scope head.predict
       × IsLawfulBlock names in_main (behind (1 + declared_in producer) (showing_fixed head.carried scope)) consumer
 
-  -- a block is lawful where each statement is, in the scope behind the ones before it
+  -- a block is lawful where each statement is, in the scope after the ones before it
   pub IsLawfulBlock : Names → Bool → Scope → Block → Type 0
   IsLawfulBlock names in_main scope end = Unit {0}
   IsLawfulBlock names in_main scope (on_line line first rest) =
@@ -200,7 +200,7 @@ abbrev mutual
 abbrev pub names_taken : Program → List (List ℕ)
 names_taken p = map (λ (a : Array). a.name) p.arrays ++ map (λ (f : Function). f.name) p.functions
 
--- what the function at this place, or `main` behind all of them, may name
+-- what the function at this place, or `main` after all of them, may name
 abbrev pub names_at : Program → ℕ → List (List ℕ) → Names
 names_at p place slots =
     record { arrays = length p.arrays; functions = p.functions; place = place; taken = names_taken p; slots = slots }

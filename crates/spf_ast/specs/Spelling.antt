@@ -114,7 +114,7 @@ spelled_function p f = record {
   line = f.line;
 }
 
--- a whole program, whose word `main` stands on this line
+-- a whole program, whose word `main` is on this line
 abbrev pub spelled : ℕ → Program → RawProgram
 spelled main_line p = record {
   arrays = p.arrays;

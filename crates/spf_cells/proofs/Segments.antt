@@ -168,7 +168,7 @@ all_spans spans i first ss all are = subst (λ (l : List Span). AreUnsortedOf ss
 
 -- the segments of a block's cells
 module _ (k : Setting) (b : ℕ) (ss : List Segment) (are : AreSegmentsOf ss (cells_of (get_or k.plan b [])) (first_word k b)) (s : Segment) (there : Contains ss s) where
-  -- its words lie below those behind the block's
+  -- its words lie below those after the block's
   pub segment_room : s.span.from < s.span.to → s.word + (s.span.to - s.span.from) ≤ first_word k b + length (cells_of (get_or k.plan b []))
   segment_room full =
       let l = are.laid s (s.span.to - 1) (s.word + (s.span.to - 1 - s.span.from)) there (omega arith, omega arith, refl) in

@@ -88,7 +88,7 @@ both-at homes i r out home = let e : Some None ≡ Some (Some r) = sym out ∙ h
 pub not-less : (k i : ℕ) → (i < k → ⊥) → k ≤ i
 not-less k i h = grind (arith, h)
 
--- what is out is behind the validated blocks
+-- what is out is after the validated blocks
 pub out-above : (e : Entry) (guess : ℕ → Carried) (homes : List (Option Report)) (x : Validation) (i : ℕ) → StandsOver e guess homes x → slice_get homes i ≡ Some None → x.count ≤ i
 out-above e guess homes x i h out = not-less x.count i (λ low. let r = h.home i low in both-at homes i r.0 out r.1)
 

@@ -69,7 +69,7 @@ pub construct-text : (p : Program) (k : Construct) (c : ConstructEffects) (verdi
 construct-text p k c verdict n are v =
     record { parts = parts_lines p.arrays c; verdict = verdict; parts_are = parts-text p k c n are; verdict_is = v; text_is = refl }
 
--- three pieces behind a text
+-- three pieces after a text
 pub three-pieces : (t u v w a b c : List ℕ) → u ≡ t ++ a → v ≡ u ++ b → w ≡ v ++ c → w ≡ t ++ joined (a ∷ b ∷ c ∷ [])
 three-pieces t u v w a b c e f g =
     g ∙ ap (λ x. x ++ c) (f ∙ ap (λ x. x ++ b) e)
@@ -93,7 +93,7 @@ take-next (y ∷ xs) (suc n) x e = ap (λ l. y ∷ l) (take-next xs n x e)
 pub take-more : {A : Type 0} (xs : List A) (n : ℕ) (x : A) → slice_get xs n ≡ Some x → take (n + 1) xs ≡ take n xs ++ x ∷ []
 take-more xs n x e = ap (λ m. take m xs) (add-one n) ∙ take-next xs n x e
 
--- the lines of a construct behind a text, where its verdict was added
+-- the lines of a construct after a text, where its verdict was added
 pub construct-added : {E : Type 0} (result : Result (Unit {0}) E) (p : Program) (k : Construct) (c : ConstructEffects) (t u v w : List ℕ) → AreNormal c → AreEffectsOf p k c → u ≡ t ++ construct_line k → v ≡ u ++ parts_lines p.arrays c → IfOk result (λ _. (verdict : List ℕ) × IsVerdictText p k verdict × (w ≡ v ++ verdict)) → IfOk result (λ _. (lines : List ℕ) × IsConstructText p k lines × (w ≡ t ++ lines))
 construct-added (Ok x) p k c t u v w n are e f (verdict, said, g) =
     (joined (construct_line k ∷ parts_lines p.arrays c ∷ verdict ∷ []), construct-text p k c verdict n are said, three-pieces t u v w _ _ verdict e f g)

@@ -47,12 +47,12 @@ offsets_text (Affine array f from to) =
 abbrev pub range_text : List Array → Range → List ℕ
 range_text arrays r = array_name arrays (array_of r) ++ offsets_text r
 
--- ranges, each behind a space
+-- ranges, each after a space
 abbrev pub ranges_text : List Array → List Range → List ℕ
 ranges_text arrays [] = []
 ranges_text arrays (r ∷ rest) = codes " " ++ (range_text arrays r ++ ranges_text arrays rest)
 
--- a range behind a space, where there is one
+-- a range after a space, where there is one
 abbrev pub perhaps_range : List Array → Option Range → List ℕ
 perhaps_range arrays None = []
 perhaps_range arrays (Some r) = codes " " ++ range_text arrays r

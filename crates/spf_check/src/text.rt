@@ -69,7 +69,7 @@ pub fn push_range(
     text.extend_from_slice(offsets.as_bytes())
 }
 
-/// Adds ranges, each behind a space.
+/// Adds ranges, each after a space.
 pub(crate) fn push_ranges(
     alloc: Global,
     arrays: &[Array],

@@ -62,7 +62,7 @@ only_error (Err y) e f ok is = cc
 err_same : {A : Type 0} (r : Result A ParseError) (e f : ParseError) → r ≡ Err e → r ≡ Err f → e ≡ f
 err_same r e f is other = cc
 
--- want of memory is no refusal
+-- running out of memory is no refusal
 short_is : {A : Type 0} (r : Result A ParseError) (e : ParseError) → r ≡ Err e → r ≡ Err error.OutOfMemory → refusal_of e ≡ None
 short_is r e is other = ap refusal_of (err_same r e error.OutOfMemory is other)
 

@@ -98,7 +98,7 @@ main {
 }
 ";
 
-/// Runs a lexer's machine, which stands in front of the data: each block begins from a state.
+/// Runs a lexer's machine, which stands before the data: each block begins from a state.
 const LEXER: &str = "array mark[1*len + 1024];
 fn look(p) {
   let q = 0;

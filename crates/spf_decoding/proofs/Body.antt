@@ -111,7 +111,7 @@ header-comes g c k i x y b m small = by_header (header_of b)
 
 -- ---- a byte of data
 
--- the memory behind a byte that comes where this is left to be done
+-- the memory after a byte that comes where this is left to be done
 abbrev pub stored : ℤ → ℕ → List ℤ → List ℤ
 stored (pos zero) p m = m
 stored (pos (suc n)) p m = slice_set m p (pos 1)
@@ -213,7 +213,7 @@ place-inside g c k left b x y p m first room there small bound =
     (comes-only g 9 (If is_header header data_byte) u t m (stored left p m)
     (choice-comes g c k x y left p byte m first room small bound))))
 
--- a place behind the file
+-- a place after the file
 pub place-outside : (g : Environment) (c k left b x y : ℤ) (p : ℕ) (m : List ℤ) → length g.input ≤ p → Comes (block_means g (only 7 (If is_inside one_byte end))) (at c k left (pos p) b x y) m (Value tt (at c k left (pos p) b x y)) m
 place-outside g c k left b x y p m out =
     let s = at c k left (pos p) b x y in

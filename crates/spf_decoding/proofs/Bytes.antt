@@ -11,7 +11,7 @@ use Rattle.spf_formats.specs.PackBits.{Packet, data_size, IsPacket, packet_bytes
 abbrev pub after_header : ℕ → ℤ
 after_header b = if nat_lt b 128 then pos (suc b) else if b == 128 then pos 0 else pos b -ℤ pos 257
 
--- what is left to be done behind a byte
+-- what is left to be done after a byte
 abbrev pub next_left : ℤ → ℕ → ℤ
 next_left (pos zero) b = after_header b
 next_left (pos (suc n)) b = pos n

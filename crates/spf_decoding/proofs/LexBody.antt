@@ -134,7 +134,7 @@ place-inside g size states classes machine content d c k e x q p m inside there 
     (comes-store g 16 0 (Local 3) (Input (plus (Local 4) (number 1))) u m p (pos (mark machine q b)) (gives-local g 16 3 u m (pos p) refl) marked (omega (arith, there, d.room)))
     (comes-only g 17 (Assign 2 (Input (Local 4))) u t after after (comes-assign g 17 2 (Input (Local 4)) u after (pos (next_state machine q b)) next))))))
 
--- a place behind the content
+-- a place after the content
 pub place-outside : (g : Environment) (size states classes : ℕ) (machine content : List ℕ) → Lexes g size states classes machine content → (c k q e x : ℤ) (p : ℕ) (m : List ℤ) → length content ≤ p → Comes (block_means g (one_byte classes (length machine))) (at c k q (pos p) e x) m (Value tt (at c k q (pos p) e x)) m
 place-outside g size states classes machine content d c k q e x p m out =
     let s = at c k q (pos p) e x in

@@ -37,7 +37,7 @@ next_below machine states classes h q b inside small =
 
 -- ---- places
 
--- the state at a place; behind the content it stays
+-- the state at a place; after the content it stays
 abbrev pub state_at : List ℕ → List ℕ → ℕ → ℕ
 state_at machine content zero = 0
 state_at machine content (suc p) = if nat_lt p (length content) then next_state machine (state_at machine content p) (slice_index content p) else state_at machine content p
@@ -46,7 +46,7 @@ state_at machine content (suc p) = if nat_lt p (length content) then next_state 
 abbrev pub mark_of : List ℕ → List ℕ → ℕ → ℕ
 mark_of machine content p = mark machine (state_at machine content p) (slice_index content p)
 
--- the mark at a place; behind the content there is none
+-- the mark at a place; after the content there is none
 abbrev pub mark_at : List ℕ → List ℕ → ℕ → ℕ
 mark_at machine content p = if nat_lt p (length content) then mark_of machine content p else 0
 

@@ -7,12 +7,12 @@ use Rattle.std.proofs.lemmas.Bool.{lt-ltb}
 use Rattle.std.proofs.lemmas.List.{append-nil}
 use Rattle.spf_decoding.proofs.Bytes.{Header, header_of, copies, skips, repeats, after_header, next_left, times_of, read_on, copies_left, repeats_left}
 
--- what is left to be done at a place; behind the file it stays
+-- what is left to be done at a place; after the file it stays
 abbrev pub left_at : List ℕ → ℕ → ℤ
 left_at input zero = pos 0
 left_at input (suc p) = if nat_lt p (length input) then next_left (left_at input p) (slice_index input p) else left_at input p
 
--- how often the byte at a place is written; behind the file there is none
+-- how often the byte at a place is written; after the file there is none
 abbrev pub times_at : List ℕ → ℕ → ℕ
 times_at input p = if nat_lt p (length input) then times_of (left_at input p) else 0
 
@@ -93,7 +93,7 @@ zero_in zero i = refl
 zero_in (suc n) zero = refl
 zero_in (suc n) (suc i) = zero_in n i
 
--- a cell behind a list of them, among zeros
+-- a cell after a list of them, among zeros
 pub zero_behind : (before : List ℤ) (n i : ℕ) → length before ≤ i → slice_index_or (before ++ replicate n (pos 0)) i (pos 0) ≡ pos 0
 zero_behind [] n i h = zero_in n i
 zero_behind (x ∷ before) n zero h = absurd (omega (arith, h))

@@ -41,7 +41,7 @@ block_inside n size k some h =
     let part = mul-le (suc k) size (blocks_of n size) size h (let e : size ≤ size = omega arith in e) in
     omega (arith, whole, part, mul_comm (suc k) size, mul-suc size k, some)
 
--- and the last one ends behind it
+-- and the last one ends after it
 pub blocks_enough : (n size : ℕ) → 1 ≤ size → n ≤ size * blocks_of n size
 blocks_enough n size some =
     let above = lt-div-mul-add {a = n + (size - 1)} {b = size} some in

@@ -18,7 +18,7 @@ answer_for-within found content limit is within = grind arith
 pub answer_for-longer : (found : Option (List ℕ)) (content : List ℕ) (limit : ℕ) → found ≡ Some content → limit < length content → answer_for found limit ≡ Err TooLong
 answer_for-longer found content limit is longer = grind arith
 
--- from the clauses of a fetch: where the files tell their entries and no fault came, the result is the told answer, or want of memory
+-- from the clauses of a fetch: where the files tell their entries and no fault came, the result is the told answer, or running out of memory
 pub is_told_answer : (told : Option (List Entry)) (entries : List Entry) (name : List ℕ) (limit before now : ℕ) (result : Result (Vec ℕ Global) FetchError)
     → told ≡ Some entries
     → IfOk result (λ content. HasContent told name content.items)

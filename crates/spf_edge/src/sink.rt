@@ -9,7 +9,7 @@ use std::alloc::AllocError;
 /// Why a put did not take its whole piece.
 #[derive(Clone, Copy, PartialEq, Eq, Debug)]
 pub enum PutError {
-    /// The device refused; it may have taken the front of the piece.
+    /// The device refused; it may have taken a prefix of the piece.
     Failed,
     /// There was no memory for the piece; nothing was taken.
     OutOfMemory,
@@ -41,7 +41,7 @@ pub trait Sink {
         // Whatever the answer, this one piece was put.
         ensures handed { Hands (pieces self.old) (pieces self.new) (piece.now ∷ []) }
 
-        // Whatever the answer, the front of the piece was taken and nothing else.
+        // Whatever the answer, a prefix of the piece was taken and nothing else.
         ensures front { AddsPrefix (taken self.old) (taken self.new) piece.now }
         ensures added { OnOk result (Adds (taken self.old) (taken self.new) piece.now) }
         ensures nothing { result ≡ Err PutError.OutOfMemory

@@ -29,7 +29,7 @@ in-its-extent e cell place el =
     let second : nat_lt cell (e.0 + e.1) ≡ true = grind (arith, below) in
     both-true _ _ first second
 
--- how far a cell is behind the first one of its array
+-- how far a cell is after the first one of its array
 its-place : (e : Extent) (cell place : ℕ) → IsElement e cell place → pos cell -ℤ pos e.0 ≡ pos place
 its-place e cell place el = omega (arith, ints, el.is)
 

@@ -27,7 +27,7 @@ use Rattle.spf_effect_soundness.proofs.Turns.{far, turns-meet, below-end, turn-w
 abbrev pub Between : Setting → ℤ → List ℕ → ℕ → List Bound → State → State → Type 0
 Between v k fixed n env s e = AreWithin k env e.slots × IsSame v fixed n s.slots e.slots
 
--- where a loop stands that goes from i up to j, with bounds b and c: its name's slot is behind the n slots before it and below m, and all are there
+-- where a loop stands that goes from i up to j, with bounds b and c: its name's slot is after the n slots before it and below m, and all are there
 pub record StandsAt (v : Setting) (k : ℤ) (n m size x : ℕ) (env : List Bound) (b c : Bound) (i j : ℤ) (s : State) : Type 0 where
   pub scope : IsScope v n env
   pub behind : n ≤ x

@@ -50,7 +50,7 @@ other-of v a b p x e = p x (or-right (assigns (λ other. other == x) a) _ e)
 
 -- ---- what holds at the end of a statement
 
--- the bounds behind it, the slots before it, and its sweeps
+-- the bounds after it, the slots before it, and its sweeps
 abbrev pub After : List Extent → Setting → ℤ → List ℕ → ℕ → List Bound → (ℕ → List Sweep) → State → Unit {0} → State → List ℕ → Type 0
 After g v k fixed n env made s u e d =
     AreWithin k env e.slots × IsSame v fixed n s.slots e.slots × ((x : ℕ) → x < n → Contains fixed x → AreSwept g (made x) (slice_index_or s.slots x (pos 0)) d)
@@ -91,7 +91,7 @@ left-block g v k fixed n m env inner made s f e d le scope p same h =
     let kept : IsSame v fixed n s.slots e.slots = same-trans v fixed fixed n m s.slots f.slots e.slots le (λ x c. c) (rw same (same-refl v fixed n s.slots)) h.1 in
     (within-back v fixed k n env s.slots e.slots scope p kept, kept, λ x below un. tt)
 
--- where bounds are known behind a statement
+-- where bounds are known after a statement
 scope-behind : (v : Setting) (names : Names) (in_main : Bool) (scope : Scope) (env : List Bound) (s : Statement) → IsLawfulStatement names in_main scope s → IsScope v scope.next env → IsScope v (scope.next + lawful.declared s) (bounds_behind v env s)
 scope-behind v names in_main scope env (Let x e) l p = scope-declared v scope.next _ env x (expression_bound v env e) l.1.0 (omega arith) p
 scope-behind v names in_main scope env s l p = scope-later v scope.next _ env (omega arith) p

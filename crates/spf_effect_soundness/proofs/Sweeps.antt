@@ -80,7 +80,7 @@ store-swept g a i s z d x stepped has = go (distance x i) refl
     go None e = tt
     go (Some m) e = ((λ cell place el spot. has cell place el (spot ∙ sym (stepped x m e))), tt)
 
--- the sweeps of a statement, and of those behind it
+-- the sweeps of a statement, and of those after it
 pub swept-line : (g : List Extent) (x line : ℕ) (s : Statement) (rest : Block) (z : ℤ) (d : List ℕ) → AreSwept g (sweeps_of x s) z d → AreSwept g (sweeps x rest) z d → AreSwept g (sweeps x (on_line line s rest)) z d
 swept-line g x line (Store a i e) rest z d p q = go (distance x i) p
   where

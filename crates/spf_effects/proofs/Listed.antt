@@ -1,4 +1,4 @@
--- What is surely written behind a form has a list in normal form, where what is surely written before it has one.
+-- What is surely written after a form has a list in normal form, where what is surely written before it has one.
 use Rattle.std.proofs.Common.{ℕ, zero, suc, Bool, true, false, List, [], ◌∷◌, length, Option, Some, None, ℤ, pos, ◌-ℤ◌, ◌+ℤ◌, refl}
 use Rattle.std.specs.Prelude.{if◌then◌else◌, ◌==◌, ◌&&◌, int_lt, slice_get}
 use Rattle.std.specs.Ordering.{int_eq}

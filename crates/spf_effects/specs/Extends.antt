@@ -15,7 +15,7 @@ pub record Lists : Type 0 where
   pub may : List Range
   pub written : List Range
 
--- the lists have what they had, and what is found in a form behind it
+-- the lists have what they had, and what is found in a form after it
 pub record Extends (finds : Finds) (old new : Lists) : Type 0 where
   pub uncovered : Joins (finds (offsets_of old.written)).uncovered old.uncovered new.uncovered
   pub may : Joins (finds (offsets_of old.written)).may old.may new.may

@@ -55,7 +55,7 @@ abbrev mutual
 abbrev pub declared : Setting → ℕ → Bound → List Bound → List Bound
 declared g slot bound slots = if g.is_assigned slot then slots else slice_set slots slot bound
 
--- the bounds of the slots behind a statement; what it declares within its own blocks isn't visible there
+-- the bounds of the slots after a statement; what it declares within its own blocks isn't visible there
 abbrev pub bounds_behind : Setting → List Bound → Statement → List Bound
 bounds_behind g slots (Let slot value) = declared g slot (expression_bound g slots value) slots
 bounds_behind g slots _ = slots

@@ -90,7 +90,7 @@ fn functions(alloc: Global) -> Result<Vec<Function>, AllocError> {
     Ok(vec![in alloc; first, second]?)
 }
 
-// A program with these functions, and with one construct behind a `let`.
+// A program with these functions, and with one construct after a `let`.
 fn program(alloc: Global, construct: StmtKind) -> Result<Program, AllocError> {
     let main = two(alloc, StmtKind::Let(4, Expr::Number(0)), construct)?;
     let functions = functions(alloc)?;

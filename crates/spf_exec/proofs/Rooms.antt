@@ -16,7 +16,7 @@ prefix_room f xs zero = omega arith
 prefix_room f [] (suc n) = omega arith
 prefix_room f (x ∷ xs) (suc n) = let r = prefix_room f xs n in omega (arith, r)
 
--- nor do those behind it
+-- nor do those after it
 back_room : (f : ℕ → ℕ) (xs : List Stmt) (n : ℕ) → block_measure (by_slots f) (block (drop n xs)) ≤ block_measure (by_slots f) (block xs)
 back_room f xs zero = omega arith
 back_room f [] (suc n) = omega arith

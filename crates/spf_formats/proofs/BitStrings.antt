@@ -16,7 +16,7 @@ high_bits count n b h =
 low_bit : (n b : ℕ) → b < 2 → (n * 2 + b) / 2 ^ 0 % 2 ≡ b
 low_bit n b h = ap (λ m. m % 2) (div-one (n * 2 + b)) ∙ omega arith
 
--- a number with one bit more behind it
+-- a number with one bit more after it
 pub bits-more : (count n b : ℕ) → b < 2 → bits (suc count) (n * 2 + b) ≡ bits count n ++ (b == 1) ∷ []
 bits-more zero n b h = ap (λ m. (m == 1) ∷ []) (low_bit n b h)
 bits-more (suc count) n b h = λ i. (high_bits count n b h i % 2 == 1) ∷ bits-more count n b h i
@@ -57,7 +57,7 @@ bit_below : (bit : Bool) (b : ℕ) → b ≡ (if bit then 1 else 0) → b < 2
 bit_below true b e = omega (arith, e)
 bit_below false b e = omega (arith, e)
 
--- a bit behind those of a byte that is begun
+-- a bit after those of a byte that is begun
 pub partial_more : (bytes : List ℕ) (count partial b : ℕ) (bit : Bool) → b ≡ (if bit then 1 else 0) → bits_of bytes ++ bits (suc count) (partial * 2 + b) ≡ (bits_of bytes ++ bits count partial) ++ bit ∷ []
 partial_more bytes count partial b bit e =
     ap (λ r. bits_of bytes ++ r) (bits-more count partial b (bit_below bit b e) ∙ ap (λ x. bits count partial ++ x ∷ []) (bit_is bit b e))
@@ -82,7 +82,7 @@ fits_byte count partial few fits =
 pub moved_whole : (count partial : ℕ) → count < 8 → partial < 2 ^ count → partial * 2 ^ (8 - count) % 2 ^ 32 ≡ partial * 2 ^ (8 - count)
 moved_whole count partial few fits = mod-eq_of_lt (omega (arith, fits_byte count partial few fits))
 
--- a bit of a number in front of the lower ones
+-- a bit of a number before the lower ones
 pub bits_next : (old new : List Bool) (n m number : ℕ) (bit : Bool) → n ≡ suc m → bit ≡ (number / 2 ^ m % 2 == 1) → new ≡ old ++ bit ∷ [] → new ++ bits m number ≡ old ++ bits n number
 bits_next old new n m number bit many is pushed =
     ap (λ r. r ++ bits m number) pushed

@@ -12,7 +12,7 @@ Cut file = (packets : List Packet) × (rest : List ℕ) × IsCut file packets re
 compare : (a b : ℕ) → (a < b) ⊎ (b ≤ a)
 compare a b = grind arith
 
--- a packet in front of a file that is cut
+-- a packet before a file that is cut
 in_front : (header k : ℕ) (bytes : List ℕ) → k ≡ data_size header → k ≤ length bytes → Cut (drop k bytes) → Cut (header ∷ bytes)
 in_front header k bytes size enough (packets, rest, cut) = (
   record { header = header; bytes = take k bytes } ∷ packets,

@@ -163,7 +163,7 @@ begin_alike (m ∷ a) (n ∷ b) x y h e =
 
 -- ---- code words
 
--- the words of a length begin behind the shorter ones
+-- the words of a length begin after the shorter ones
 words_ascend : (lengths : List ℕ) (n d : ℕ) → (first_word lengths n + words_of_length lengths n) * 2 ^ suc d ≤ first_word lengths (n + suc d)
 words_ascend lengths n zero =
     let a = first_word lengths n + words_of_length lengths n in

@@ -12,7 +12,7 @@ use Rattle.spf_formats.specs.Lex1 as lex1
 
 -- ---- first places
 
--- a place that isn't before nor behind another is that one
+-- a place that isn't before nor after another is that one
 same_place : (p q : ℕ) → (p < q → ⊥) → (q < p → ⊥) → p ≡ q
 same_place p q h k = grind (arith, h, k)
 
@@ -89,7 +89,7 @@ counts_once file s c t d h k =
 pub lex1_counts : (file : List ℕ) (s c t d : ℕ) → IsLex1 file s c → IsLex1 file t d → AreSame s c t d
 lex1_counts file s c t d h k = counts_once file s c t d h.classed.sized.counts k.classed.sized.counts
 
--- what may be wrong behind the signature, the count of states, both counts, the size and the classes
+-- what may be wrong after the signature, the count of states, both counts, the size and the classes
 abbrev BehindClasses : List ℕ → ℕ → Type 0
 BehindClasses file place = HasBadNext file place
 

@@ -172,7 +172,7 @@ block_rule n = do
   sign sign.CloseBrace
   give (block_of inside)
 
--- an assignment, a store and a call, behind the name
+-- an assignment, a store and a call, after the name
 abbrev pub assign_form : ℕ → List ℕ → Rule RawStatement
 assign_form n x = do
   sign sign.Assign

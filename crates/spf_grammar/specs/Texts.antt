@@ -22,12 +22,12 @@ abbrev pub place : ℕ → List Lexeme → ℕ
 place end [] = end
 place end (t ∷ ts) = t.from
 
--- with the next token what was read is the front of no program, whatever the limits; at the end of the text it is no program
+-- with the next token what was read is a prefix of no program, whatever the limits; at the end of the text it is no program
 abbrev pub CannotGoOn : List Lexeme → List Lexeme → Type 0
 CannotGoOn read [] = (free : ℕ) (p : RawProgram) → Reads free read p → ⊥
 CannotGoOn read (t ∷ rest) = (free : ℕ) → IsFront free (read ++ t ∷ []) → ⊥
 
--- the tokens before this place are the front of a program, and they can't go on
+-- the tokens before this place are a prefix of a program, and they can't go on
 pub record IsUnexpected (ts : List Lexeme) (end at : ℕ) : Type 0 where
   pub read : List Lexeme
   pub rest : List Lexeme
@@ -36,7 +36,7 @@ pub record IsUnexpected (ts : List Lexeme) (end at : ℕ) : Type 0 where
   pub front : IsFront 0 read
   pub stuck : CannotGoOn read rest
 
--- the token at this place goes on with the front of a program before it, and only the limits forbid it
+-- the token at this place goes on with a prefix of a program before it, and only the limits forbid it
 pub record IsTooDeep (ts : List Lexeme) (at : ℕ) : Type 0 where
   pub read : List Lexeme
   pub next : Lexeme

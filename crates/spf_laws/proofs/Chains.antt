@@ -399,7 +399,7 @@ gives-memory : (plain : Ending ℤ) (x : List ℤ) → plain_memory (after_endin
 gives-memory (Value w s) x = refl
 gives-memory (Trapped t o) x = refl
 
--- what a pair came to behind its producer
+-- what a pair came to after its producer
 record PairCame (outer : List ℕ) (entry : State) (carried : ℕ) (plain : Ending (Unit {0})) (memory : List ℤ) (reals : RealValues) (c : Chained) : Type 0 where
   ends : IsSettledAs outer entry carried c.result plain
   same_memory : memory ≡ c.memory

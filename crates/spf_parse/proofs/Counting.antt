@@ -15,12 +15,12 @@ pub order_end : (place end : ℕ) (ts : List Token) → AreInOrder place end ts 
 order_end place end [] o = o
 order_end place end (t ∷ ts) o = let r = order_end t.to end ts o.2 in omega (arith, o.0, o.1, r)
 
--- tokens in order behind a place are in order behind an earlier one
+-- tokens in order after a place are in order after an earlier one
 pub order_before : (before place end : ℕ) (ts : List Token) → before ≤ place → AreInOrder place end ts → AreInOrder before end ts
 order_before before place end [] l o = omega (arith, l, o)
 order_before before place end (t ∷ ts) l o = (omega (arith, l, o.0), o.1, o.2)
 
--- the token at an index, and those behind it
+-- the token at an index, and those after it
 pub order_at : (place end i : ℕ) (ts : List Token) (d : Token) → i < length ts → AreInOrder place end (drop i ts) →
     (place ≤ (get_or ts i d).from) × ((get_or ts i d).from < (get_or ts i d).to) × ((get_or ts i d).to ≤ end) × AreInOrder (get_or ts i d).from end (drop (i + 1) ts)
 order_at place end i ts d h o =

@@ -78,7 +78,7 @@ front_less : (free free' : ℕ) (a m : List Lexeme) → free ≤ free' + length 
 front_less free free' a m h f =
     (m ++ f.0, f.1, looser_reads (free + length f.0) (free' + length (m ++ f.0)) (a ++ (m ++ f.0)) f.1 (omega (arith, h, length-append m f.0)) (subst (λ l. Reads (free + length f.0) l f.1) (append_assoc a m f.0) f.2))
 
--- the front of a program's tokens
+-- a prefix of a program's tokens
 front_of_whole : (ts a m : List Lexeme) (p : RawProgram) → ts ≡ a ++ m → Reads 0 ts p → IsFront 0 a
 front_of_whole ts a m p split r = (m, p, looser_reads 0 (0 + length m) (a ++ m) p (omega arith) (subst (λ l. Reads 0 l p) split r))
 

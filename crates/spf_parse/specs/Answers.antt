@@ -67,7 +67,7 @@ stop (operand n) = 1
 stop size = 3
 stop p = 0
 
--- Of what F says of ts the tokens `read` are read, and of us G says what is left: what G says of any tokens F says of them behind `read`, and nothing else, where the next token is the same and F stops at what follows.
+-- Of what F says of ts the tokens `read` are read, and of us G says what is left: what G says of any tokens F says of them after `read`, and nothing else, where the next token is the same and F stops at what follows.
 pub record Leads {A : Type 0} (n : ℕ) (F : Rule A) (ts : List Lexeme) (G : Rule A) (us : List Lexeme) : Type 0 where
   pub read : List Lexeme
   pub split : ts ≡ read ++ us
@@ -83,7 +83,7 @@ abbrev pub Binds : Bool → ℕ → List Lexeme → Type 0
 Binds true free k = free < length k
 Binds false free k = Unit {0}
 
--- What was read is the front of what F says, within the limits: it goes on with `more`. With the next token it isn't: as far as the limits bind, if that token passes one, and in no case else.
+-- What was read is a prefix of what F says, within the limits: it goes on with `more`. With the next token it isn't: as far as the limits bind, if that token passes one, and in no case else.
 pub record Faults {A : Type 0} (deep : Bool) (n : ℕ) (F : Rule A) (ts : List Lexeme) (left : ℕ) : Type 0 where
   pub read : List Lexeme
   pub rest : List Lexeme
@@ -121,15 +121,15 @@ stated s = (s.line, raw_statement s.kind)
 abbrev pub named_operand : ℕ → Rule RawExpression
 named_operand n = name >>= λ x. named n x
 
--- an expression, and the token behind it
+-- an expression, and the token after it
 abbrev pub value_before : ℕ → TokenKind → Rule RawExpression
 value_before n end = expression n >>= λ a. token end >> give a
 
--- an opening brace, and the statements behind it
+-- an opening brace, and the statements after it
 abbrev pub opened_statements : ℕ → Rule (List (ℕ × RawStatement))
 opened_statements n = opens n sign.OpenBrace >> (many (statement (n + 1)) >>= λ inside. give inside)
 
--- an opening brace, the statements behind it, and a last one of this word with an expression, up to the closing brace
+-- an opening brace, the statements after it, and a last one of this word with an expression, up to the closing brace
 abbrev pub ended_statements : ℕ → Keyword → Rule (List (ℕ × RawStatement) × ℕ × RawExpression)
 ended_statements n w = do
   opens n sign.OpenBrace

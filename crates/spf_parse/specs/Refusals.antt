@@ -13,7 +13,7 @@ IsNoTokenText text (error.BadByte at) = (length text ≤ max_text) × IsFaultyAt
 IsNoTokenText text (error.NumberTooLarge at) = (length text ≤ max_text) × IsFaultyAt BeginsTooLarge text at
 IsNoTokenText text error.OutOfMemory = ⊥
 
--- what a refusal of the scanner is for the parser: want of memory is its own, too
+-- what a refusal of the scanner is for the parser: running out of memory is its own, too
 abbrev pub as_refusal : ScanError → ParseError
 as_refusal error.OutOfMemory = parse.OutOfMemory
 as_refusal e = parse.Scan e

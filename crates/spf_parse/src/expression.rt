@@ -272,7 +272,7 @@ pub(crate) fn expr<'b, 'a>(
     Ok((a, rest))
 }
 
-/// An expression, and the token behind it.
+/// An expression, and the token after it.
 #[cycle(expression)]
 pub(crate) fn value<'b, 'a>(
     alloc: Global,

@@ -32,7 +32,7 @@ use std::alloc::{AllocError, Global};
 pub enum ParseError {
     /// The text has no tokens.
     Scan(ScanError),
-    /// What stands before byte `at` is the front of a program, and with the token there it isn't. At the end of the text `at` is its length.
+    /// What stands before byte `at` is a prefix of a program, and with the token there it isn't. At the end of the text `at` is its length.
     Unexpected { at: usize },
     /// The token at byte `at` is allowed there, but opens the 65th level of nesting, or is the 33rd binary operator of one expression outside its brackets.
     TooDeep { at: usize },
@@ -74,7 +74,7 @@ fn functions<'b, 'a>(
     Ok((found, rest))
 }
 
-/// A program, and the tokens behind it.
+/// A program, and the tokens after it.
 fn program<'b, 'a>(
     alloc: Global,
     tokens: &'b [Lexeme<'a>],
@@ -142,7 +142,7 @@ pub fn parse(alloc: Global, text: &[u8]) -> Result<RawProgram, ParseError>
     ensures program { IfOk result (λ p. IsProgramOf text.now (raw_program p)) }
     ensures only { IfOk result (λ p. (q : Program) → IsProgramOf text.now q → q ≡ raw_program p) }
     ensures writable { IfOk result (λ p. IsWritable (raw_program p)) }
-    // A text that has a program is refused for want of memory alone.
+    // A text that has a program is refused only when memory runs out.
     ensures accepted { (q : Program) → IsProgramOf text.now q → IsOkUnless result ParseError.OutOfMemory }
     // When each error comes, and that it comes there.
     ensures scan { (e : scan_error) → result ≡ Err (ParseError.Scan e) → IsNoTokenText text.now e }

@@ -30,10 +30,10 @@ const CLOSE_BRACKET: TokenKind = TokenKind::Sign(Sign::CloseBracket);
 
 const CLOSE_BRACE: TokenKind = TokenKind::Sign(Sign::CloseBrace);
 
-/// A statement, or a part of one, and the tokens behind it.
+/// A statement, or a part of one, and the tokens after it.
 type Read<'b, 'a, T> = Result<(T, &'b [Lexeme<'a>]), Fault>;
 
-/// An assignment, behind its name.
+/// An assignment, after its name.
 fn assign_form<'b, 'a>(
     alloc: Global,
     tokens: &'b [Lexeme<'a>],
@@ -48,7 +48,7 @@ fn assign_form<'b, 'a>(
     Ok((RawStmtKind::Assign(target, a), end))
 }
 
-/// A store, behind its name.
+/// A store, after its name.
 fn store_form<'b, 'a>(
     alloc: Global,
     tokens: &'b [Lexeme<'a>],
@@ -65,7 +65,7 @@ fn store_form<'b, 'a>(
     Ok((RawStmtKind::Store(target, index, a), end))
 }
 
-/// A call, behind its name.
+/// A call, after its name.
 fn call_form<'b, 'a>(
     alloc: Global,
     tokens: &'b [Lexeme<'a>],
@@ -159,7 +159,7 @@ fn fail_form<'b, 'a>(tokens: &'b [Lexeme<'a>], nesting: u32) -> Read<'b, 'a, Raw
     Ok((RawStmtKind::Fail(n), end))
 }
 
-/// What stands behind `predict`: a number of a predictor that is handed in, or an expression.
+/// What comes after `predict`: a number of a predictor that is handed in, or an expression.
 fn guess<'b, 'a>(alloc: Global, tokens: &'b [Lexeme<'a>], nesting: u32) -> Read<'b, 'a, RawPredict>
     requires { nesting ≤ 64 }
     ensures { Answers (guess_part nesting) (lexemes tokens.now) (λ x. raw_predictor x.0) (λ x. lexemes x.1.now) result }

@@ -1,4 +1,4 @@
--- The program that runs a LEX1 machine over the bytes behind it, by blocks of a size.
+-- The program that runs a LEX1 machine over the bytes after it, by blocks of a size.
 --
 -- The carried value is the state. The predictor runs the machine over the 32 bytes before the block, from state 0. CLASSES is the
 -- number of classes, MACHINE the length of the machine's file.

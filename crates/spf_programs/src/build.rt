@@ -133,7 +133,7 @@ pub(crate) fn count(line: u32, slot: u32, low: Expr, high: Expr, body: Vec<Stmt>
     }
 }
 
-/// A fold whose blocks are numbered from 0, and whose block number is declared behind its carried value.
+/// A fold whose blocks are numbered from 0, and whose block number is declared after its carried value.
 #[derive(Drop)]
 pub(crate) struct Blocks {
     pub(crate) carried: u32,

@@ -67,7 +67,7 @@ const GOT: u32 = 10;
 
 const OUT_PLACE: u32 = 11;
 
-/// The state with the next bit of a byte behind it.
+/// The state with the next bit of a byte after it.
 fn with_bit(alloc: Global, state: u32, byte: u32, bit: u32) -> Result<Expr, AllocError>
     ensures { IfOk result (λ e. expression e ≡ bit_form state byte bit) }
 {
@@ -108,7 +108,7 @@ fn bite_bits(alloc: Global) -> Result<Vec<Stmt>, AllocError>
     Ok(vec![in alloc; choose(6, is_found, step, Vec::new(alloc))]?)
 }
 
-/// `bite`, which gives the state behind a byte.
+/// `bite`, which gives the state after a byte.
 fn bite(alloc: Global) -> Result<Function, AllocError>
     ensures { IfOk result (λ f. seen_function f ≡ bite_form) }
 {
@@ -208,7 +208,7 @@ fn bits_begin(alloc: Global, size: u64) -> Result<Expr, AllocError>
     binary(alloc, Op::Mul, number(8 * size), Expr::Local(BLOCK))
 }
 
-/// The bit behind a block.
+/// The bit after a block.
 fn bits_end(alloc: Global, size: u64) -> Result<Expr, AllocError>
     requires { size ≤ 65536 }
     ensures { IfOk result (λ e. expression e ≡ bits_end_form size) }
@@ -314,7 +314,7 @@ fn blocks(alloc: Global, size: u64) -> Result<Stmt, AllocError>
     fold(alloc, 30, parts)
 }
 
-/// A number with a byte of the header behind it.
+/// A number with a byte of the header after it.
 fn with_byte(alloc: Global, high: Expr, place: u64) -> Result<Expr, AllocError>
     requires { place < 2 ^ 63 }
     ensures { IfOk result (λ e. expression e ≡ with_byte_form (expression high) place) }

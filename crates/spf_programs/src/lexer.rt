@@ -104,7 +104,7 @@ fn block_begin(alloc: Global, sizes: Sizes) -> Result<Expr, AllocError>
     binary(alloc, Op::Mul, number(sizes.block), Expr::Local(BLOCK))
 }
 
-/// The place behind a block.
+/// The place after a block.
 fn block_end(alloc: Global, sizes: Sizes) -> Result<Expr, AllocError>
     ensures { IfOk result (λ e. expression e ≡ end_form sizes.block) }
 {
@@ -231,7 +231,7 @@ fn program_for(alloc: Global, sizes: Sizes) -> Result<Program, AllocError>
     })
 }
 
-/// The program that runs machines with so many states and classes over the bytes behind them, by blocks of this size.
+/// The program that runs machines with so many states and classes over the bytes after them, by blocks of this size.
 pub fn lexer(alloc: Global, size: u64, states: u64, classes: u64) -> Result<Program, AllocError>
     requires some { 1 ≤ size }
     requires few { size ≤ 65536 }

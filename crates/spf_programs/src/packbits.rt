@@ -39,7 +39,7 @@ fn block_begin(alloc: Global, size: u64) -> Result<Expr, AllocError>
     binary(alloc, Op::Mul, number(size), Expr::Local(BLOCK))
 }
 
-/// The place behind a block.
+/// The place after a block.
 fn block_end(alloc: Global, size: u64) -> Result<Expr, AllocError>
     requires { size ≤ 65536 }
     ensures { IfOk result (λ e. expression e ≡ end_form size) }

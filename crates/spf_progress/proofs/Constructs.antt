@@ -60,7 +60,7 @@ pub stands-before : (b : Block) (c : Construct) → construct_first b ≡ Some c
 stands-before end c e = cc
 stands-before (on_line line first rest) c e = record { line = line; statement = first; rest = rest; is = refl; construct = e }
 
--- what stands behind it
+-- what comes after it
 pub rest-next : (place : ℕ) (b : Block) (line : ℕ) (s : Statement) (rest : Block) → rest_from place b ≡ on_line line s rest → rest_from (place + 1) b ≡ rest
 rest-next place b line s rest e = ap (λ n. rest_from n b) (add-one place) ∙ go place b e
   where
@@ -137,7 +137,7 @@ enters laws hosts p input before after progress c h goes first went =
           (follows sees goes.moment (moment_of p before).state before.cells goes.alike goes.memory h (moment_of p after).state went.answer);
     }
 
--- what a construct and the statements behind it reach
+-- what a construct and the statements after it reach
 reaches : (g : Environment) (line : ℕ) (s : Statement) (rest : Block) (c : Construct) (m : Moment) (h : Header) (entered : State) → construct_of line s ≡ Some c → plainly (header_means g c) m ≡ Value h entered
     → reached_from g (on_line line s rest) m ≡ reached g c (Value h entered) m (unless_trapped (plainly (statement_means g line s) m) (λ state. reached_from g rest (moment_after (statement_means g line s) m state)))
 reaches g line s rest c m h entered is e =
@@ -168,7 +168,7 @@ header-traps-run laws hosts p input before after progress c t goes first trapped
 
 -- ---- settling a construct
 
--- the scope behind a construct shows its carried slot
+-- the scope after a construct shows its carried slot
 shows-carried : (line : ℕ) (s : Statement) (c : Construct) → construct_of line s ≡ Some c → (scope : Scope) → (scope_after scope s).visible ≡ carried_of c ∷ scope.visible
 shows-carried line s c e scope =
     is-statement line s c (λ t k. (scope_after scope t).visible ≡ carried_of k ∷ scope.visible) (λ head body. refl) (λ head producer consumer. refl) e

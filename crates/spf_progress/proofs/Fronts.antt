@@ -27,7 +27,7 @@ abbrev state_or : {A : Type 0} → State → Ending A → State
 state_or s (Value b t) = t
 state_or s (Trapped trap output) = s
 
--- a statement that is no construct and gave a value reaches what the statements behind it reach
+-- a statement that is no construct and gave a value reaches what the statements after it reach
 passes : (g : Environment) (line : ℕ) (s : Statement) (rest : Block) (m : Moment) (after : State) (x : List ℤ) → construct_of line s ≡ None → Comes (statement_means g line s) m.state m.memory (Value tt after) x
     → reached_from g (on_line line s rest) m ≡ reached_from g rest (record { state = after; memory = x })
 passes g line s rest m after x n p =

@@ -66,7 +66,7 @@ before-starts-single (Whole a) (AtOffset b g o) f x = x
 before-starts-single (Affine a f l h) (AtWhole b) u x = x
 before-starts-single (Affine a f l h) (AtOffset b g o) u x = grind (arith, ints)
 
--- each entry of a list is at or behind the start of its first range
+-- each entry of a list is at or after the start of its first range
 starts-entry : (x : Range) (xs : List Range) (e : Entry) → IsNormal (x ∷ xs) → list_any (has e) (x ∷ xs) ≡ true → StartsBy x (single e)
 starts-entry x xs e n t = go (or-cases (has e x) _ t)
   where

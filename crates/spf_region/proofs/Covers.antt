@@ -80,7 +80,7 @@ has-of a f l h o low high =
     let e2 : int_eq f f ≡ true = grind (arith, ints) in
     both-true _ _ e0 (both-true _ _ e2 (both-true _ _ (int-le-of l o low) (int-le-of o h high)))
 
--- an offset of a list that a range stands before is behind this range, with a gap
+-- an offset of a list that a range stands before is after this range, with a gap
 before-has : (a : ℕ) (f l h o : ℤ) (xs : List Range) → IsBeforeEach (Affine a f l h) xs → offsets_of xs a f o ≡ true → (h +ℤ pos 1) <ℤ o
 before-has a f l h o [] b e = cc
 before-has a f l h o (x ∷ xs) b e = go x b.0 (before-has a f l h o xs b.1) (or-cases (has_offset x a f o) _ e)

@@ -15,7 +15,7 @@ abbrev StartsByEach : Range → List Range → Type 0
 StartsByEach r [] = Unit {0}
 StartsByEach r (s ∷ rest) = StartsBy r s × StartsByEach r rest
 
--- none is empty, and each begins no later than those behind it
+-- none is empty, and each begins no later than those after it
 abbrev IsSorted : List Range → Type 0
 IsSorted [] = Unit {0}
 IsSorted (r ∷ rest) = IsFilled r × StartsByEach r rest × IsSorted rest

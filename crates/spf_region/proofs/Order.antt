@@ -8,7 +8,7 @@ use Rattle.spf_region.specs.declared.range.Range.TheVariants.{Whole, Affine}
 use Rattle.spf_region.specs.Ranges.{array_of, IsBefore, IsFilled, has_offset, is_whole}
 use Rattle.spf_region.specs.Merging.{in_order, starts_by, ends_by}
 
--- offset o of array a and factor f doesn't stand behind offset p of array b and factor g
+-- offset o of array a and factor f doesn't come after offset p of array b and factor g
 abbrev pub InOrder : (a : ℕ) (f o : ℤ) (b : ℕ) (g p : ℤ) → Type 0
 InOrder a f o b g p = (a < b) ⊎ ((a ≡ b) × ((f <ℤ g) ⊎ ((f ≡ g) × (o ≤ℤ p))))
 

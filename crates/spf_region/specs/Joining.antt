@@ -6,7 +6,7 @@ use Rattle.spf_region.specs.declared.span.Span.{Span}
 abbrev pub wider : Span → Span → Span
 wider s t = record { from = s.from; to = max s.to t.to }
 
--- the spans behind the pending one, each joined to the one before it where they meet or touch
+-- the spans after the pending one, each joined to the one before it where they meet or touch
 abbrev pub joined_after : Span → List Span → List Span
 joined_after pending [] = pending ∷ []
 joined_after pending (s ∷ rest) = if nat_le s.from pending.to then joined_after (wider pending s) rest else pending ∷ joined_after s rest

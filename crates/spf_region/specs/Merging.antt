@@ -6,17 +6,17 @@ use Rattle.spf_region.specs.declared.range.Range.{Range}
 use Rattle.spf_region.specs.declared.range.Range.TheVariants.{Whole, Affine}
 use Rattle.spf_region.specs.Ranges.{array_of}
 
--- offset o of array a and factor f doesn't stand behind offset p of array b and factor g
+-- offset o of array a and factor f doesn't come after offset p of array b and factor g
 abbrev pub in_order : (a : ℕ) (f o : ℤ) (b : ℕ) (g p : ℤ) → Bool
 in_order a f o b g p = nat_lt a b || ((a == b) && (int_lt f g || (int_eq f g && int_le o p)))
 
--- the first range doesn't begin behind the second
+-- the first range doesn't begin after the second
 abbrev pub starts_by : Range → Range → Bool
 starts_by (Whole a) s = nat_le a (array_of s)
 starts_by (Affine a f l h) (Whole b) = nat_lt a b
 starts_by (Affine a f l h) (Affine b g m i) = in_order a f l b g m
 
--- the first range doesn't end behind the second
+-- the first range doesn't end after the second
 abbrev pub ends_by : Range → Range → Bool
 ends_by (Whole a) s = nat_le a (array_of s)
 ends_by (Affine a f l h) (Whole b) = nat_lt a b
@@ -53,7 +53,7 @@ abbrev pub joined_or : Option Range → (Range → List Range) → List Range �
 joined_or (Some wider) further apart = further wider
 joined_or None further apart = apart
 
--- the ranges behind the pending one, each joined to the one before it where they touch
+-- the ranges after the pending one, each joined to the one before it where they touch
 abbrev pub coalesced_after : Range → List Range → List Range
 coalesced_after pending [] = pending ∷ []
 coalesced_after pending (r ∷ rest) = joined_or (hull pending r) (λ wider. coalesced_after wider rest) (pending ∷ coalesced_after r rest)

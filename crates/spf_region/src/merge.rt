@@ -7,7 +7,7 @@ ghost use Rattle.spf_region.specs.Ranges.{offsets_of, wholes_of, has_array, join
 use crate::range::Range;
 use std::alloc::{AllocError, Global};
 
-// Whether an offset of an array and a factor doesn't stand behind another one.
+// Whether an offset of an array and a factor doesn't come after another one.
 fn in_order(
     array: u32,
     factor: i64,
@@ -27,7 +27,7 @@ fn in_order(
     offset <= other_offset
 }
 
-// Whether `range` doesn't begin behind `other`.
+// Whether `range` doesn't begin after `other`.
 fn starts_by(range: &Range, other: &Range) -> bool
     ensures { result ≡ starts_by range.now other.now }
 {
@@ -51,7 +51,7 @@ fn starts_by(range: &Range, other: &Range) -> bool
     }
 }
 
-// Whether `range` doesn't end behind `other`.
+// Whether `range` doesn't end after `other`.
 fn ends_by(range: &Range, other: &Range) -> bool
     ensures { result ≡ ends_by range.now other.now }
 {

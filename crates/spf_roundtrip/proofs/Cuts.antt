@@ -154,7 +154,7 @@ sign_spells x after no_ = (refl, λ other h. longest other h)
       ]
     ]
 
--- so it is behind a closing bracket, whatever comes after
+-- so it is after a closing bracket, whatever comes after
 closing_spells : (x : Sign) (after : List ℕ) (short : IsShort (sign_spelling x)) → eqb short.byte 41 || eqb short.byte 93 ≡ true → Spells (kind.Sign x) (sign_spelling x) after
 closing_spells x after short closing = (refl, λ other h. longest other h)
   where

@@ -25,7 +25,7 @@ expression_step free n e ps ts us room t =
     let x = whole free e (facts free e) n ts m.0 m.1 room in
     record { rest = m.0; said = x; behind = m.2; room = omega (arith, x.less, room) }
 
--- an expression and the semicolon behind it
+-- an expression and the semicolon after it
 pub record Last (free n : ℕ) (e : RawExpression) (ts us : List Lexeme) : Type 0 where
   pub mid : List Lexeme
   pub value : Said free (expression n) ts e mid
@@ -38,7 +38,7 @@ last free n e ts us room t =
     let c = token_step free (kind.Sign sign.Semicolon) (sign_spelling sign.Semicolon) [] x.rest us x.room x.behind in
     record { mid = x.rest; value = x.said; line = c.line; semicolon = subst (λ y. Said free (token (kind.Sign sign.Semicolon)) x.rest c.line y) c.behind c.said }
 
--- what is assigned behind a name or a closing bracket
+-- what is assigned after a name or a closing bracket
 pub record Assigned (free n : ℕ) (e : RawExpression) (ts us : List Lexeme) : Type 0 where
   pub line : ℕ
   pub mid : List Lexeme
@@ -304,7 +304,7 @@ answered free n k b e h indent ts ms us room t u =
     let c = closed free indent i.0 us (omega (arith, room, o.less, inside.said.less, a.word_said.less, a.last_said.value.less, a.last_said.semicolon.less)) i.2 in
     record { mid = ms; open_said = o; next = j.0; inside = inside; after = i.0; answer = a; line = c.0; close_said = c.1 }
 
--- the line of a fold: what is behind the start value, and behind the range
+-- the line of a fold: what is after the start value, and after the range
 abbrev pub fold_range : RawFoldHead → List Piece
 fold_range head = space ∷ w word.For ∷ space ∷ name head.block ∷ space ∷ w word.In ∷ space ∷ (range head.low head.high ++ space ∷ w word.Predict ∷ space ∷ (of_predictor head.predict ++ opening))
 
@@ -344,7 +344,7 @@ spanned free n head ts us room t =
     let p = token_step free (kind.Keyword word.In) (word_spelling word.In) (space ∷ (range head.low head.high ++ space ∷ w word.Predict ∷ space ∷ (of_predictor head.predict ++ opening))) y.rest us y.room y.behind in
     record { line = f.line; mid = f.rest; word_said = f.said; named = y.rest; name_said = y.said; in_line = p.line; next = p.rest; in_said = p.said; numbers = ranged free n head.low head.high (space ∷ w word.Predict ∷ space ∷ (of_predictor head.predict ++ opening)) p.rest us p.room p.behind }
 
--- a predictor behind its word
+-- a predictor after its word
 pub record Guessed (free n : ℕ) (p : RawPredictor) (ts us : List Lexeme) : Type 0 where
   pub line : ℕ
   pub mid : List Lexeme

@@ -57,7 +57,7 @@ name_head : (x after : List ℕ) → IsName x → NoSecond (x ++ after)
 name_head [] after h = absurd h.0
 name_head (b ∷ rest) after h = letter_head b h.0.0
 
--- the same of more text behind
+-- the same of more text after
 regroup : (t u after : List ℕ) → NoSecond (t ++ (u ++ after)) → NoSecond (t ++ u ++ after)
 regroup t u after h = subst NoSecond (sym (append_assoc t u after)) h
 
@@ -83,7 +83,7 @@ infix-sound ps qs x h k = record {
   head = λ after. subst (λ t. NoSecond (t ++ after)) (sym (bytes-append ps (spaced x ++ qs))) (regroup (bytes ps) (bytes (spaced x ++ qs)) after (h.head (bytes (spaced x ++ qs) ++ after)));
 }
 
--- an index in its brackets, behind a word
+-- an index in its brackets, after a word
 bracketed : (p : Piece) (ps : List Piece) → ((after : List ℕ) → IsPiece p (91 ∷ after)) → Sound ps → (after : List ℕ) → AreWhole (p ∷ s sign.OpenBracket ∷ (ps ++ s sign.CloseBracket ∷ [])) after
 bracketed p ps first h after = (
   first _,

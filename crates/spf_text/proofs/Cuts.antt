@@ -10,7 +10,7 @@ use Rattle.spf_text.specs.declared.token.TokenKind.TheVariants as kind
 use Rattle.spf_text.specs.Tokens.{IsBlank, IsDigit, IsLetter, IsWordByte, EndsBefore, EndsLine, Begins, Piece, Blank, Comment, Lexeme, bytes_of, IsPiece, IsCut, Spells, number_from, word_spelling, sign_spelling}
 use Rattle.spf_text.proofs.Spellings.{word-Begins, sign-first, is_sign_byte, word_spelling-injective, sign_spelling-injective}
 
--- ---- two runs at the front of one text
+-- ---- two runs at the start of one text
 
 -- two runs of one kind, each ended by the end or by another byte, are the same
 run_unique : (P : ℕ → Type 0) (xs ys a b : List ℕ) → AllByRecursion P xs → AllByRecursion P ys → EndsBefore P a → EndsBefore P b → xs ++ a ≡ ys ++ b → (xs ≡ ys) × (a ≡ b)
@@ -23,7 +23,7 @@ run_unique P (x ∷ xs) (y ∷ ys) a b hx hy ea eb e =
     let same = run_unique P xs ys a b hx.1 hy.1 ea eb tails in
     (λ i. heads i ∷ same.0 i, same.1)
 
--- two longest runs at the front of one text are the same
+-- two longest runs at the start of one text are the same
 pub Begins-unique : (First Rest : ℕ → Type 0) (xs ys a b : List ℕ) → Begins First Rest xs → Begins First Rest ys → EndsBefore Rest a → EndsBefore Rest b → xs ++ a ≡ ys ++ b → (xs ≡ ys) × (a ≡ b)
 Begins-unique First Rest [] ys a b hx hy ea eb e = absurd hx
 Begins-unique First Rest (x ∷ xs) [] a b hx hy ea eb e = absurd hy
@@ -116,7 +116,7 @@ class-BeginsPiece (Lexeme (kind.Keyword w) bytes) b h = class_letter b h
 class-BeginsPiece (Lexeme (kind.Number n) bytes) b h = class_digit b h
 class-BeginsPiece (Lexeme (kind.Sign s) bytes) b h = class_sign b h
 
--- two pieces at the front of one text are of one kind
+-- two pieces at the start of one text are of one kind
 same_class : (p q : Piece) (a b : List ℕ) → IsPiece p a → IsPiece q b → bytes_of p ++ a ≡ bytes_of q ++ b → class_of p ≡ class_of q
 same_class p q a b hp hq e =
     let f = first_byte p a hp in
@@ -125,7 +125,7 @@ same_class p q a b hp hq e =
     let firsts : f.0 ≡ g.0 = cc in
     sym (class-BeginsPiece p f.0 f.3) ∙ ap class_from firsts ∙ class-BeginsPiece q g.0 g.3
 
--- ---- two pieces at the front of one text are the same
+-- ---- two pieces at the start of one text are the same
 
 -- what ends a line ends a run of bytes other than 0A
 line_end : (rest : List ℕ) → EndsLine rest → EndsBefore (λ b. b ≡ 10 → ⊥) rest
@@ -136,7 +136,7 @@ line_end (b ∷ rest) h = λ other. other h
 word_bytes : (w : Keyword) (bytes : List ℕ) → bytes ≡ word_spelling w → Begins IsLetter IsWordByte bytes
 word_bytes w bytes e = subst (Begins IsLetter IsWordByte) (sym e) (word-Begins w)
 
--- two longest signs at the front of one text are the same
+-- two longest signs at the start of one text are the same
 sign_unique : (s t : Sign) (xs ys a b : List ℕ) → Spells (kind.Sign s) xs a → Spells (kind.Sign t) ys b → xs ++ a ≡ ys ++ b → (s ≡ t) × (xs ≡ ys) × (a ≡ b)
 sign_unique s t xs ys a b hx hy e =
     let no_longer : length (sign_spelling t) ≤ length xs = hx.1 t (b, e ∙ ap (λ l. l ++ b) hy.0) in
@@ -145,7 +145,7 @@ sign_unique s t xs ys a b hx hy e =
     let same = same_length xs ys a b lengths e in
     (sign_spelling-injective s t (sym hx.0 ∙ same.0 ∙ hy.0), same.0, same.1)
 
--- two whole pieces at the front of one text are the same, and so is what comes after
+-- two whole pieces at the start of one text are the same, and so is what comes after
 piece_unique : (p q : Piece) (a b : List ℕ) → IsPiece p a → IsPiece q b → bytes_of p ++ a ≡ bytes_of q ++ b → (p ≡ q) × (a ≡ b)
 piece_unique (Blank x) (Blank y) a b hp hq e =
     let heads : x ≡ y = cc in

@@ -1,4 +1,4 @@
--- The piece at the front of some bytes, from what the runs and the signs there are.
+-- The piece at the start of some bytes, from what the runs and the signs there are.
 use Rattle.std.proofs.Common.{◌≡◌, ℕ, zero, suc, ◌<◌, ◌≤◌, inl, ⊎_elim, List, [], ◌∷◌, length, take, drop, get_or, refl, sym, pos, ℤ, arith, take-append-drop}
 use Rattle.std.proofs.lemmas.List.Elements.{All-tail}
 use Rattle.spf_text.specs.declared.token.Keyword.{Keyword}

@@ -82,6 +82,6 @@ scanned_fault Fault text tokens at before fault =
       fault = fault;
     }
 
--- what stands at the front of the rest of a text, as a slice of it
+-- what stands at the start of the rest of a text, as a slice of it
 pub IsFront-rest : (text : List ℕ) (at : ℕ) (front : Front) → IsFront (take (length text - at) (drop at text)) front → IsFront (drop at text) front
 IsFront-rest text at front found = subst (λ bytes. IsFront bytes front) (take_rest text at) found

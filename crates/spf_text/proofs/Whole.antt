@@ -104,14 +104,14 @@ short_length (a ∷ []) e = omega arith
 short_length (a ∷ b ∷ []) e = omega arith
 short_length (a ∷ b ∷ c ∷ xs) e = absurd (cc)
 
--- a spelling at the front of two bytes or more has two, or one
+-- a spelling at the start of two bytes or more has two, or one
 two_at_most : (xs : List ℕ) (a b : ℕ) (r rest : List ℕ) → short xs ≡ true → a ∷ b ∷ r ≡ xs ++ rest → (xs ≡ a ∷ b ∷ [] → ⊥) → length xs ≤ 1
 two_at_most [] a b r rest e same never = absurd (cc)
 two_at_most (c ∷ []) a b r rest e same never = omega arith
 two_at_most (c ∷ d ∷ []) a b r rest e same never = absurd (never (cc))
 two_at_most (c ∷ d ∷ f ∷ xs) a b r rest e same never = absurd (cc)
 
--- a spelling at the front of one byte is that byte
+-- a spelling at the start of one byte is that byte
 one_alone : (xs : List ℕ) (a : ℕ) (rest : List ℕ) → short xs ≡ true → a ∷ [] ≡ xs ++ rest → xs ≡ a ∷ []
 one_alone [] a rest e same = absurd (cc)
 one_alone (c ∷ []) a rest e same = cc
@@ -124,7 +124,7 @@ first_alone (c ∷ []) a b r rest e same never = cc
 first_alone (c ∷ d ∷ []) a b r rest e same never = absurd (never (cc))
 first_alone (c ∷ d ∷ f ∷ xs) a b r rest e same never = absurd (cc)
 
--- the longest sign at the front of bytes
+-- the longest sign at the start of bytes
 pub record LongestSign (bytes : List ℕ) : Type 0 where
   pub sign : Sign
   pub after : List ℕ
@@ -172,7 +172,7 @@ longest_sign (a ∷ b ∷ r) = by_two (sign_so (a ∷ b ∷ [])) (sign_so (a ∷
     })
     by_two (inr never) (inr none) = inr (λ s h. none s (sym (first_alone (sign_spelling s) a b r h.0 (sign-short s) h.1 (λ e. never s (sym e)))))
 
--- ---- what begins at the front of bytes
+-- ---- what begins at the start of bytes
 
 pub data Begun (bytes : List ℕ) : Type 0 where
   piece : (p : Piece) (after : List ℕ) → bytes ≡ bytes_of p ++ after → IsPiece p after → Begun bytes

@@ -1,4 +1,4 @@
--- What stands at the front of the bytes that are left of a text.
+-- What stands at the start of the bytes that are left of a text.
 use Rattle.std.specs.Prelude.{◌≡◌, ℕ, ◌≤◌, List, length, take, drop, slice_index}
 use Rattle.spf_text.specs.declared.front.Front.{Front}
 use Rattle.spf_text.specs.declared.front.Front.TheVariants as front
@@ -10,7 +10,7 @@ pub record IsFirst (p : Piece) (bytes : List ℕ) (n : ℕ) : Type 0 where
   pub spelled : bytes_of p ≡ take n bytes
   pub piece : IsPiece p (drop n bytes)
 
--- what stands at the front of these bytes is as told
+-- what stands at the start of these bytes is as told
 abbrev pub IsFront : List ℕ → Front → Type 0
 IsFront bytes front.Blank = IsFirst (Blank (slice_index bytes 0)) bytes 1
 IsFront bytes (front.Comment n) = IsFirst (Comment (take n bytes)) bytes n

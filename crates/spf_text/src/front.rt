@@ -1,4 +1,4 @@
-// What stands at the front of the bytes that are left of a text.
+// What stands at the start of the bytes that are left of a text.
 
 ghost use Rattle.std.specs.Prelude.{◌<◌, length, slice_index};
 ghost use Rattle.spf_text.specs.Tokens.{IsLetter, IsDigit};
@@ -9,7 +9,7 @@ use crate::signs::sign_at;
 use crate::token::TokenKind;
 use crate::words::{keyword_of, number_of};
 
-/// What stands at the front of some bytes.
+/// What stands at the start of some bytes.
 #[derive(Clone, Copy)]
 pub enum Front {
     /// A blank, of one byte.
@@ -24,7 +24,7 @@ pub enum Front {
     Nothing,
 }
 
-/// What stands at the front of these bytes.
+/// What stands at the start of these bytes.
 pub fn front_of(bytes: &[u8]) -> Front
     requires { 0 < length bytes.now }
     ensures { IsFront bytes.now result }
@@ -45,7 +45,7 @@ pub fn front_of(bytes: &[u8]) -> Front
     }
 }
 
-/// The name or reserved word at the front of bytes that begin with a letter.
+/// The name or reserved word at the start of bytes that begin with a letter.
 fn word_front(bytes: &[u8]) -> Front
     requires some { 0 < length bytes.now }
     requires letter { IsLetter (slice_index bytes.now 0) }
@@ -58,7 +58,7 @@ fn word_front(bytes: &[u8]) -> Front
     }
 }
 
-/// The number at the front of bytes that begin with a digit.
+/// The number at the start of bytes that begin with a digit.
 fn number_front(bytes: &[u8]) -> Front
     requires some { 0 < length bytes.now }
     requires digit { IsDigit (slice_index bytes.now 0) }

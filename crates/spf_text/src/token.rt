@@ -83,6 +83,6 @@ pub struct Token {
     pub kind: TokenKind,
     /// The place of its first byte.
     pub from: usize,
-    /// The place behind its last byte.
+    /// The place after its last byte.
     pub to: usize,
 }

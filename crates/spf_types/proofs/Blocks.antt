@@ -12,7 +12,7 @@ use Rattle.spf_types.specs.Faults.{Setting, Fault, scope_after, scope_at_end, bl
 use Rattle.spf_types.specs.Resolved.{scope, names_of, names_in, locals_after, locals_at_end, resolved_statement, resolved_block, after_statement, after_block}
 use Rattle.spf_size.proofs.Lists.{item_at}
 
--- the scope behind a statement is that of the locals behind it
+-- the scope after a statement is that of the locals after it
 pub scope_after-is : (ls : List Local) (n : ℕ) (s : r.RawStatement) → scope (locals_after ls n s) ≡ scope_after (scope ls) s
 scope_after-is ls n (r.Let x value) = refl
 scope_after-is ls n (r.Assign x value) = refl
@@ -46,7 +46,7 @@ pub record IsResolved (here : Setting) (start now : Seen) (raw : List RawStmt) (
   pub forms : resolved_block here.globals start.locals (length start.slots) (raw_block raw) ≡ followed_by (block done) (resolved_block here.globals now.locals (length now.slots) (raw_block (drop count raw)))
   pub after : after_block start (raw_block raw) ≡ after_block now (raw_block (drop count raw))
 
--- what the rest of a block is, behind one statement more
+-- what the rest of a block is, after one statement more
 pub faults_behind : (here : Setting) (now next : Seen) (line : ℕ) (s : r.RawStatement) (rest : r.RawBlock) → next ≡ after_statement now s → block_faults here (scope now.locals) (r.on_line line s rest) ≡ statement_faults here (scope now.locals) line s ++ block_faults here (scope next.locals) rest
 faults_behind here now next line s rest e =
     ap (λ sc. statement_faults here (scope now.locals) line s ++ block_faults here sc rest) (sym (ap (λ (k : Seen). scope k.locals) e ∙ scope_after-is now.locals (length now.slots) s))

@@ -40,7 +40,7 @@ closes ls now count g e =
 abbrev pub IsClosed : Seen → ℕ → Seen → Type 0
 IsClosed before count now = now ≡ record { locals = drop (length before.locals - count) before.locals; slots = before.slots }
 
--- a block behind some more locals is closed
+-- a block after some more locals is closed
 pub closed : (old inside x now : Seen) (front : List Local) (b : r.RawBlock) (count : ℕ) → inside.locals ≡ front ++ old.locals → x ≡ after_block inside b → count ≡ length old.locals → IsClosed x count now → now ≡ record { locals = old.locals; slots = inside.slots ++ names_in b }
 closed old inside x now front b count s e h c =
     let q = grown inside.locals (length inside.slots) b in

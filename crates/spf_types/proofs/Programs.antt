@@ -90,7 +90,7 @@ array_twice arrays functions g i a e h is =
     ∙ ap not (sym (array_place (place_in (map array_name arrays) (array_name a)) (place_in (map function_name functions) (array_name a)) i)
     ∙ ap (λ o. is_array_at o i) (global_named-seen arrays functions (array_name a) ∙ ap (λ z. global_named z (array_name a)) (sym e)))
 
--- so many arrays are behind
+-- so many arrays are after
 abbrev pub ArraysBehind : List code_array.Array → ℕ → Type 0
 ArraysBehind raw i = arrays_faults [] (map seen_array raw) ≡ arrays_faults (take i (map array_name raw)) (map seen_array (drop i raw))
 
@@ -195,7 +195,7 @@ pub scope_params : (ls : List Local) (n : ℕ) (xs : List (List ℕ)) → scope 
 scope_params ls n [] = refl
 scope_params ls n (x ∷ xs) = scope_params (free x n ∷ ls) (n + 1) xs
 
--- the locals and slots behind the parameters of a function
+-- the locals and slots after the parameters of a function
 abbrev pub behind_params : List (List ℕ) → Seen
 behind_params names = record { locals = params_of [] 0 names; slots = names }
 

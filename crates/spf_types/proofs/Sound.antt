@@ -74,7 +74,7 @@ abbrev pub fixed_slots : List l.Local → List ℕ
 fixed_slots [] = []
 fixed_slots (v ∷ ls) = cond v.fixed (v.slot ∷ fixed_slots ls) (fixed_slots ls)
 
--- the scope of these locals in front of slot n
+-- the scope of these locals before slot n
 abbrev pub lawful_scope : List l.Local → ℕ → w.Scope
 lawful_scope ls n = record { visible = slots_of ls; fixed = fixed_slots ls; next = n }
 

@@ -182,7 +182,7 @@ not_true : (b : Bool) → not b ≡ false → b ≡ true
 not_true true e = refl
 not_true false e = cc
 
--- the locals behind a statement are there and apart
+-- the locals after a statement are there and apart
 holds_after : (here : Setting) (slots : List (List ℕ)) (ls : List l.Local) (n line : ℕ) → Holds slots ls → (st : RawStatement) → Stand slots n (names_of st) → statement_faults here (scope ls) line st ≡ [] → Holds slots (locals_after ls n st)
 holds_after here slots ls n line holds (Let x value) k h = one_more slots ls x n false holds (declared_is here ls line x (left_none _ _ h)).0 k.0
 holds_after here slots ls n line holds (Assign x value) k h = holds
@@ -209,7 +209,7 @@ holds_at_end here slots ls n holds (on_line line st rest) k h =
     (holds_after here slots ls n line holds st (stand_left slots n (names_of st) (names_in rest) k) (left_none _ _ h)) rest
     (stand_right slots n (names_of st) (names_in rest) k) (rest_none here ls n line st rest h)
 
--- a number behind a block
+-- a number after a block
 pub value_ok : (here : Setting) (names : Names) (v : Vocabulary) (ls : List l.Local) (n line : ℕ) → Fits here names v → Holds names.slots ls → (b : RawBlock) (e : RawExpression) → Stand names.slots n (names_in b) → block_faults here (scope ls) b ≡ [] → expression_faults here (f.scope_at_end (scope ls) b) line a_number e ≡ [] → IsWritableExpression e →
     IsLawfulExpression names (w.scope_at_end (lawful_scope ls n) (resolved_block here.globals ls n b)) (resolved_expression here.globals (locals_at_end ls n b) e) × (spelled_expression v (resolved_expression here.globals (locals_at_end ls n b) e) ≡ e)
 value_ok here names v ls n line fits holds b e k h q w =

@@ -168,7 +168,7 @@ abbrev pub is_byte : ℤ → Bool
 is_byte (pos n) = nat_lt n 256
 is_byte (negsuc n) = false
 
--- the scope behind a statement
+-- the scope after a statement
 abbrev pub scope_after : Scope → RawStatement → Scope
 scope_after scope (Let x value) = showing x scope
 scope_after scope (Fold head body) = showing head.carried scope
@@ -230,7 +230,7 @@ abbrev mutual
       ++ ((block_faults here scope producer ++ expression_faults here (scope_at_end scope producer) head.give_line a_number head.give)
       ++ (predictor_faults here scope line head.predict ++ block_faults here (showing_fixed head.carried scope) consumer))
 
-  -- a block: each statement in the scope behind the ones before it
+  -- a block: each statement in the scope after the ones before it
   pub block_faults : Setting → Scope → RawBlock → List Fault
   block_faults here scope end = []
   block_faults here scope (on_line line first rest) = statement_faults here scope line first ++ block_faults here (scope_after scope first) rest
@@ -247,7 +247,7 @@ abbrev pub params_faults : Setting → Scope → ℕ → List (List ℕ) → Lis
 params_faults here scope line [] = []
 params_faults here scope line (x ∷ xs) = declared_faults here scope line x ++ params_faults here (showing x scope) line xs
 
--- the scope behind parameters
+-- the scope after parameters
 abbrev pub scope_of : Scope → List (List ℕ) → Scope
 scope_of scope [] = scope
 scope_of scope (x ∷ xs) = scope_of (showing x scope) xs
@@ -257,12 +257,12 @@ abbrev pub function_faults : Setting → RawFunction → List Fault
 function_faults here f =
     params_faults here [] f.line f.params ++ valued_faults here (scope_of [] f.params) f.body f.answer_line f.answer
 
--- arrays, behind others of these names
+-- arrays, after others of these names
 abbrev pub arrays_faults : List (List ℕ) → List Array → List Fault
 arrays_faults names [] = []
 arrays_faults names (a ∷ rest) = when (has names a.name) Twice a.line ++ arrays_faults (names ++ a.name ∷ []) rest
 
--- functions from a place on, behind arrays and functions of these names
+-- functions from a place on, after arrays and functions of these names
 abbrev pub functions_faults : Globals → List (List ℕ) → ℕ → List RawFunction → List Fault
 functions_faults globals names place [] = []
 functions_faults globals names place (f ∷ rest) =

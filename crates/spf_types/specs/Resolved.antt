@@ -97,7 +97,7 @@ abbrev mutual
 abbrev pub slots_in : RawBlock → ℕ
 slots_in b = length (names_in b)
 
--- the locals behind a statement whose first declaration has slot n
+-- the locals after a statement whose first declaration has slot n
 abbrev pub locals_after : List l.Local → ℕ → RawStatement → List l.Local
 locals_after ls n (Let x value) = free x n ∷ ls
 locals_after ls n (Fold head body) = free head.carried n ∷ ls
@@ -159,7 +159,7 @@ abbrev mutual
   resolved_block g ls n (on_line line first rest) =
       s.on_line line (resolved_statement g ls n first) (resolved_block g (locals_after ls n first) (n + length (names_of first)) rest)
 
--- the locals and the slots behind a statement, behind a block whose locals may still be used, and behind one whose locals may not
+-- the locals and the slots after a statement, after a block whose locals may still be used, and after one whose locals may not
 abbrev pub after_statement : l.Seen → RawStatement → l.Seen
 after_statement seen s = record { locals = locals_after seen.locals (length seen.slots) s; slots = seen.slots ++ names_of s }
 
@@ -171,12 +171,12 @@ after_inner seen b = record { locals = seen.locals; slots = seen.slots ++ names_
 
 -- ---- programs
 
--- parameters as locals, the first of which has slot n, behind others
+-- parameters as locals, the first of which has slot n, after others
 abbrev pub params_of : List l.Local → ℕ → List (List ℕ) → List l.Local
 params_of ls n [] = ls
 params_of ls n (x ∷ xs) = params_of (free x n ∷ ls) (n + 1) xs
 
--- the locals and the slots behind parameters
+-- the locals and the slots after parameters
 abbrev pub after_params : l.Seen → List (List ℕ) → l.Seen
 after_params seen names = record { locals = params_of seen.locals (length seen.slots) names; slots = seen.slots ++ names }
 

@@ -9,11 +9,11 @@ use Rattle.spf_types.specs.Faults.{Fault, when}
 abbrev pub large_array : Array → Fault
 large_array a = record { what = TooLarge; line = a.line }
 
--- the arrays behind the 64th
+-- the arrays after the 64th
 abbrev pub large_arrays : List Array → List Fault
 large_arrays arrays = map large_array (drop 64 arrays)
 
--- the functions from a place on that stand behind the 256th or have a size over 65,536
+-- the functions from a place on that come after the 256th or have a size over 65,536
 abbrev pub large_functions : (ℕ → ℕ) → ℕ → List Function → List Fault
 large_functions sizes place [] = []
 large_functions sizes place (f ∷ rest) =
@@ -26,7 +26,7 @@ is_main_small p =
     && (nat_le (block_measure (by_depth (function_depths p)) p.main) 256
     && nat_le (length p.slots + block_measure (by_slots (function_slots p)) p.main) 1024)
 
--- where a program passes a limit, in the order of its text; `main` stands on this line
+-- where a program passes a limit, in the order of its text; `main` is on this line
 abbrev pub limits_passed : ℕ → Program → List Fault
 limits_passed main_line p =
     large_arrays p.arrays

@@ -63,7 +63,7 @@ fn sizes_of(alloc: Global, functions: &[Function]) -> Result<Vec<Size>, TypeErro
     Ok(sizes)
 }
 
-/// Tests that no array stands behind the last one that may be there.
+/// Tests that no array comes after the last one that may be there.
 fn few_arrays(arrays: &[Array]) -> Result<(), TypeError>
     ensures { Answers (large_arrays (map seen_array arrays.now)) (λ _. tt {0}) (tt {0}) result }
 {
@@ -73,7 +73,7 @@ fn few_arrays(arrays: &[Array]) -> Result<(), TypeError>
     }
 }
 
-/// Tests that a program keeps the limits; its word `main` stands on this line.
+/// Tests that a program keeps the limits; its word `main` is on this line.
 pub(crate) fn keeps_limits(
     alloc: Global,
     program: &Program,

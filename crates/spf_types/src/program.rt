@@ -111,7 +111,7 @@ fn function_of<'a>(here: &Here<'_, 'a>, raw: &'a RawFunction) -> Result<Function
     })
 }
 
-/// Functions, behind the arrays.
+/// Functions, after the arrays.
 fn functions_of<'a>(
     alloc: Global,
     globals: &GlobalTable<'a>,
@@ -189,7 +189,7 @@ pub fn resolve(alloc: Global, raw: RawProgram) -> Result<Program, TypeError>
     // What is given is the program that the raw one stands for, and there is no other.
     ensures program { IfOk result (λ p. IsResolved (raw_program raw) (seen_program p)) }
     ensures only { IfOk result (λ p. (q : Lawful) → IsResolved (raw_program raw) q → q ≡ seen_program p) }
-    // A raw program that stands for one is refused for want of memory alone.
+    // A raw program that stands for one is refused only when memory runs out.
     ensures accepted { (q : Lawful) → IsResolved (raw_program raw) q → IsOkUnless result TypeError.OutOfMemory }
     // When it is refused, and that it is refused then.
     ensures refused { (what : Fault) (line : ℕ) → result ≡ Err (TypeError.Refused what line) → IsRefused (raw_program raw) what line }

@@ -25,7 +25,7 @@ use crate::simple::{assignment, call, declarable, declaration, emission, failure
 use spf_ast::raw::{RawExpr, RawFold, RawPair, RawStmt, RawStmtKind};
 use spf_ast::syntax::{Expr, Fold, Name, Pair, Predict, Stmt, StmtKind};
 
-/// Statements one after another, whose locals may be used behind them.
+/// Statements one after another, whose locals may be used after them.
 #[cycle(block)]
 pub(crate) fn block<'a>(
     here: &Here<'_, 'a>,
@@ -44,7 +44,7 @@ pub(crate) fn block<'a>(
     Ok(statements)
 }
 
-/// A block, whose locals may not be used behind it.
+/// A block, whose locals may not be used after it.
 #[cycle(block)]
 fn inner<'a>(
     here: &Here<'_, 'a>,
@@ -153,7 +153,7 @@ fn repeated<'a>(
     Ok(StmtKind::While(test, most, body))
 }
 
-/// Statements, and then a number on a line. The locals may not be used behind it.
+/// Statements, and then a number on a line. The locals may not be used after it.
 #[cycle(block)]
 pub(crate) fn valued<'a>(
     here: &Here<'_, 'a>,

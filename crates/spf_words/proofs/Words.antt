@@ -41,7 +41,7 @@ options_are o workers = go o.workers refl workers
         ∙ ap (λ found. counted_in found (option o.stats (codes "--stats") ++ (option o.cells (codes "--cells") ++ option o.plain (codes "--plain")))) (count-of count h.0 h.1)
         ∙ shown_are (Some count) o.stats o.cells o.plain ∙ ap (λ v. Some (record { workers = v; stats = o.stats; cells = o.cells; plain = o.plain })) (sym is)
 
--- words are the word that was taken and those behind it
+-- words are the word that was taken and those after it
 taken_is : (name : List ℕ) (words : List (List ℕ)) → words ≡ option (taken name words).0 name ++ (taken name words).1
 taken_is name [] = refl
 taken_is name (word ∷ words) = by_test (bytes_eq word name) (λ e. (bytes_eq-Decides word name).0 e)
