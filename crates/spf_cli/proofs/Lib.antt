@@ -1,6 +1,7 @@
-pub mod Verdicts
+pub mod Decoders
 pub mod Lines
-pub mod Steps
-pub mod Pieces
-pub mod OneVerdict
 pub mod OneAnswer
+pub mod OneVerdict
+pub mod Pieces
+pub mod Steps
+pub mod Verdicts

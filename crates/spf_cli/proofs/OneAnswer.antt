@@ -1,16 +1,27 @@
 -- A list of words has at most one answer, and none is left without one.
 use Rattle.std.specs.Prelude.{Option, Some, None}
-use Rattle.std.proofs.Common.{◌≡◌, ◌⊎◌, ℕ, Bool, true, false, List, [], ◌∷◌, length, codes, refl, sym, ap, ◌∙◌, subst, inl, inr, nat_le, if◌then◌else◌}
+use Rattle.std.proofs.Common.{◌≡◌, ◌⊎◌, ◌<◌, ◌≤◌, ◌^◌, ◌++◌, ℕ, Bool, true, false, List, [], ◌∷◌, length, codes, refl, sym, ap, ◌∙◌, subst, inl, inr, nat_le, if◌then◌else◌}
 use Rattle.spf_ast.specs.Syntax.{Program}
-use Rattle.spf_ast.specs.Program.{cell_count_of, max_cells}
+use Rattle.spf_ast.specs.Program.{Outcome, cell_count_of, max_cells}
 use Rattle.spf_edge.specs.Entries.{Entry, lookup}
-use Rattle.spf_cli.specs.Answer.{Answer, not_understood, text_refused, rule_refused, explained, file_failed, file_too_long, host_missing}
-use Rattle.spf_words.specs.Command.{Command, Run, Check, Explain, Print, Options, Asks}
+use Rattle.spf_cli.specs.Answer.{Answer, not_understood, text_refused, rule_refused, explained, file_failed, file_too_long, host_missing, not_huf1, not_lex1, ran, shown}
+use Rattle.spf_formats.specs.declared.generate.Kind.{Kind}
+use Rattle.spf_formats.specs.Laws.{Huf1HasOneVerdict, Lex1HasOneVerdict, EachInputIsGeneratedOnce}
+use Rattle.spf_guess.specs.declared.stats.Stats.{Stats}
+use Rattle.spf_words.specs.Command.{Command, Run, Check, Explain, Print, Unpack, Unhuff, Lex, Demo, Options, DecodeOptions, HasNumbers, Asks}
 use Rattle.spf_cli.specs.Reading.{Verdict, Says, Refuses, IsVerdict}
 use Rattle.spf_words.specs.Only.{IsOnly}
-use Rattle.spf_cli.specs.Whole.{Handed, Wanted, Is, Either, Fetched, Judged, Read, CheckedBy, Explained, WithHosts, host_wanted, Runs, RunsOn, WholeOf, Whole, max_program, max_input}
+use Rattle.spf_cli.specs.Whole.{Handed, handed, Wanted, Is, Either, Fetched, Judged, Read, CheckedBy, Explained, WithHosts, host_wanted, RunsTo, Runs, RunsOn, WithHuf1, WithLex1, Lexes, Demonstrates, demo_program, demo_input, by_blocks, run_options, block_of, WholeOf, Whole, max_program, max_machine, max_input}
 use Rattle.spf_cli.specs.Laws.{RuleLaws, VerdictsAreTheSame, NoTextIsLeftUnjudged}
 use Rattle.spf_words.specs.Laws.{EachAsksForOneOrNone}
+
+-- ---- formats
+
+-- what is known of files and of generated inputs
+pub record FormatLaws : Type 0 where
+  pub huf1 : Huf1HasOneVerdict
+  pub lex1 : Lex1HasOneVerdict
+  pub generated : EachInputIsGeneratedOnce
 
 -- ---- at most one answer
 
@@ -51,29 +62,60 @@ same_hosts : (wanted : Option ℕ) (next : Wanted) → AtMostOne next → AtMost
 same_hosts None next f = f
 same_hosts (Some host) next f = same_said (host_missing host)
 
+same_runs : (said : Outcome → Stats → Answer) (options : Options) (given : Handed) (p : Program) (input : List ℕ) → AtMostOne (RunsTo said options given p input)
+same_runs said options given p input =
+    same_either _ _ (nat_le (cell_count_of p (length input)) max_cells) (same_hosts (host_wanted options given p) _ (same_said _)) (same_said _)
+
 same_runs_on : (options : Options) (given : Handed) (input : List ℕ) (p : Program) (files : List Entry) → AtMostOne (RunsOn options given input p files)
 same_runs_on options given input p files =
     same_fetched input max_input (lookup files input) (λ content. Runs options given p content) (λ content.
-    same_either _ _ (nat_le (cell_count_of p (length content)) max_cells) (same_hosts (host_wanted options given p) _ (same_said _)) (same_said _))
+    same_runs (ran options p (length content)) options given p content)
 
-command_same : RuleLaws → VerdictsAreTheSame → (given : Handed) (command : Command) (files : List Entry) → AtMostOne (WholeOf given command files)
-command_same laws one given (Run program input options) files =
+same_huf1 : Huf1HasOneVerdict → (file : List ℕ) (next : Wanted) → AtMostOne next → AtMostOne (WithHuf1 file next)
+same_huf1 laws file next f a b (inl x) (inl y) = f a b x.1 y.1
+same_huf1 laws file next f a b (inl x) (inr y) = absurd (laws.apart file y.0 x.0 y.1)
+same_huf1 laws file next f a b (inr x) (inl y) = absurd (laws.apart file x.0 y.0 x.1)
+same_huf1 laws file next f a b (inr x) (inr y) = x.2 ∙ ap not_huf1 (laws.one file x.0 y.0 x.1 y.1) ∙ sym y.2
+
+same_lex1 : Lex1HasOneVerdict → (file : List ℕ) (next : ℕ → ℕ → Wanted) → ((states classes : ℕ) → AtMostOne (next states classes)) → AtMostOne (WithLex1 file next)
+same_lex1 laws file next f a b (inl x) (inl y) =
+    let same = laws.counts file y.0 y.1 x.0 x.1 y.2 x.2 in
+    f x.0 x.1 a b x.3 (subst (λ n. next x.0 n b) same.1 (subst (λ n. next n y.1 b) same.0 y.3))
+same_lex1 laws file next f a b (inl x) (inr y) = absurd (laws.apart file y.0 x.0 x.1 x.2 y.1)
+same_lex1 laws file next f a b (inr x) (inl y) = absurd (laws.apart file x.0 y.0 y.1 y.2 x.1)
+same_lex1 laws file next f a b (inr x) (inr y) = x.2 ∙ ap not_lex1 (laws.one file x.0 y.0 x.1 y.1) ∙ sym y.2
+
+same_demo : EachInputIsGeneratedOnce → (decoder : Kind) (seed size : ℕ) → AtMostOne (Demonstrates decoder seed size)
+same_demo laws decoder seed size a b x y =
+    let same = laws.one decoder seed size y.0 x.0 y.1 x.1 y.2 x.2 in
+    same_runs shown by_blocks (handed []) (demo_program decoder) (demo_input decoder x.0) a b x.3
+    (subst (λ file. RunsTo shown by_blocks (handed []) (demo_program decoder) (demo_input decoder file) b) same y.3)
+
+command_same : RuleLaws → VerdictsAreTheSame → FormatLaws → (given : Handed) (command : Command) (files : List Entry) → AtMostOne (WholeOf given command files)
+command_same laws one formats given (Run program input options) files =
     same_fetched program max_program (lookup files program) _ (λ text. same_read one text _ (λ p.
     same_either _ _ options.plain (same_runs_on options given input p files) (same_checked laws p _ (same_runs_on options given input p files))))
-command_same laws one given (Check program) files =
+command_same laws one formats given (Check program) files =
     same_fetched program max_program (lookup files program) _ (λ text. same_read one text _ (λ p. same_checked laws p _ (same_said _)))
-command_same laws one given (Explain program) files =
+command_same laws one formats given (Explain program) files =
     same_fetched program max_program (lookup files program) _ (λ text. same_read one text _ (λ p. same_explained laws p))
-command_same laws one given (Print program) files =
+command_same laws one formats given (Print program) files =
     same_fetched program max_program (lookup files program) _ (λ text. same_read one text _ (λ p. same_said _))
+command_same laws one formats given (Unpack input options) files = same_fetched input max_input (lookup files input) _ (λ content. same_runs _ _ _ _ content)
+command_same laws one formats given (Unhuff input options) files =
+    same_fetched input max_input (lookup files input) _ (λ content. same_huf1 formats.huf1 content _ (same_runs _ _ _ _ content))
+command_same laws one formats given (Lex machine input options) files =
+    same_fetched machine max_machine (lookup files machine) _ (λ table. same_lex1 formats.lex1 table _ (λ states classes.
+    same_fetched input max_input (lookup files input) _ (λ content. same_runs _ _ _ _ (table ++ content))))
+command_same laws one formats given (Demo decoder seed size workers) files = same_demo formats.generated decoder seed size
 
 -- a list of words has at most one answer
-pub answers_same : RuleLaws → VerdictsAreTheSame → EachAsksForOneOrNone → (given : Handed) (words : List (List ℕ)) (files : List Entry) → AtMostOne (Whole given words files)
-answers_same laws one asks given words files a b x y = by_command (asks words) x y
+pub answers_same : RuleLaws → VerdictsAreTheSame → FormatLaws → EachAsksForOneOrNone → (given : Handed) (words : List (List ℕ)) (files : List Entry) → AtMostOne (Whole given words files)
+answers_same laws one formats asks given words files a b x y = by_command (asks words) x y
   where
     by_command : ((command : Command) × IsOnly (Asks words) command) ⊎ ((command : Command) → Asks words command → ⊥) → Whole given words files a → Whole given words files b → a ≡ b
     by_command (inl c) (inl x) (inl y) =
-        command_same laws one given c.0 files a b (subst (λ k. WholeOf given k files a) (c.1.only x.0 x.1) x.2) (subst (λ k. WholeOf given k files b) (c.1.only y.0 y.1) y.2)
+        command_same laws one formats given c.0 files a b (subst (λ k. WholeOf given k files a) (c.1.only x.0 x.1) x.2) (subst (λ k. WholeOf given k files b) (c.1.only y.0 y.1) y.2)
     by_command (inl c) (inl x) (inr y) = absurd (y.0 c.0 c.1.is)
     by_command (inl c) (inr x) y = absurd (x.0 c.0 c.1.is)
     by_command (inr none) (inl x) y = absurd (none x.0 x.1)
@@ -119,45 +161,79 @@ some_hosts : (wanted : Option ℕ) (next : Wanted) → HasOne next → HasOne (W
 some_hosts None next one = one
 some_hosts (Some host) next one = (host_missing host, refl)
 
+some_runs : (said : Outcome → Stats → Answer) (options : Options) (given : Handed) (p : Program) (input : List ℕ) → HasOne (RunsTo said options given p input)
+some_runs said options given p input =
+    some_either _ _ (nat_le (cell_count_of p (length input)) max_cells) (some_hosts (host_wanted options given p) _ (_, refl)) (_, refl)
+
 some_run : (options : Options) (given : Handed) (input : List ℕ) (p : Program) (files : List Entry) → HasOne (RunsOn options given input p files)
 some_run options given input p files =
     some_fetched input max_input (lookup files input) (λ content. Runs options given p content) (λ content e.
-    some_either _ _ (nat_le (cell_count_of p (length content)) max_cells) (some_hosts (host_wanted options given p) _ (_, refl)) (_, refl))
+    some_runs (ran options p (length content)) options given p content)
 
--- the file of a command's program
+some_huf1 : Huf1HasOneVerdict → (file : List ℕ) (next : Wanted) → HasOne next → HasOne (WithHuf1 file next)
+some_huf1 laws file next one =
+    elim (laws.some file) [
+      | inl h ↦ (one.0, inl (h, one.1))
+      | inr r ↦ (not_huf1 r.0, inr (r.0, r.1, refl))
+    ]
+
+some_lex1 : Lex1HasOneVerdict → (file : List ℕ) (next : ℕ → ℕ → Wanted) → ((states classes : ℕ) → HasOne (next states classes)) → HasOne (WithLex1 file next)
+some_lex1 laws file next some =
+    elim (laws.some file) [
+      | inl h ↦ let one = some h.0 h.1 in (one.0, inl (h.0, h.1, h.2, one.1))
+      | inr r ↦ (not_lex1 r.0, inr (r.0, r.1, refl))
+    ]
+
+some_demo : EachInputIsGeneratedOnce → (decoder : Kind) (seed size : ℕ) → seed < 2 ^ 64 → 1 ≤ size → size ≤ 1000000 → HasOne (Demonstrates decoder seed size)
+some_demo laws decoder seed size below some few =
+    let file = laws.some decoder seed size below some few in
+    let one = some_runs shown by_blocks (handed []) (demo_program decoder) (demo_input decoder file.0) in
+    (one.0, (file.0, file.1, file.2, one.1))
+
+-- the file of a command's program, where it has one
 abbrev program_of : Command → List ℕ
 program_of (Run program input options) = program
 program_of (Check program) = program
 program_of (Explain program) = program
 program_of (Print program) = program
+program_of other = []
 
-some_command : RuleLaws → (given : Handed) (command : Command) (files : List Entry) → ((text : List ℕ) → lookup files (program_of command) ≡ Some text → HasVerdict text) → HasOne (WholeOf given command files)
-some_command laws given (Run program input options) files judged =
+some_command : RuleLaws → FormatLaws → (given : Handed) (command : Command) (files : List Entry) → HasNumbers command → ((text : List ℕ) → lookup files (program_of command) ≡ Some text → HasVerdict text) → HasOne (WholeOf given command files)
+some_command laws formats given (Run program input options) files numbers judged =
     some_fetched program max_program (lookup files program) _ (λ text e. some_read text _ (judged text e) (λ p.
     some_either _ _ options.plain (some_run options given input p files) (some_checked laws p _ (some_run options given input p files))))
-some_command laws given (Check program) files judged =
+some_command laws formats given (Check program) files numbers judged =
     some_fetched program max_program (lookup files program) _ (λ text e. some_read text _ (judged text e) (λ p. some_checked laws p _ (_, refl)))
-some_command laws given (Explain program) files judged =
+some_command laws formats given (Explain program) files numbers judged =
     some_fetched program max_program (lookup files program) _ (λ text e. some_read text _ (judged text e) (λ p. some_explained laws p))
-some_command laws given (Print program) files judged =
+some_command laws formats given (Print program) files numbers judged =
     some_fetched program max_program (lookup files program) _ (λ text e. some_read text _ (judged text e) (λ p. (_, refl)))
+some_command laws formats given (Unpack input options) files numbers judged =
+    some_fetched input max_input (lookup files input) _ (λ content e. some_runs _ _ _ _ content)
+some_command laws formats given (Unhuff input options) files numbers judged =
+    some_fetched input max_input (lookup files input) _ (λ content e. some_huf1 formats.huf1 content _ (some_runs _ _ _ _ content))
+some_command laws formats given (Lex machine input options) files numbers judged =
+    some_fetched machine max_machine (lookup files machine) _ (λ table e. some_lex1 formats.lex1 table _ (λ states classes.
+    some_fetched input max_input (lookup files input) _ (λ content e. some_runs _ _ _ _ (table ++ content))))
+some_command laws formats given (Demo decoder seed size workers) files numbers judged =
+    some_demo formats.generated decoder seed size numbers.0 numbers.1.0 numbers.1.1
 
 -- no list of words is left without an answer
-pub none_unanswered : RuleLaws → NoTextIsLeftUnjudged → EachAsksForOneOrNone → (given : Handed) (words : List (List ℕ)) (files : List Entry) → ((answer : Answer) → Whole given words files answer → ⊥) → ⊥
-none_unanswered laws left asks given words files never =
+pub none_unanswered : RuleLaws → NoTextIsLeftUnjudged → FormatLaws → EachAsksForOneOrNone → (given : Handed) (words : List (List ℕ)) (files : List Entry) → ((answer : Answer) → Whole given words files answer → ⊥) → ⊥
+none_unanswered laws left formats asks given words files never =
     elim (asks words) [
-      | inl c ↦ by_file c.0 (lookup files (program_of c.0)) refl (λ a w. never a (inl (c.0, c.1.is, w)))
+      | inl c ↦ by_file c.0 c.1.is.numbers_are (lookup files (program_of c.0)) refl (λ a w. never a (inl (c.0, c.1.is, w)))
       | inr none ↦ never not_understood (inr (none, refl))
     ]
   where
     same_text : (text other : List ℕ) → Some text ≡ Some other → text ≡ other
     same_text text other e = cc
 
-    by_file : (command : Command) (held : Option (List ℕ)) → lookup files (program_of command) ≡ held → ((answer : Answer) → WholeOf given command files answer → ⊥) → ⊥
-    by_file command None e unanswered =
-        let one = some_command laws given command files (λ text is. let none : None ≡ Some text = sym e ∙ is in absurd (cc)) in
+    by_file : (command : Command) → HasNumbers command → (held : Option (List ℕ)) → lookup files (program_of command) ≡ held → ((answer : Answer) → WholeOf given command files answer → ⊥) → ⊥
+    by_file command numbers None e unanswered =
+        let one = some_command laws formats given command files numbers (λ text is. let none : None ≡ Some text = sym e ∙ is in absurd (cc)) in
         unanswered one.0 one.1
-    by_file command (Some text) e unanswered =
+    by_file command numbers (Some text) e unanswered =
         left text (λ v h.
-        let one = some_command laws given command files (λ other is. subst HasVerdict (same_text text other (sym e ∙ is)) (v, h)) in
+        let one = some_command laws formats given command files numbers (λ other is. subst HasVerdict (same_text text other (sym e ∙ is)) (v, h)) in
         unanswered one.0 one.1)

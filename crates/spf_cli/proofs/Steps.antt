@@ -29,7 +29,7 @@ use Rattle.spf_cli.specs.Status.{put_status}
 use Rattle.spf_cli.specs.Laws.{RuleLaws}
 use Rattle.spf_guess.specs.declared.stats.Stats.{Stats}
 use Rattle.spf_words.specs.Only.{IsOnly}
-use Rattle.spf_cli.specs.Whole.{Handed, Wanted, Is, Either, Fetched, Judged, Read, CheckedBy, Explained, WithHosts, host_wanted, Runs, RunsOn, MayRun, IsInputFault, stats_of, WholeOf, Whole, IsFaultOf, IsFaultAnswer, IsGiven, IsGivenInPart, IsAnswered, IsAnsweredInPart, max_program, max_input}
+use Rattle.spf_cli.specs.Whole.{Handed, Wanted, Is, Either, Fetched, Judged, Read, CheckedBy, Explained, WithHosts, host_wanted, RunsTo, Runs, RunsOn, MayRun, IsInputFault, stats_of, WholeOf, Whole, IsFaultOf, IsFaultAnswer, IsGiven, IsGivenInPart, IsAnswered, IsAnsweredInPart, max_program, max_input}
 use Rattle.spf_cli.specs.declared.answer.Answer as made
 use Rattle.spf_cli.specs.declared.answer.Exit.{Exit}
 use Rattle.spf_cli.specs.declared.answer.Exit.TheVariants.{Answered, NoMemory}
@@ -89,17 +89,17 @@ without_hosts : (wanted : Option ℕ) (host : ℕ) (next : Wanted) → wanted �
 without_hosts wanted host next some = subst (λ w. IsOnly (WithHosts w next) (host_missing host)) (sym some) (only_this (host_missing host))
 
 -- a program was run, whose cells aren't too many and whose hosts are handed in
-pub run_done : (options : Options) (given : Handed) (p : Program) (input : List ℕ) (a : Answer) → (max_cells < cell_count_of p (length input) → ⊥) → host_wanted options given p ≡ None → a ≡ ran options p (length input) (outcome p input) (stats_of options given p input) → IsOnly (Runs options given p input) a
-run_done options given p input a few none e =
-    let done = ran options p (length input) (outcome p input) (stats_of options given p input) in
-    subst (IsOnly (Runs options given p input)) (sym e)
+pub run_done : (said : Outcome → Stats → Answer) (options : Options) (given : Handed) (p : Program) (input : List ℕ) (a : Answer) → (max_cells < cell_count_of p (length input) → ⊥) → host_wanted options given p ≡ None → a ≡ said (outcome p input) (stats_of options given p input) → IsOnly (RunsTo said options given p input) a
+run_done said options given p input a few none e =
+    let done = said (outcome p input) (stats_of options given p input) in
+    subst (IsOnly (RunsTo said options given p input)) (sym e)
     (either_first _ _ (nat_le (cell_count_of p (length input)) max_cells) done (fits (cell_count_of p (length input)) few)
     (with_hosts (host_wanted options given p) (Is done) done none (only_this done)))
 
 -- a program wasn't run, since a host is missing
-pub host_left : (options : Options) (given : Handed) (p : Program) (input : List ℕ) (host : ℕ) (a : Answer) → (max_cells < cell_count_of p (length input) → ⊥) → host_wanted options given p ≡ Some host → a ≡ host_missing host → IsOnly (Runs options given p input) a
-host_left options given p input host a few some e =
-    subst (IsOnly (Runs options given p input)) (sym e)
+pub host_left : (said : Outcome → Stats → Answer) (options : Options) (given : Handed) (p : Program) (input : List ℕ) (host : ℕ) (a : Answer) → (max_cells < cell_count_of p (length input) → ⊥) → host_wanted options given p ≡ Some host → a ≡ host_missing host → IsOnly (RunsTo said options given p input) a
+host_left said options given p input host a few some e =
+    subst (IsOnly (RunsTo said options given p input)) (sym e)
     (either_first _ _ (nat_le (cell_count_of p (length input)) max_cells) (host_missing host) (fits (cell_count_of p (length input)) few)
     (without_hosts (host_wanted options given p) host _ some))
 
@@ -118,7 +118,7 @@ read_refuses text refusal next v = record {
 }
 
 -- the content of a file, where the files are told
-content_of : (told : Option (List Entry)) (files : List Entry) (name content : List ℕ) → told ≡ Some files → HasContent told name content → lookup files name ≡ Some content
+pub content_of : (told : Option (List Entry)) (files : List Entry) (name content : List ℕ) → told ≡ Some files → HasContent told name content → lookup files name ≡ Some content
 content_of told files name content e h = subst (λ o. HasContent o name content) e h
 
 -- ---- commands
@@ -226,29 +226,33 @@ pub on_whole : (told : Option (List Entry)) (input content : List ℕ) (options 
 on_whole told input content options given p Fault a i m r files is =
     inl (fetched input max_input (lookup files input) content (λ c. Runs options given p c) a (content_of told files input content is i) m r)
 
--- the input can't be had
-pub on_input_left : (told : Option (List Entry)) (input : List ℕ) (options : Options) (given : Handed) (p : Program) (Fault : Type 0) (left : Exit) → IsFetchExit told input max_input Fault left → AnswersWith (IsWholeUnless (RunsOn options given input p) (IsInputFault input) told Fault) (Err left)
-on_input_left told input options given p Fault (Answered a) h = λ files is.
+-- a file can't be had
+pub file_left : (next : List Entry → List ℕ → Wanted) (Faulty : List Entry → Wanted) (told : Option (List Entry)) (name : List ℕ) (limit : ℕ) (Fault : Type 0) (left : Exit) → ((files : List Entry) (a : Answer) → a ≡ file_failed name → Faulty files a) → IsFetchExit told name limit Fault left → AnswersWith (IsWholeUnless (λ files. Fetched name limit (lookup files name) (next files)) Faulty told Fault) (Err left)
+file_left next Faulty told name limit Fault (Answered a) faulty h = λ files is.
     elim h [
-      | inl x ↦ inr (x.0, x.1)
+      | inl x ↦ inr (x.0, faulty files (seen_answer a) x.1)
       | inr y ↦ elim y [
-        | inl m ↦ inl (at_same (IsOnly (Fetched input max_input (lookup files input) (λ c. Runs options given p c))) (seen_answer a) (file_failed input) m.1
-            (fetched_none input max_input (lookup files input) (λ c. Runs options given p c) (subst (λ o. IsMissing o input) is m.0)))
-        | inr n ↦ inl (at_same (IsOnly (Fetched input max_input (lookup files input) (λ c. Runs options given p c))) (seen_answer a) (file_too_long input max_input) n.1
-            (let long = subst (λ o. IsLongerThan max_input o input) is n.0 in
-            fetched_long input max_input (lookup files input) long.0 (λ c. Runs options given p c) long.1 long.2))
+        | inl m ↦ inl (at_same (IsOnly (Fetched name limit (lookup files name) (next files))) (seen_answer a) (file_failed name) m.1
+            (fetched_none name limit (lookup files name) (next files) (subst (λ o. IsMissing o name) is m.0)))
+        | inr n ↦ inl (at_same (IsOnly (Fetched name limit (lookup files name) (next files))) (seen_answer a) (file_too_long name limit) n.1
+            (let long = subst (λ o. IsLongerThan limit o name) is n.0 in
+            fetched_long name limit (lookup files name) long.0 (next files) long.1 long.2))
       ]
     ]
-on_input_left told input options given p Fault NoMemory h = tt
+file_left next Faulty told name limit Fault NoMemory faulty h = tt
+
+-- the input can't be had
+pub on_input_left : (told : Option (List Entry)) (input : List ℕ) (options : Options) (given : Handed) (p : Program) (Fault : Type 0) (left : Exit) → IsFetchExit told input max_input Fault left → AnswersWith (IsWholeUnless (RunsOn options given input p) (IsInputFault input) told Fault) (Err left)
+on_input_left told input options given p Fault left h = file_left (λ files. Runs options given p) (IsInputFault input) told input max_input Fault left (λ files a e. e) h
 
 -- ---- causes
 
 -- an answer whose status is neither that for a file nor that for a put
-caused_by_neither : (told : Option (List Entry)) (Fault : Type 0) (answer : Answer) → (answer.status ≡ 5 → ⊥) → (answer.status ≡ 6 → ⊥) → IsCaused told Fault answer
+pub caused_by_neither : (told : Option (List Entry)) (Fault : Type 0) (answer : Answer) → (answer.status ≡ 5 → ⊥) → (answer.status ≡ 6 → ⊥) → IsCaused told Fault answer
 caused_by_neither told Fault answer file put = record { file = λ s. absurd (file s); put = put }
 
 -- the status of one answer isn't another number
-other_status : (n : ℕ) (answer same : Answer) → answer ≡ same → (same.status ≡ n → ⊥) → answer.status ≡ n → ⊥
+pub other_status : (n : ℕ) (answer same : Answer) → answer ≡ same → (same.status ≡ n → ⊥) → answer.status ≡ n → ⊥
 other_status n answer same e differs s = differs (sym (ap (λ (a : Answer). a.status) e) ∙ s)
 
 ran_status : (n : ℕ) → 1 < n → (options : Options) (p : Program) (len : ℕ) (o : Outcome) (stats : Stats) → (ran options p len o stats).status ≡ n → ⊥
@@ -259,20 +263,28 @@ either_apart : {A : Type 0} (P Q : Wanted) (a : Answer) (b : Bool) → Either b 
 either_apart P Q a true h f g = f h
 either_apart P Q a false h f g = g h
 
--- a run never has the status for a file or a put
-pub run_cause : (options : Options) (given : Handed) (p : Program) (input : List ℕ) (answer : Answer) (told : Option (List Entry)) (Fault : Type 0) → Runs options given p input answer → IsCaused told Fault answer
-run_cause options given p input answer told Fault r =
-    let done = ran options p (length input) (outcome p input) (stats_of options given p input) in
+-- nothing is said with the status for a file or a put
+abbrev pub IsOther : (Outcome → Stats → Answer) → Type 0
+IsOther said = (n : ℕ) → 1 < n → (o : Outcome) (stats : Stats) → (said o stats).status ≡ n → ⊥
+
+-- so a run never has it
+pub runs_to_cause : (said : Outcome → Stats → Answer) → IsOther said → (options : Options) (given : Handed) (p : Program) (input : List ℕ) (answer : Answer) (told : Option (List Entry)) (Fault : Type 0) → RunsTo said options given p input answer → IsCaused told Fault answer
+runs_to_cause said differs options given p input answer told Fault r =
+    let done = said (outcome p input) (stats_of options given p input) in
     let many = too_many_cells (counted (cell_count_of p (length input))) in
     either_apart (WithHosts (host_wanted options given p) (Is done)) (λ a. a ≡ many) answer (nat_le (cell_count_of p (length input)) max_cells) r
     (λ w. by_hosts (host_wanted options given p) w)
     (λ e. caused_by_neither told Fault answer (other_status 5 answer many e (λ z. omega (arith, z))) (other_status 6 answer many e (λ z. omega (arith, z))))
   where
-    by_hosts : (wanted : Option ℕ) → WithHosts wanted (Is (ran options p (length input) (outcome p input) (stats_of options given p input))) answer → IsCaused told Fault answer
+    by_hosts : (wanted : Option ℕ) → WithHosts wanted (Is (said (outcome p input) (stats_of options given p input))) answer → IsCaused told Fault answer
     by_hosts None e =
-        let done = ran options p (length input) (outcome p input) (stats_of options given p input) in
-        caused_by_neither told Fault answer (other_status 5 answer done e (ran_status 5 (omega arith) options p (length input) (outcome p input) (stats_of options given p input))) (other_status 6 answer done e (ran_status 6 (omega arith) options p (length input) (outcome p input) (stats_of options given p input)))
+        let done = said (outcome p input) (stats_of options given p input) in
+        caused_by_neither told Fault answer (other_status 5 answer done e (differs 5 (omega arith) (outcome p input) (stats_of options given p input))) (other_status 6 answer done e (differs 6 (omega arith) (outcome p input) (stats_of options given p input)))
     by_hosts (Some host) e = caused_by_neither told Fault answer (other_status 5 answer (host_missing host) e (λ z. omega (arith, z))) (other_status 6 answer (host_missing host) e (λ z. omega (arith, z)))
+
+pub run_cause : (options : Options) (given : Handed) (p : Program) (input : List ℕ) (answer : Answer) (told : Option (List Entry)) (Fault : Type 0) → Runs options given p input answer → IsCaused told Fault answer
+run_cause options given p input answer told Fault r =
+    runs_to_cause (ran options p (length input)) (λ n l o stats e. ran_status n l options p (length input) o stats e) options given p input answer told Fault r
 
 -- names that are missing are told
 told_of : (told : Option (List Entry)) (name : List ℕ) → IsMissing told name → (files : List Entry) × (told ≡ Some files)

@@ -1,4 +1,5 @@
 -- Answers of the program: a status, and what it writes.
+use Rattle.std.specs.List.{sum_by}
 use Rattle.std.specs.Prelude.{ℕ, Bool, true, false, List, [], ◌∷◌, ◌++◌, Option}
 use Rattle.spf_ast.specs.Syntax.{Program}
 use Rattle.spf_ast.specs.Program.{Outcome, Done, Stopped}
@@ -7,7 +8,7 @@ use Rattle.spf_ast.specs.Canonical.{canonical_text}
 use Rattle.spf_region.specs.declared.range.Range.{Range}
 use Rattle.spf_check.specs.declared.rule.Rule.{Rule}
 use Rattle.spf_guess.specs.declared.stats.Stats.{Stats}
-use Rattle.spf_cli.specs.Message.{trap_line, words_line, failed_line, long_line, too_many_line, host_line, accepted_line, rule_line, stats_line, array_lines}
+use Rattle.spf_cli.specs.Message.{trap_line, words_line, failed_line, long_line, too_many_line, host_line, not_huf1_line, not_lex1_line, sum_line, accepted_line, rule_line, stats_line, array_lines}
 use Rattle.spf_words.specs.Command.{Options}
 use Rattle.spf_cli.specs.Reading.{Refusal, refusal_line}
 
@@ -53,6 +54,14 @@ too_many_cells count = refused 7 (too_many_line count)
 abbrev pub host_missing : ℕ → Answer
 host_missing host = refused 7 (host_line host)
 
+-- the input is no HUF1 file, for what stands, or is missing, at this place
+abbrev pub not_huf1 : ℕ → Answer
+not_huf1 place = refused 9 (not_huf1_line place)
+
+-- the machine is no LEX1 file, for what stands, or is missing, at this place
+abbrev pub not_lex1 : ℕ → Answer
+not_lex1 place = refused 9 (not_lex1_line place)
+
 -- a program was printed
 abbrev pub printed : Program → Answer
 printed p = record { status = 0; out = canonical_text (spelled 0 p); err = [] }
@@ -75,3 +84,8 @@ abbrev pub ran : Options → Program → ℕ → Outcome → Stats → Answer
 ran options p len (Done cells output) stats =
     record { status = 0; out = output; err = stats_lines options stats ++ asked options.cells (array_lines len p.arrays cells) }
 ran options p len (Stopped trap output) stats = record { status = 1; out = output; err = trap_line trap ∷ stats_lines options stats }
+
+-- a decoder was run on a generated input: shown are the sum of the output's bytes and how good the guesses were, or the trap
+abbrev pub shown : Outcome → Stats → Answer
+shown (Done cells output) stats = record { status = 0; out = sum_line (sum_by (λ byte. byte) output) stats.blocks stats.hits stats.misses; err = [] }
+shown (Stopped trap output) stats = record { status = 1; out = []; err = trap_line trap ∷ [] }

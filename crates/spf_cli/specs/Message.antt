@@ -53,6 +53,19 @@ too_many_line count = line (codes "cells " ∷ decimal count ∷ codes " over 41
 abbrev pub host_line : ℕ → List ℕ
 host_line host = line (codes "host " ∷ decimal host ∷ codes " not handed in" ∷ [])
 
+-- `input byte N: not HUF1`
+abbrev pub not_huf1_line : ℕ → List ℕ
+not_huf1_line place = line (codes "input byte " ∷ decimal place ∷ codes ": not HUF1" ∷ [])
+
+-- `machine byte N: not LEX1`
+abbrev pub not_lex1_line : ℕ → List ℕ
+not_lex1_line place = line (codes "machine byte " ∷ decimal place ∷ codes ": not LEX1" ∷ [])
+
+-- `sum S blocks B hits H misses M`
+abbrev pub sum_line : ℕ → ℕ → ℕ → ℕ → List ℕ
+sum_line sum blocks hits misses =
+    line (codes "sum " ∷ decimal sum ∷ codes " blocks " ∷ decimal blocks ∷ codes " hits " ∷ decimal hits ∷ codes " misses " ∷ decimal misses ∷ [])
+
 -- `accepted`
 abbrev pub accepted_line : List ℕ
 accepted_line = line (codes "accepted" ∷ [])

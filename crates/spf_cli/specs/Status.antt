@@ -3,7 +3,7 @@ use Rattle.std.specs.Prelude.{ℕ}
 use Rattle.spf_edge.specs.declared.sink.PutError.{PutError}
 use Rattle.spf_edge.specs.declared.sink.PutError.TheVariants.{Failed, OutOfMemory}
 use Rattle.spf_cli.specs.declared.status.Status.{Status}
-use Rattle.spf_cli.specs.declared.status.Status.TheVariants.{Done, Trapped, NotUnderstood, NoProgram, Refused, FileFailed, PutFailed, OverLimit, NoMemory}
+use Rattle.spf_cli.specs.declared.status.Status.TheVariants.{Done, Trapped, NotUnderstood, NoProgram, Refused, FileFailed, PutFailed, OverLimit, NoMemory, WrongFormat}
 
 -- the number of a status
 abbrev pub status_number : Status → ℕ
@@ -16,6 +16,7 @@ status_number FileFailed = 5
 status_number PutFailed = 6
 status_number OverLimit = 7
 status_number NoMemory = 8
+status_number WrongFormat = 9
 
 -- the status of a put that failed
 abbrev pub put_status : PutError → ℕ

@@ -8,7 +8,7 @@ ghost use Rattle.spf_layout.specs.Instance.{program_of as instance_program};
 ghost use Rattle.spf_edge.specs.Entries.{Entry, HasContent};
 ghost use Rattle.spf_edge.specs.Faults.{Rose};
 ghost use Rattle.spf_cli.specs.Message.{array_lines};
-ghost use Rattle.spf_words.specs.Command.{Run as run_command, Check as check_command, Explain as explain_command, Print as print_command, AreWorkers, HasWorkers};
+ghost use Rattle.spf_words.specs.Command.{Run as run_command, Check as check_command, Explain as explain_command, Print as print_command, IsUpTo, HasNumbers};
 ghost use Rattle.spf_cli.specs.Reading.{IsVerdict, Says};
 ghost use Rattle.spf_check.specs.Accepting.{IsAccepted};
 ghost use Rattle.spf_cli.specs.Answer.{refused as refused_answer, accepted as accepted_answer, rule_refused as rule_refused_answer, file_failed, too_many_cells, host_missing, printed, stats_lines, ran as ran_answer};
@@ -18,6 +18,7 @@ ghost use Rattle.spf_words.specs.Only.{IsOnly};
 ghost use Rattle.spf_cli.specs.Whole.{Handed, handed, Runs, RunsOn, IsInputFault, Whole, WholeOf, IsFaultOf, IsFaultAnswer};
 ghost use Rattle.spf_cli.specs.Answering.{lines_of, seen_answer, IsFetchExit, IsReadExit, IsRuleExit, IsNotAccepted, IsNotRun, IsWholeUnless, IsCaused, AnswersWith};
 
+use crate::decoding::{demo, lex_files, unhuff_file, unpack_file};
 use crate::laws::rules_say_one_thing;
 use crate::message::{
     array_line, failed_line, host_line, long_line, rule_line, stats_line, too_many_line, trap_line,
@@ -48,7 +49,7 @@ use std::thread::Threads;
 const MAX_PROGRAM: u64 = 1_048_576;
 
 /// How many bytes the file of an input may have.
-const MAX_INPUT: u64 = 4_194_304;
+pub(crate) const MAX_INPUT: u64 = 4_194_304;
 
 /// How many workers run the blocks where the words don't say it.
 const DEFAULT_WORKERS: u64 = 4;
@@ -101,7 +102,7 @@ fn said(alloc: Global, status: Status, line: Vec<u8>) -> Result<Answer, AllocErr
 }
 
 /// The same, of a line as text.
-fn refused(alloc: Global, status: Status, line: String) -> Result<Answer, AllocError>
+pub(crate) fn refused(alloc: Global, status: Status, line: String) -> Result<Answer, AllocError>
     ensures { IfOk result (λ a. seen_answer a ≡ refused_answer (status_number status) (string_bytes line)) }
 {
     said(alloc, status, line.into_bytes())
@@ -115,7 +116,12 @@ fn failed(alloc: Global, name: &str) -> Result<Answer, AllocError>
 }
 
 /// The content of a file.
-fn fetch<F: Files>(alloc: Global, files: &mut F, name: &str, limit: u64) -> Result<Vec<u8>, Exit>
+pub(crate) fn fetch<F: Files>(
+    alloc: Global,
+    files: &mut F,
+    name: &str,
+    limit: u64,
+) -> Result<Vec<u8>, Exit>
     ensures told { F.told files.new ≡ F.told files.old }
     ensures later { F.faults files.old ≤ F.faults files.new }
     ensures content { IfOk result (λ content. HasContent (F.told files.old) name.now content.items) }
@@ -273,7 +279,7 @@ fn ran(
 }
 
 /// The answer where the arrays have too many cells, or memory runs out.
-fn not_run(alloc: Global, error: RunError) -> Exit
+pub(crate) fn not_run(alloc: Global, error: RunError) -> Exit
     ensures { IsNotRun error result }
 {
     match error {
@@ -293,7 +299,7 @@ fn too_many(alloc: Global, count: u128) -> Result<Answer, AllocError>
 }
 
 /// The answer where a host isn't handed in.
-fn without_host(alloc: Global, host: u64) -> Result<Answer, AllocError>
+pub(crate) fn without_host(alloc: Global, host: u64) -> Result<Answer, AllocError>
     ensures { IfOk result (λ a. seen_answer a ≡ host_missing host) }
 {
     refused(alloc, Status::OverLimit, host_line(alloc, host)?)
@@ -320,14 +326,14 @@ fn run_plainly(
 
 /// How many workers run the blocks: as many as the options say, else 4.
 fn worker_count(options: Options) -> u64
-    requires workers { AreWorkers options.workers }
+    requires workers { IsUpTo 64 options.workers }
     ensures { (0 < result) × (result ≤ 64) }
 {
     options.workers.unwrap_or(DEFAULT_WORKERS)
 }
 
 /// The answer of a run by blocks from guesses.
-fn run_by_blocks<R: Threads + Wait + Sync, G: Gate + Sync>(
+pub(crate) fn run_by_blocks<R: Threads + Wait + Sync, G: Gate + Sync>(
     rt: &R,
     alloc: Global,
     options: Options,
@@ -337,7 +343,7 @@ fn run_by_blocks<R: Threads + Wait + Sync, G: Gate + Sync>(
     gate: &G,
 ) -> Result<Answer, Exit>
     requires blocks { options.plain ≡ false }
-    requires workers { AreWorkers options.workers }
+    requires workers { IsUpTo 64 options.workers }
     ensures { AnswersWith (IsOnly (Runs (seen_options options) (handed (map (λ h. answer h) hosts.old.items)) (program_of checked.now) input.now)) result }
 {
     let program = checked.program();
@@ -384,7 +390,7 @@ fn run_by_blocks_on<R: Threads + Wait + Sync, F: Files, G: Gate + Sync>(
     gate: &G,
 ) -> Result<Answer, Exit>
     requires blocks { options.plain ≡ false }
-    requires workers { AreWorkers options.workers }
+    requires workers { IsUpTo 64 options.workers }
     ensures whole { let o = seen_options options in let p = program_of checked.now in
         AnswersWith (IsWholeUnless (RunsOn o (handed (map (λ h. answer h) hosts.old.items)) input.now p) (IsInputFault input.now) (F.told files.old) (Rose (F.faults files.old) (F.faults files.new))) result }
     ensures cause { AnswersWith (IsCaused (F.told files.old) (Rose (F.faults files.old) (F.faults files.new))) result }
@@ -405,7 +411,7 @@ fn run_files<R: Threads + Wait + Sync, F: Files, G: Gate + Sync>(
     hosts: &mut Vec<Box<dyn Predictor>>,
     gate: &G,
 ) -> Result<Answer, Exit>
-    requires workers { AreWorkers options.workers }
+    requires workers { IsUpTo 64 options.workers }
     ensures whole { let command = run_command program.now input.now (seen_options options) in
         AnswersWith (IsWholeUnless (WholeOf (handed (map (λ h. answer h) hosts.old.items)) command) (IsFaultOf command) (F.told files.old) (Rose (F.faults files.old) (F.faults files.new))) result }
     ensures cause { AnswersWith (IsCaused (F.told files.old) (Rose (F.faults files.old) (F.faults files.new))) result }
@@ -478,7 +484,7 @@ fn answer_command<R: Threads + Wait + Sync, F: Files, G: Gate + Sync>(
     hosts: &mut Vec<Box<dyn Predictor>>,
     gate: &G,
 ) -> Result<Answer, Exit>
-    requires workers { HasWorkers (seen_command command) }
+    requires numbers { HasNumbers (seen_command command) }
     ensures whole { AnswersWith (IsWholeUnless (WholeOf (handed (map (λ h. answer h) hosts.old.items)) (seen_command command.entry)) (IsFaultOf (seen_command command.entry)) (F.told files.old) (Rose (F.faults files.old) (F.faults files.new))) result }
     ensures cause { AnswersWith (IsCaused (F.told files.old) (Rose (F.faults files.old) (F.faults files.new))) result }
     ensures later { F.faults files.old ≤ F.faults files.new }
@@ -492,6 +498,23 @@ fn answer_command<R: Threads + Wait + Sync, F: Files, G: Gate + Sync>(
         Command::Check { program } => check_file(alloc, program, files),
         Command::Explain { program } => explain_file(alloc, program, files),
         Command::Print { program } => print_file(alloc, program, files),
+        Command::Unpack { input, options } => {
+            unpack_file(rt, alloc, input, options, files, gate)
+        }
+        Command::Unhuff { input, options } => {
+            unhuff_file(rt, alloc, input, options, files, gate)
+        }
+        Command::Lex {
+            machine,
+            input,
+            options,
+        } => lex_files(rt, alloc, machine, input, options, files, gate),
+        Command::Demo {
+            kind,
+            seed,
+            size,
+            workers,
+        } => demo(rt, alloc, kind, seed, size, workers, gate),
     }
 }
 

@@ -2,6 +2,7 @@
 ghost use Rattle.spf_cli.specs.Laws.{RuleLaws, VerdictsAreTheSame, NoTextIsLeftUnjudged, NoneHasTwoAnswers, NoneIsLeftUnanswered};
 
 use spf_check::laws::{one_explanation, one_first_refusal};
+use spf_formats::laws::{each_demo_input_is_generated_once, files_have_one_verdict};
 use spf_parse::laws::{texts_say_writable_programs, tokens_go_wrong_once};
 use spf_roundtrip::laws::tokens_are_of_one_program;
 use spf_text::laws::{each_text_has_tokens_or_one_fault, texts_determine_their_tokens};
@@ -36,5 +37,7 @@ pub fn each_list_of_words_has_one_answer()
 {
     rules_say_one_thing();
     each_text_has_one_verdict();
+    files_have_one_verdict();
+    each_demo_input_is_generated_once();
     each_list_of_words_asks_for_one_command_or_none();
 }

@@ -2,6 +2,7 @@
 #![tactic(auto)]
 
 mod answer;
+mod decoding;
 pub mod laws;
 mod message;
 mod reading;

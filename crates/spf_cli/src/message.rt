@@ -4,7 +4,7 @@ ghost use Rattle.std.specs.Prelude.{◌≡◌, ◌++◌, codes, IfOk, map, strin
 ghost use Rattle.std.specs.Fmt.{signed_decimal};
 ghost use Rattle.spf_ast.specs.View.{name as name_of, array as array_of};
 ghost use Rattle.spf_check.specs.Text.{perhaps_range};
-ghost use Rattle.spf_cli.specs.Message.{trap_line as trap_line_of, failed_line as failed_line_of, long_line as long_line_of, too_many_line as too_many_line_of, host_line as host_line_of, byte_line as byte_line_of, fault_line as fault_line_of, fault_name as fault_name_of, stats_line as stats_line_of, numbers, array_line as array_line_of, rule_line as rule_line_of};
+ghost use Rattle.spf_cli.specs.Message.{trap_line as trap_line_of, failed_line as failed_line_of, long_line as long_line_of, too_many_line as too_many_line_of, host_line as host_line_of, not_huf1_line as not_huf1_line_of, not_lex1_line as not_lex1_line_of, sum_line as sum_line_of, byte_line as byte_line_of, fault_line as fault_line_of, fault_name as fault_name_of, stats_line as stats_line_of, numbers, array_line as array_line_of, rule_line as rule_line_of};
 
 use spf_ast::outcome::{Trap, TrapKind};
 use spf_ast::syntax::{Array, Name};
@@ -58,6 +58,33 @@ pub(crate) fn host_line(alloc: Global, host: u64) -> Result<String, AllocError>
     ensures { IfOk result (λ text. string_bytes text ≡ host_line_of host) }
 {
     format!(in alloc; "host {host} not handed in\n")
+}
+
+/// `input byte N: not HUF1`.
+pub(crate) fn not_huf1_line(alloc: Global, place: u64) -> Result<String, AllocError>
+    ensures { IfOk result (λ text. string_bytes text ≡ not_huf1_line_of place) }
+{
+    format!(in alloc; "input byte {place}: not HUF1\n")
+}
+
+/// `machine byte N: not LEX1`.
+pub(crate) fn not_lex1_line(alloc: Global, place: u64) -> Result<String, AllocError>
+    ensures { IfOk result (λ text. string_bytes text ≡ not_lex1_line_of place) }
+{
+    format!(in alloc; "machine byte {place}: not LEX1\n")
+}
+
+/// `sum S blocks B hits H misses M`.
+pub(crate) fn sum_line(
+    alloc: Global,
+    sum: u128,
+    blocks: u64,
+    hits: u64,
+    misses: u64,
+) -> Result<String, AllocError>
+    ensures { IfOk result (λ text. string_bytes text ≡ sum_line_of sum blocks hits misses) }
+{
+    format!(in alloc; "sum {sum} blocks {blocks} hits {hits} misses {misses}\n")
 }
 
 /// `text byte N: FAULT`.

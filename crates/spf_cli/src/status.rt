@@ -15,6 +15,7 @@ pub(crate) enum Status {
     PutFailed = 6,
     OverLimit = 7,
     NoMemory = 8,
+    WrongFormat = 9,
 }
 
 /// The number of a status.

@@ -1,3 +1,3 @@
-pub mod Counts
+pub mod Numbers
 pub mod Words
 pub mod Commands

@@ -1,5 +1,5 @@
 pub mod Only
 pub mod Command
-pub mod Options
+pub mod Reading
 pub mod Asked
 pub mod Laws

@@ -4,4 +4,4 @@
 pub mod command;
 pub mod laws;
 
-pub use command::{Command, Options, read_words};
+pub use command::{Command, DecodeOptions, Options, read_words};

@@ -24,7 +24,7 @@ returns-in-Some g c =
     ∙ ap (λ n. missing_host n (constructs_in p.main)) (sym counted) ∙ missing in
     let few : max_cells < cell_count_of p (length c.args.input.now) → ⊥ =
     subst (λ q. max_cells < cell_count_of (program_of q) (length c.args.input.now) → ⊥) c.program-program.ensures.program (λ many. c.in-Ok.ensures.too_many many) in
-    host_left options given p c.args.input.now c.in-Some.host _ few wanted c.in_ok-without_host.ensures
+    host_left (ran options p (length c.args.input.now)) options given p c.args.input.now c.in-Some.host _ few wanted c.in_ok-without_host.ensures
 
 pub returns : goal.returns
 returns g c =
@@ -44,5 +44,5 @@ returns g c =
     ∙ ap (λ b. if b then none else (tally given.hosts p c.args.input.now).stats) (sym c.requires.blocks) in
     let few : max_cells < cell_count_of p (length c.args.input.now) → ⊥ =
     subst (λ q. max_cells < cell_count_of (program_of q) (length c.args.input.now) → ⊥) c.program-program.ensures.program (λ many. c.in-Ok.ensures.too_many many) in
-    run_done options given p c.args.input.now _ few asked
+    run_done (ran options p (length c.args.input.now)) options given p c.args.input.now _ few asked
     (c.in_ok-ran.ensures ∙ (λ i. ran options (same i) (length (content i)) (came i) (stats i)))
