@@ -6,3 +6,4 @@ pub mod Packets
 pub mod PrefixFree
 pub mod RoundTrip
 pub mod Verdicts
+pub mod Judging

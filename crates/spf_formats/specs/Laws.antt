@@ -1,18 +1,20 @@
 -- Laws on formats.
-use Rattle.std.specs.Prelude.{◌≡◌, ℕ, ◌<◌, ◌^◌, Bool, List, ◌++◌, length, slice_index}
+use Rattle.std.specs.Prelude.{◌≡◌, ◌⊎◌, ℕ, ◌<◌, ◌^◌, Bool, List, ◌++◌, length, slice_index}
 use Rattle.spf_formats.specs.Huffman.{AreCodeLengths, code_word}
 use Rattle.spf_formats.specs.Huf1.{IsHuf1, IsNoHuf1At, Encodes}
 use Rattle.spf_formats.specs.Decoded.{IsDecoded, IsShort}
 use Rattle.spf_formats.specs.Lex1.{IsLex1, IsNoLex1At}
 use Rattle.spf_formats.specs.PackBits.{Packet, IsCut, Unpacks}
 
--- a file that is HUF1 is refused at no place, and no file is refused at two
+-- each file is HUF1 or refused at a place, never both, and none is refused at two places
 pub record Huf1HasOneVerdict : Type 0 where
+  pub some : (file : List ℕ) → IsHuf1 file ⊎ ((place : ℕ) × IsNoHuf1At file place)
   pub apart : (file : List ℕ) (place : ℕ) → IsHuf1 file → IsNoHuf1At file place → ⊥
   pub one : (file : List ℕ) (place other : ℕ) → IsNoHuf1At file place → IsNoHuf1At file other → place ≡ other
 
--- a file that is LEX1 is refused at no place, no file is refused at two, and none is LEX1 with two counts
+-- each file is LEX1 or refused at a place, never both, none is refused at two places, and none is LEX1 with two counts
 pub record Lex1HasOneVerdict : Type 0 where
+  pub some : (file : List ℕ) → ((states : ℕ) × (classes : ℕ) × IsLex1 file states classes) ⊎ ((place : ℕ) × IsNoLex1At file place)
   pub apart : (file : List ℕ) (place states classes : ℕ) → IsLex1 file states classes → IsNoLex1At file place → ⊥
   pub one : (file : List ℕ) (place other : ℕ) → IsNoLex1At file place → IsNoLex1At file other → place ≡ other
   pub counts : (file : List ℕ) (states classes more_states more_classes : ℕ) → IsLex1 file states classes → IsLex1 file more_states more_classes → (states ≡ more_states) × (classes ≡ more_classes)
