@@ -167,7 +167,8 @@ fn lex_on<R: Threads + Wait + Sync, F: Files, G: Gate + Sync>(
     alloc: Global,
     options: DecodeOptions,
     machine: &[u8],
-    (states, classes): (u64, u64),
+    states: u64,
+    classes: u64,
     input: &str,
     files: &mut F,
     gate: &G,
@@ -202,7 +203,9 @@ pub(crate) fn lex_files<R: Threads + Wait + Sync, F: Files, G: Gate + Sync>(
 {
     let table = fetch(alloc, files, machine, MAX_MACHINE)?;
     match lex1_check(&table) {
-        Ok(counts) => lex_on(rt, alloc, options, &table, counts, input, files, gate),
+        Ok((states, classes)) => lex_on(
+            rt, alloc, options, &table, states, classes, input, files, gate,
+        ),
         Err(place) => Ok(not_lex1(alloc, place)?),
     }
 }

@@ -1,7 +1,8 @@
-// What is explained of worked programs.
-use crate::answering::answer;
-use std::alloc::{AllocError, Global};
-use std::test::Fail;
+// What is told of programs: explanations, verdicts and canonical texts.
+use crate::refusing::UNFILLED_PAIRS;
+use crate::rows::{Row, wanted};
+use crate::running::{DOUBLING, EMITTING, PAIRS};
+use std::alloc::AllocError;
 
 /// Decodes PackBits: counts in blocks how often each byte is written, and then writes it.
 const PACKBITS: &str = "array rep[1*len + 1024];
@@ -132,76 +133,146 @@ main {
 }
 ";
 
-/// The effects of a body that may write its own blocks of an array, and surely does.
-fn whole_blocks(alloc: Global, line: u32, reads: &str, range: &str) -> Result<String, AllocError> {
-    format!(in alloc;
-        "fold line {line}\npredictor uncovered{reads}\npredictor may\npredictor must\nbody uncovered{reads}\nbody may {range}\nbody must {range}\nverdict accepted\n"
-    )
-}
-
-#[test]
-fn decoders_are_accepted(rt: HostRuntime) -> Result<(), Fail> {
-    let alloc = rt.alloc();
-    let rows: [(&str, u32, &str, &str); 3] = [
-        (PACKBITS, 3, "", "rep[1024*k+0..1024*k+1024]"),
-        (HUFFMAN, 30, " code[..]", "sym[8192*k+0..8192*k+8192]"),
-        (LEXER, 10, "", "mark[1024*k+0..1024*k+1024]"),
+/// Verdicts on programs.
+fn verdicts(rows: &mut Vec<Row>) -> Result<(), AllocError> {
+    let table: [(&'static str, u8, &'static str); 10] = [
+        (PAIRS, 0, "accepted\n"),
+        (DOUBLING, 0, "accepted\n"),
+        ("main { }", 0, "accepted\n"),
+        (
+            "array o[4]; main { specfold s = 0 for k in 0..2 predict 0 { for i in 2*k..2*k + 2 { o[i] = s; } next s; } }",
+            0,
+            "accepted\n",
+        ),
+        (
+            "array o[4]; main { specfold s = 0 for k in 0..2 predict 0 { for i in 2*k..2*k + 2 { o[0 + i] = s; } next s; } }",
+            4,
+            "refused not-overwritten line 1 o[2*k+0..2*k+2]\n",
+        ),
+        (
+            "array o[5]; main { specfold s = 0 for k in 0..2 predict 0 { for i in 2*k..2*k + 2 { o[1 + i] = s; } next s; } }",
+            4,
+            "refused not-overwritten line 1 o[2*k+1..2*k+3]\n",
+        ),
+        (
+            "array o[4]; main { specfold s = 0 for k in 0..2 predict 0 { o[2*k - 3] = s; o[2*k - 3] = 0; if s == 1 { o[2*k - 2] = s; } next s; } }",
+            4,
+            "refused not-overwritten line 1 o[2*k+-3..2*k+-1]\n",
+        ),
+        (
+            "array a[2]; main { spec x = { if len == 0 { a[1] = 1; } give 1; } predict 0 { a[0] = x; } }",
+            0,
+            "accepted\n",
+        ),
+        (
+            "array a[2]; array b[2]; main { spec x = { b[len] = 1; give 1; } predict 0 { a[0] = x; } }",
+            0,
+            "accepted\n",
+        ),
+        ("main { emit @; }", 3, "text byte 12: bad byte\n"),
     ];
-    for (program, line, reads, range) in rows {
-        let given = answer(&rt, alloc, &["explain", "P"], program)?;
-        let wanted = whole_blocks(alloc, line, reads, range)?;
-        assert_eq!(rt; given.status, 0, "{range}");
-        assert_eq!(rt; given.out.bytes(), wanted.as_bytes(), "{range}");
-        let given = answer(&rt, alloc, &["check", "P"], program)?;
-        assert_eq!(rt;
-            (given.status, given.err.bytes()),
-            (0, b"accepted\n".as_slice()),
-            "{range}"
-        );
+    for (program, status, err) in table {
+        rows.push(wanted("check P", program, status, &[], err))?;
     }
     Ok(())
 }
 
-#[test]
-fn effects_of_worked_bodies_are_told(rt: HostRuntime) -> Result<(), Fail> {
-    let alloc = rt.alloc();
-    let rows: [(&str, &str); 7] = [
+/// Explanations of programs.
+fn explanations(rows: &mut Vec<Row>) -> Result<(), AllocError> {
+    let table: [(&'static str, &'static str); 5] = [
+        (
+            PAIRS,
+            "fold line 1\npredictor uncovered\npredictor may\npredictor must\nbody uncovered\nbody may out[2*k+0..2*k+2]\nbody must out[2*k+0..2*k+2]\nverdict accepted\n",
+        ),
+        (
+            UNFILLED_PAIRS,
+            "fold line 1\npredictor uncovered\npredictor may\npredictor must\nbody uncovered\nbody may out[2*k+0..2*k+2]\nbody must\nverdict not-overwritten out[2*k+0..2*k+2]\n",
+        ),
+        (
+            EMITTING,
+            "fold line 1\npredictor uncovered\npredictor may\npredictor must\nbody uncovered\nbody may\nbody must\nverdict emit-inside\n",
+        ),
+        (
+            "array o[2]; main {\n  spec x = { let t = o[0]; give t; } predict 0 { o[0] = x; } }",
+            "pair line 2\nproducer uncovered o[0*k+0..0*k+1]\nproducer may\nproducer must\npredictor uncovered\npredictor may\npredictor must\nconsumer uncovered\nconsumer may o[0*k+0..0*k+1]\nconsumer must o[0*k+0..0*k+1]\nverdict overlap o[0*k+0..0*k+1]\n",
+        ),
+        ("main { emit 1; }", ""),
+    ];
+    for (program, text) in table {
+        rows.push(wanted("explain P", program, 0, text.as_bytes(), ""))?;
+    }
+    Ok(())
+}
+
+/// Effects of worked bodies.
+fn bodies(rows: &mut Vec<Row>) -> Result<(), AllocError> {
+    let table: [(&'static str, &'static str); 7] = [
         (
             "array out[4]; main { specfold s = 0 for k in 0..4 predict 0 { let t = out[k]; out[k] = t + s; next t; } }",
-            "body uncovered out[1*k+0..1*k+1]\nbody may out[1*k+0..1*k+1]\nbody must out[1*k+0..1*k+1]\nverdict read-before-write out[1*k+0..1*k+1]\n",
+            "fold line 1\npredictor uncovered\npredictor may\npredictor must\nbody uncovered out[1*k+0..1*k+1]\nbody may out[1*k+0..1*k+1]\nbody must out[1*k+0..1*k+1]\nverdict read-before-write out[1*k+0..1*k+1]\n",
         ),
         (
             "array out[5]; main { specfold s = 0 for k in 0..4 predict 0 { out[k] = s; out[k + 1] = s; next s; } }",
-            "body uncovered\nbody may out[1*k+0..1*k+2]\nbody must out[1*k+0..1*k+2]\nverdict overlap out[1*k+0..1*k+2]\n",
+            "fold line 1\npredictor uncovered\npredictor may\npredictor must\nbody uncovered\nbody may out[1*k+0..1*k+2]\nbody must out[1*k+0..1*k+2]\nverdict overlap out[1*k+0..1*k+2]\n",
         ),
         (
             "array a[1]; fn f(x) { a[0] = x; return x; } main { specfold s = 0 for k in 0..2 predict 0 { next f(k); } }",
-            "body uncovered\nbody may a[0*k+0..0*k+1]\nbody must a[0*k+0..0*k+1]\nverdict overlap a[0*k+0..0*k+1]\n",
+            "fold line 1\npredictor uncovered\npredictor may\npredictor must\nbody uncovered\nbody may a[0*k+0..0*k+1]\nbody must a[0*k+0..0*k+1]\nverdict overlap a[0*k+0..0*k+1]\n",
         ),
         (
             "array out[8]; main { specfold s = 0 for k in 0..4 predict 0 { for i in 0..s { out[k] = 1; } next 1; } }",
-            "body uncovered\nbody may out[1*k+0..1*k+1]\nbody must\nverdict not-overwritten out[1*k+0..1*k+1]\n",
+            "fold line 1\npredictor uncovered\npredictor may\npredictor must\nbody uncovered\nbody may out[1*k+0..1*k+1]\nbody must\nverdict not-overwritten out[1*k+0..1*k+1]\n",
         ),
         (
             "array out[9]; main { specfold s = 0 for k in 0..2 predict 0 { out[1099511627777 * k] = 1; next 0; } }",
-            "body uncovered\nbody may out[..]\nbody must\nverdict overlap out[..]\n",
+            "fold line 1\npredictor uncovered\npredictor may\npredictor must\nbody uncovered\nbody may out[..]\nbody must\nverdict overlap out[..]\n",
         ),
         (
             "array out[9]; main { specfold s = 0 for k in 0..2 predict 0 { out[1099511627776 * k] = 1; next 0; } }",
-            "body uncovered\nbody may out[1099511627776*k+0..1099511627776*k+1]\nbody must out[1099511627776*k+0..1099511627776*k+1]\nverdict accepted\n",
+            "fold line 1\npredictor uncovered\npredictor may\npredictor must\nbody uncovered\nbody may out[1099511627776*k+0..1099511627776*k+1]\nbody must out[1099511627776*k+0..1099511627776*k+1]\nverdict accepted\n",
         ),
         (
             "array out[1]; main { specfold s = 0 for k in -1..1 predict 0 { out[k] = 1; next 0; } }",
-            "body uncovered\nbody may out[1*k+0..1*k+1]\nbody must out[1*k+0..1*k+1]\nverdict accepted\n",
+            "fold line 1\npredictor uncovered\npredictor may\npredictor must\nbody uncovered\nbody may out[1*k+0..1*k+1]\nbody must out[1*k+0..1*k+1]\nverdict accepted\n",
         ),
     ];
-    for (program, body) in rows {
-        let given = answer(&rt, alloc, &["explain", "P"], program)?;
-        let wanted = format!(in alloc;
-            "fold line 1\npredictor uncovered\npredictor may\npredictor must\n{body}"
-        )?;
-        assert_eq!(rt; given.status, 0, "{program}");
-        assert_eq!(rt; given.out.bytes(), wanted.as_bytes(), "{program}");
+    for (program, text) in table {
+        rows.push(wanted("explain P", program, 0, text.as_bytes(), ""))?;
     }
+    Ok(())
+}
+
+/// The decoders: their bodies may write their own blocks of an array, and surely do.
+fn decoders(rows: &mut Vec<Row>) -> Result<(), AllocError> {
+    let table: [(&'static str, &'static str); 3] = [
+        (
+            PACKBITS,
+            "fold line 3\npredictor uncovered\npredictor may\npredictor must\nbody uncovered\nbody may rep[1024*k+0..1024*k+1024]\nbody must rep[1024*k+0..1024*k+1024]\nverdict accepted\n",
+        ),
+        (
+            HUFFMAN,
+            "fold line 30\npredictor uncovered code[..]\npredictor may\npredictor must\nbody uncovered code[..]\nbody may sym[8192*k+0..8192*k+8192]\nbody must sym[8192*k+0..8192*k+8192]\nverdict accepted\n",
+        ),
+        (
+            LEXER,
+            "fold line 10\npredictor uncovered\npredictor may\npredictor must\nbody uncovered\nbody may mark[1024*k+0..1024*k+1024]\nbody must mark[1024*k+0..1024*k+1024]\nverdict accepted\n",
+        ),
+    ];
+    for (program, text) in table {
+        rows.push(wanted("explain P", program, 0, text.as_bytes(), ""))?;
+        rows.push(wanted("check P", program, 0, &[], "accepted\n"))?;
+    }
+    Ok(())
+}
+
+/// All of them.
+pub(crate) fn add(rows: &mut Vec<Row>) -> Result<(), AllocError> {
+    verdicts(rows)?;
+    explanations(rows)?;
+    bodies(rows)?;
+    decoders(rows)?;
+    let text =
+        b"main {\n  specfold s = 1 for k in 0..5 predict k {\n    next s * 2;\n  }\n  emit s;\n}\n";
+    rows.push(wanted("print P", DOUBLING, 0, text, ""))?;
     Ok(())
 }

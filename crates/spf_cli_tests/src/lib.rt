@@ -4,6 +4,14 @@
 #[cfg(test)]
 mod answering;
 #[cfg(test)]
+mod decoding;
+#[cfg(test)]
 mod explaining;
 #[cfg(test)]
 mod planning;
+#[cfg(test)]
+mod refusing;
+#[cfg(test)]
+mod rows;
+#[cfg(test)]
+mod running;
