@@ -42,6 +42,13 @@ RUNS = [
     ("hpack", "run hpack.spf hpack.bin --stats", "hpack.out", stats(29, 27, 1), 0),
     ("hpack", "run hpack.spf authority.bin --stats", b"www.example.com", stats(1, 0, 0), 0),
     ("hpack", "check hpack.spf", b"", ACCEPTED, 0),
+    # the decoders that are commands
+    ("unpack", "unpack tn1023.pack --block 4 --stats", "tn1023.out", stats(4, 1, 2), 0),
+    ("unhuff", "unhuff notes.huf --block 32 --stats", "notes.out", stats(7, 6, 0), 0),
+    ("unhuff", "unhuff tn1023.pack", b"", "input byte 0: not HUF1\n", 9),
+    ("lex", "lex tokens.lex count.c --block 64 --stats", "count.out", stats(5, 0, 0), 0),
+    ("lex", "lex notes.huf count.c", b"", "machine byte 0: not LEX1\n", 9),
+    ("demo", "demo lex 0 2 1", b"sum 1 blocks 1 hits 0 misses 0\n", "", 0),
     # small ones
     ("worked", "run worked.spf empty --stats --cells", b"\x08", stats(3, 1, 1) + "cells a 2 4 8\n", 0),
     ("doubling", "run doubling.spf empty --stats", b"\x20", stats(5, 0, 4), 0),
@@ -66,9 +73,13 @@ def with_workers(words, count):
     words = words.split()
     if count is None:
         return words
-    if "run" not in words or "--plain" in words:
+    files = {"run": 2, "unpack": 1, "unhuff": 1, "lex": 2}
+    command = next((word for word in words if word in files), None)
+    if command is None or "--plain" in words:
         return None
-    after = words.index("run") + 3
+    after = words.index(command) + 1 + files[command]
+    if words[after:after + 1] == ["--block"]:
+        after += 2
     return words[:after] + ["--workers", count] + words[after:]
 
 

@@ -2,9 +2,10 @@
 #![tactic(auto)]
 
 use spf_cli::spf_main;
-use spf_edge::{Files, Open, RealFiles, RealSink, Sink, StandardStream};
+use spf_edge::{Files, Open, PutError, RealFiles, RealSink, Sink, StandardStream};
 use spf_host_words::{HostKind, WordsError, read_hosts};
 use spf_predictors::{Fixed, Last, Most, Predictor, Table};
+use spf_usage::usage;
 use std::alloc::Global;
 use std::process::ExitCode;
 use std::sync::Wait;
@@ -13,6 +14,9 @@ use std::{env, io};
 
 /// The status where the words that ask for hosts aren't understood.
 const NOT_UNDERSTOOD: u8 = 2;
+
+/// The status where a stream fails.
+const PUT_FAILED: u8 = 6;
 
 /// The status where there is too little memory for the words or the hosts.
 const NO_MEMORY: u8 = 8;
@@ -66,13 +70,25 @@ fn not_understood<S: Sink>(err: &mut S) -> u8 {
     NOT_UNDERSTOOD
 }
 
+/// Puts the help or the version, and gives the status.
+fn show<S: Sink>(out: &mut S, text: &str) -> u8 {
+    match out.put(text.as_bytes()) {
+        Ok(()) => 0,
+        Err(PutError::Failed) => PUT_FAILED,
+        Err(PutError::OutOfMemory) => NO_MEMORY,
+    }
+}
+
 fn main(rt: HostRuntime) -> ExitCode {
     let alloc = rt.alloc();
     let Ok(words) = words(&rt) else {
         return ExitCode::from(NO_MEMORY);
     };
-    let mut files = RealFiles::make(&rt);
     let mut out = RealSink::make(StandardStream::Output(rt.stdout()));
+    if let Some(text) = usage(&words) {
+        return ExitCode::from(show(&mut out, text));
+    }
+    let mut files = RealFiles::make(&rt);
     let mut err = RealSink::make(StandardStream::Error(rt.stderr()));
     let status = match answer(&rt, alloc, &words, &mut files, &mut out, &mut err) {
         Ok(status) => status,

@@ -122,7 +122,7 @@ unpack_text = lines (
     ∷ codes "  --stats      Show how many guesses were right"
     ∷ []
     ∷ codes "Example:"
-    ∷ codes "  spf unpack image.pack --block 4096 > image"
+    ∷ codes "  spf unpack examples/tn1023.pack --block 4 --stats > unpacked"
     ∷ [])
 
 -- the help of `unhuff`
@@ -139,7 +139,7 @@ unhuff_text = lines (
     ∷ codes "  --stats      Show how many guesses were right"
     ∷ []
     ∷ codes "Example:"
-    ∷ codes "  spf unhuff notes.huf --workers 8 > notes"
+    ∷ codes "  spf unhuff examples/notes.huf --workers 8 > notes"
     ∷ [])
 
 -- the help of `lex`
@@ -156,7 +156,7 @@ lex_text = lines (
     ∷ codes "  --stats      Show how many guesses were right"
     ∷ []
     ∷ codes "Example:"
-    ∷ codes "  spf lex tokens.lex source.txt --stats > tokens"
+    ∷ codes "  spf lex examples/tokens.lex examples/count.c --stats > tokens"
     ∷ [])
 
 -- the help of `demo`

@@ -109,7 +109,7 @@ Options:
   --stats      Show how many guesses were right
 
 Example:
-  spf unpack image.pack --block 4096 > image
+  spf unpack examples/tn1023.pack --block 4 --stats > unpacked
 ";
 
 /// The help of `unhuff`.
@@ -125,7 +125,7 @@ Options:
   --stats      Show how many guesses were right
 
 Example:
-  spf unhuff notes.huf --workers 8 > notes
+  spf unhuff examples/notes.huf --workers 8 > notes
 ";
 
 /// The help of `lex`.
@@ -141,7 +141,7 @@ Options:
   --stats      Show how many guesses were right
 
 Example:
-  spf lex tokens.lex source.txt --stats > tokens
+  spf lex examples/tokens.lex examples/count.c --stats > tokens
 ";
 
 /// The help of `demo`.
