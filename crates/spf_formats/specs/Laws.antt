@@ -3,9 +3,6 @@ use Rattle.std.specs.Prelude.{◌≡◌, ◌⊎◌, ℕ, ◌<◌, ◌^◌, Bool,
 use Rattle.spf_formats.specs.Huffman.{AreCodeLengths, code_word}
 use Rattle.spf_formats.specs.Huf1.{IsHuf1, IsNoHuf1At, Encodes}
 use Rattle.spf_formats.specs.Decoded.{IsDecoded, IsShort}
-use Rattle.std.specs.Prelude.{◌≤◌}
-use Rattle.spf_formats.specs.declared.generate.Kind.{Kind}
-use Rattle.spf_formats.specs.Draws.{IsGenerated}
 use Rattle.spf_formats.specs.Lex1.{IsLex1, IsNoLex1At}
 use Rattle.spf_formats.specs.PackBits.{Packet, IsCut, Unpacks}
 
@@ -39,11 +36,3 @@ abbrev pub EncodedFilesDecode : Type 0
 EncodedFilesDecode =
     (lengths symbols file output : List ℕ) → length lengths ≡ 256 → length symbols < 2 ^ 32 → Encodes lengths symbols file → IsDecoded file output
     → (output ≡ symbols) × (IsShort file output → ⊥)
-
--- each number is that of a byte
-abbrev pub AreBytes : List ℕ → Type 0
-AreBytes file = (k : ℕ) → slice_index file k < 256
-
-pub record EachInputIsGeneratedOnce : Type 0 where
-  pub some : (kind : Kind) (seed size : ℕ) → seed < 2 ^ 64 → 1 ≤ size → size ≤ 1000000 → (file : List ℕ) × AreBytes file × IsGenerated kind seed size file
-  pub one : (kind : Kind) (seed size : ℕ) (file other : List ℕ) → AreBytes file → AreBytes other → IsGenerated kind seed size file → IsGenerated kind seed size other → file ≡ other

@@ -1,15 +1,10 @@
 // Laws about formats. Each is the contract of a function that does nothing.
-ghost use Rattle.spf_formats.specs.Laws.{Huf1HasOneVerdict, Lex1HasOneVerdict, PackBitsIsCutOnce, CodeWordsArePrefixFree, EncodedFilesDecode, EachInputIsGeneratedOnce};
+ghost use Rattle.spf_formats.specs.Laws.{Huf1HasOneVerdict, Lex1HasOneVerdict, PackBitsIsCutOnce, CodeWordsArePrefixFree, EncodedFilesDecode};
 
 /// A file is HUF1, or it is refused at one place, and not both; and likewise LEX1, with one count of states and one of classes.
 pub fn files_have_one_verdict()
     ensures huf1 { Huf1HasOneVerdict }
     ensures lex1 { Lex1HasOneVerdict }
-{}
-
-/// TEMPORARY
-pub fn each_demo_input_is_generated_once()
-    ensures { EachInputIsGeneratedOnce }
 {}
 
 /// Each file is packets of PackBits and a rest that is cut off, in exactly one way.
