@@ -1,6 +1,6 @@
 -- A list of words has at most one answer, and none is left without one.
 use Rattle.std.specs.Prelude.{Option, Some, None}
-use Rattle.std.proofs.Common.{◌≡◌, ◌⊎◌, ◌<◌, ◌≤◌, ◌^◌, ◌++◌, ℕ, Bool, true, false, List, [], ◌∷◌, length, codes, refl, sym, ap, ◌∙◌, subst, inl, inr, nat_le, if◌then◌else◌}
+use Rattle.std.proofs.Common.{◌≡◌, ◌⊎◌, ◌++◌, ℕ, Bool, true, false, List, [], ◌∷◌, length, codes, refl, sym, ap, ◌∙◌, subst, inl, inr, nat_le, if◌then◌else◌}
 use Rattle.spf_ast.specs.Syntax.{Program}
 use Rattle.spf_ast.specs.Program.{Outcome, cell_count_of, max_cells}
 use Rattle.spf_edge.specs.Entries.{Entry, lookup}
@@ -8,7 +8,7 @@ use Rattle.spf_cli.specs.Answer.{Answer, not_understood, text_refused, rule_refu
 use Rattle.spf_formats.specs.declared.generate.Kind.{Kind}
 use Rattle.spf_formats.specs.Laws.{Huf1HasOneVerdict, Lex1HasOneVerdict, EachInputIsGeneratedOnce}
 use Rattle.spf_guess.specs.declared.stats.Stats.{Stats}
-use Rattle.spf_words.specs.Command.{Command, Run, Check, Explain, Print, Unpack, Unhuff, Lex, Demo, Options, DecodeOptions, HasNumbers, Asks}
+use Rattle.spf_words.specs.Command.{Command, Run, Check, Explain, Print, Unpack, Unhuff, Lex, Demo, Options, DecodeOptions, Asks}
 use Rattle.spf_cli.specs.Reading.{Verdict, Says, Refuses, IsVerdict}
 use Rattle.spf_words.specs.Only.{IsOnly}
 use Rattle.spf_cli.specs.Whole.{Handed, handed, Wanted, Is, Either, Fetched, Judged, Read, CheckedBy, Explained, WithHosts, host_wanted, RunsTo, Runs, RunsOn, WithHuf1, WithLex1, Lexes, Demonstrates, demo_program, demo_input, by_blocks, run_options, block_of, WholeOf, Whole, max_program, max_machine, max_input}
@@ -184,9 +184,9 @@ some_lex1 laws file next some =
       | inr r ↦ (not_lex1 r.0, inr (r.0, r.1, refl))
     ]
 
-some_demo : EachInputIsGeneratedOnce → (decoder : Kind) (seed size : ℕ) → seed < 2 ^ 64 → 1 ≤ size → size ≤ 1000000 → HasOne (Demonstrates decoder seed size)
-some_demo laws decoder seed size below some few =
-    let file = laws.some decoder seed size below some few in
+some_demo : EachInputIsGeneratedOnce → (decoder : Kind) (seed size : ℕ) → HasOne (Demonstrates decoder seed size)
+some_demo laws decoder seed size =
+    let file = laws.some decoder seed size in
     let one = some_runs shown by_blocks (handed []) (demo_program decoder) (demo_input decoder file.0) in
     (one.0, (file.0, file.1, file.2, one.1))
 
@@ -198,42 +198,42 @@ program_of (Explain program) = program
 program_of (Print program) = program
 program_of other = []
 
-some_command : RuleLaws → FormatLaws → (given : Handed) (command : Command) (files : List Entry) → HasNumbers command → ((text : List ℕ) → lookup files (program_of command) ≡ Some text → HasVerdict text) → HasOne (WholeOf given command files)
-some_command laws formats given (Run program input options) files numbers judged =
+some_command : RuleLaws → FormatLaws → (given : Handed) (command : Command) (files : List Entry) → ((text : List ℕ) → lookup files (program_of command) ≡ Some text → HasVerdict text) → HasOne (WholeOf given command files)
+some_command laws formats given (Run program input options) files judged =
     some_fetched program max_program (lookup files program) _ (λ text e. some_read text _ (judged text e) (λ p.
     some_either _ _ options.plain (some_run options given input p files) (some_checked laws p _ (some_run options given input p files))))
-some_command laws formats given (Check program) files numbers judged =
+some_command laws formats given (Check program) files judged =
     some_fetched program max_program (lookup files program) _ (λ text e. some_read text _ (judged text e) (λ p. some_checked laws p _ (_, refl)))
-some_command laws formats given (Explain program) files numbers judged =
+some_command laws formats given (Explain program) files judged =
     some_fetched program max_program (lookup files program) _ (λ text e. some_read text _ (judged text e) (λ p. some_explained laws p))
-some_command laws formats given (Print program) files numbers judged =
+some_command laws formats given (Print program) files judged =
     some_fetched program max_program (lookup files program) _ (λ text e. some_read text _ (judged text e) (λ p. (_, refl)))
-some_command laws formats given (Unpack input options) files numbers judged =
+some_command laws formats given (Unpack input options) files judged =
     some_fetched input max_input (lookup files input) _ (λ content e. some_runs _ _ _ _ content)
-some_command laws formats given (Unhuff input options) files numbers judged =
+some_command laws formats given (Unhuff input options) files judged =
     some_fetched input max_input (lookup files input) _ (λ content e. some_huf1 formats.huf1 content _ (some_runs _ _ _ _ content))
-some_command laws formats given (Lex machine input options) files numbers judged =
+some_command laws formats given (Lex machine input options) files judged =
     some_fetched machine max_machine (lookup files machine) _ (λ table e. some_lex1 formats.lex1 table _ (λ states classes.
     some_fetched input max_input (lookup files input) _ (λ content e. some_runs _ _ _ _ (table ++ content))))
-some_command laws formats given (Demo decoder seed size workers) files numbers judged =
-    some_demo formats.generated decoder seed size numbers.0 numbers.1.0 numbers.1.1
+some_command laws formats given (Demo decoder seed size workers) files judged =
+    some_demo formats.generated decoder seed size
 
 -- no list of words is left without an answer
 pub none_unanswered : RuleLaws → NoTextIsLeftUnjudged → FormatLaws → EachAsksForOneOrNone → (given : Handed) (words : List (List ℕ)) (files : List Entry) → ((answer : Answer) → Whole given words files answer → ⊥) → ⊥
 none_unanswered laws left formats asks given words files never =
     elim (asks words) [
-      | inl c ↦ by_file c.0 c.1.is.numbers_are (lookup files (program_of c.0)) refl (λ a w. never a (inl (c.0, c.1.is, w)))
+      | inl c ↦ by_file c.0 (lookup files (program_of c.0)) refl (λ a w. never a (inl (c.0, c.1.is, w)))
       | inr none ↦ never not_understood (inr (none, refl))
     ]
   where
     same_text : (text other : List ℕ) → Some text ≡ Some other → text ≡ other
     same_text text other e = cc
 
-    by_file : (command : Command) → HasNumbers command → (held : Option (List ℕ)) → lookup files (program_of command) ≡ held → ((answer : Answer) → WholeOf given command files answer → ⊥) → ⊥
-    by_file command numbers None e unanswered =
-        let one = some_command laws formats given command files numbers (λ text is. let none : None ≡ Some text = sym e ∙ is in absurd (cc)) in
+    by_file : (command : Command) (held : Option (List ℕ)) → lookup files (program_of command) ≡ held → ((answer : Answer) → WholeOf given command files answer → ⊥) → ⊥
+    by_file command None e unanswered =
+        let one = some_command laws formats given command files (λ text is. let none : None ≡ Some text = sym e ∙ is in absurd (cc)) in
         unanswered one.0 one.1
-    by_file command numbers (Some text) e unanswered =
+    by_file command (Some text) e unanswered =
         left text (λ v h.
-        let one = some_command laws formats given command files numbers (λ other is. subst HasVerdict (same_text text other (sym e ∙ is)) (v, h)) in
+        let one = some_command laws formats given command files (λ other is. subst HasVerdict (same_text text other (sym e ∙ is)) (v, h)) in
         unanswered one.0 one.1)

@@ -10,6 +10,7 @@ ghost use Rattle.spf_edge.specs.Faults.{Rose};
 ghost use Rattle.spf_words.specs.Command.{Unpack as unpack_command, Unhuff as unhuff_command, Lex as lex_command, Demo as demo_command, HasDecodeNumbers, HasNumbers};
 ghost use Rattle.spf_words.specs.Asked.{seen_options, seen_decode_options};
 ghost use Rattle.spf_words.specs.Only.{IsOnly};
+ghost use Rattle.spf_formats.specs.Laws.{AreBytes};
 ghost use Rattle.spf_formats.specs.Lex1.{IsLex1};
 ghost use Rattle.spf_programs.specs.Laws.{IsBlockSize};
 ghost use Rattle.spf_cli.specs.Answer.{not_huf1 as not_huf1_answer, not_lex1 as not_lex1_answer, shown as shown_answer};
@@ -278,7 +279,8 @@ fn demo_decoder(alloc: Global, kind: Kind) -> Result<Program, AllocError>
 
 /// The input of a demo, whose file is this.
 fn whole_input(alloc: Global, kind: Kind, file: Vec<u8>) -> Result<Vec<u8>, AllocError>
-    ensures { IfOk result (λ input. input.items ≡ demo_input kind file.items) }
+    ensures input { IfOk result (λ input. input.items ≡ demo_input kind file.items) }
+    ensures bytes { AreBytes file.items }
 {
     match kind {
         Kind::Unpack | Kind::Unhuff => Ok(file),

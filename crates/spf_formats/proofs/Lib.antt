@@ -2,6 +2,7 @@ pub mod BitStrings
 pub mod Drawing
 pub mod Encoding
 pub mod Five
+pub mod Generated
 pub mod Packets
 pub mod PrefixFree
 pub mod RoundTrip

@@ -137,7 +137,7 @@ value_of (suc n) v =
     ∙ ap (λ k. v % 2 ^ k) (let e : 1 + n ≡ suc n = omega arith in e)
 
 -- numbers with the same bits are the same
-same_bits : (n a b : ℕ) → a < 2 ^ n → b < 2 ^ n → bits n a ≡ bits n b → a ≡ b
+pub same_bits : (n a b : ℕ) → a < 2 ^ n → b < 2 ^ n → bits n a ≡ bits n b → a ≡ b
 same_bits n a b h k e = sym (mod-eq_of_lt h) ∙ sym (value_of n a) ∙ ap value e ∙ value_of n b ∙ mod-eq_of_lt k
 
 -- the higher bits stand in front

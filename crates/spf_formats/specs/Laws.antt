@@ -1,10 +1,13 @@
 -- Laws on formats.
 use Rattle.std.specs.Prelude.{◌≡◌, ◌⊎◌, ℕ, ◌<◌, ◌^◌, Bool, List, ◌++◌, length, slice_index}
+use Rattle.std.specs.List.{All}
+use Rattle.spf_formats.specs.declared.generate.Kind.{Kind}
 use Rattle.spf_formats.specs.Huffman.{AreCodeLengths, code_word}
 use Rattle.spf_formats.specs.Huf1.{IsHuf1, IsNoHuf1At, Encodes}
 use Rattle.spf_formats.specs.Decoded.{IsDecoded, IsShort}
 use Rattle.spf_formats.specs.Lex1.{IsLex1, IsNoLex1At}
 use Rattle.spf_formats.specs.PackBits.{Packet, IsCut, Unpacks}
+use Rattle.spf_formats.specs.Draws.{IsGenerated}
 
 -- each file is HUF1 or refused at a place, never both, and none is refused at two places
 pub record Huf1HasOneVerdict : Type 0 where
@@ -36,3 +39,12 @@ abbrev pub EncodedFilesDecode : Type 0
 EncodedFilesDecode =
     (lengths symbols file output : List ℕ) → length lengths ≡ 256 → length symbols < 2 ^ 32 → Encodes lengths symbols file → IsDecoded file output
     → (output ≡ symbols) × (IsShort file output → ⊥)
+
+-- each number is that of a byte
+abbrev pub AreBytes : List ℕ → Type 0
+AreBytes numbers = All (λ b. b < 256) numbers
+
+-- for each kind, seed and size there is a file of bytes that is generated, and only one
+pub record EachInputIsGeneratedOnce : Type 0 where
+  pub some : (kind : Kind) (seed size : ℕ) → (file : List ℕ) × AreBytes file × IsGenerated kind seed size file
+  pub one : (kind : Kind) (seed size : ℕ) (file other : List ℕ) → AreBytes file → AreBytes other → IsGenerated kind seed size file → IsGenerated kind seed size other → file ≡ other

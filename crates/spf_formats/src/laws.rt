@@ -1,5 +1,5 @@
 // Laws about formats. Each is the contract of a function that does nothing.
-ghost use Rattle.spf_formats.specs.Laws.{Huf1HasOneVerdict, Lex1HasOneVerdict, PackBitsIsCutOnce, CodeWordsArePrefixFree, EncodedFilesDecode};
+ghost use Rattle.spf_formats.specs.Laws.{Huf1HasOneVerdict, Lex1HasOneVerdict, PackBitsIsCutOnce, CodeWordsArePrefixFree, EncodedFilesDecode, EachInputIsGeneratedOnce};
 
 /// A file is HUF1, or it is refused at one place, and not both; and likewise LEX1, with one count of states and one of classes.
 pub fn files_have_one_verdict()
@@ -16,4 +16,9 @@ pub fn packbits_files_are_cut_once()
 pub fn encoded_files_decode_to_their_symbols()
     ensures prefix_free { CodeWordsArePrefixFree }
     ensures decode { EncodedFilesDecode }
+{}
+
+/// For each kind, seed and size there is exactly one input that `generate` may draw.
+pub fn each_demo_input_is_generated_once()
+    ensures { EachInputIsGeneratedOnce }
 {}
