@@ -76,11 +76,22 @@ fn put<S: Sink>(given: &Answer, out: &mut S, err: &mut S) -> Result<(), PutError
 /// Does all that the program does: reads the words of its command line, fetches the files that they
 /// name, and puts the answer.
 ///
-/// `words` are the words after the program's name and after those that ask for hosts. `hosts` are the predictors that a program names
-/// by number; they are asked, told and dropped here. `gate` watches the attempts. Blocks run in threads, and the call waits for them. The status is 0 where the command is done, 1 where
-/// the program trapped, 2 where the words aren't understood, 3 where the text has no lawful program, 4 where the checker refuses the
-/// program, 5 where a file could not be read, 6 where a sink failed, 7 where a limit was passed or a host isn't handed in, and 8
-/// where memory ran out.
+/// `words` are the words after the program's name and after those that ask for hosts. `hosts` are the predictors that a program
+/// names by number; they are asked, told and dropped here. `gate` watches the attempts. Blocks run in threads, and the call waits
+/// for them.
+///
+/// | Status | Where |
+/// |---|---|
+/// | 0 | the command is done |
+/// | 1 | the program trapped |
+/// | 2 | the words aren't understood |
+/// | 3 | the text has no lawful program |
+/// | 4 | the rules refuse the program |
+/// | 5 | a file could not be read |
+/// | 6 | a sink failed |
+/// | 7 | a limit was passed, or a host isn't handed in |
+/// | 8 | memory ran out |
+/// | 9 | the input isn't HUF1, or the machine isn't LEX1 |
 pub fn spf_main<R: Threads + Wait + Sync, F: Files, S: Sink, G: Gate + Sync>(
     rt: &R,
     alloc: Global,
