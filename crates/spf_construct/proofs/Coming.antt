@@ -1,8 +1,7 @@
 -- What a finished chain says of the construct that it was started for.
-use Rattle.std.proofs.Common.{◌≡◌, ℕ, zero, suc, ◌+◌, ◌-◌, ◌<◌, ◌≤◌, List, length, map, drop, ℤ, refl, sym, ap, ◌∙◌, subst, arith}
+use Rattle.std.proofs.Common.{◌≡◌, ℕ, zero, suc, ◌+◌, ◌-◌, ◌<◌, ◌≤◌, List, length, map, drop, ℤ, sym, ap, ◌∙◌, subst, arith}
 use Rattle.std.specs.Prelude.{Some, slice_get}
 use Rattle.std.proofs.lemmas.List.{length-map}
-use Rattle.spf_ast.specs.Carried as carried
 use Rattle.spf_ast.specs.Construct.{constructs_in}
 use Rattle.spf_ast.specs.ConstructView.{construct as construct_seen}
 use Rattle.spf_ast.specs.Syntax.{Program}
@@ -12,15 +11,14 @@ use Rattle.spf_exec.specs.declared.pieces.Header.{Header}
 use Rattle.spf_exec.specs.Pieces.{seen_header}
 use Rattle.spf_cells.specs.declared.view.LogEntry.{LogEntry}
 use Rattle.spf_entry.specs.declared.site.Site.{Site}
-use Rattle.spf_entry.specs.Entry.{Entry, plain_blocks}
+use Rattle.spf_entry.specs.Entry.{plain_blocks}
 use Rattle.spf_entry.specs.Sites.{construct_or_none, entry_at, guess_at}
-use Rattle.spf_speculation.specs.Steps.{Step, Merges}
+use Rattle.spf_speculation.specs.Steps.{Merges}
 use Rattle.spf_speculation.specs.Runs.{IsSpeculativeRun}
 use Rattle.spf_lane_runs.specs.Lanes.{logs_in}
 use Rattle.spf_alike.specs.Alike.{RunsSeeTheGuessesOfTheirBlocks}
 use Rattle.spf_chain.specs.declared.validated.Guess as code_guess
 use Rattle.spf_chain.specs.declared.validated.Settled.{Settled}
-use Rattle.spf_chain.specs.declared.validated.Settled.TheVariants.{Carried}
 use Rattle.spf_chain.specs.declared.validated.Validated.{Validated}
 use Rattle.spf_chain.specs.Beginning.{site_of}
 use Rattle.spf_chain.specs.Chains.{ChainValue}

@@ -1,5 +1,5 @@
 -- Guesses one after another, and counts of validated blocks.
-use Rattle.std.proofs.Common.{◌≡◌, ℕ, zero, suc, ◌+◌, ◌<◌, ◌≤◌, Bool, true, false, List, [], ◌∷◌, ◌++◌, length, map, drop, get_or, ℤ, sym, subst, refl, ap, ◌∙◌, arith}
+use Rattle.std.proofs.Common.{◌≡◌, ℕ, zero, suc, ◌+◌, ◌<◌, ◌≤◌, Bool, true, false, List, [], ◌∷◌, ◌++◌, length, map, drop, get_or, ℤ, refl, ap, ◌∙◌, arith}
 use Rattle.std.specs.Prelude.{if◌then◌else◌, slice_index_or}
 use Rattle.spf_ast.specs.Carried.{no_value}
 use Rattle.spf_chain.specs.declared.validated.Guess as code_guess
@@ -18,6 +18,23 @@ guesses-snoc guess place (suc count) =
 pub guesses-length : (guess : ℕ → Guess) (place count : ℕ) → length (guesses_from guess place count) ≡ count
 guesses-length guess place zero = refl
 guesses-length guess place (suc count) = ap suc (guesses-length guess (suc place) count)
+
+-- what guesses alike has the same guesses
+pub guesses-alike : (one other : ℕ → Guess) → ((n : ℕ) → one n ≡ other n) → (place count : ℕ) → guesses_from one place count ≡ guesses_from other place count
+guesses-alike one other same place zero = refl
+guesses-alike one other same place (suc count) = λ i. same place i ∷ guesses-alike one other same (suc place) count i
+
+-- guesses in two parts
+pub guesses-append : (guess : ℕ → Guess) (place first second : ℕ) → guesses_from guess place (first + second) ≡ guesses_from guess place first ++ guesses_from guess (place + first) second
+guesses-append guess place zero second =
+    let none : zero + second ≡ second = omega arith in
+    let here : place ≡ place + zero = omega arith in
+    ap (guesses_from guess place) none ∙ ap (λ n. guesses_from guess n second) here
+guesses-append guess place (suc first) second =
+    let more : suc first + second ≡ suc (first + second) = omega arith in
+    let after : suc place + first ≡ place + suc first = omega arith in
+    ap (guesses_from guess place) more
+    ∙ ap (λ l. guess place ∷ l) (guesses-append guess (suc place) first second ∙ ap (λ n. guesses_from guess (suc place) first ++ guesses_from guess n second) after)
 
 -- the block at a place with its guess
 pub pair-step : (gs : List code_guess.Guess) (bs : List Validated) (place : ℕ) (g : code_guess.Guess) (b : Validated) → place < length gs → place < length bs

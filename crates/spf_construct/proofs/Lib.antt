@@ -1,3 +1,4 @@
 pub mod Counting
+pub mod PieceSizes
 pub mod Coming
 pub mod Hosts

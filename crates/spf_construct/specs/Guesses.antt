@@ -1,5 +1,5 @@
 -- The guesses for a construct's blocks, and how good they were.
-use Rattle.std.specs.Prelude.{◌≡◌, ◌<◌, ◌≤◌, ℕ, zero, suc, not, List, [], ◌∷◌, map, length, ℤ, pos, ◌+ℤ◌}
+use Rattle.std.specs.Prelude.{◌≡◌, ◌<◌, ◌≤◌, ◌+◌, ◌-◌, ◌*◌, min, ℕ, zero, suc, not, false, List, [], ◌∷◌, map, ℤ, pos, ◌+ℤ◌}
 use Rattle.spf_ast.specs.BlockRun.{predicts}
 use Rattle.spf_ast.specs.Carried.{Carried}
 use Rattle.spf_ast.specs.Construct.{Construct}
@@ -11,7 +11,7 @@ use Rattle.spf_layout.specs.Instance.{program_of}
 use Rattle.spf_chain.specs.declared.validated.Guess as code_guess
 use Rattle.spf_chain.specs.declared.validated.Validated.{Validated}
 use Rattle.spf_guess.specs.declared.stats.Stats.{Stats}
-use Rattle.spf_guess.specs.Guess.{Guess, guess_of, Hosts, Telling, predictor_of, guess_for}
+use Rattle.spf_guess.specs.Guess.{Guess, guess_of, Hosts, Telling, told_to, predictor_of, guess_for}
 use Rattle.spf_guess.specs.Statistics.{Guessed, is_hit, how_many}
 use Rattle.spf_construct.specs.declared.guesses.Stand.{Stand}
 
@@ -22,6 +22,18 @@ seen_guess guess = record { value = guess.value; blind = guess.blind }
 -- what the construct's predictor comes to for a block number where the run stands, an expression
 abbrev pub predicted : Stand → ℤ → Guess
 predicted at number = guess_of (predicts (program_of at.instance.now) at.instance.now.input (construct_seen at.construct) (main_slots (program_of at.instance.now) at.frame.now) at.cells.now number)
+
+-- the same for a block of a construct with this header, by the block's index
+abbrev pub predicted_at : Stand → Header → ℕ → Guess
+predicted_at at header n = predicted at (header.low +ℤ pos n)
+
+-- what one of these hosts, which were told so much, answers for a block number
+abbrev pub answered : Hosts → List Telling → ℕ → ℤ → Guess
+answered hosts telling host number = record { value = hosts host (told_to host telling) number; blind = false }
+
+-- the same for a block of a construct with this header, by the block's index
+abbrev pub answered_at : Hosts → List Telling → ℕ → Header → ℕ → Guess
+answered_at hosts telling host header n = answered hosts telling host (header.low +ℤ pos n)
 
 -- the guess there for a block number, where these hosts were told so much
 abbrev pub guess_there : Hosts → List Telling → Stand → ℤ → Guess
@@ -39,6 +51,14 @@ IsHandedIn count construct = (host : ℕ) → predictor_of construct ≡ Host ho
 abbrev pub guesses_from : (ℕ → Guess) → ℕ → ℕ → List Guess
 guesses_from guess n zero = []
 guesses_from guess n (suc count) = guess n ∷ guesses_from guess (suc n) count
+
+-- a guess for each block, by its index
+abbrev pub Guesses : Type 0
+Guesses = ℕ → Guess
+
+-- the guesses of the piece at an index, where so many guesses from index 1 on are cut into pieces of this size, of which the last may be shorter
+abbrev pub piece_of : Guesses → ℕ → ℕ → ℕ → List Guess
+piece_of guess count size i = guesses_from guess (1 + i * size) (min size (count - i * size))
 
 -- ---- counts
 

@@ -99,8 +99,9 @@ fn run_from<R: Threads + Wait + Sync, G: Gate + Sync>(
 }
 
 /// Runs the blocks of a top construct whose header is done. `at` is where the run stands, and `number` is the construct's number
-/// among the top constructs. There are 1 to 64 workers, each in a thread of its own, but not more than blocks. A host is asked for each block but the first, in
-/// order, before the first attempt, and told their real values, in order, when all is run.
+/// among the top constructs. There are 1 to 64 workers, each in a thread of its own, but not more than blocks. Before the first attempt
+/// a host is asked for each block but the first, in order, or the workers compute what an expression guesses for them. A host is told
+/// their real values, in order, when all is run.
 ///
 /// # Errors
 ///
@@ -138,7 +139,7 @@ pub fn run_blocks<R: Threads + Wait + Sync, G: Gate + Sync>(
     speculative_runs_see_visible_slots_alone();
     lawful_programs_are_quiet_and_small();
     let _program = checked.program();
-    let guesses = take_guesses(alloc, at, header, hosts)?;
+    let guesses = take_guesses(rt, alloc, at, header, workers, hosts)?;
     let (chain, cells) = run_from(
         rt, alloc, checked, at, number, header, &guesses, workers, gate,
     )?;

@@ -4,4 +4,5 @@
 pub mod construct;
 mod counts;
 pub mod guesses;
+mod pieces;
 mod telling;

@@ -1,4 +1,4 @@
-use Rattle.std.proofs.Common.{◌≡◌, ◌∙◌, sym, ap, subst, arith, ◌+◌, length, map, drop, List, ◌++◌, refl}
+use Rattle.std.proofs.Common.{◌≡◌, ◌∙◌, sym, ap, subst, arith, ◌+◌, length, map, drop, List, ◌++◌}
 use Rattle.spf_ast.specs.ConstructView.{construct as construct_seen}
 use Rattle.spf_ast.specs.Lawful.{IsLawful}
 use Rattle.spf_ast.specs.View.{program as seen_program}
@@ -18,7 +18,7 @@ use Rattle.spf_construct.proofs.Hosts.{retold}
 use Rattle.spf_construct.proofs.construct.run_blocks.Goals as goal
 
 pub take_guesses-requires-clause-functions : goal.take_guesses-requires-clause-functions
-take_guesses-requires-clause-functions g c =
+take_guesses-requires-clause-functions g c κs within =
     c.lawful_programs_are_quiet_and_small.ensures.functions (program_of c.args.at.instance.now) (subst IsLawful (sym c.requires.there.program) c.program-program.ensures.lawful)
 
 pub run_from-requires-clause-guesses : goal.run_from-requires-clause-guesses

@@ -1,52 +1,39 @@
-use Rattle.std.proofs.Common.{◌≡◌, pos, ◌+ℤ◌, ◌-◌, ◌+◌, suc, ◌++◌, ◌∷◌, [], map, sym, ap, ◌∙◌, arith, rules, w64, FitsSigned, ℕ, to_z, of_z, List, length}
-use Rattle.spf_guess.specs.Guess.{Guess, Hosts, Telling}
-use Rattle.std.proofs.lemmas.List.{map-append, length-append}
-use Rattle.std.proofs.lemmas.Int.{to_z-of_z}
-use Rattle.spf_construct.specs.Guesses.{seen_guess, guess_there, block_guess, guesses_from}
-use Rattle.spf_construct.proofs.Counting.{guesses-snoc}
+use Rattle.std.proofs.Common.{◌∙◌, ◌+ℤ◌, pos, arith}
+use Rattle.std.proofs.lemmas.Result.{IfOk-weaker}
+use Rattle.spf_ast.specs.ConstructView.{construct as construct_seen}
+use Rattle.spf_layout.specs.Frame.{main_slots}
+use Rattle.spf_layout.specs.Instance.{program_of}
+use Rattle.spf_guess.specs.Guess.{predictor_of}
+use Rattle.spf_construct.specs.Guesses.{predicted_at, answered_at, block_guess}
+use Rattle.spf_construct.proofs.Counting.{guesses-alike, guess-count}
+use Rattle.spf_construct.proofs.Hosts.{host-guess, expression-guess, names-host}
 use Rattle.spf_construct.proofs.guesses.take_guesses.Goals as goal
 
-pub loop-n-preserved : goal.loop-n-preserved
-loop-n-preserved g c =
-    let inv = c.loop-n.invariant in
-    let begun = inv.begun in
-    let items = c.in_ok-push.ensures.items in
-    let fits : FitsSigned w64 c.number_at.result = search rules in
-    let number : to_z w64 (of_z w64 c.number_at.result) ≡ c.args.header.low +ℤ pos c.loop-n.n = to_z-of_z w64 c.number_at.result fits ∙ c.number_at.ensures in
-    let place : c.loop-n.n ≡ 1 + (c.loop-n.n - 1) = omega (arith, begun) in
-    let count : suc (c.loop-n.n - 1) ≡ c.loop-n.n + 1 - 1 = omega (arith, begun) in
-    record {
-      guesses = λ before telling were.
-          let of : ℕ → Guess = block_guess before telling c.args.at c.args.header in
-          let guess : seen_guess c.take_guess-guess.result ≡ of (1 + (c.loop-n.n - 1))
-          = c.take_guess-guess.ensures.guess before telling (inv.told before telling were) ∙ ap (guess_there before telling c.args.at) number ∙ ap of place in
-          ap (map seen_guess) items ∙ map-append seen_guess c.loop-n.guesses.items (c.take_guess-guess.result ∷ [])
-          ∙ ap (λ l. l ++ seen_guess c.take_guess-guess.result ∷ []) (inv.guesses before telling were)
-          ∙ ap (λ x. guesses_from of 1 (c.loop-n.n - 1) ++ x ∷ []) guess
-          ∙ sym (guesses-snoc of 1 (c.loop-n.n - 1))
-          ∙ ap (guesses_from of 1) count;
-      told = λ before telling were. c.take_guess-guess.ensures.told before telling (inv.told before telling were);
-      count = c.take_guess-guess.ensures.count ∙ inv.count;
-      begun = omega (arith, begun);
-      taken = (let one = ap length items in let taken = inv.taken in let two = length-append c.loop-n.guesses.items (c.take_guess-guess.result ∷ []) in omega (arith, one, taken, two));
-      size = c.take_guess-guess.ensures.size ∙ inv.size;
-    }
+pub ask_all-requires-clause-handed_in : goal.ask_all-requires-clause-handed_in
+ask_all-requires-clause-handed_in g c =
+    c.requires.host c.in-Some.host (names-host (predictor_of (construct_seen c.args.at.construct)) c.in-Some.host (c.in-Some.ensures {u = tt}))
 
-pub returns-in_err-push-clause-told : goal.returns-in_err-push-clause-told
-returns-in_err-push-clause-told g c = λ before telling were. c.take_guess-guess.ensures.told before telling (c.loop-n.invariant.told before telling were)
+pub returns-in-Some-clause-guesses : goal.returns-in-Some-clause-guesses
+returns-in-Some-clause-guesses g c = IfOk-weaker c.ask_all.result _ _ (λ r taken before telling were.
+    taken before telling were
+    ∙ guesses-alike (answered_at before telling c.in-Some.host c.args.header) (block_guess before telling c.args.at c.args.header) (λ n.
+    host-guess (predictor_of (construct_seen c.args.at.construct)) c.in-Some.host (c.in-Some.ensures {u = tt}) before telling (program_of c.args.at.instance.now) c.args.at.instance.now.input
+    (construct_seen c.args.at.construct) (main_slots (program_of c.args.at.instance.now) c.args.at.frame.now) c.args.at.cells.now (c.args.header.low +ℤ pos n))
+    1 _)
+    c.ask_all.ensures.guesses
 
-pub returns-clause-guesses : goal.returns-clause-guesses
-returns-clause-guesses g c = λ before telling were.
-    let low = c.loop-n-test.false in
-    let high = c.loop-n.auto.n-end in
+pub returns-in-None-clause-guesses : goal.returns-in-None-clause-guesses
+returns-in-None-clause-guesses g c = IfOk-weaker c.predict_all.result _ _ (λ r taken before telling were.
+    taken
+    ∙ guesses-alike (predicted_at c.args.at c.args.header) (block_guess before telling c.args.at c.args.header) (λ n.
+    expression-guess (predictor_of (construct_seen c.args.at.construct)) c.in-None.ensures before telling (program_of c.args.at.instance.now) c.args.at.instance.now.input
+    (construct_seen c.args.at.construct) (main_slots (program_of c.args.at.instance.now) c.args.at.frame.now) c.args.at.cells.now (c.args.header.low +ℤ pos n))
+    1 _)
+    c.predict_all.ensures.guesses
+
+pub returns-in-None-clause-size : goal.returns-in-None-clause-size
+returns-in-None-clause-size g c = IfOk-weaker c.predict_all.result _ _ (λ r taken.
+    let size = guess-count r.items (predicted_at c.args.at c.args.header) 1 _ taken in
     let some = c.requires.some in
-    let ended : c.loop-n.n ≡ c.args.header.blocks = omega (arith, low, high, some) in
-    c.loop-n.invariant.guesses before telling were ∙ ap (λ n. guesses_from (block_guess before telling c.args.at c.args.header) 1 (n - 1)) ended
-
-pub returns-clause-size : goal.returns-clause-size
-returns-clause-size g c =
-    let low = c.loop-n-test.false in
-    let high = c.loop-n.auto.n-end in
-    let some = c.requires.some in
-    let taken = c.loop-n.invariant.taken in
-    omega (arith, low, high, some, taken)
+    omega (arith, size, some))
+    c.predict_all.ensures.guesses

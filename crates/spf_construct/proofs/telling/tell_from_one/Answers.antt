@@ -1,4 +1,4 @@
-use Rattle.std.proofs.Common.{◌≡◌, rules, arith, ◌∙◌, sym, ap, pos, ◌+ℤ◌, ◌+◌, ℕ, ℤ, List, [], ◌∷◌, zero, suc, ◌<◌, length, map, slice_index_or, w64, FitsSigned, refl, None}
+use Rattle.std.proofs.Common.{◌≡◌, rules, arith, ◌∙◌, pos, ◌+ℤ◌, ◌+◌, ℕ, ℤ, List, [], ◌∷◌, zero, suc, ◌<◌, length, slice_index_or, w64, FitsSigned, refl, None}
 use Rattle.std.proofs.lemmas.Int.{to_z-of_z, ints}
 use Rattle.std.proofs.lemmas.List.{length-map}
 use Rattle.spf_chain.specs.declared.validated.Validated.{Validated}

@@ -1,9 +1,8 @@
-use Rattle.std.proofs.Common.{◌≡◌, ◌∙◌, sym, ap, subst, List, ◌++◌, ◌∷◌}
+use Rattle.std.proofs.Common.{◌∙◌, sym, ap, List, ◌++◌}
 use Rattle.spf_ast.specs.ConstructView.{construct as construct_seen}
 use Rattle.spf_exec.specs.Pieces.{seen_header}
 use Rattle.spf_guess.specs.Guess.{predictor_of, tells}
 use Rattle.spf_chain.specs.declared.validated.Validated.{Validated}
-use Rattle.spf_predictors.specs.Answers.{WereTold}
 use Rattle.spf_construct.specs.Guesses.{real_values}
 use Rattle.spf_construct.proofs.Hosts.{host-tells, retold}
 use Rattle.spf_construct.proofs.telling.tell_history.Goals as goal
