@@ -1,7 +1,7 @@
 //! Runs the mates of a crew, each in a thread of its own, until the chain has ended.
 #![tactic(auto)]
 
-ghost use Rattle.std.specs.Prelude.{◌≡◌, ◌<◌, ◌≤◌, ℕ, length, slice_index_or, IfOk};
+ghost use Rattle.std.specs.Prelude.{◌≡◌, ◌<◌, ◌≤◌, length, IfOk};
 ghost use Rattle.std.specs.List.{All};
 ghost use Rattle.spf_chain.specs.Beginning.{IsStarted};
 ghost use Rattle.spf_chain.specs.Chains.{cells_of, HasEnded};
@@ -10,8 +10,8 @@ ghost use Rattle.spf_chain.specs.Homes.{log_in};
 ghost use Rattle.spf_chain.specs.Jobs.{CanRun};
 ghost use Rattle.spf_entry.specs.Sites.{entry_at};
 ghost use Rattle.spf_ticket.specs.Tickets.{IsJobOf};
-ghost use Rattle.spf_crew.specs.Mates.{MateValue, IsMateOf};
-ghost use Rattle.spf_drive.specs.Driving.{HasReadAt, MakesAttempts};
+ghost use Rattle.spf_crew.specs.Mates.{IsMateOf};
+ghost use Rattle.spf_drive.specs.Driving.{HasReadAt, HaveAllReadAt, MakesAttempts};
 
 use crossbeam_utils::Backoff;
 use spf_cells::cells::Cells;
@@ -26,6 +26,9 @@ use spf_ticket::ticket::Ticket;
 use std::alloc::{AllocError, Global};
 use std::sync::Wait;
 use std::thread::{Threads, for_each_mut};
+
+/// The most threads that run at once: as many as there may be workers.
+const MOST_THREADS: usize = 64;
 
 /// A mate takes turns until it has ended. It pauses where a turn was idle.
 fn drive<R: Wait, A: Attempter>(rt: &R, crew: &Crew, attempter: &A, mate: &mut Mate)
@@ -53,12 +56,12 @@ fn in_threads<R: Threads + Wait + Sync, A: Attempter + Sync>(
     requires own { All (IsMateOf crew.now) mates.old }
     requires serves { A.serves crew.now.setting attempter.now }
     ensures count { length mates.new ≡ length mates.old }
-    ensures each { (i : ℕ) (d : MateValue) → i < length mates.old → HasReadAt crew.now (slice_index_or mates.old i d) (slice_index_or mates.new i d) }
+    ensures each { HaveAllReadAt crew.now mates.old mates.new }
 {
     for_each_mut(
         rt,
         mates,
-        64,
+        MOST_THREADS,
         &|_, mate|
             requires own { IsMateOf crew.now mate.old }
             requires serves { A.serves crew.now.setting attempter.now }
@@ -77,7 +80,7 @@ fn drive_blocks<
     requires own { All (IsMateOf crew.now) mates.old }
     requires serves { MakesAttempts crew.now.setting (record { instance = I.instance instance.now; construct = C.construct construct.now; entry = entry }) }
     ensures count { length mates.new ≡ length mates.old }
-    ensures each { (i : ℕ) (d : MateValue) → i < length mates.old → HasReadAt crew.now (slice_index_or mates.old i d) (slice_index_or mates.new i d) }
+    ensures each { HaveAllReadAt crew.now mates.old mates.new }
 {
     let attempter = GatedJob {
         instance,
@@ -99,7 +102,7 @@ fn drive_all<R: Threads + Wait + Sync, G: Gate + Sync>(
     requires own { All (IsMateOf crew.now) mates.old }
     requires serves { MakesAttempts crew.now.setting job }
     ensures count { length mates.new ≡ length mates.old }
-    ensures each { (i : ℕ) (d : MateValue) → i < length mates.old → HasReadAt crew.now (slice_index_or mates.old i d) (slice_index_or mates.new i d) }
+    ensures each { HaveAllReadAt crew.now mates.old mates.new }
 {
     drive_blocks(
         rt,
