@@ -3,6 +3,7 @@ ghost use Rattle.spf_engine_tests.specs.Digits.{digits};
 
 use crate::programs::{HOSTED, WIDE, accepted, counts, gave, no_attempts, run};
 use spf_ast::carried::Carried;
+use spf_edge::{Gate, Place};
 use spf_engine::error::EngineError;
 use spf_engine::run::run_program;
 use spf_predictors::{Fixed, Last, Predictor, Table};
@@ -35,6 +36,22 @@ impl Predictor for Digits {
     }
 }
 
+/// Adds up, over all first attempts, how often a host was asked before the attempt began.
+#[derive(Drop)]
+struct Askings<'a> {
+    asked: &'a AtomicU64,
+    sum: AtomicU64,
+}
+
+impl<'a> Gate for Askings<'a> {
+    fn at(&self, _block: u64, attempt: u64, place: Place) {
+        if attempt == 1 && place == Place::Begin {
+            let asked = self.asked.load(Ordering::SeqCst);
+            let _before = self.sum.fetch_add(asked, Ordering::SeqCst);
+        }
+    }
+}
+
 /// One host in a list.
 fn one_host(alloc: Global, host: Box<dyn Predictor>) -> Result<Vec<Box<dyn Predictor>>, Fail> {
     let mut hosts = Vec::new(alloc);
@@ -45,14 +62,19 @@ fn one_host(alloc: Global, host: Box<dyn Predictor>) -> Result<Vec<Box<dyn Predi
 #[test]
 fn a_host_is_asked_once_for_each_guess_and_told_in_order(rt: HostRuntime) -> Result<(), Fail> {
     let alloc = rt.alloc();
-    let attempts = no_attempts();
     let asked = Arc::new(alloc, AtomicU64::new(0))?;
     let counter = asked.clone()?;
+    let askings = Askings {
+        asked: &counter,
+        sum: AtomicU64::new(0),
+    };
     let mut hosts = one_host(alloc, Box::new(alloc, Digits { number: 0, asked })?)?;
-    let report = run(&rt, alloc, HOSTED, 2, &mut hosts, &attempts)?;
+    let report = run(&rt, alloc, HOSTED, 2, &mut hosts, &askings)?;
     assert!(rt; gave(&report.outcome, &[7, 7]));
     assert!(rt; report.stats == counts(6, 0, 4, 0));
     assert!(rt; counter.load(Ordering::SeqCst) == 4);
+    // each block of the first fold began after two askings, each block of the second one after four
+    assert!(rt; askings.sum.load(Ordering::SeqCst) == 3 * 2 + 3 * 4);
     let Some(mut host) = hosts.pop() else {
         return Err(Fail::new("no host"));
     };
