@@ -6,12 +6,15 @@ use Rattle.spf_ast.specs.Program.{Outcome, cell_count_of, max_cells}
 use Rattle.spf_edge.specs.Entries.{Entry, lookup}
 use Rattle.spf_cli.specs.Answer.{Answer, not_understood, text_refused, rule_refused, explained, file_failed, file_too_long, host_missing, not_huf1, not_lex1, ran, shown}
 use Rattle.spf_formats.specs.declared.generate.Kind.{Kind}
+use Rattle.spf_programs.specs.PackBits.{packbits_program}
+use Rattle.spf_programs.specs.Huffman.{huffman_program}
+use Rattle.spf_programs.specs.Lexer.{lexer_program}
 use Rattle.spf_formats.specs.Laws.{Huf1HasOneVerdict, Lex1HasOneVerdict, EachInputIsGeneratedOnce}
 use Rattle.spf_guess.specs.declared.stats.Stats.{Stats}
 use Rattle.spf_words.specs.Command.{Command, Run, Check, Explain, Print, Unpack, Unhuff, Lex, Demo, Options, DecodeOptions, Asks}
 use Rattle.spf_cli.specs.Reading.{Verdict, Says, Refuses, IsVerdict}
 use Rattle.spf_words.specs.Only.{IsOnly}
-use Rattle.spf_cli.specs.Whole.{Handed, handed, Wanted, Is, Either, Fetched, Judged, Read, CheckedBy, Explained, WithHosts, host_wanted, RunsTo, Runs, RunsOn, WithHuf1, WithLex1, Lexes, Demonstrates, demo_program, demo_input, by_blocks, run_options, block_of, WholeOf, Whole, max_program, max_machine, max_input}
+use Rattle.spf_cli.specs.Whole.{Handed, handed, Wanted, Is, Either, Fetched, Judged, Read, CheckedBy, Explained, WithHosts, host_wanted, RunsTo, Runs, RunsOn, Decodes, WithHuf1, WithLex1, Lexes, Demonstrates, demo_program, demo_input, by_blocks, run_options, block_of, WholeOf, Whole, max_program, max_machine, max_input}
 use Rattle.spf_cli.specs.Laws.{RuleLaws, VerdictsAreTheSame, NoTextIsLeftUnjudged}
 use Rattle.spf_words.specs.Laws.{EachAsksForOneOrNone}
 
@@ -71,6 +74,9 @@ same_runs_on options given input p files =
     same_fetched input max_input (lookup files input) (λ content. Runs options given p content) (λ content.
     same_runs (ran options p (length content)) options given p content)
 
+same_decodes : (options : DecodeOptions) (p : Program) (input : List ℕ) → AtMostOne (Decodes options p input)
+same_decodes options p input = same_runs (ran (run_options options) p (length input)) (run_options options) (handed []) p input
+
 same_huf1 : Huf1HasOneVerdict → (file : List ℕ) (next : Wanted) → AtMostOne next → AtMostOne (WithHuf1 file next)
 same_huf1 laws file next f a b (inl x) (inl y) = f a b x.1 y.1
 same_huf1 laws file next f a b (inl x) (inr y) = absurd (laws.apart file y.0 x.0 y.1)
@@ -101,12 +107,18 @@ command_same laws one formats given (Explain program) files =
     same_fetched program max_program (lookup files program) _ (λ text. same_read one text _ (λ p. same_explained laws p))
 command_same laws one formats given (Print program) files =
     same_fetched program max_program (lookup files program) _ (λ text. same_read one text _ (λ p. same_said _))
-command_same laws one formats given (Unpack input options) files = same_fetched input max_input (lookup files input) _ (λ content. same_runs _ _ _ _ content)
+command_same laws one formats given (Unpack input options) files =
+    let p = packbits_program (block_of options) in
+    same_fetched input max_input (lookup files input) (λ content. Decodes options p content) (λ content. same_decodes options p content)
 command_same laws one formats given (Unhuff input options) files =
-    same_fetched input max_input (lookup files input) _ (λ content. same_huf1 formats.huf1 content _ (same_runs _ _ _ _ content))
+    let p = huffman_program (block_of options) in
+    same_fetched input max_input (lookup files input) (λ content. WithHuf1 content (Decodes options p content)) (λ content.
+    same_huf1 formats.huf1 content (Decodes options p content) (same_decodes options p content))
 command_same laws one formats given (Lex machine input options) files =
-    same_fetched machine max_machine (lookup files machine) _ (λ table. same_lex1 formats.lex1 table _ (λ states classes.
-    same_fetched input max_input (lookup files input) _ (λ content. same_runs _ _ _ _ (table ++ content))))
+    same_fetched machine max_machine (lookup files machine) (λ table. WithLex1 table (λ states classes. Lexes options table states classes input files)) (λ table.
+    same_lex1 formats.lex1 table (λ states classes. Lexes options table states classes input files) (λ states classes.
+    let p = lexer_program (block_of options) states classes in
+    same_fetched input max_input (lookup files input) (λ content. Decodes options p (table ++ content)) (λ content. same_decodes options p (table ++ content))))
 command_same laws one formats given (Demo decoder seed size workers) files = same_demo formats.generated decoder seed size
 
 -- a list of words has at most one answer
@@ -170,6 +182,9 @@ some_run options given input p files =
     some_fetched input max_input (lookup files input) (λ content. Runs options given p content) (λ content e.
     some_runs (ran options p (length content)) options given p content)
 
+some_decoded : (options : DecodeOptions) (p : Program) (input : List ℕ) → HasOne (Decodes options p input)
+some_decoded options p input = some_runs (ran (run_options options) p (length input)) (run_options options) (handed []) p input
+
 some_huf1 : Huf1HasOneVerdict → (file : List ℕ) (next : Wanted) → HasOne next → HasOne (WithHuf1 file next)
 some_huf1 laws file next one =
     elim (laws.some file) [
@@ -209,12 +224,17 @@ some_command laws formats given (Explain program) files judged =
 some_command laws formats given (Print program) files judged =
     some_fetched program max_program (lookup files program) _ (λ text e. some_read text _ (judged text e) (λ p. (_, refl)))
 some_command laws formats given (Unpack input options) files judged =
-    some_fetched input max_input (lookup files input) _ (λ content e. some_runs _ _ _ _ content)
+    let p = packbits_program (block_of options) in
+    some_fetched input max_input (lookup files input) (λ content. Decodes options p content) (λ content e. some_decoded options p content)
 some_command laws formats given (Unhuff input options) files judged =
-    some_fetched input max_input (lookup files input) _ (λ content e. some_huf1 formats.huf1 content _ (some_runs _ _ _ _ content))
+    let p = huffman_program (block_of options) in
+    some_fetched input max_input (lookup files input) (λ content. WithHuf1 content (Decodes options p content)) (λ content e.
+    some_huf1 formats.huf1 content (Decodes options p content) (some_decoded options p content))
 some_command laws formats given (Lex machine input options) files judged =
-    some_fetched machine max_machine (lookup files machine) _ (λ table e. some_lex1 formats.lex1 table _ (λ states classes.
-    some_fetched input max_input (lookup files input) _ (λ content e. some_runs _ _ _ _ (table ++ content))))
+    some_fetched machine max_machine (lookup files machine) (λ table. WithLex1 table (λ states classes. Lexes options table states classes input files)) (λ table e.
+    some_lex1 formats.lex1 table (λ states classes. Lexes options table states classes input files) (λ states classes.
+    let p = lexer_program (block_of options) states classes in
+    some_fetched input max_input (lookup files input) (λ content. Decodes options p (table ++ content)) (λ content e. some_decoded options p (table ++ content))))
 some_command laws formats given (Demo decoder seed size workers) files judged =
     some_demo formats.generated decoder seed size
 

@@ -32,6 +32,7 @@ use spf_edge::{Files, Gate};
 use spf_engine::run::run_instance;
 use spf_formats::generate::{Kind, generate};
 use spf_formats::huf1::huf1_check;
+use spf_formats::laws::{each_demo_input_is_generated_once, files_have_one_verdict};
 use spf_formats::lex1::{lex_input, lex1_check};
 use spf_formats::toy::toy_machine;
 use spf_guess::stats::Stats;
@@ -147,6 +148,7 @@ pub(crate) fn unhuff_file<R: Threads + Wait + Sync, F: Files, G: Gate + Sync>(
     ensures cause { AnswersWith (IsCaused (F.told files.old) (Rose (F.faults files.old) (F.faults files.new))) result }
     ensures later { F.faults files.old ≤ F.faults files.new }
 {
+    files_have_one_verdict();
     let content = fetch(alloc, files, input, MAX_INPUT)?;
     if let Err(place) = huf1_check(&content) {
         return Ok(not_huf1(alloc, place)?);
@@ -202,6 +204,7 @@ pub(crate) fn lex_files<R: Threads + Wait + Sync, F: Files, G: Gate + Sync>(
     ensures cause { AnswersWith (IsCaused (F.told files.old) (Rose (F.faults files.old) (F.faults files.new))) result }
     ensures later { F.faults files.old ≤ F.faults files.new }
 {
+    files_have_one_verdict();
     let table = fetch(alloc, files, machine, MAX_MACHINE)?;
     match lex1_check(&table) {
         Ok((states, classes)) => lex_on(
@@ -301,6 +304,7 @@ pub(crate) fn demo<R: Threads + Wait + Sync, G: Gate + Sync>(
     requires numbers { HasNumbers (demo_command kind seed size workers) }
     ensures { AnswersWith (IsOnly (Demonstrates kind seed size)) result }
 {
+    each_demo_input_is_generated_once();
     let program = demo_decoder(alloc, kind)?;
     let checked = accepted(alloc, program)?;
     let file = generate(alloc, kind, seed, size)?;

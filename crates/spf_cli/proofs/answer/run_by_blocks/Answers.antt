@@ -1,6 +1,6 @@
 use Rattle.std.proofs.Common.{rules, ◌≡◌, ◌<◌, subst, length, ◌∙◌, sym, ap, map}
 use Rattle.std.proofs.lemmas.List.{length-map}
-use Rattle.std.specs.Prelude.{if◌then◌else◌, Option, None, Some}
+use Rattle.std.specs.Prelude.{if◌then◌else◌, None, Some}
 use Rattle.spf_ast.specs.View.{program as program_of}
 use Rattle.spf_ast.specs.Program.{outcome, seen_outcome, cell_count_of, max_cells}
 use Rattle.spf_ast.specs.Construct.{constructs_in}

@@ -1,4 +1,4 @@
-use Rattle.std.proofs.Common.{rules, ◌≡◌, inl, inr, map}
+use Rattle.std.proofs.Common.{inl, inr, map}
 use Rattle.std.proofs.lemmas.Result.{err_from_is_err_and}
 use Rattle.spf_ast.specs.View.{program}
 use Rattle.spf_edge.specs.Faults.{Rose}
