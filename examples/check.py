@@ -46,7 +46,7 @@ RUNS = [
     ("unpack", "unpack tn1023.pack --block 4 --stats", "tn1023.out", stats(4, 1, 2), 0),
     ("unhuff", "unhuff notes.huf --block 32 --stats", "notes.out", stats(7, 6, 0), 0),
     ("unhuff", "unhuff tn1023.pack", b"", "input byte 0: not HUF1\n", 9),
-    ("lex", "lex tokens.lex count.c --block 64 --stats", "count.out", stats(5, 0, 0), 0),
+    ("lex", "lex tokens.lex count.c --block 64 --stats", "count.out", stats(5, 4, 0), 0),
     ("lex", "lex notes.huf count.c", b"", "machine byte 0: not LEX1\n", 9),
     ("demo", "demo lex 0 2 1", b"sum 1 blocks 1 hits 0 misses 0\n", "", 0),
     # small ones
@@ -75,7 +75,7 @@ def with_workers(words, count):
         return words
     files = {"run": 2, "unpack": 1, "unhuff": 1, "lex": 2}
     command = next((word for word in words if word in files), None)
-    if command is None or "--plain" in words:
+    if command is None or "demo" in words or "--plain" in words:
         return None
     after = words.index(command) + 1 + files[command]
     if words[after:after + 1] == ["--block"]:
