@@ -38,7 +38,9 @@ main {
   emit a[2];
 }"""
 
-# the name of a run, the text of its program, and the words around the program's file
+EXAMPLES = os.path.join(HERE, "..", "examples")
+
+# the name of a run, the text of its program (none for commands without one), and the words around the program's file
 RUNS = [
     ("a fold that traps", DIVIDING, ["run"], ["INPUT", "--stats", "--plain"]),
     ("a fold over an array", FILLING, ["run"], ["INPUT", "--stats", "--cells", "--plain"]),
@@ -53,6 +55,11 @@ RUNS = [
     ("a printed program", CALLING, ["print"], []),
     ("words that are no command", FILLING, ["run"], []),
     ("a text that is no program", "main { emit nope; }", ["check"], []),
+    ("unpacked packets", None, ["unpack", os.path.join(EXAMPLES, "tn1023.pack"), "--block", "4", "--stats"], []),
+    ("a decoded text", None, ["unhuff", os.path.join(EXAMPLES, "notes.huf"), "--workers", "1"], []),
+    ("tokens", None, ["lex", os.path.join(EXAMPLES, "tokens.lex"), os.path.join(EXAMPLES, "count.c"), "--stats"], []),
+    ("a file of another format", None, ["unhuff", os.path.join(EXAMPLES, "tn1023.pack")], []),
+    ("a generated input", None, ["demo", "lex", "7", "2000", "2"], []),
 ]
 
 
@@ -94,10 +101,10 @@ def main():
         empty = os.path.join(folder, "input")
         open(empty, "wb").close()
         program = os.path.join(folder, "program.spf")
-        for name, text, before, behind in RUNS:
+        for name, text, before, after in RUNS:
             with open(program, "w") as file:
-                file.write(text)
-            words = before + [program] + [empty if word == "INPUT" else word for word in behind]
+                file.write(text or "")
+            words = before + ([] if text is None else [program]) + [empty if word == "INPUT" else word for word in after]
             count, spare, wrong = fail_each(words, library)
             print(f"{name:<28}{count:>5} allocations, {spare} spare" + (f", wrong where one of these fails: {wrong}" if wrong else ""))
             good = good and not wrong
