@@ -1,10 +1,10 @@
 #!/usr/bin/env python3
-"""Runs programs many times on eight workers and compares each answer with that of one worker.
+"""Runs programs many times on many workers and compares each answer with that of one worker.
 
 The programs store to arrays in each block, and their predictions are often wrong, so blocks are cancelled and run again in ever other orders.
 Output, messages and status must be the same each time. Needs the built program (`./spf --build`). The first word says how often each program
 is run (1,000 if left out), the second may name the program that is tried in the place of crates/spf/out/spf. Ends with status 1 where an
-answer is another one.
+answer is another one. The workers are eight, 64, and eight that share one core (by `taskset`).
 """
 
 import os
@@ -16,7 +16,9 @@ HERE = os.path.dirname(os.path.abspath(__file__))
 EXAMPLES = os.path.join(HERE, "..", "examples")
 RUNS = int(sys.argv[1]) if len(sys.argv) > 1 else 1000
 SPF = sys.argv[2] if len(sys.argv) > 2 else os.path.join(HERE, "..", "crates", "spf", "out", "spf")
-WORKERS = "8"
+
+# what is said of the workers, how many they are, and what is put before the command
+SETTINGS = [("8 workers", "8", []), ("64 workers", "64", []), ("8 workers on one core", "8", ["taskset", "-c", "0"])]
 
 # each block fills its span and stores one of its cells, which its carried value chooses
 SCATTERED = """array out[128];
@@ -62,8 +64,8 @@ main {
 }"""
 
 
-def answer(words):
-    done = subprocess.run([SPF] + words, capture_output=True)
+def answer(words, before=()):
+    done = subprocess.run([*before, SPF] + words, capture_output=True)
     return done.stdout, done.stderr, done.returncode
 
 
@@ -84,9 +86,10 @@ def main():
     with tempfile.TemporaryDirectory() as folder:
         for name, words in runs(folder):
             wanted = answer(words + ["--workers", "1", "--stats", "--cells"])
-            others = sum(answer(words + ["--workers", WORKERS, "--stats", "--cells"]) != wanted for _ in range(RUNS))
-            bad += others
-            print(f"{name:<12}status {wanted[2]}, {RUNS} runs on {WORKERS} workers, {others} with another answer", flush=True)
+            for said, workers, before in SETTINGS:
+                others = sum(answer(words + ["--workers", workers, "--stats", "--cells"], before) != wanted for _ in range(RUNS))
+                bad += others
+                print(f"{name:<12}status {wanted[2]}, {RUNS} runs on {said}, {others} with another answer", flush=True)
     sys.exit(1 if bad else 0)
 
 
