@@ -52,9 +52,9 @@ fn hosts(alloc: Global, row: &Row) -> Result<Vec<Box<dyn Predictor>>, AllocError
     Ok(hosts)
 }
 
-/// The sink for the output.
-fn output(alloc: Global, row: &Row) -> Result<MemSink, AllocError> {
-    match row.failing_put {
+/// A sink that takes all, or fails at the put with this number after so many bytes of it.
+fn sink(alloc: Global, failing: Option<(u64, u64)>) -> Result<MemSink, AllocError> {
+    match failing {
         None => Ok(MemSink::make(Vec::new(alloc), 0)),
         Some((number, keeps)) => Ok(MemSink::make(perhaps(alloc, Some(number))?, keeps)),
     }
@@ -68,8 +68,8 @@ fn is_given<R: Threads + Wait + Sync>(
 ) -> Result<bool, AllocError> {
     let words = words(alloc, row.line)?;
     let mut files = files(alloc, row)?;
-    let mut out = output(alloc, row)?;
-    let mut err = MemSink::make(Vec::new(alloc), 0);
+    let mut out = sink(alloc, row.failing_put)?;
+    let mut err = sink(alloc, row.failing_line)?;
     let hosts = hosts(alloc, row)?;
     let status = spf_main(
         rt, alloc, &words, &mut files, &mut out, &mut err, hosts, &Open,

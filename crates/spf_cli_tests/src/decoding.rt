@@ -13,6 +13,12 @@ const UNPACKED: &[u8] = &[
     0xaa, 0xaa, 0xaa, 0xaa, 0xaa, 0xaa, 0xaa, 0xaa,
 ];
 
+/// The first seven bytes of them, which end with the header of a run.
+const FIRST_PACKETS: &[u8] = &[0xfe, 0xaa, 0x02, 0x80, 0x00, 0x2a, 0xfd];
+
+/// What these stand for.
+const FIRST_UNPACKED: &[u8] = &[0xaa, 0xaa, 0xaa, 0x80, 0x00, 0x2a];
+
 /// A text with a comment that begins in its first block of four bytes.
 const TEXT: &[u8] = b"a /* x */ \"b\"";
 
@@ -31,6 +37,8 @@ fn unpacking(rows: &mut Vec<Row>) -> Result<(), AllocError> {
         rows.push(wanted(line, "", 0, UNPACKED, err).on(packets))?;
     }
     rows.push(wanted("unpack I", "", 0, UNPACKED, "").on(packets))?;
+    let first = Input::Bytes(FIRST_PACKETS);
+    rows.push(wanted("unpack I", "", 0, FIRST_UNPACKED, "").on(first))?;
     let err = "blocks 0 hits 0 misses 0 blind 0\n";
     rows.push(wanted("unpack I --stats", "", 0, &[], err))?;
     Ok(())
@@ -38,20 +46,27 @@ fn unpacking(rows: &mut Vec<Row>) -> Result<(), AllocError> {
 
 /// HUF1.
 fn decoding(rows: &mut Vec<Row>) -> Result<(), AllocError> {
-    let file = |count: u8| Input::Huf1 {
+    let file = |count: u8, bytes: usize| Input::Huf1 {
         lengths: [1, 2, 2],
         count,
+        bytes,
     };
     let stats = "blocks 2 hits 1 misses 0 blind 0\n";
-    rows.push(wanted("unhuff I --block 1 --stats", "", 0, b"ABACAB", stats).on(file(6)))?;
+    rows.push(wanted("unhuff I --block 1 --stats", "", 0, b"ABACAB", stats).on(file(6, 266)))?;
     let trap = "trap fail 1 line 53\n";
-    rows.push(wanted("unhuff I", "", 1, b"ABACABAAAAAAA", trap).on(file(40)))?;
+    rows.push(wanted("unhuff I", "", 1, b"ABACABAAAAAAA", trap).on(file(40, 266)))?;
     let oversubscribed = Input::Huf1 {
         lengths: [1, 1, 1],
         count: 6,
+        bytes: 266,
     };
     let refused = "input byte 71: not HUF1\n";
     rows.push(wanted("unhuff I", "", 9, &[], refused).on(oversubscribed))?;
+    // Files that end within the header, before the bits, and within them.
+    let short = "input byte 200: not HUF1\n";
+    rows.push(wanted("unhuff I", "", 9, &[], short).on(file(6, 200)))?;
+    rows.push(wanted("unhuff I --block 1", "", 1, &[], trap).on(file(6, 264)))?;
+    rows.push(wanted("unhuff I --block 1", "", 1, b"ABACA", trap).on(file(6, 265)))?;
     let empty = "input byte 0: not HUF1\n";
     rows.push(wanted("unhuff I --stats", "", 9, &[], empty))?;
     Ok(())

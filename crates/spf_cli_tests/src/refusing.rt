@@ -1,6 +1,6 @@
 // What is refused: programs that break a rule, texts, words, files, and devices that fail.
 use crate::rows::{Row, wanted};
-use crate::running::{EMITTING, OUTER_COUNT};
+use crate::running::{DOUBLING, EMITTING, OUTER_COUNT, PAIRS};
 use std::alloc::AllocError;
 
 /// The same without the fill: a block writes one of its two cells.
@@ -150,7 +150,17 @@ fn faults(rows: &mut Vec<Row>) -> Result<(), AllocError> {
     // A sink that fails at its second put has taken the first whole and 100 bytes of the second.
     let many = "main { for i in 0..5000 { emit 0; } }";
     rows.push(wanted("run P I --plain", many, 6, &[0; 4196], "").with_failing_put(1, 100))?;
-    // The second fetch fails, although the file is there.
+    // The same where statistics and cells would follow.
+    let shown = "run P I --stats --cells";
+    rows.push(wanted(shown, PAIRS, 6, &[7, 0, 0], "").with_failing_put(0, 3))?;
+    // The error stream fails at its first line, and at its second one.
+    let whole = &[7, 0, 0, 7, 7, 0];
+    rows.push(wanted(shown, PAIRS, 6, whole, "blocks").with_failing_line(0, 6))?;
+    let line = "blocks 3 hits 1 misses 1 blind 0\n";
+    rows.push(wanted(shown, PAIRS, 6, whole, line).with_failing_line(1, 0))?;
+    // The first fetch fails, and the second one, although the files are there.
+    let line = "file P failed\n";
+    rows.push(wanted("run P I", DOUBLING, 5, &[], line).with_failing_fetch(0))?;
     let line = "file I failed\n";
     rows.push(wanted("run P I", "main { }", 5, &[], line).with_failing_fetch(1))?;
     Ok(())

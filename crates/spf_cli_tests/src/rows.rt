@@ -5,22 +5,31 @@ use std::alloc::{AllocError, Global};
 #[derive(Clone, Copy)]
 pub(crate) enum Input {
     Bytes(&'static [u8]),
-    /// A HUF1 file: the code lengths of `A`, `B` and `C`, the count of symbols, and the bits 0100 1101 0000 0000.
-    Huf1 { lengths: [u8; 3], count: u8 },
+    /// The first bytes of a HUF1 file: the code lengths of `A`, `B` and `C`, the count of symbols, and the bits 0100 1101 0000 0000.
+    Huf1 {
+        lengths: [u8; 3],
+        count: u8,
+        bytes: usize,
+    },
 }
 
 impl Input {
     /// The bytes of the file.
     pub(crate) fn content(self, alloc: Global) -> Result<Vec<u8>, AllocError> {
-        let (lengths, count) = match self {
+        let (lengths, count, bytes) = match self {
             Input::Bytes(bytes) => return bytes.to_vec(alloc),
-            Input::Huf1 { lengths, count } => (lengths, count),
+            Input::Huf1 {
+                lengths,
+                count,
+                bytes,
+            } => (lengths, count, bytes),
         };
         let mut file = b"HUF1".to_vec(alloc)?;
         file.extend_from_slice(&[0; 65])?;
         file.extend_from_slice(&lengths)?;
         file.extend_from_slice(&[0; 188])?;
         file.extend_from_slice(&[0, 0, 0, count, 0x4d, 0x00])?;
+        file.truncate(bytes);
         Ok(file)
     }
 }
@@ -36,6 +45,8 @@ pub(crate) struct Row {
     pub(crate) has_last: bool,
     /// The number of the put on the output that fails, and how many bytes it takes.
     pub(crate) failing_put: Option<(u64, u64)>,
+    /// The same of the error stream.
+    pub(crate) failing_line: Option<(u64, u64)>,
     /// The number of the fetch that fails.
     pub(crate) failing_fetch: Option<u64>,
     pub(crate) status: u8,
@@ -57,6 +68,7 @@ pub(crate) fn wanted(
         input: Input::Bytes(b""),
         has_last: false,
         failing_put: None,
+        failing_line: None,
         failing_fetch: None,
         status,
         out,
@@ -82,6 +94,14 @@ impl Row {
     pub(crate) fn with_failing_put(self, number: u64, keeps: u64) -> Row {
         Row {
             failing_put: Some((number, keeps)),
+            ..self
+        }
+    }
+
+    /// The row where a put on the error stream fails after so many bytes.
+    pub(crate) fn with_failing_line(self, number: u64, keeps: u64) -> Row {
+        Row {
+            failing_line: Some((number, keeps)),
             ..self
         }
     }

@@ -271,12 +271,34 @@ fn with_large_arrays(rows: &mut Vec<Row>) -> Result<(), AllocError> {
     Ok(())
 }
 
+/// Traps, and predictions that are always wrong, on many workers.
+fn with_misses(rows: &mut Vec<Row>) -> Result<(), AllocError> {
+    let failing = "main { specfold s = 1 for k in 0..4 predict 0 { fail 3; next s; } emit s; }";
+    let trap = "trap fail 3 line 1\nblocks 1 hits 0 misses 0 blind 0\n";
+    rows.push(wanted("run P I --stats", failing, 1, &[], trap))?;
+    let missing = "main { specfold s = 0 for k in 0..4096 predict 1 { next 0; } emit s; }";
+    let all = "blocks 4096 hits 0 misses 4095 blind 0\n";
+    rows.push(wanted("run P I --workers 64 --stats", missing, 0, &[0], all))?;
+    let endless =
+        "main { specfold s = 1 for k in 0..64 predict 1 << 62 { for i in 0..s { } next 1; } emit s; }";
+    for line in [
+        "run P I --workers 1 --stats",
+        "run P I --workers 2 --stats",
+        "run P I --workers 64 --stats",
+    ] {
+        let err = "blocks 64 hits 0 misses 63 blind 0\n";
+        rows.push(wanted(line, endless, 0, &[1], err))?;
+    }
+    Ok(())
+}
+
 /// All of them.
 pub(crate) fn add(rows: &mut Vec<Row>) -> Result<(), AllocError> {
     by_blocks(rows)?;
     plainly(rows)?;
     with_cells(rows)?;
     with_workers(rows)?;
+    with_misses(rows)?;
     without_hosts(rows)?;
     with_large_arrays(rows)?;
     let err = "blocks 6 hits 2 misses 2 blind 0\n";
