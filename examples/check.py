@@ -16,6 +16,7 @@ IS_BUILT = os.access(os.path.join(HERE, "..", "crates", "spf", "out", "spf"), os
 WORKERS = [None, "1", "2", "4", "64"] if IS_BUILT else [None]
 
 ACCEPTED = "accepted\n"
+LARGE = b"sum 43981584 blocks 977 hits 335 misses 641\n"
 
 
 def stats(blocks, hits, misses, blind=0):
@@ -49,6 +50,9 @@ RUNS = [
     ("lex", "lex tokens.lex count.c --block 64 --stats", "count.out", stats(5, 4, 0), 0),
     ("lex", "lex notes.huf count.c", b"", "machine byte 0: not LEX1\n", 9),
     ("demo", "demo lex 0 2 1", b"sum 1 blocks 1 hits 0 misses 0\n", "", 0),
+    ("large", "demo lex 7 1000000 1", LARGE, "", 0),
+    ("large", "demo lex 7 1000000 2", LARGE, "", 0),
+    ("large", "demo lex 7 1000000 8", LARGE, "", 0),
     # small ones
     ("worked", "run worked.spf empty --stats --cells", b"\x08", stats(3, 1, 1) + "cells a 2 4 8\n", 0),
     ("doubling", "run doubling.spf empty --stats", b"\x20", stats(5, 0, 4), 0),
