@@ -49,6 +49,7 @@ RUNS = [
     ("a run by blocks", DOUBLING, ["run"], ["INPUT", "--stats"]),
     ("blocks that write an array", FILLING, ["run"], ["INPUT", "--stats", "--cells"]),
     ("blocks that a host guesses", HOSTED, ["--host", "table", "run"], ["INPUT", "--stats"]),
+    ("the same on eight workers", HOSTED, ["--host", "table", "run"], ["INPUT", "--workers", "8", "--stats"]),
     ("a check that accepts", FILLING, ["check"], []),
     ("a check that refuses", COUNTING, ["check"], []),
     ("an explanation", FILLING, ["explain"], []),
