@@ -1,19 +1,17 @@
 #!/usr/bin/env python3
 """Times folds by blocks on one worker, from right guesses, beside their plain runs, and prints a table of nanoseconds an iteration.
 
-Each program has two blocks, which are loops; the time of an empty program is taken off. Each time is the least of five. The first word may
-name the program that is timed in the place of crates/spf/out/spf. Needs the built program (`./spf --build`) and idle cores.
+Each program has two blocks, which are loops; the time of an empty program is taken off. In rounds (rounds.py). The first word may name
+the program that is timed in the place of crates/spf/out/spf. Needs the built program (`./spf --build`) and idle cores.
 """
 
 import os
-import subprocess
-import sys
 import tempfile
-import time
 
-HERE = os.path.dirname(os.path.abspath(__file__))
-SPF = sys.argv[1] if len(sys.argv) > 1 else os.path.join(HERE, "..", "crates", "spf", "out", "spf")
-RUNS = 5
+from rounds import Rounds, program
+
+SPF = program()
+ROUNDS = 5
 BLOCKS = 2
 
 # what an iteration does, how many a block makes, its first store, and its body
@@ -31,19 +29,13 @@ LOOPS = [
 ]
 
 
-def seconds(folder, text, words):
-    """The least time of several runs of a program on no input."""
-    program, data = os.path.join(folder, "program"), os.path.join(folder, "input")
-    with open(program, "w") as file:
+def command(folder, name, text, words):
+    """Runs a program on no input."""
+    path, data = os.path.join(folder, name), os.path.join(folder, "empty")
+    with open(path, "w") as file:
         file.write(text)
     open(data, "w").close()
-    best = None
-    for _ in range(RUNS):
-        start = time.perf_counter()
-        subprocess.run([SPF, "run", program, data] + words, check=True, stdout=subprocess.DEVNULL)
-        took = time.perf_counter() - start
-        best = took if best is None else min(best, took)
-    return best
+    return [SPF, "run", path, data] + words
 
 
 def fold(iterations, first, body):
@@ -55,13 +47,13 @@ def fold(iterations, first, body):
 def main():
     print("| An iteration | Plain run | By blocks | Ratio |\n|---|---|---|---|")
     with tempfile.TemporaryDirectory() as folder:
-        empty = seconds(folder, "main { }", ["--plain"])
+        empty = Rounds({"empty": command(folder, "empty.spf", "main { }", ["--plain"])}, ROUNDS).seconds("empty")
         for name, iterations, first, body in LOOPS:
             text = fold(iterations, first, body)
-            plain = seconds(folder, text, ["--plain"]) - empty
-            blocks = seconds(folder, text, ["--workers", "1"]) - empty
+            rounds = Rounds({way: command(folder, "loop.spf", text, words) for way, words in (("plain", ["--plain"]), ("blocks", ["--workers", "1"]))}, ROUNDS)
             unit = 1e9 / (iterations * BLOCKS)
-            print(f"| {name} | {plain * unit:.1f} | {blocks * unit:.1f} | {blocks / plain:.2f} |", flush=True)
+            plain, blocks = ((rounds.seconds(way) - empty) * unit for way in ("plain", "blocks"))
+            print(f"| {name} | {plain:.1f} | {blocks:.1f} | {rounds.ratio('blocks', 'plain', empty):.2f} |", flush=True)
 
 
 main()

@@ -29,7 +29,8 @@ pub record IsSetup (p : Program) (s : Setup) : Type 0 where
 abbrev pub block_setup : List ℕ → List ℤ → ℤ → Carried → Setup
 block_setup input slots number carried = record { input = input; slots = slots; output = []; number = number; carried = carried }
 
--- What a run of a part asks of the memory, from a setup. This is the one tree of a part: the interpreter performs it, the rules are proved sound for it, and a block run is its plain run.
+-- What a run of a part asks of the memory, from a setup. This is the one tree of a part: the interpreter performs it,
+-- the rules are proved sound for it, and a block run is its plain run.
 abbrev pub part_asks : Program → Construct → Part → Setup → Interaction (Ending Carried)
 part_asks p construct part s =
     part_means (environment_of p s.input) construct part s.number s.carried (record { slots = s.slots; output = s.output })
@@ -38,7 +39,9 @@ part_asks p construct part s =
 abbrev pub IsBlockRun : Program → Construct → Part → Setup → List ℤ → List Event → Ending Carried → Type 0
 IsBlockRun p construct part s memory events answer = IsPlainRun (part_asks p construct part s) memory events answer
 
--- What a predictor that is an expression comes to for a block number: its value or its trap, from the slots and the memory at the entry of its construct. No cell is shared: a load gives the entry's word, also after a store. One that is handed in comes to no value.
+-- What a predictor that is an expression comes to for a block number: its value or its trap, from the slots and the
+-- memory at the entry of its construct. No cell is shared: a load gives the entry's word, also after a store. One
+-- that is handed in comes to no value.
 abbrev pub predicts : Program → List ℕ → Construct → List ℤ → List ℤ → ℤ → Result Carried Trap
 predicts p input construct slots memory number =
     result_of (unshared_answer (part_asks p construct Predictor (block_setup input slots number no_value)) memory)

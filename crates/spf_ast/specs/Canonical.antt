@@ -6,7 +6,24 @@ use Rattle.spf_ast.specs.declared.syntax.Op.TheVariants as op
 use Rattle.spf_ast.specs.declared.syntax.Test.{Test}
 use Rattle.spf_ast.specs.declared.syntax.Test.TheVariants as test
 use Rattle.spf_ast.specs.Syntax.{Array}
-use Rattle.spf_ast.specs.RawSyntax.{RawExpression, Number, Local, Len, Input, Load, Call, Neg, Binary, Compare, Both, Either, Not, RawArguments, no_more, argument}
+use Rattle.spf_ast.specs.RawSyntax.{
+  RawExpression,
+  Number,
+  Local,
+  Len,
+  Input,
+  Load,
+  Call,
+  Neg,
+  Binary,
+  Compare,
+  Both,
+  Either,
+  Not,
+  RawArguments,
+  no_more,
+  argument,
+}
 use Rattle.spf_ast.specs.RawSyntax.{RawPredictor, By, Host, RawFoldHead}
 use Rattle.spf_ast.specs.RawSyntax.{RawStatement, Let, Assign, Store, Fill, Emit, Fail, If, For, While, Do, Fold, Pair, RawBlock, end, on_line}
 use Rattle.spf_ast.specs.RawSyntax.{RawFunction, RawProgram}
@@ -83,7 +100,8 @@ abbrev pub enclosed : Bool → List ℕ → List ℕ
 enclosed true text = joined (codes "(" ∷ text ∷ codes ")" ∷ [])
 enclosed false text = text
 
--- An expression. An operand is in parentheses where its level is below the least that may stand there: that of the operator at the left, and one more at the right; at a comparison more than its own on both sides.
+-- An expression. An operand is in parentheses where its level is below the least that may stand there: that of the
+-- operator at the left, and one more at the right; at a comparison more than its own on both sides.
 abbrev mutual
   pub expression_text : RawExpression → List ℕ
   expression_text (Number n) = signed_decimal n
@@ -95,9 +113,11 @@ abbrev mutual
   expression_text (Neg a) = joined (codes "-" ∷ enclosed (nat_lt (level a) unary_level) (expression_text a) ∷ [])
   expression_text (Not a) = joined (codes "!" ∷ enclosed (nat_lt (level a) unary_level) (expression_text a) ∷ [])
   expression_text (Binary op a b) =
-      joined (enclosed (nat_lt (level a) (op_level op)) (expression_text a) ∷ op_sign op ∷ enclosed (nat_lt (level b) (op_level op + 1)) (expression_text b) ∷ [])
+      joined (enclosed (nat_lt (level a) (op_level op)) (expression_text a) ∷ op_sign op
+      ∷ enclosed (nat_lt (level b) (op_level op + 1)) (expression_text b) ∷ [])
   expression_text (Compare test a b) =
-      joined (enclosed (nat_lt (level a) (comparison_level + 1)) (expression_text a) ∷ test_sign test ∷ enclosed (nat_lt (level b) (comparison_level + 1)) (expression_text b) ∷ [])
+      joined (enclosed (nat_lt (level a) (comparison_level + 1)) (expression_text a) ∷ test_sign test
+      ∷ enclosed (nat_lt (level b) (comparison_level + 1)) (expression_text b) ∷ [])
   expression_text (Both a b) =
       joined (enclosed (nat_lt (level a) 2) (expression_text a) ∷ codes " && " ∷ enclosed (nat_lt (level b) 3) (expression_text b) ∷ [])
   expression_text (Either a b) =
@@ -122,7 +142,9 @@ predictor_text (Host number) = joined (codes "host " ∷ decimal number ∷ [])
 -- the line that begins a fold
 abbrev pub fold_line : List ℕ → RawFoldHead → List ℕ
 fold_line indent head =
-    line indent (codes "specfold " ∷ head.carried ∷ codes " = " ∷ expression_text head.start ∷ codes " for " ∷ head.block ∷ codes " in " ∷ expression_text head.low ∷ codes ".." ∷ expression_text head.high ∷ codes " predict " ∷ predictor_text head.predict ∷ codes " {" ∷ [])
+    line indent (codes "specfold " ∷ head.carried ∷ codes " = " ∷ expression_text head.start ∷ codes " for "
+    ∷ head.block ∷ codes " in " ∷ expression_text head.low ∷ codes ".." ∷ expression_text head.high
+    ∷ codes " predict " ∷ predictor_text head.predict ∷ codes " {" ∷ [])
 
 abbrev mutual
   -- the lines of a statement, after an indentation
@@ -132,7 +154,8 @@ abbrev mutual
   statement_text indent (Store a index value) =
       line indent (a ∷ codes "[" ∷ expression_text index ∷ codes "] = " ∷ expression_text value ∷ codes ";" ∷ [])
   statement_text indent (Fill a low high value) =
-      line indent (codes "fill " ∷ a ∷ codes "[" ∷ expression_text low ∷ codes ".." ∷ expression_text high ∷ codes "] = " ∷ expression_text value ∷ codes ";" ∷ [])
+      line indent (codes "fill " ∷ a ∷ codes "[" ∷ expression_text low ∷ codes ".." ∷ expression_text high
+      ∷ codes "] = " ∷ expression_text value ∷ codes ";" ∷ [])
   statement_text indent (Emit value) = line indent (codes "emit " ∷ expression_text value ∷ codes ";" ∷ [])
   statement_text indent (Fail number) = line indent (codes "fail " ∷ signed_decimal number ∷ codes ";" ∷ [])
   statement_text indent (If test a b) =

@@ -59,7 +59,9 @@ abbrev pub guess_means : Environment → ℕ → syntax.Predictor → Meaning Ca
 guess_means g line (By guess) = expression_means g line guess
 guess_means g line (Host number) = gives no_value
 
--- One performance of a part, given the block number and the carried value: a body gives its next value, a producer what it gives, a consumer its carried value, and a predictor its guess. A part that the construct doesn't have gives no value.
+-- One performance of a part, given the block number and the carried value: a body gives its next value, a producer
+-- what it gives, a consumer its carried value, and a predictor its guess. A part that the construct doesn't have
+-- gives no value.
 abbrev pub part_means : Environment → Construct → Part → ℤ → Carried → Meaning Carried
 part_means g (fold line head body) Body number carried = do
   sets head.block number

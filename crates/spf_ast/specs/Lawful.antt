@@ -1,7 +1,53 @@
 -- Lawful programs: every name, array, function and slot has its place, and every slot is used only where its declaration shows it.
-use Rattle.std.specs.Prelude.{◌≡◌, Bool, true, false, ◌⊎◌, ℕ, ◌+◌, ◌<◌, ◌≤◌, ◌^◌, List, [], ◌∷◌, ◌++◌, length, map, Some, IfSome, ℤ, pos, ◌≤ℤ◌, ◌<ℤ◌, codes, slice_get}
+use Rattle.std.specs.Prelude.{
+  ◌≡◌,
+  Bool,
+  true,
+  false,
+  ◌⊎◌,
+  ℕ,
+  ◌+◌,
+  ◌<◌,
+  ◌≤◌,
+  ◌^◌,
+  List,
+  [],
+  ◌∷◌,
+  ◌++◌,
+  length,
+  map,
+  Some,
+  IfSome,
+  ℤ,
+  pos,
+  ◌≤ℤ◌,
+  ◌<ℤ◌,
+  codes,
+  slice_get,
+}
 use Rattle.std.specs.List.{All, Contains, range_with_len}
-use Rattle.spf_ast.specs.Syntax.{Expression, Number, Local, Len, Input, Load, Call, Neg, Binary, Arguments, no_more, argument, Condition, Compare, Both, Either, Not, Predictor, By, Host}
+use Rattle.spf_ast.specs.Syntax.{
+  Expression,
+  Number,
+  Local,
+  Len,
+  Input,
+  Load,
+  Call,
+  Neg,
+  Binary,
+  Arguments,
+  no_more,
+  argument,
+  Condition,
+  Compare,
+  Both,
+  Either,
+  Not,
+  Predictor,
+  By,
+  Host,
+}
 use Rattle.spf_ast.specs.Syntax.{Statement, Let, Assign, Store, Fill, Emit, Fail, If, For, While, Do, Fold, Pair, Block, end, on_line, Array, Function, Program}
 use Rattle.spf_ast.specs.Meaning.{count_of}
 use Rattle.spf_ast.specs.Interaction.{State}
@@ -20,7 +66,10 @@ IsWordByte b = IsLetter b ⊎ ((48 ≤ b) × (b ≤ 57))
 -- the words that are no names
 abbrev pub reserved_words : List (List ℕ)
 reserved_words =
-    codes "array" ∷ codes "fn" ∷ codes "main" ∷ codes "let" ∷ codes "fill" ∷ codes "emit" ∷ codes "fail" ∷ codes "if" ∷ codes "else" ∷ codes "for" ∷ codes "in" ∷ codes "while" ∷ codes "max" ∷ codes "specfold" ∷ codes "spec" ∷ codes "predict" ∷ codes "host" ∷ codes "give" ∷ codes "next" ∷ codes "return" ∷ codes "len" ∷ codes "input" ∷ codes "break" ∷ codes "version" ∷ []
+    codes "array" ∷ codes "fn" ∷ codes "main" ∷ codes "let" ∷ codes "fill" ∷ codes "emit" ∷ codes "fail" ∷ codes "if"
+    ∷ codes "else" ∷ codes "for" ∷ codes "in" ∷ codes "while" ∷ codes "max" ∷ codes "specfold" ∷ codes "spec"
+    ∷ codes "predict" ∷ codes "host" ∷ codes "give" ∷ codes "next" ∷ codes "return" ∷ codes "len" ∷ codes "input"
+    ∷ codes "break" ∷ codes "version" ∷ []
 
 -- a letter, and then letters and digits
 abbrev pub IsWord : List ℕ → Type 0
@@ -42,7 +91,8 @@ AreDifferent (x ∷ xs) = (Contains xs x → ⊥) × AreDifferent xs
 
 -- ---- scopes
 
--- what a form may name: how many arrays there are, the functions with the place before which they may be called, the names of the arrays and functions, and the names of its own slots
+-- what a form may name: how many arrays there are, the functions with the place before which they may be called, the
+-- names of the arrays and functions, and the names of its own slots
 pub record Names : Type 0 where
   pub arrays : ℕ
   pub functions : List Function
@@ -168,7 +218,8 @@ abbrev mutual
   IsLawfulStatement names in_main scope (If test a b) =
       IsLawfulCondition names scope test × IsLawfulBlock names in_main scope a × IsLawfulBlock names in_main (behind (declared_in a) scope) b
   IsLawfulStatement names in_main scope (For slot low high body) =
-      IsLawfulExpression names scope low × IsLawfulExpression names scope high × Declares names scope slot × IsLawfulBlock names in_main (behind 1 (showing_fixed slot scope)) body
+      IsLawfulExpression names scope low × IsLawfulExpression names scope high × Declares names scope slot
+      × IsLawfulBlock names in_main (behind 1 (showing_fixed slot scope)) body
   IsLawfulStatement names in_main scope (While test most body) =
       IsLawfulCondition names scope test × (most < 2 ^ 63) × IsLawfulBlock names in_main scope body
   IsLawfulStatement names in_main scope (Do f given) = IsCallable names f (count_of given) × AreLawfulArguments names scope given

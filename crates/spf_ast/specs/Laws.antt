@@ -15,7 +15,8 @@ use Rattle.spf_ast.specs.Plain.{plain_events, plain_answer, IsPlainRun, unshared
 -- a tree has exactly one plain run on a memory: its plain events, with its plain answer
 pub record HasOnePlainRun {A : Type 0} (tree : Interaction A) (memory : List ℤ) : Type 0 where
   pub is : IsPlainRun tree memory (plain_events tree memory) (plain_answer tree memory)
-  pub only : (events : List Event) (answer : A) → IsPlainRun tree memory events answer → (events ≡ plain_events tree memory) × (answer ≡ plain_answer tree memory)
+  pub only : (events : List Event) (answer : A) → IsPlainRun tree memory events answer
+      → (events ≡ plain_events tree memory) × (answer ≡ plain_answer tree memory)
 
 -- each expression, in each environment, on each line, from each state and on each memory
 abbrev pub ExpressionsHaveOnePlainRun : Type 0
@@ -50,7 +51,8 @@ pub record HasOneUnsharedAnswer {A : Type 0} (tree : Interaction A) (memory : Li
 
 -- each part, so each predictor
 abbrev pub PartsHaveOneUnsharedAnswer : Type 0
-PartsHaveOneUnsharedAnswer = (p : Program) (construct : Construct) (part : Part) (s : Setup) (memory : List ℤ) → HasOneUnsharedAnswer (part_asks p construct part s) memory
+PartsHaveOneUnsharedAnswer = (p : Program) (construct : Construct) (part : Part) (s : Setup) (memory : List ℤ)
+    → HasOneUnsharedAnswer (part_asks p construct part s) memory
 
 -- ---- lawful programs
 

@@ -1,5 +1,42 @@
 -- What every form of the language means: what it asks of the memory, and how it ends.
-use Rattle.std.specs.Prelude.{ℕ, zero, suc, ◌+◌, ◌-◌, Bool, true, false, not, if◌then◌else◌, ◌==◌, ◌&&◌, nat_le, nat_lt, List, [], ◌∷◌, ◌++◌, length, replicate, Option, Some, None, Result, Ok, Err, ℤ, pos, negsuc, ◌+ℤ◌, int_lt, int_le, slice_index, slice_index_or, slice_set, slice_get}
+use Rattle.std.specs.Prelude.{
+  ℕ,
+  zero,
+  suc,
+  ◌+◌,
+  ◌-◌,
+  Bool,
+  true,
+  false,
+  not,
+  if◌then◌else◌,
+  ◌==◌,
+  ◌&&◌,
+  nat_le,
+  nat_lt,
+  List,
+  [],
+  ◌∷◌,
+  ◌++◌,
+  length,
+  replicate,
+  Option,
+  Some,
+  None,
+  Result,
+  Ok,
+  Err,
+  ℤ,
+  pos,
+  negsuc,
+  ◌+ℤ◌,
+  int_lt,
+  int_le,
+  slice_index,
+  slice_index_or,
+  slice_set,
+  slice_get,
+}
 use Rattle.std.specs.Ordering.{int_eq}
 use Rattle.std.specs.Int.{int_gap}
 use Rattle.spf_ast.specs.declared.outcome.TrapKind.{TrapKind}

@@ -15,7 +15,25 @@ use Rattle.spf_ast.specs.declared.raw.RawPair as code_pair
 use Rattle.spf_ast.specs.declared.raw.RawFunction as code_function
 use Rattle.spf_ast.specs.declared.raw.RawProgram as code_program
 use Rattle.spf_ast.specs.View.{name, array}
-use Rattle.spf_ast.specs.RawSyntax.{RawExpression, Number, Local, Len, Input, Load, Call, Neg, Binary, Compare, Both, Either, Not, RawArguments, no_more, argument, arguments_of}
+use Rattle.spf_ast.specs.RawSyntax.{
+  RawExpression,
+  Number,
+  Local,
+  Len,
+  Input,
+  Load,
+  Call,
+  Neg,
+  Binary,
+  Compare,
+  Both,
+  Either,
+  Not,
+  RawArguments,
+  no_more,
+  argument,
+  arguments_of,
+}
 use Rattle.spf_ast.specs.RawSyntax.{RawPredictor, By, Host, RawFoldHead, RawPairHead}
 use Rattle.spf_ast.specs.RawSyntax.{RawStatement, Let, Assign, Store, Fill, Emit, Fail, If, For, While, Do, Fold, Pair, RawBlock, end, on_line}
 use Rattle.spf_ast.specs.RawSyntax.{RawFunction, RawProgram}

@@ -28,7 +28,8 @@ abbrev pub with_output : {A : Type 0} → List ℕ → Ending A → Ending A
 with_output output (Value a s) = Value a (record s { output = output })
 with_output output (Trapped trap old) = Trapped trap output
 
--- A form leaves the output alone: whatever it is, the form asks the same, ends the same, and the output is as before. So does each form that holds no `emit`, where no function does.
+-- A form leaves the output alone: whatever it is, the form asks the same, ends the same, and the output is as before.
+-- So does each form that holds no `emit`, where no function does.
 pub record LeavesOutput {A : Type 0} (form : Meaning A) : Type 0 where
   pub same : (slots : List ℤ) (output : List ℕ)
       → form (record { slots = slots; output = output }) ≡ bind (form (record { slots = slots; output = [] })) (λ e. Answer (with_output output e))

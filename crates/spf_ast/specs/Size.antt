@@ -1,9 +1,50 @@
 -- How large programs are, with calls unfolded, and how large they may be.
 use Rattle.std.specs.Prelude.{ℕ, zero, suc, ◌+◌, ◌≤◌, max, if◌then◌else◌, ◌==◌, List, length, Option, Some, None, slice_get}
-use Rattle.spf_ast.specs.Syntax.{Expression, Number, Local, Len, Input, Load, Call, Neg, Binary, Arguments, no_more, argument, Condition, Compare, Both, Either, Not}
-use Rattle.spf_ast.specs.Syntax.{Statement, Let, Assign, Store, Fill, Emit, Fail, If, For, While, Do, Fold, Pair, Block, end, on_line, Predictor, By, Host, Function, Program}
+use Rattle.spf_ast.specs.Syntax.{
+  Expression,
+  Number,
+  Local,
+  Len,
+  Input,
+  Load,
+  Call,
+  Neg,
+  Binary,
+  Arguments,
+  no_more,
+  argument,
+  Condition,
+  Compare,
+  Both,
+  Either,
+  Not,
+}
+use Rattle.spf_ast.specs.Syntax.{
+  Statement,
+  Let,
+  Assign,
+  Store,
+  Fill,
+  Emit,
+  Fail,
+  If,
+  For,
+  While,
+  Do,
+  Fold,
+  Pair,
+  Block,
+  end,
+  on_line,
+  Predictor,
+  By,
+  Host,
+  Function,
+  Program,
+}
 
--- A way to measure forms: what a statement or an expression counts for itself, how the measures of its parts are put together, and what a call of a function counts.
+-- A way to measure forms: what a statement or an expression counts for itself, how the measures of its parts are put
+-- together, and what a call of a function counts.
 pub record Measure : Type 0 where
   pub own : ℕ
   pub join : ℕ → ℕ → ℕ

@@ -3,7 +3,24 @@ use Rattle.std.specs.Prelude.{ℕ, ◌<◌, ◌^◌, List, [], map, take, slice_
 use Rattle.std.specs.List.{All}
 use Rattle.spf_ast.specs.Syntax as s
 use Rattle.spf_ast.specs.Syntax.{Expression, Arguments, Condition, Predictor, FoldHead, PairHead, Statement, Block, Array, Function, Program}
-use Rattle.spf_ast.specs.RawSyntax.{RawExpression, Number, Local, Len, Input, Load, Call, Neg, Binary, Compare, Both, Either, Not, RawArguments, no_more, argument}
+use Rattle.spf_ast.specs.RawSyntax.{
+  RawExpression,
+  Number,
+  Local,
+  Len,
+  Input,
+  Load,
+  Call,
+  Neg,
+  Binary,
+  Compare,
+  Both,
+  Either,
+  Not,
+  RawArguments,
+  no_more,
+  argument,
+}
 use Rattle.spf_ast.specs.RawSyntax.{RawPredictor, By, Host, RawFoldHead, RawPairHead}
 use Rattle.spf_ast.specs.RawSyntax.{RawStatement, Let, Assign, Store, Fill, Emit, Fail, If, For, While, Do, Fold, Pair, RawBlock, end, on_line}
 use Rattle.spf_ast.specs.RawSyntax.{RawFunction, RawProgram}

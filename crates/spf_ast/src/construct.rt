@@ -1,9 +1,9 @@
 // The top constructs of a program.
 
 ghost use Rattle.std.specs.Prelude.{◌≡◌, ◌^◌, ◌<◌, length, map, slice_get, MatchOption, IfOk, Some, None};
-ghost use Rattle.spf_ast.specs.View.{block as block_of, statement as statement_of, program as program_of};
+ghost use Rattle.spf_ast.specs.View.{block as seen_block, statement as seen_statement, program as seen_program};
 ghost use Rattle.spf_ast.specs.Construct.{construct_of, constructs_in, carried_of, part_of as part_run, is_construct as is_construct_form};
-ghost use Rattle.spf_ast.specs.ConstructView.{construct as construct_seen};
+ghost use Rattle.spf_ast.specs.ConstructView.{construct as seen_construct};
 
 use crate::syntax::{Fold, Pair, Part, Program, Stmt, StmtKind};
 use std::alloc::{AllocError, Global};
@@ -27,7 +27,7 @@ pub enum ConstructKind<'a> {
 impl<'a> TopConstruct<'a> {
     /// The slot of the carried value.
     pub fn carried_slot(self) -> u32
-        ensures { result ≡ carried_of (construct_seen self.entry) }
+        ensures { result ≡ carried_of (seen_construct self.entry) }
     {
         match self.kind {
             ConstructKind::Fold(fold) => fold.carried,
@@ -37,7 +37,7 @@ impl<'a> TopConstruct<'a> {
 
     /// The part that the block of this index runs: of a fold the body; of a pair the producer first, and then the consumer.
     pub fn part_of(self, block: u64) -> Part
-        ensures { result ≡ part_run (construct_seen self.entry) block }
+        ensures { result ≡ part_run (seen_construct self.entry) block }
     {
         match self.kind {
             ConstructKind::Fold(_) => Part::Body,
@@ -49,7 +49,7 @@ impl<'a> TopConstruct<'a> {
 
 /// Whether a statement is a fold or a pair.
 pub fn is_construct(kind: &StmtKind) -> bool
-    ensures { result ≡ is_construct_form (statement_of kind.now) }
+    ensures { result ≡ is_construct_form (seen_statement kind.now) }
 {
     match kind {
         StmtKind::Fold(_) => true,
@@ -61,8 +61,8 @@ pub fn is_construct(kind: &StmtKind) -> bool
 /// The construct that a statement is, where it is one.
 pub fn as_construct<'a>(statement: &'a Stmt) -> Option<TopConstruct<'a>>
     ensures { MatchOption result
-        (construct_of statement.now.line (statement_of statement.now.kind) ≡ None)
-        (λ c. construct_of statement.now.line (statement_of statement.now.kind) ≡ Some (construct_seen c)) }
+        (construct_of statement.now.line (seen_statement statement.now.kind) ≡ None)
+        (λ c. construct_of statement.now.line (seen_statement statement.now.kind) ≡ Some (seen_construct c)) }
 {
     let line = statement.line;
     match &statement.kind {
@@ -80,8 +80,8 @@ pub fn as_construct<'a>(statement: &'a Stmt) -> Option<TopConstruct<'a>>
 
 /// How many of these statements are constructs.
 pub fn count_constructs(main: &[Stmt]) -> u32
-    requires { length (constructs_in (block_of main.now)) < 2 ^ 32 }
-    ensures { result ≡ length (constructs_in (block_of main.now)) }
+    requires { length (constructs_in (seen_block main.now)) < 2 ^ 32 }
+    ensures { result ≡ length (constructs_in (seen_block main.now)) }
 {
     let mut count = 0;
     for statement in main {
@@ -95,8 +95,8 @@ pub fn count_constructs(main: &[Stmt]) -> u32
 /// The construct of this number among these statements, where there are so many; they are numbered from 0.
 pub fn find_construct<'a>(main: &'a [Stmt], number: u32) -> Option<TopConstruct<'a>>
     ensures { MatchOption result
-        (slice_get (constructs_in (block_of main.now)) number ≡ None)
-        (λ c. slice_get (constructs_in (block_of main.now)) number ≡ Some (construct_seen c)) }
+        (slice_get (constructs_in (seen_block main.now)) number ≡ None)
+        (λ c. slice_get (constructs_in (seen_block main.now)) number ≡ Some (seen_construct c)) }
 {
     let mut left = number;
     for statement in main {
@@ -116,7 +116,7 @@ pub fn find_construct<'a>(main: &'a [Stmt], number: u32) -> Option<TopConstruct<
 ///
 /// `AllocError` where there is no memory for the list.
 pub fn constructs<'a>(alloc: Global, main: &'a [Stmt]) -> Result<Vec<TopConstruct<'a>>, AllocError>
-    ensures { IfOk result (λ found. map construct_seen found.items ≡ constructs_in (block_of main.now)) }
+    ensures { IfOk result (λ found. map seen_construct found.items ≡ constructs_in (seen_block main.now)) }
 {
     let mut found = Vec::new(alloc);
     for statement in main {
@@ -129,8 +129,8 @@ pub fn constructs<'a>(alloc: Global, main: &'a [Stmt]) -> Result<Vec<TopConstruc
 
 /// How many top constructs a program has: folds and pairs that are direct statements of `main`.
 pub fn top_constructs(program: &Program) -> u32
-    requires { length (constructs_in (program_of program.now).main) < 2 ^ 32 }
-    ensures { result ≡ length (constructs_in (program_of program.now).main) }
+    requires { length (constructs_in (seen_program program.now).main) < 2 ^ 32 }
+    ensures { result ≡ length (constructs_in (seen_program program.now).main) }
 {
     count_constructs(&program.main)
 }

@@ -1,4 +1,4 @@
-// Programs, the words that they compute with, and what they mean.
+//! Programs, the words that they compute with, and what they mean.
 #![tactic(auto)]
 
 pub mod canonical;

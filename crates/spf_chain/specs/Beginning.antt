@@ -71,7 +71,9 @@ pub record AreFirstTickets (cells : CellsValue) (low : ℤ) (blocks : List Valid
   pub size : length tickets ≡ count
   pub each : (n : ℕ) (t : Ticket) → slice_get tickets n ≡ Some t → IsFirstTicket (new_lane cells n) low blocks frame n t
 
--- The chain, its cells and its tickets when the blocks of a site start: all tickets are out and fresh, in the order of blocks, each with its first attempt; no block is validated, and no report was filed; the cells were made for the site, and no flag is raised.
+-- The chain, its cells and its tickets when the blocks of a site start: all tickets are out and fresh, in the order
+-- of blocks, each with its first attempt; no block is validated, and no report was filed; the cells were made for the
+-- site, and no flag is raised.
 pub record IsStarted (s : Site) (c : ChainValue) (cells : CellsValue) (tickets : List Ticket) : Type 0 where
   pub chain : c ≡ begun s c.warden
   pub its_cells : cells ≡ cells_of c

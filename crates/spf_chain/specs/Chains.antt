@@ -1,5 +1,27 @@
 -- What contracts see of a chain.
-use Rattle.std.specs.Prelude.{◌≡◌, ◌≢◌, ◌⊎◌, ◌↔◌, ℕ, ◌<◌, Bool, true, false, ◌==◌, if◌then◌else◌, List, ◌++◌, length, slice_get, slice_index, slice_set, max, Option, Some, None}
+use Rattle.std.specs.Prelude.{
+  ◌≡◌,
+  ◌≢◌,
+  ◌⊎◌,
+  ◌↔◌,
+  ℕ,
+  ◌<◌,
+  Bool,
+  true,
+  false,
+  ◌==◌,
+  if◌then◌else◌,
+  List,
+  ◌++◌,
+  length,
+  slice_get,
+  slice_index,
+  slice_set,
+  max,
+  Option,
+  Some,
+  None,
+}
 use Rattle.spf_edge.specs.Faults.{one_more}
 use Rattle.spf_ast.specs.declared.outcome.Trap.{Trap}
 use Rattle.spf_cells.specs.Values.{CellsValue, WardenValue}
@@ -17,7 +39,9 @@ use Rattle.spf_entry.specs.Sites.{entry_at, guess_at}
 use Rattle.spf_ast.specs.Carried as carried
 use Rattle.spf_chain.specs.Homes.{known_in}
 
--- the site, the warden, the reports that are home, whether the second attempt of the next block to be validated is out, the validated blocks, the real value of the next block or the trap of the last one, and how many reports were filed
+-- the site, the warden, the reports that are home, whether the second attempt of the next block to be validated is
+-- out, the validated blocks, the real value of the next block or the trap of the last one, and how many reports were
+-- filed
 pub record ChainValue : Type 0 where
   pub site : Site
   pub warden : WardenValue
@@ -73,10 +97,12 @@ pub record HasEnded (c : ChainValue) : Type 0 where
 
 -- ---- flags
 
--- the flag of the block is to be raised: its first attempt is out, and it is the next one to be validated, with another real value than its guess, or a block before it trapped
+-- the flag of the block is to be raised: its first attempt is out, and it is the next one to be validated, with
+-- another real value than its guess, or a block before it trapped
 pub record IsToRaise (c : ChainValue) (n : ℕ) : Type 0 where
   pub out : IsOutFirst c n
-  pub why : ((n ≡ next_block c) × (real : carried.Carried) × (c.settled ≡ Carried real) × (begins_at (entry_at c.site) (guess_at c.site) n ≢ real)) ⊎ HasTrapped c
+  pub why : ((n ≡ next_block c) × (real : carried.Carried) × (c.settled ≡ Carried real)
+      × (begins_at (entry_at c.site) (guess_at c.site) n ≢ real)) ⊎ HasTrapped c
 
 -- the warden with other flags
 abbrev pub with_flags : WardenValue → List ℕ → WardenValue
@@ -100,7 +126,11 @@ pub record Raises (before after : ChainValue) : Type 0 where
 
 -- a report comes home
 abbrev pub came_home : ChainValue → Report → ChainValue
-came_home c r = record c { homes = slice_set c.homes r.ticket.block (Some r); again = if r.ticket.block == next_block c then false else c.again; reports = one_more c.reports }
+came_home c r = record c {
+  homes = slice_set c.homes r.ticket.block (Some r);
+  again = if r.ticket.block == next_block c then false else c.again;
+  reports = one_more c.reports;
+}
 
 -- the next block's second attempt goes out
 abbrev pub sent_again : ChainValue → ChainValue
@@ -137,7 +167,9 @@ pub record IsSameChain (before after : ChainValue) : Type 0 where
   pub site : after.site ≡ before.site
   pub cells : cells_of after ≡ cells_of before
 
--- A report was filed: it came home, blocks were validated, flags were raised, and then this was the answer, exactly where its cause held. After a trap nothing more is validated; the second attempt of the next block to be validated always validates it.
+-- A report was filed: it came home, blocks were validated, flags were raised, and then this was the answer, exactly
+-- where its cause held. After a trap nothing more is validated; the second attempt of the next block to be validated
+-- always validates it.
 pub record IsFiled (before : ChainValue) (r : Report) (answer : Filed) (after : ChainValue) : Type 0 where
   pub validated : ChainValue
   pub validates : Validates (came_home before r) validated

@@ -26,14 +26,19 @@ abbrev pub result_as : Settled → Result carried.Carried Trap
 result_as (Carried v) = Ok v
 result_as (Trapped t) = Err t
 
--- every merging of these logs of the blocks that keeps the order of each log is a speculative run, with the chain's guesses, its history's real values and what it came to
+-- every merging of these logs of the blocks that keeps the order of each log is a speculative run, with the chain's
+-- guesses, its history's real values and what it came to
 abbrev pub EveryMergingRuns : ChainValue → (ℕ → List Event) → Type 0
-EveryMergingRuns c logs = (steps : List Step) → Merges c.site.blocks logs steps → IsSpeculativeRun (entry_at c.site) (guess_at c.site) steps (map (λ b. b.real) c.history) (result_as c.settled)
+EveryMergingRuns c logs = (steps : List Step) → Merges c.site.blocks logs steps
+    → IsSpeculativeRun (entry_at c.site) (guess_at c.site) steps (map (λ b. b.real) c.history) (result_as c.settled)
 
--- The chain came to this, with these logs, and its lanes were written back to a memory. The plain run of the site's blocks has the same real values and the same result, and where none traps and the memory was that of the entry, the same memory. Every merging of the logs that keeps the order of each log is a speculative run.
+-- The chain came to this, with these logs, and its lanes were written back to a memory. The plain run of the site's
+-- blocks has the same real values and the same result, and where none traps and the memory was that of the entry, the
+-- same memory. Every merging of the logs that keeps the order of each log is a speculative run.
 pub record IsFinished (c : ChainValue) (s : Settled) (trace : List (List LogEntry)) (before after : List ℤ) : Type 0 where
   pub settled : s ≡ c.settled
   pub values : map (λ b. b.real) c.history ≡ (plain_blocks (entry_at c.site)).values
   pub result : (plain_blocks (entry_at c.site)).result ≡ result_as s
   pub memory : (v : carried.Carried) → s ≡ Carried v → before ≡ c.site.memory → after ≡ (plain_blocks (entry_at c.site)).memory
-  pub merging : (steps : List Step) → Merges c.site.blocks (logs_in trace) steps → IsSpeculativeRun (entry_at c.site) (guess_at c.site) steps (map (λ b. b.real) c.history) (result_as s)
+  pub merging : (steps : List Step) → Merges c.site.blocks (logs_in trace) steps
+      → IsSpeculativeRun (entry_at c.site) (guess_at c.site) steps (map (λ b. b.real) c.history) (result_as s)

@@ -11,7 +11,8 @@ use Rattle.spf_layout.specs.Instance.{program_of}
 use Rattle.spf_check.specs.Accepting.{IsAccepted}
 use Rattle.spf_ticket.specs.declared.run.Job.{Job}
 
--- the blocks of the job's construct can be run as attempts: the program is lawful, the construct is one of its top constructs, no block of it emits or assigns a slot from outside, and the job has a word for each cell
+-- the blocks of the job's construct can be run as attempts: the program is lawful, the construct is one of its top
+-- constructs, no block of it emits or assigns a slot from outside, and the job has a word for each cell
 pub record CanRun (job : Job) : Type 0 where
   pub lawful : IsLawful (program_of job.instance.now)
   pub top : Contains (constructs_in (program_of job.instance.now).main) (construct job.construct)

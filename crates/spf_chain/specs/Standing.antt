@@ -17,7 +17,8 @@ abbrev pub reals : ℕ → List Validated → List carried.Carried
 reals count blocks = map (λ b. b.real) (take count blocks)
 
 -- the first n blocks are a validated prefix, on some memory
-pub record PrefixAt (e : Entry) (guess : ℕ → carried.Carried) (logs : ℕ → List Event) (n : ℕ) (values : List carried.Carried) (v : carried.Carried) : Type 0 where
+pub record PrefixAt (e : Entry) (guess : ℕ → carried.Carried) (logs : ℕ → List Event) (n : ℕ)
+    (values : List carried.Carried) (v : carried.Carried) : Type 0 where
   pub memory : List ℤ
   pub prefix : IsValidatedPrefix e guess logs n values v memory
 

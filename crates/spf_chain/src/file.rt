@@ -8,7 +8,21 @@ ghost use Rattle.spf_ticket.specs.declared.ticket.Report.{Report as SeenReport};
 ghost use Rattle.spf_ticket.specs.Tickets.{IsLawfulReport};
 ghost use Rattle.spf_entry.specs.Sites.{entry_at, guess_at};
 ghost use Rattle.spf_chain.specs.Homes.{known_in};
-ghost use Rattle.spf_chain.specs.Chains.{HasRaised, Raises, IsToRaise, IsFiled, cells_of, next_block, IsOut, came_home, Validates, IsAnswer, IsExact, HasTrapped, IsSameChain};
+ghost use Rattle.spf_chain.specs.Chains.{
+  HasRaised,
+  Raises,
+  IsToRaise,
+  IsFiled,
+  cells_of,
+  next_block,
+  IsOut,
+  came_home,
+  Validates,
+  IsAnswer,
+  IsExact,
+  HasTrapped,
+  IsSameChain,
+};
 ghost use Rattle.spf_edge.specs.Faults.{one_more};
 
 use crate::chain::{Chain, Filed};
@@ -33,7 +47,8 @@ fn is_out(homes: &[Option<Report>], place: usize) -> bool
 
 // The lowest place where no report is.
 fn lowest_out(homes: &[Option<Report>]) -> Option<u64>
-    ensures { MatchOption result ((n : ℕ) → slice_get homes.now n ≢ Some None) (λ b. (slice_get homes.now b ≡ Some None) × ((n : ℕ) → n < b → slice_get homes.now n ≢ Some None)) }
+    ensures { MatchOption result ((n : ℕ) → slice_get homes.now n ≢ Some None)
+        (λ b. (slice_get homes.now b ≡ Some None) × ((n : ℕ) → n < b → slice_get homes.now n ≢ Some None)) }
 {
     for block in 0..homes.len() {
         if is_out(homes, block) {

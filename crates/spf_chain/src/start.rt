@@ -200,7 +200,8 @@ impl Chain {
         guesses: &[Guess],
     ) -> Result<(Chain, Cells, Vec<Ticket>), AllocError>
         requires program { program_of instance.now ≡ seen_program checked.now }
-        requires construct { (c : construct_names.Construct) × (slice_get (constructs_in (program_of instance.now).main) construct ≡ Some c) × AreBlocksOf c header.blocks }
+        requires construct { (c : construct_names.Construct) × (slice_get (constructs_in (program_of instance.now).main) construct
+            ≡ Some c) × AreBlocksOf c header.blocks }
         requires guesses { length guesses.now + 1 ≡ header.blocks }
         requires few { header.blocks ≤ 4096 }
         requires fits { (header.low +ℤ pos header.blocks) ≤ℤ i64.MAX }

@@ -29,7 +29,8 @@ impl Validation {
     pub(crate) fn advance(&mut self, homes: &[Option<Report>])
         requires size { length self.old.blocks.items ≡ length homes.now }
         requires within { self.old.count ≤ length homes.now }
-        ensures stands { (e : Entry) (guess : ℕ → CarriedValue) (c : CellsValue) → IsEntry e → AreHomes e guess c homes.now → StandsOver e guess homes.now self.old → StandsOver e guess homes.now self.new }
+        ensures stands { (e : Entry) (guess : ℕ → CarriedValue) (c : CellsValue) → IsEntry e → AreHomes e guess c homes.now
+            → StandsOver e guess homes.now self.old → StandsOver e guess homes.now self.new }
         ensures done { IsDone homes.now self.new.count self.new.settled }
         ensures grown { GrowsTo self.old self.new }
         ensures trapped { (t : SeenTrap) → self.old.settled ≡ Trapped t → self.new ≡ self.old }

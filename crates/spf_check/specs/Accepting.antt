@@ -7,7 +7,20 @@ use Rattle.spf_ast.specs.Construct.{Construct, fold, pair, constructs_in}
 use Rattle.spf_region.specs.declared.range.Range.{Range}
 use Rattle.spf_region.specs.Ranges.{array_of, offsets_of, wholes_of, covers, separate, disjoint, IsNormal}
 use Rattle.spf_effects.specs.Parts.{part_effects}
-use Rattle.spf_rollback.specs.Rules.{guessed_part, may_write, reads_bare, IsWritten, KeepsTheRules, AssignsNoOuter, EmitsNothing, PredictorWritesNothing, WritesApart, PredictorReadsUnwritten, ReadsAfterWriting, WritesAll}
+use Rattle.spf_rollback.specs.Rules.{
+  guessed_part,
+  may_write,
+  reads_bare,
+  IsWritten,
+  KeepsTheRules,
+  AssignsNoOuter,
+  EmitsNothing,
+  PredictorWritesNothing,
+  WritesApart,
+  PredictorReadsUnwritten,
+  ReadsAfterWriting,
+  WritesAll,
+}
 use Rattle.spf_check.specs.declared.rule.Rule.{Rule}
 use Rattle.spf_check.specs.declared.rule.Rule.TheVariants.{OuterAssign, EmitInside, PredictorWrites, Overlap, PredictorReads, ReadBeforeWrite, NotOverwritten}
 

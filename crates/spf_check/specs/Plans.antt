@@ -20,5 +20,6 @@ pub record AreSpansOf (p : Program) (construct : Construct) (extents : List Exte
 pub record IsPlanOf (p : Program) (construct : Construct) (extents : List Extent) (cells : ℕ) (low : ℤ) (blocks : ℕ) (plan : List (List Span)) : Type 0 where
   pub count : length plan ≡ blocks
   pub spans : (block : ℕ) (list : List Span) → slice_get plan block ≡ Some list → AreSpansOf p construct extents low block list
-  pub disjoint : (block other : ℕ) (one two : List Span) (cell : ℕ) → block ≢ other → slice_get plan block ≡ Some one → slice_get plan other ≡ Some two → in_spans one cell ≡ true → in_spans two cell ≡ true → ⊥
+  pub disjoint : (block other : ℕ) (one two : List Span) (cell : ℕ) → block ≢ other → slice_get plan block ≡ Some one
+      → slice_get plan other ≡ Some two → in_spans one cell ≡ true → in_spans two cell ≡ true → ⊥
   pub within : (block : ℕ) (list : List Span) (cell : ℕ) → slice_get plan block ≡ Some list → in_spans list cell ≡ true → cell < cells

@@ -41,7 +41,8 @@ array_name arrays array = name_in (slice_get arrays array)
 abbrev pub offsets_text : Range → List ℕ
 offsets_text (Whole array) = codes "[..]"
 offsets_text (Affine array f from to) =
-    joined (codes "[" ∷ signed_decimal f ∷ codes "*k+" ∷ signed_decimal from ∷ codes ".." ∷ signed_decimal f ∷ codes "*k+" ∷ signed_decimal (to +ℤ pos 1) ∷ codes "]" ∷ [])
+    joined (codes "[" ∷ signed_decimal f ∷ codes "*k+" ∷ signed_decimal from ∷ codes ".." ∷ signed_decimal f
+    ∷ codes "*k+" ∷ signed_decimal (to +ℤ pos 1) ∷ codes "]" ∷ [])
 
 -- a range: the name of its array, and its offsets
 abbrev pub range_text : List Array → Range → List ℕ

@@ -4,7 +4,7 @@ ghost use Rattle.spf_ast.specs.Lawful.{IsLawful};
 ghost use Rattle.spf_ast.specs.Syntax.{Program as plain_program};
 ghost use Rattle.spf_ast.specs.View.{program as seen_program};
 ghost use Rattle.spf_ast.specs.Construct.{fold, pair};
-ghost use Rattle.spf_ast.specs.ConstructView.{construct as construct_seen};
+ghost use Rattle.spf_ast.specs.ConstructView.{construct as seen_construct};
 ghost use Rattle.spf_check.specs.Parts.{AreEffectsOf};
 ghost use Rattle.spf_check.specs.Verdicts.{IsExamined, IsVerdict};
 ghost use Rattle.spf_check.specs.Checking.{IsChecked};
@@ -40,7 +40,7 @@ fn fold_effects(
     program: &Program,
     construct: TopConstruct,
 ) -> Result<ConstructEffects, AllocError>
-    ensures { (line : _) (head : _) (body : _) → construct_seen construct.entry ≡ fold line head body
+    ensures { (line : _) (head : _) (body : _) → seen_construct construct.entry ≡ fold line head body
         → IfOk result (AreEffectsOf (seen_program program.now) (fold line head body)) }
 {
     Ok(ConstructEffects {
@@ -56,7 +56,7 @@ fn pair_effects(
     program: &Program,
     construct: TopConstruct,
 ) -> Result<ConstructEffects, AllocError>
-    ensures { (line : _) (head : _) (producer : _) (consumer : _) → construct_seen construct.entry ≡ pair line head producer consumer
+    ensures { (line : _) (head : _) (producer : _) (consumer : _) → seen_construct construct.entry ≡ pair line head producer consumer
         → IfOk result (AreEffectsOf (seen_program program.now) (pair line head producer consumer)) }
 {
     Ok(ConstructEffects {
@@ -72,7 +72,7 @@ pub(crate) fn effects_of(
     program: &Program,
     construct: TopConstruct,
 ) -> Result<ConstructEffects, AllocError>
-    ensures { IfOk result (AreEffectsOf (seen_program program.now) (construct_seen construct.entry)) }
+    ensures { IfOk result (AreEffectsOf (seen_program program.now) (seen_construct construct.entry)) }
 {
     match construct.kind {
         ConstructKind::Fold(_) => fold_effects(alloc, program, construct),
@@ -105,7 +105,7 @@ fn writes_of(found: ConstructEffects) -> Writes
 
 /// What is said of a construct, given the effects of its parts.
 fn judge(construct: &TopConstruct, found: ConstructEffects) -> Examined
-    ensures { (p : plain_program) → AreEffectsOf p (construct_seen construct.now) found → IsExamined p (construct_seen construct.now) result }
+    ensures { (p : plain_program) → AreEffectsOf p (seen_construct construct.now) found → IsExamined p (seen_construct construct.now) result }
 {
     match found.lowest_broken() {
         Some((rule, range)) => Examined::Refused(Refusal {
@@ -123,7 +123,7 @@ fn examine_construct(
     program: &Program,
     construct: TopConstruct,
 ) -> Result<Examined, AllocError>
-    ensures { IfOk result (IsExamined (seen_program program.now) (construct_seen construct.entry)) }
+    ensures { IfOk result (IsExamined (seen_program program.now) (seen_construct construct.entry)) }
 {
     let found = effects_of(alloc, program, construct)?;
     Ok(judge(&construct, found))

@@ -1,9 +1,9 @@
 //! Explains what the rules find in a program.
 ghost use Rattle.std.specs.Prelude.{◌≡◌, ◌<◌, ◌++◌, map, string_bytes, Some, length, slice_get, IfOk};
 ghost use Rattle.spf_ast.specs.Lawful.{IsLawful};
-ghost use Rattle.spf_ast.specs.View.{array as array_of, program as seen_program};
+ghost use Rattle.spf_ast.specs.View.{array as seen_array, program as seen_program};
 ghost use Rattle.spf_ast.specs.Construct.{Construct, constructs_in};
-ghost use Rattle.spf_ast.specs.ConstructView.{construct as construct_seen};
+ghost use Rattle.spf_ast.specs.ConstructView.{construct as seen_construct};
 ghost use Rattle.spf_effects.specs.Effects.{AreEffects};
 ghost use Rattle.spf_effects.specs.Parts.{part_effects};
 ghost use Rattle.spf_check.specs.Accepting.{IsLowestBroken};
@@ -46,7 +46,7 @@ fn push_list(
     list: &RangeList,
     text: &mut Vec<u8>,
 ) -> Result<(), AllocError>
-    ensures { IfOk result (λ _. text.new.items ≡ text.old.items ++ list_line (map array_of arrays.now) part what.now list.now) }
+    ensures { IfOk result (λ _. text.new.items ≡ text.old.items ++ list_line (map seen_array arrays.now) part what.now list.now) }
 {
     let name = part_name(part);
     let begin = format!(in alloc; "{name} {what}")?;
@@ -65,7 +65,8 @@ fn push_part(
     found: &Effects,
     text: &mut Vec<u8>,
 ) -> Result<(), AllocError>
-    ensures { IfOk result (λ _. text.new.items ≡ text.old.items ++ part_lines (map array_of arrays.now) part found.now.uncovered found.now.may found.now.must) }
+    ensures { IfOk result (λ _. text.new.items ≡ text.old.items
+        ++ part_lines (map seen_array arrays.now) part found.now.uncovered found.now.may found.now.must) }
 {
     push_list(alloc, arrays, part, "uncovered", &found.uncovered, text)?;
     push_list(alloc, arrays, part, "may", &found.may, text)?;
@@ -80,7 +81,7 @@ fn push_fold(
     body: &Effects,
     text: &mut Vec<u8>,
 ) -> Result<(), AllocError>
-    ensures { IfOk result (λ _. text.new.items ≡ text.old.items ++ fold_lines (map array_of arrays.now) predictor.now body.now) }
+    ensures { IfOk result (λ _. text.new.items ≡ text.old.items ++ fold_lines (map seen_array arrays.now) predictor.now body.now) }
 {
     push_part(alloc, arrays, Part::Predictor, predictor, text)?;
     push_part(alloc, arrays, Part::Body, body, text)
@@ -95,7 +96,7 @@ fn push_pair(
     consumer: &Effects,
     text: &mut Vec<u8>,
 ) -> Result<(), AllocError>
-    ensures { IfOk result (λ _. text.new.items ≡ text.old.items ++ pair_lines (map array_of arrays.now) producer.now predictor.now consumer.now) }
+    ensures { IfOk result (λ _. text.new.items ≡ text.old.items ++ pair_lines (map seen_array arrays.now) producer.now predictor.now consumer.now) }
 {
     push_part(alloc, arrays, Part::Producer, producer, text)?;
     push_part(alloc, arrays, Part::Predictor, predictor, text)?;
@@ -109,7 +110,7 @@ fn push_parts(
     found: &ConstructEffects,
     text: &mut Vec<u8>,
 ) -> Result<(), AllocError>
-    ensures { IfOk result (λ _. text.new.items ≡ text.old.items ++ parts_lines (map array_of arrays.now) found.now) }
+    ensures { IfOk result (λ _. text.new.items ≡ text.old.items ++ parts_lines (map seen_array arrays.now) found.now) }
 {
     let (guessed, predictor) = (&found.guessed, &found.predictor);
     match &found.producer {
@@ -126,7 +127,7 @@ fn push_broken(
     range: Option<Range>,
     text: &mut Vec<u8>,
 ) -> Result<(), AllocError>
-    ensures { IfOk result (λ _. text.new.items ≡ text.old.items ++ broken_line (map array_of arrays.now) rule range) }
+    ensures { IfOk result (λ _. text.new.items ≡ text.old.items ++ broken_line (map seen_array arrays.now) rule range) }
 {
     let name = rule_name(rule);
     let begin = format!(in alloc; "verdict {name}")?;
@@ -146,7 +147,7 @@ fn push_verdict(
     found: &ConstructEffects,
     text: &mut Vec<u8>,
 ) -> Result<(), AllocError>
-    ensures { (p : plain_program) (c : Construct) → p.arrays ≡ map array_of arrays.now → AreEffectsOf p c found.now
+    ensures { (p : plain_program) (c : Construct) → p.arrays ≡ map seen_array arrays.now → AreEffectsOf p c found.now
         → IfOk result (λ _. (verdict : List ℕ) × IsVerdictText p c verdict × (text.new.items ≡ text.old.items ++ verdict)) }
 {
     match found.lowest_broken() {
@@ -157,7 +158,7 @@ fn push_verdict(
 
 /// The line that names a construct.
 fn construct_line(alloc: Global, construct: &TopConstruct) -> Result<String, AllocError>
-    ensures { IfOk result (λ text. string_bytes text ≡ construct_line (construct_seen construct.now)) }
+    ensures { IfOk result (λ text. string_bytes text ≡ construct_line (seen_construct construct.now)) }
 {
     let line = construct.line;
     match construct.kind {
@@ -174,8 +175,8 @@ fn push_found(
     found: &ConstructEffects,
     text: &mut Vec<u8>,
 ) -> Result<(), AllocError>
-    ensures { (p : plain_program) → p.arrays ≡ map array_of arrays.now → AreEffectsOf p (construct_seen construct.now) found.now
-        → IfOk result (λ _. (lines : List ℕ) × IsConstructText p (construct_seen construct.now) lines × (text.new.items ≡ text.old.items ++ lines)) }
+    ensures { (p : plain_program) → p.arrays ≡ map seen_array arrays.now → AreEffectsOf p (seen_construct construct.now) found.now
+        → IfOk result (λ _. (lines : List ℕ) × IsConstructText p (seen_construct construct.now) lines × (text.new.items ≡ text.old.items ++ lines)) }
 {
     found.are_normal();
     let line = construct_line(alloc, construct)?;
@@ -191,7 +192,8 @@ fn push_construct(
     construct: TopConstruct,
     text: &mut Vec<u8>,
 ) -> Result<(), AllocError>
-    ensures { IfOk result (λ _. (lines : List ℕ) × IsConstructText (seen_program program.now) (construct_seen construct.entry) lines × (text.new.items ≡ text.old.items ++ lines)) }
+    ensures { IfOk result (λ _. (lines : List ℕ) × IsConstructText (seen_program program.now)
+        (seen_construct construct.entry) lines × (text.new.items ≡ text.old.items ++ lines)) }
 {
     let found = effects_of(alloc, program, construct)?;
     push_found(alloc, &program.arrays, &construct, &found, text)

@@ -80,7 +80,8 @@ impl Checked {
         requires few { blocks ≤ 4096 }
         requires numbers { (low +ℤ pos blocks) ≤ℤ i64.MAX }
         ensures { (c : Construct) → slice_get (constructs_in (seen_program self.now).main) construct ≡ Some c
-            → IfOk result (λ plan. IsPlanOf (seen_program self.now) c layout.now.extents layout.now.cells low blocks (map (λ spans. spans.items) plan.blocks.items)) }
+            → IfOk result (λ plan. IsPlanOf (seen_program self.now) c layout.now.extents layout.now.cells low blocks
+            (map (λ spans. spans.items) plan.blocks.items)) }
     {
         the_rules_set_free();
         let Some(writes) = self.writes.get(construct as usize) else {

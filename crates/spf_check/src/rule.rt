@@ -1,7 +1,10 @@
 //! The rules, and what is said of a program that breaks one.
 
+use crate::text::rule_name;
 use spf_ast::syntax::Program;
 use spf_region::range::Range;
+use std::fmt;
+use thiserror::Error;
 
 /// A rule for top constructs. A program is refused by the first that its first faulty construct breaks, in this order.
 #[derive(Clone, Copy, PartialEq, Eq, Debug)]
@@ -34,10 +37,22 @@ pub struct Refusal {
 }
 
 /// Why a program isn't checked. It is handed back.
-#[derive(Drop)]
+#[derive(Drop, Error)]
 pub enum CheckError {
     /// A top construct breaks a rule.
+    #[error("refused {} line {}", rule_name(.refusal.rule), .refusal.line)]
     Refused { program: Program, refusal: Refusal },
     /// There was no memory for the analysis.
+    #[error("out of memory")]
     OutOfMemory { program: Program },
+}
+
+/// Shows the refusal, without the program.
+impl fmt::Debug for CheckError {
+    fn fmt<W: fmt::Write>(&self, f: &mut fmt::Formatter<W>) -> fmt::Result {
+        match self {
+            CheckError::Refused { refusal, .. } => write!(f, "Refused({refusal:?})"),
+            CheckError::OutOfMemory { .. } => write!(f, "OutOfMemory"),
+        }
+    }
 }

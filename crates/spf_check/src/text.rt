@@ -1,6 +1,6 @@
 //! How rules and ranges are written.
 ghost use Rattle.std.specs.Prelude.{◌≡◌, ◌++◌, map, string_bytes, IfOk};
-ghost use Rattle.spf_ast.specs.View.{array as array_of};
+ghost use Rattle.spf_ast.specs.View.{array as seen_array};
 ghost use Rattle.spf_check.specs.Text.{rule_name, array_name, offsets_text, range_text, ranges_text, perhaps_range};
 
 use crate::rule::Rule;
@@ -25,7 +25,7 @@ pub fn rule_name(rule: Rule) -> &'static str
 
 /// The name of an array; of one that isn't there, no bytes.
 fn array_name(arrays: &[Array], place: u32) -> &[u8]
-    ensures { result.now ≡ array_name (map array_of arrays.now) place }
+    ensures { result.now ≡ array_name (map seen_array arrays.now) place }
 {
     match arrays.get(place as usize) {
         Some(array) => &array.name.bytes,
@@ -62,7 +62,7 @@ pub fn push_range(
     range: Range,
     text: &mut Vec<u8>,
 ) -> Result<(), AllocError>
-    ensures { IfOk result (λ _. text.new.items ≡ text.old.items ++ range_text (map array_of arrays.now) range) }
+    ensures { IfOk result (λ _. text.new.items ≡ text.old.items ++ range_text (map seen_array arrays.now) range) }
 {
     text.extend_from_slice(array_name(arrays, range.array()))?;
     let offsets = offsets_text(alloc, range)?;
@@ -76,7 +76,7 @@ pub(crate) fn push_ranges(
     ranges: &[Range],
     text: &mut Vec<u8>,
 ) -> Result<(), AllocError>
-    ensures { IfOk result (λ _. text.new.items ≡ text.old.items ++ ranges_text (map array_of arrays.now) ranges.now) }
+    ensures { IfOk result (λ _. text.new.items ≡ text.old.items ++ ranges_text (map seen_array arrays.now) ranges.now) }
 {
     for range in ranges {
         text.push(b' ')?;

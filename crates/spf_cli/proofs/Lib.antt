@@ -5,3 +5,4 @@ pub mod OneVerdict
 pub mod Pieces
 pub mod Steps
 pub mod Verdicts
+mod AtHand

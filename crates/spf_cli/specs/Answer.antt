@@ -8,7 +8,21 @@ use Rattle.spf_ast.specs.Canonical.{canonical_text}
 use Rattle.spf_region.specs.declared.range.Range.{Range}
 use Rattle.spf_check.specs.declared.rule.Rule.{Rule}
 use Rattle.spf_guess.specs.declared.stats.Stats.{Stats}
-use Rattle.spf_cli.specs.Message.{trap_line, words_line, failed_line, long_line, too_many_line, host_line, not_huf1_line, not_lex1_line, sum_line, accepted_line, rule_line, stats_line, array_lines}
+use Rattle.spf_cli.specs.Message.{
+  trap_line,
+  words_line,
+  failed_line,
+  long_line,
+  too_many_line,
+  host_line,
+  not_huf1_line,
+  not_lex1_line,
+  sum_line,
+  accepted_line,
+  rule_line,
+  stats_line,
+  array_lines,
+}
 use Rattle.spf_words.specs.Command.{Options}
 use Rattle.spf_cli.specs.Reading.{Refusal, refusal_line}
 

@@ -83,6 +83,10 @@ AnswersWith P (Ok a) = P (seen_answer a)
 AnswersWith P (Err (Answered a)) = P (seen_answer a)
 AnswersWith P (Err NoMemory) = Unit {0}
 
+-- a program was run to its end, or to its trap
+abbrev pub IsRunToItsEnd : said.Answer → Type 0
+IsRunToItsEnd answer = (answer.status ≡ 0) ⊎ (answer.status ≡ 1)
+
 -- a put failed only where a fault was met
 abbrev pub IsPutFault : Type 0 → PutError → Type 0
 IsPutFault Fault Failed = Fault

@@ -30,7 +30,8 @@ NoTextIsLeftUnjudged = (text : List ℕ) → ((verdict : Verdict) → IsVerdict 
 
 -- a list of words has at most one answer, with what is handed in and over files
 abbrev pub NoneHasTwoAnswers : Type 0
-NoneHasTwoAnswers = (handed : Handed) (words : List (List ℕ)) (files : List Entry) (one other : Answer) → Whole handed words files one → Whole handed words files other → one ≡ other
+NoneHasTwoAnswers = (handed : Handed) (words : List (List ℕ)) (files : List Entry) (one other : Answer)
+    → Whole handed words files one → Whole handed words files other → one ≡ other
 
 -- no list of words is left without an answer: there is none, whatever is handed in and whatever the files are, to which no answer is the whole one
 abbrev pub NoneIsLeftUnanswered : Type 0

@@ -11,7 +11,8 @@ pub record IsPutUpTo (bytes rest : List ℕ) (taken_before taken_now : Option (L
   pub later : faults_before ≤ faults_now
 
 -- the same of lines, each of which was put by a put of its own
-pub record AreLinesPutUpTo (lines rest : List (List ℕ)) (taken_before taken_now : Option (List ℕ)) (pieces_before pieces_now : Option (List (List ℕ))) (faults_before faults_now : ℕ) : Type 0 where
+pub record AreLinesPutUpTo (lines rest : List (List ℕ)) (taken_before taken_now : Option (List ℕ))
+    (pieces_before pieces_now : Option (List (List ℕ))) (faults_before faults_now : ℕ) : Type 0 where
   pub first : List (List ℕ)
   pub split : lines ≡ first ++ rest
   pub took : Adds taken_before taken_now (concat first)

@@ -3,7 +3,18 @@ use Rattle.std.specs.Prelude.{ℕ}
 use Rattle.spf_edge.specs.declared.sink.PutError.{PutError}
 use Rattle.spf_edge.specs.declared.sink.PutError.TheVariants.{Failed, OutOfMemory}
 use Rattle.spf_cli.specs.declared.status.Status.{Status}
-use Rattle.spf_cli.specs.declared.status.Status.TheVariants.{Done, Trapped, NotUnderstood, NoProgram, Refused, FileFailed, PutFailed, OverLimit, NoMemory, WrongFormat}
+use Rattle.spf_cli.specs.declared.status.Status.TheVariants.{
+  Done,
+  Trapped,
+  NotUnderstood,
+  NoProgram,
+  Refused,
+  FileFailed,
+  PutFailed,
+  OverLimit,
+  NoMemory,
+  WrongFormat,
+}
 
 -- the number of a status
 abbrev pub status_number : Status → ℕ

@@ -6,7 +6,23 @@ use Rattle.spf_ast.specs.Program.{Outcome, outcome, cell_count_of, max_cells}
 use Rattle.spf_layout.specs.RunErrors.{counted}
 use Rattle.spf_edge.specs.Entries.{Entry, lookup}
 use Rattle.spf_edge.specs.Bytes.{Adds, AddsPrefix, Hands}
-use Rattle.spf_cli.specs.Answer.{Answer, not_understood, text_refused, accepted, rule_refused, explained, file_failed, file_too_long, too_many_cells, host_missing, not_huf1, not_lex1, printed, ran, shown}
+use Rattle.spf_cli.specs.Answer.{
+  Answer,
+  not_understood,
+  text_refused,
+  accepted,
+  rule_refused,
+  explained,
+  file_failed,
+  file_too_long,
+  too_many_cells,
+  host_missing,
+  not_huf1,
+  not_lex1,
+  printed,
+  ran,
+  shown,
+}
 use Rattle.spf_words.specs.Command.{Command, Run, Check, Explain, Print, Unpack, Unhuff, Lex, Demo, Options, DecodeOptions, Asks}
 use Rattle.spf_words.specs.Only.{IsOnly}
 use Rattle.spf_region.specs.declared.range.Range.{Range}
@@ -113,6 +129,16 @@ Runs options given p input = RunsTo (ran options p (length input)) options given
 -- a program is run on the file of an input
 abbrev pub RunsOn : Options → Handed → List ℕ → Program → List Entry → Wanted
 RunsOn options given input p files = Fetched input max_input (lookup files input) (λ content. Runs options given p content)
+
+-- ---- bytes at hand
+
+-- a run by blocks on so many workers, which shows its statistics
+abbrev pub with_stats : ℕ → Options
+with_stats workers = record { workers = Some workers; stats = true; cells = false; plain = false }
+
+-- the program that a text says is run so, where the rules accept it, on an input
+abbrev pub RunsText : Handed → ℕ → List ℕ → List ℕ → Wanted
+RunsText given workers text input = Read text (λ p. CheckedBy p (Runs (with_stats workers) given p input))
 
 -- ---- decoders
 
@@ -235,7 +261,8 @@ abbrev pub IsFaultAnswer : List (List ℕ) → List Entry → Answer → Type 0
 IsFaultAnswer words files answer = (command : Command) × Asks words command × IsFaultOf command files answer
 
 -- what came of an answer: its status, and its bytes on both sinks, each line of the error stream by a put of its own
-pub record IsGiven (answer : Answer) (status : ℕ) (out_before out_now err_before err_now : Option (List ℕ)) (lines_before lines_now : Option (List (List ℕ))) : Type 0 where
+pub record IsGiven (answer : Answer) (status : ℕ) (out_before out_now err_before err_now : Option (List ℕ))
+    (lines_before lines_now : Option (List (List ℕ))) : Type 0 where
   pub status_is : status ≡ answer.status
   pub out_took : Adds out_before out_now answer.out
   pub err_took : Adds err_before err_now (concat answer.err)
@@ -247,15 +274,33 @@ pub record IsGivenInPart (answer : Answer) (out_before out_now err_before err_no
   pub err_took : AddsPrefix err_before err_now (concat answer.err)
   pub lines_wait : Adds out_before out_now answer.out ⊎ (err_now ≡ err_before)
 
--- What was put is a prefix of the one whole answer; or memory ran out, and nothing was put; or a fault of a file that was reached was met, and it is a prefix of the answer to that, with its status or that for a sink.
+-- the one answer that is wanted was put on both sinks; or memory ran out, or a fault of a sink was met
+abbrev pub IsPut : Wanted → Type 0 → ℕ → Option (List ℕ) → Option (List ℕ) → Option (List ℕ) → Option (List ℕ)
+    → Option (List (List ℕ)) → Option (List (List ℕ)) → Type 0
+IsPut wanted PutFault status out_before out_now err_before err_now lines_before lines_now =
+    ((answer : Answer) × IsOnly wanted answer × IsGiven answer status out_before out_now err_before err_now lines_before lines_now)
+    ⊎ (status ≡ 8)
+    ⊎ (PutFault × (status ≡ 6))
+
+-- what was put is a prefix of the one answer that is wanted; or memory ran out, and nothing was put
+abbrev pub IsPutInPart : Wanted → ℕ → Option (List ℕ) → Option (List ℕ) → Option (List ℕ) → Option (List ℕ) → Type 0
+IsPutInPart wanted status out_before out_now err_before err_now =
+    ((answer : Answer) × IsOnly wanted answer × IsGivenInPart answer out_before out_now err_before err_now)
+    ⊎ ((status ≡ 8) × (out_now ≡ out_before) × (err_now ≡ err_before))
+
+-- What was put is a prefix of the one whole answer; or memory ran out, and nothing was put; or a fault of a file that
+-- was reached was met, and it is a prefix of the answer to that, with its status or that for a sink.
 abbrev pub IsAnsweredInPart : Handed → List (List ℕ) → List Entry → Type 0 → ℕ → Option (List ℕ) → Option (List ℕ) → Option (List ℕ) → Option (List ℕ) → Type 0
 IsAnsweredInPart given words files FileFault status out_before out_now err_before err_now =
     ((answer : Answer) × IsOnly (Whole given words files) answer × IsGivenInPart answer out_before out_now err_before err_now)
     ⊎ ((status ≡ 8) × (out_now ≡ out_before) × (err_now ≡ err_before))
-    ⊎ (FileFault × ((status ≡ 5) ⊎ (status ≡ 6)) × ((answer : Answer) × IsFaultAnswer words files answer × IsGivenInPart answer out_before out_now err_before err_now))
+    ⊎ (FileFault × ((status ≡ 5) ⊎ (status ≡ 6))
+    × ((answer : Answer) × IsFaultAnswer words files answer
+    × IsGivenInPart answer out_before out_now err_before err_now))
 
 -- What the program answered: the one whole answer, put on both sinks; or memory ran out, or a fault of a file that was reached, or of a sink, was met.
-abbrev pub IsAnswered : Handed → List (List ℕ) → List Entry → Type 0 → Type 0 → ℕ → Option (List ℕ) → Option (List ℕ) → Option (List ℕ) → Option (List ℕ) → Option (List (List ℕ)) → Option (List (List ℕ)) → Type 0
+abbrev pub IsAnswered : Handed → List (List ℕ) → List Entry → Type 0 → Type 0 → ℕ → Option (List ℕ) → Option (List ℕ)
+    → Option (List ℕ) → Option (List ℕ) → Option (List (List ℕ)) → Option (List (List ℕ)) → Type 0
 IsAnswered given words files FileFault PutFault status out_before out_now err_before err_now lines_before lines_now =
     ((answer : Answer) × IsOnly (Whole given words files) answer × IsGiven answer status out_before out_now err_before err_now lines_before lines_now)
     ⊎ (status ≡ 8)

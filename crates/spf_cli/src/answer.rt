@@ -1,22 +1,47 @@
 // What the program answers, before any of it is put anywhere.
 
 ghost use Rattle.std.specs.Prelude.{◌≡◌, ◌≤◌, ◌<◌, ◌^◌, ◌++◌, ◌∷◌, [], List, Option, Some, IfOk, IfErr, map, length, string_bytes, true, false};
-ghost use Rattle.spf_ast.specs.View.{program as program_of, array as array_of};
+ghost use Rattle.spf_ast.specs.View.{program as seen_program, array as seen_array};
 ghost use Rattle.spf_ast.specs.Program.{extents_from, seen_outcome};
 ghost use Rattle.spf_ast.specs.Lawful.{IsLawful};
 ghost use Rattle.spf_layout.specs.Instance.{program_of as instance_program};
+ghost use Rattle.spf_guess.specs.Statistics.{tally};
+ghost use Rattle.spf_predictors.specs.Answers.{handed_in, WereTold};
+ghost use Rattle.spf_engine.specs.Runs.{WereToldFirst};
 ghost use Rattle.spf_edge.specs.Entries.{Entry, HasContent};
 ghost use Rattle.spf_edge.specs.Faults.{Rose};
 ghost use Rattle.spf_cli.specs.Message.{array_lines};
 ghost use Rattle.spf_words.specs.Command.{Run as run_command, Check as check_command, Explain as explain_command, Print as print_command, IsUpTo, HasNumbers};
 ghost use Rattle.spf_cli.specs.Reading.{IsVerdict, Says};
 ghost use Rattle.spf_check.specs.Accepting.{IsAccepted};
-ghost use Rattle.spf_cli.specs.Answer.{refused as refused_answer, accepted as accepted_answer, rule_refused as rule_refused_answer, file_failed, too_many_cells, host_missing, printed, stats_lines, ran as ran_answer};
+ghost use Rattle.spf_cli.specs.Answer.{
+  refused as refused_answer,
+  accepted as accepted_answer,
+  rule_refused as rule_refused_answer,
+  file_failed,
+  too_many_cells,
+  host_missing,
+  printed,
+  stats_lines,
+  ran as ran_answer,
+};
 ghost use Rattle.spf_words.specs.Asked.{seen_command, seen_options};
 ghost use Rattle.spf_cli.specs.Status.{status_number};
 ghost use Rattle.spf_words.specs.Only.{IsOnly};
 ghost use Rattle.spf_cli.specs.Whole.{Handed, handed, Runs, RunsOn, IsInputFault, Whole, WholeOf, IsFaultOf, IsFaultAnswer};
-ghost use Rattle.spf_cli.specs.Answering.{lines_of, seen_answer, IsFetchExit, IsReadExit, IsRuleExit, IsNotAccepted, IsNotRun, IsWholeUnless, IsCaused, AnswersWith};
+ghost use Rattle.spf_cli.specs.Answering.{
+  lines_of,
+  seen_answer,
+  IsFetchExit,
+  IsReadExit,
+  IsRuleExit,
+  IsNotAccepted,
+  IsNotRun,
+  IsWholeUnless,
+  IsCaused,
+  AnswersWith,
+  IsRunToItsEnd,
+};
 
 use crate::decoding::{demo, lex_files, unhuff_file, unpack_file};
 use crate::laws::rules_say_one_thing;
@@ -40,7 +65,7 @@ use spf_layout::instance::Instance;
 use spf_layout::layout::RunError;
 use spf_predictors::Predictor;
 use spf_predictors::missing::first_missing;
-use spf_words::{Command, Options, read_words};
+use spf_words::{Command, Options, WordsError, read_words};
 use std::alloc::{AllocError, Global};
 use std::sync::Wait;
 use std::thread::Threads;
@@ -142,8 +167,8 @@ pub(crate) fn fetch<F: Files>(
 }
 
 /// The program that a text says.
-fn read(alloc: Global, text: &[u8]) -> Result<Program, Exit>
-    ensures program { IfOk result (λ p. IsOnly (IsVerdict text.now) (Says (program_of p))) }
+pub(crate) fn read(alloc: Global, text: &[u8]) -> Result<Program, Exit>
+    ensures program { IfOk result (λ p. IsOnly (IsVerdict text.now) (Says (seen_program p))) }
     ensures left { IfErr result (IsReadExit text.now) }
 {
     match read_program(alloc, text) {
@@ -166,7 +191,7 @@ fn accepted(alloc: Global) -> Result<Answer, AllocError>
 
 /// The answer where a top construct of a program breaks a rule.
 fn rule_refused(alloc: Global, program: &Program, refusal: Refusal) -> Result<Answer, AllocError>
-    ensures { IfOk result (λ a. seen_answer a ≡ rule_refused_answer (program_of program.now) refusal.rule refusal.line refusal.range) }
+    ensures { IfOk result (λ a. seen_answer a ≡ rule_refused_answer (seen_program program.now) refusal.rule refusal.line refusal.range) }
 {
     let line = rule_line(alloc, &program.arrays, refusal)?;
     said(alloc, Status::Refused, line)
@@ -186,11 +211,11 @@ fn not_accepted(alloc: Global, error: CheckError) -> Exit
 }
 
 /// Has the rules accept a program.
-fn accept(alloc: Global, program: Program) -> Result<Checked, Exit>
-    requires lawful { IsLawful (program_of program) }
+pub(crate) fn accept(alloc: Global, program: Program) -> Result<Checked, Exit>
+    requires lawful { IsLawful (seen_program program) }
     ensures same { IfOk result (λ checked. checked ≡ program) }
-    ensures accepted { IfOk result (λ _. IsAccepted (program_of program)) }
-    ensures left { IfErr result (IsRuleExit (program_of program)) }
+    ensures accepted { IfOk result (λ _. IsAccepted (seen_program program)) }
+    ensures left { IfErr result (IsRuleExit (seen_program program)) }
 {
     match check(alloc, program) {
         Ok(checked) => Ok(checked),
@@ -223,8 +248,8 @@ fn push_arrays(
     len: u64,
     cells: &[i64],
 ) -> Result<(), AllocError>
-    requires { extents.now ≡ extents_from len 0 (map array_of arrays.now) }
-    ensures { IfOk result (λ _. lines_of messages.new.items ≡ lines_of messages.old.items ++ array_lines len (map array_of arrays.now) cells.now) }
+    requires { extents.now ≡ extents_from len 0 (map seen_array arrays.now) }
+    ensures { IfOk result (λ _. lines_of messages.new.items ≡ lines_of messages.old.items ++ array_lines len (map seen_array arrays.now) cells.now) }
 {
     let mut rest = cells;
     for (place, array) in arrays.iter().enumerate() {
@@ -244,7 +269,8 @@ fn ran(
     outcome: Outcome,
     stats: Stats,
 ) -> Result<Answer, AllocError>
-    ensures { IfOk result (λ a. seen_answer a ≡ ran_answer (seen_options options) (instance_program instance.now) (length instance.now.input) (seen_outcome outcome) stats) }
+    ensures { IfOk result (λ a. seen_answer a ≡ ran_answer (seen_options options) (instance_program instance.now)
+        (length instance.now.input) (seen_outcome outcome) stats) }
 {
     let mut messages = Vec::new(alloc);
     match outcome {
@@ -312,9 +338,9 @@ fn run_plainly(
     program: &Program,
     input: &[u8],
 ) -> Result<Answer, Exit>
-    requires lawful { IsLawful (program_of program.now) }
+    requires lawful { IsLawful (seen_program program.now) }
     requires plain { options.plain ≡ true }
-    ensures { (handed : Handed) → AnswersWith (IsOnly (Runs (seen_options options) handed (program_of program.now) input.now)) result }
+    ensures { (handed : Handed) → AnswersWith (IsOnly (Runs (seen_options options) handed (seen_program program.now) input.now)) result }
 {
     let instance = match Instance::make(alloc, program, input) {
         Ok(instance) => instance,
@@ -344,7 +370,12 @@ pub(crate) fn run_by_blocks<R: Threads + Wait + Sync, G: Gate + Sync>(
 ) -> Result<Answer, Exit>
     requires blocks { options.plain ≡ false }
     requires workers { IsUpTo 64 options.workers }
-    ensures { AnswersWith (IsOnly (Runs (seen_options options) (handed (map (λ h. answer h) hosts.old.items)) (program_of checked.now) input.now)) result }
+    ensures answer { AnswersWith (IsOnly (Runs (seen_options options) (handed (map (λ h. answer h) hosts.old.items)) (seen_program checked.now) input.now)) result }
+    ensures told_first { WereToldFirst (handed_in (map (λ h. answer h) hosts.old.items)) (seen_program checked.now) input.now
+        (handed_in (map (λ h. answer h) hosts.new.items)) }
+    ensures told { AnswersWith (λ a. IsRunToItsEnd a → WereTold (handed_in (map (λ h. answer h) hosts.old.items))
+        (tally (handed_in (map (λ h. answer h) hosts.old.items)) (seen_program checked.now) input.now).telling
+        (handed_in (map (λ h. answer h) hosts.new.items))) result }
 {
     let program = checked.program();
     let instance = match Instance::make(alloc, program, input) {
@@ -367,10 +398,11 @@ fn run_plainly_on<F: Files>(
     options: Options,
     files: &mut F,
 ) -> Result<Answer, Exit>
-    requires lawful { IsLawful (program_of program.now) }
+    requires lawful { IsLawful (seen_program program.now) }
     requires plain { options.plain ≡ true }
-    ensures whole { (handed : Handed) → let o = seen_options options in let p = program_of program.now in
-        AnswersWith (IsWholeUnless (RunsOn o handed input.now p) (IsInputFault input.now) (F.told files.old) (Rose (F.faults files.old) (F.faults files.new))) result }
+    ensures whole { (handed : Handed) → let o = seen_options options in let p = seen_program program.now in
+        AnswersWith (IsWholeUnless (RunsOn o handed input.now p) (IsInputFault input.now) (F.told files.old)
+        (Rose (F.faults files.old) (F.faults files.new))) result }
     ensures cause { AnswersWith (IsCaused (F.told files.old) (Rose (F.faults files.old) (F.faults files.new))) result }
     ensures later { F.faults files.old ≤ F.faults files.new }
 {
@@ -391,8 +423,9 @@ fn run_by_blocks_on<R: Threads + Wait + Sync, F: Files, G: Gate + Sync>(
 ) -> Result<Answer, Exit>
     requires blocks { options.plain ≡ false }
     requires workers { IsUpTo 64 options.workers }
-    ensures whole { let o = seen_options options in let p = program_of checked.now in
-        AnswersWith (IsWholeUnless (RunsOn o (handed (map (λ h. answer h) hosts.old.items)) input.now p) (IsInputFault input.now) (F.told files.old) (Rose (F.faults files.old) (F.faults files.new))) result }
+    ensures whole { let o = seen_options options in let p = seen_program checked.now in
+        AnswersWith (IsWholeUnless (RunsOn o (handed (map (λ h. answer h) hosts.old.items)) input.now p)
+        (IsInputFault input.now) (F.told files.old) (Rose (F.faults files.old) (F.faults files.new))) result }
     ensures cause { AnswersWith (IsCaused (F.told files.old) (Rose (F.faults files.old) (F.faults files.new))) result }
     ensures later { F.faults files.old ≤ F.faults files.new }
 {
@@ -413,7 +446,8 @@ fn run_files<R: Threads + Wait + Sync, F: Files, G: Gate + Sync>(
 ) -> Result<Answer, Exit>
     requires workers { IsUpTo 64 options.workers }
     ensures whole { let command = run_command program.now input.now (seen_options options) in
-        AnswersWith (IsWholeUnless (WholeOf (handed (map (λ h. answer h) hosts.old.items)) command) (IsFaultOf command) (F.told files.old) (Rose (F.faults files.old) (F.faults files.new))) result }
+        AnswersWith (IsWholeUnless (WholeOf (handed (map (λ h. answer h) hosts.old.items)) command)
+        (IsFaultOf command) (F.told files.old) (Rose (F.faults files.old) (F.faults files.new))) result }
     ensures cause { AnswersWith (IsCaused (F.told files.old) (Rose (F.faults files.old) (F.faults files.new))) result }
     ensures later { F.faults files.old ≤ F.faults files.new }
 {
@@ -485,7 +519,9 @@ fn answer_command<R: Threads + Wait + Sync, F: Files, G: Gate + Sync>(
     gate: &G,
 ) -> Result<Answer, Exit>
     requires numbers { HasNumbers (seen_command command) }
-    ensures whole { AnswersWith (IsWholeUnless (WholeOf (handed (map (λ h. answer h) hosts.old.items)) (seen_command command.entry)) (IsFaultOf (seen_command command.entry)) (F.told files.old) (Rose (F.faults files.old) (F.faults files.new))) result }
+    ensures whole { AnswersWith (IsWholeUnless (WholeOf (handed (map (λ h. answer h) hosts.old.items))
+        (seen_command command.entry)) (IsFaultOf (seen_command command.entry)) (F.told files.old)
+        (Rose (F.faults files.old) (F.faults files.new))) result }
     ensures cause { AnswersWith (IsCaused (F.told files.old) (Rose (F.faults files.old) (F.faults files.new))) result }
     ensures later { F.faults files.old ≤ F.faults files.new }
 {
@@ -527,12 +563,18 @@ pub(crate) fn answer_words<R: Threads + Wait + Sync, F: Files, G: Gate + Sync>(
     hosts: &mut Vec<Box<dyn Predictor>>,
     gate: &G,
 ) -> Result<Answer, AllocError>
-    ensures whole { IfOk result (λ a. IsWholeUnless (Whole (handed (map (λ h. answer h) hosts.old.items)) (map string_bytes words.now)) (IsFaultAnswer (map string_bytes words.now)) (F.told files.old) (Rose (F.faults files.old) (F.faults files.new)) (seen_answer a)) }
+    ensures whole { IfOk result (λ a. IsWholeUnless (Whole (handed (map (λ h. answer h) hosts.old.items))
+        (map string_bytes words.now)) (IsFaultAnswer (map string_bytes words.now)) (F.told files.old)
+        (Rose (F.faults files.old) (F.faults files.new)) (seen_answer a)) }
     ensures cause { IfOk result (λ a. IsCaused (F.told files.old) (Rose (F.faults files.old) (F.faults files.new)) (seen_answer a)) }
 {
-    let Some(command) = read_words(words) else {
-        let line = String::from_str(alloc, "words not understood\n")?;
-        return refused(alloc, Status::NotUnderstood, line);
+    let command = match read_words(alloc, words) {
+        Ok(command) => command,
+        Err(WordsError::NotUnderstood) => {
+            let line = String::from_str(alloc, "words not understood\n")?;
+            return refused(alloc, Status::NotUnderstood, line);
+        }
+        Err(WordsError::OutOfMemory) => return Err(AllocError),
     };
     match answer_command(rt, alloc, command, files, hosts, gate) {
         Ok(given) => Ok(given),

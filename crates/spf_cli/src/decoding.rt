@@ -2,12 +2,19 @@
 
 ghost use Rattle.std.specs.Prelude.{◌≡◌, ◌≤◌, ◌∷◌, [], IfOk, unwrap_or};
 ghost use Rattle.std.specs.List.{sum_by};
-ghost use Rattle.spf_ast.specs.View.{program as program_of};
+ghost use Rattle.spf_ast.specs.View.{program as seen_program};
 ghost use Rattle.spf_ast.specs.Program.{seen_outcome};
 ghost use Rattle.spf_ast.specs.Lawful.{IsLawful};
 ghost use Rattle.spf_check.specs.Accepting.{IsAccepted};
 ghost use Rattle.spf_edge.specs.Faults.{Rose};
-ghost use Rattle.spf_words.specs.Command.{Unpack as unpack_command, Unhuff as unhuff_command, Lex as lex_command, Demo as demo_command, HasDecodeNumbers, HasNumbers};
+ghost use Rattle.spf_words.specs.Command.{
+  Unpack as unpack_command,
+  Unhuff as unhuff_command,
+  Lex as lex_command,
+  Demo as demo_command,
+  HasDecodeNumbers,
+  HasNumbers,
+};
 ghost use Rattle.spf_words.specs.Asked.{seen_options, seen_decode_options};
 ghost use Rattle.spf_words.specs.Only.{IsOnly};
 ghost use Rattle.spf_formats.specs.Laws.{AreBytes};
@@ -15,7 +22,22 @@ ghost use Rattle.spf_formats.specs.Lex1.{IsLex1};
 ghost use Rattle.spf_programs.specs.Laws.{IsBlockSize};
 ghost use Rattle.spf_cli.specs.Answer.{not_huf1 as not_huf1_answer, not_lex1 as not_lex1_answer, shown as shown_answer};
 ghost use Rattle.spf_cli.specs.Status.{status_number};
-ghost use Rattle.spf_cli.specs.Whole.{Handed, Decodes, Demonstrates, RunsTo, demo_program, demo_input, by_blocks, handed, block_of, run_options as run_options_of, Lexes, WholeOf, IsInputFault, IsFaultOf};
+ghost use Rattle.spf_cli.specs.Whole.{
+  Handed,
+  Decodes,
+  Demonstrates,
+  RunsTo,
+  demo_program,
+  demo_input,
+  by_blocks,
+  handed,
+  block_of,
+  run_options as run_options_of,
+  Lexes,
+  WholeOf,
+  IsInputFault,
+  IsFaultOf,
+};
 ghost use Rattle.spf_cli.specs.Answering.{seen_answer, IsWholeUnless, IsCaused, AnswersWith};
 
 use crate::answer::{
@@ -76,8 +98,8 @@ fn run_options(options: DecodeOptions) -> Options
 
 /// The rules accept the program, so this fails only when memory runs out.
 fn accepted(alloc: Global, program: Program) -> Result<Checked, AllocError>
-    requires lawful { IsLawful (program_of program) }
-    requires accepted { IsAccepted (program_of program) }
+    requires lawful { IsLawful (seen_program program) }
+    requires accepted { IsAccepted (seen_program program) }
     ensures same { IfOk result (λ checked. checked ≡ program) }
 {
     match check(alloc, program) {
@@ -95,10 +117,10 @@ fn decode<R: Threads + Wait + Sync, G: Gate + Sync>(
     input: &[u8],
     gate: &G,
 ) -> Result<Answer, Exit>
-    requires lawful { IsLawful (program_of program) }
-    requires accepted { IsAccepted (program_of program) }
+    requires lawful { IsLawful (seen_program program) }
+    requires accepted { IsAccepted (seen_program program) }
     requires numbers { HasDecodeNumbers (seen_decode_options options) }
-    ensures { AnswersWith (IsOnly (Decodes (seen_decode_options options) (program_of program) input.now)) result }
+    ensures { AnswersWith (IsOnly (Decodes (seen_decode_options options) (seen_program program) input.now)) result }
 {
     let checked = accepted(alloc, program)?;
     let mut hosts: Vec<Box<dyn Predictor>> = Vec::new(alloc);
@@ -178,7 +200,8 @@ fn lex_on<R: Threads + Wait + Sync, F: Files, G: Gate + Sync>(
 ) -> Result<Answer, Exit>
     requires numbers { HasDecodeNumbers (seen_decode_options options) }
     requires lex1 { IsLex1 machine.now states classes }
-    ensures whole { AnswersWith (IsWholeUnless (Lexes (seen_decode_options options) machine.now states classes input.now) (IsInputFault input.now) (F.told files.old) (Rose (F.faults files.old) (F.faults files.new))) result }
+    ensures whole { AnswersWith (IsWholeUnless (Lexes (seen_decode_options options) machine.now states classes input.now)
+        (IsInputFault input.now) (F.told files.old) (Rose (F.faults files.old) (F.faults files.new))) result }
     ensures cause { AnswersWith (IsCaused (F.told files.old) (Rose (F.faults files.old) (F.faults files.new))) result }
     ensures later { F.faults files.old ≤ F.faults files.new }
 {
@@ -252,7 +275,7 @@ fn demonstrate<R: Threads + Wait + Sync, G: Gate + Sync>(
     gate: &G,
 ) -> Result<Answer, Exit>
     requires workers { (1 ≤ workers) × (workers ≤ 64) }
-    ensures { AnswersWith (IsOnly (RunsTo shown_answer by_blocks (handed []) (program_of checked.now) input.now)) result }
+    ensures { AnswersWith (IsOnly (RunsTo shown_answer by_blocks (handed []) (seen_program checked.now) input.now)) result }
 {
     let program = checked.program();
     let instance = match Instance::make(alloc, program, input) {
@@ -269,9 +292,9 @@ fn demonstrate<R: Threads + Wait + Sync, G: Gate + Sync>(
 
 /// The program of a demo.
 fn demo_decoder(alloc: Global, kind: Kind) -> Result<Program, AllocError>
-    ensures program { IfOk result (λ p. program_of p ≡ demo_program kind) }
-    ensures lawful { IfOk result (λ p. IsLawful (program_of p)) }
-    ensures accepted { IfOk result (λ p. IsAccepted (program_of p)) }
+    ensures program { IfOk result (λ p. seen_program p ≡ demo_program kind) }
+    ensures lawful { IfOk result (λ p. IsLawful (seen_program p)) }
+    ensures accepted { IfOk result (λ p. IsAccepted (seen_program p)) }
 {
     match kind {
         Kind::Unpack => packbits(alloc, DEFAULT_BLOCK),

@@ -1,7 +1,8 @@
-// The program: all that it does, over files and sinks that are handed in.
+//! The program: all that it does, over files and sinks that are handed in.
 #![tactic(auto)]
 
 mod answer;
+mod bytes;
 mod decoding;
 pub mod laws;
 mod message;
@@ -9,4 +10,5 @@ mod reading;
 mod status;
 mod top;
 
+pub use bytes::run_file;
 pub use top::spf_main;

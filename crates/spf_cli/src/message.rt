@@ -2,9 +2,25 @@
 
 ghost use Rattle.std.specs.Prelude.{◌≡◌, ◌++◌, codes, IfOk, map, string_bytes};
 ghost use Rattle.std.specs.Fmt.{signed_decimal};
-ghost use Rattle.spf_ast.specs.View.{name as name_of, array as array_of};
+ghost use Rattle.spf_ast.specs.View.{name as seen_name, array as seen_array};
 ghost use Rattle.spf_check.specs.Text.{perhaps_range};
-ghost use Rattle.spf_cli.specs.Message.{trap_line as trap_line_of, failed_line as failed_line_of, long_line as long_line_of, too_many_line as too_many_line_of, host_line as host_line_of, not_huf1_line as not_huf1_line_of, not_lex1_line as not_lex1_line_of, sum_line as sum_line_of, byte_line as byte_line_of, fault_line as fault_line_of, fault_name as fault_name_of, stats_line as stats_line_of, numbers, array_line as array_line_of, rule_line as rule_line_of};
+ghost use Rattle.spf_cli.specs.Message.{
+  trap_line as trap_line_of,
+  failed_line as failed_line_of,
+  long_line as long_line_of,
+  too_many_line as too_many_line_of,
+  host_line as host_line_of,
+  not_huf1_line as not_huf1_line_of,
+  not_lex1_line as not_lex1_line_of,
+  sum_line as sum_line_of,
+  byte_line as byte_line_of,
+  fault_line as fault_line_of,
+  fault_name as fault_name_of,
+  stats_line as stats_line_of,
+  numbers,
+  array_line as array_line_of,
+  rule_line as rule_line_of,
+};
 
 use spf_ast::outcome::{Trap, TrapKind};
 use spf_ast::syntax::{Array, Name};
@@ -124,7 +140,7 @@ fn push_perhaps_range(
     arrays: &[Array],
     range: Option<Range>,
 ) -> Result<(), AllocError>
-    ensures { IfOk result (λ _. line.new.items ≡ line.old.items ++ perhaps_range (map array_of arrays.now) range) }
+    ensures { IfOk result (λ _. line.new.items ≡ line.old.items ++ perhaps_range (map seen_array arrays.now) range) }
 {
     let Some(range) = range else {
         return Ok(());
@@ -139,7 +155,7 @@ pub(crate) fn rule_line(
     arrays: &[Array],
     refusal: Refusal,
 ) -> Result<Vec<u8>, AllocError>
-    ensures { IfOk result (λ line. line.items ≡ rule_line_of (map array_of arrays.now) refusal.rule refusal.line refusal.range) }
+    ensures { IfOk result (λ line. line.items ≡ rule_line_of (map seen_array arrays.now) refusal.rule refusal.line refusal.range) }
 {
     let (name, at) = (rule_name(refusal.rule), refusal.line);
     let mut line = format!(in alloc; "refused {name} line {at}")?.into_bytes();
@@ -181,7 +197,7 @@ fn push_numbers(alloc: Global, line: &mut Vec<u8>, words: &[i64]) -> Result<(), 
 
 /// `cells NAME`, followed by the words of an array.
 pub(crate) fn array_line(alloc: Global, name: &Name, words: &[i64]) -> Result<Vec<u8>, AllocError>
-    ensures { IfOk result (λ line. line.items ≡ array_line_of (name_of name.now) words.now) }
+    ensures { IfOk result (λ line. line.items ≡ array_line_of (seen_name name.now) words.now) }
 {
     let mut line = b"cells ".to_vec(alloc)?;
     line.extend_from_slice(&name.bytes)?;

@@ -1,7 +1,7 @@
 // From a text to its program, or to why it has none.
 
 ghost use Rattle.std.specs.Prelude.{◌≡◌, IfOk, IfErr, string_bytes};
-ghost use Rattle.spf_ast.specs.View.{program as program_of};
+ghost use Rattle.spf_ast.specs.View.{program as seen_program};
 ghost use Rattle.spf_ast.specs.RawView.{raw_program};
 ghost use Rattle.spf_ast.specs.Spelling.{IsWritable};
 ghost use Rattle.spf_grammar.specs.Texts.{IsProgramOf};
@@ -67,7 +67,7 @@ fn read_raw(alloc: Global, text: &[u8]) -> Result<RawProgram, Unread>
 
 /// The program that a text says.
 pub(crate) fn read_program(alloc: Global, text: &[u8]) -> Result<Program, Unread>
-    ensures program { IfOk result (λ p. IsOnly (IsVerdict text.now) (Says (program_of p))) }
+    ensures program { IfOk result (λ p. IsOnly (IsVerdict text.now) (Says (seen_program p))) }
     ensures unread { IfErr result (IsUnread text.now) }
 {
     let raw = read_raw(alloc, text)?;

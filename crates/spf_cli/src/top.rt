@@ -53,7 +53,7 @@ fn put_lines<S: Sink>(sink: &mut S, lines: &[Vec<u8>]) -> Result<(), PutError>
 }
 
 /// The status of a put that failed.
-fn put_status(error: PutError) -> Status
+pub(crate) fn put_status(error: PutError) -> Status
     ensures { status_number result ≡ put_status_of error }
 {
     match error {
@@ -63,10 +63,12 @@ fn put_status(error: PutError) -> Status
 }
 
 /// Puts an answer: its output, and then its lines. After a put that failed nothing more is put.
-fn put<S: Sink>(given: &Answer, out: &mut S, err: &mut S) -> Result<(), PutError>
-    ensures given { OnOk result (IsGiven (seen_answer given.now) (status_number given.now.status) (S.taken out.old) (S.taken out.new) (S.taken err.old) (S.taken err.new) (S.pieces err.old) (S.pieces err.new)) }
+pub(crate) fn put<S: Sink>(given: &Answer, out: &mut S, err: &mut S) -> Result<(), PutError>
+    ensures given { OnOk result (IsGiven (seen_answer given.now) (status_number given.now.status) (S.taken out.old)
+        (S.taken out.new) (S.taken err.old) (S.taken err.new) (S.pieces err.old) (S.pieces err.new)) }
     ensures failed { IfErr result (IsPutFault (Rose (S.faults out.old) (S.faults out.new) ⊎ Rose (S.faults err.old) (S.faults err.new))) }
-    ensures nothing { IsOneLine (seen_answer given.now) → result ≡ Err PutError.OutOfMemory → (S.taken out.new ≡ S.taken out.old) × (S.taken err.new ≡ S.taken err.old) }
+    ensures nothing { IsOneLine (seen_answer given.now) → result ≡ Err PutError.OutOfMemory
+        → (S.taken out.new ≡ S.taken out.old) × (S.taken err.new ≡ S.taken err.old) }
     ensures front { IsGivenInPart (seen_answer given.now) (S.taken out.old) (S.taken out.new) (S.taken err.old) (S.taken err.new) }
 {
     put_pieces(out, &given.output)?;
@@ -103,13 +105,16 @@ pub fn spf_main<R: Threads + Wait + Sync, F: Files, S: Sink, G: Gate + Sync>(
     gate: &G,
 ) -> u8
     // Where the files are told, the whole answer is given, unless a fault was met or memory ran out.
-    ensures answered { (told : List Entry) → F.told files.old ≡ Some told → IsAnswered (handed (map (λ h. answer h) hosts.items)) (map string_bytes words.now) told
+    ensures answered { (told : List Entry) → F.told files.old ≡ Some told
+        → IsAnswered (handed (map (λ h. answer h) hosts.items)) (map string_bytes words.now) told
         (Rose (F.faults files.old) (F.faults files.new))
         (Rose (S.faults out.old) (S.faults out.new) ⊎ Rose (S.faults err.old) (S.faults err.new))
         result (S.taken out.old) (S.taken out.new) (S.taken err.old) (S.taken err.new) (S.pieces err.old) (S.pieces err.new) }
 
-    // With every status each sink took a prefix of what the whole answer has for it; only with status 5 or 6 may it be one of the answer to a fault of the files that was met.
-    ensures in_part { (told : List Entry) → F.told files.old ≡ Some told → IsAnsweredInPart (handed (map (λ h. answer h) hosts.items)) (map string_bytes words.now) told
+    // With every status each sink took a prefix of what the whole answer has for it; only with status 5 or 6 may it
+    // be one of the answer to a fault of the files that was met.
+    ensures in_part { (told : List Entry) → F.told files.old ≡ Some told
+        → IsAnsweredInPart (handed (map (λ h. answer h) hosts.items)) (map string_bytes words.now) told
         (Rose (F.faults files.old) (F.faults files.new))
         result (S.taken out.old) (S.taken out.new) (S.taken err.old) (S.taken err.new) }
 

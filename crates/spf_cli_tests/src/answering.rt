@@ -1,7 +1,7 @@
 // What the top call answers, over files and sinks in memory.
 use crate::rows::Row;
 use crate::{decoding, explaining, refusing, running};
-use spf_cli::spf_main;
+use spf_cli::{run_file, spf_main};
 use spf_edge::{MemFiles, MemSink, Open};
 use spf_formats::toy::toy_machine;
 use spf_predictors::{Last, Predictor};
@@ -77,6 +77,30 @@ fn is_given<R: Threads + Wait + Sync>(
     Ok(status == row.status && out.bytes() == row.out && err.bytes() == row.err.as_bytes())
 }
 
+/// Whether a run over the program and the input at hand gives the answer that a row wants.
+fn is_given_at_hand<R: Threads + Wait + Sync>(
+    rt: &R,
+    alloc: Global,
+    row: &Row,
+) -> Result<bool, AllocError> {
+    let input = row.input.content(alloc)?;
+    let mut out = sink(alloc, row.failing_put)?;
+    let mut err = sink(alloc, row.failing_line)?;
+    let mut hosts = hosts(alloc, row)?;
+    let status = run_file(
+        rt,
+        alloc,
+        row.program.as_bytes(),
+        &input,
+        4,
+        &mut hosts,
+        &Open,
+        &mut out,
+        &mut err,
+    );
+    Ok(status == row.status && out.bytes() == row.out && err.bytes() == row.err.as_bytes())
+}
+
 #[test]
 fn each_row_is_answered(rt: HostRuntime) -> Result<(), Fail> {
     let alloc = rt.alloc();
@@ -88,6 +112,10 @@ fn each_row_is_answered(rt: HostRuntime) -> Result<(), Fail> {
     for row in rows.iter() {
         let given = is_given(&rt, alloc, row)?;
         assert!(rt; given, "{} of {}", row.line, row.program);
+        if row.line == "run P I --stats" && row.failing_fetch.is_none() {
+            let given = is_given_at_hand(&rt, alloc, row)?;
+            assert!(rt; given, "at hand: {}", row.program);
+        }
     }
     Ok(())
 }

@@ -1,6 +1,6 @@
 // Which cells the blocks of worked programs write.
 
-ghost use Rattle.spf_ast.specs.View.{program as program_of};
+ghost use Rattle.spf_ast.specs.View.{program as seen_program};
 ghost use Rattle.spf_ast.specs.Lawful.{IsLawful};
 
 use spf_ast::construct::find_construct;

@@ -3,7 +3,7 @@ use Rattle.std.proofs.Common.{◌≡◌, ℕ, zero, suc, ◌+◌, ◌-◌, ◌<�
 use Rattle.std.specs.Prelude.{Some, slice_get}
 use Rattle.std.proofs.lemmas.List.{length-map}
 use Rattle.spf_ast.specs.Construct.{constructs_in}
-use Rattle.spf_ast.specs.ConstructView.{construct as construct_seen}
+use Rattle.spf_ast.specs.ConstructView.{construct as seen_construct}
 use Rattle.spf_ast.specs.Syntax.{Program}
 use Rattle.spf_layout.specs.Frame.{main_slots}
 use Rattle.spf_layout.specs.Instance.{program_of}
@@ -32,7 +32,7 @@ use Rattle.spf_construct.specs.Coming.{IsAtConstruct, entry_of, ComesTo}
 use Rattle.spf_construct.proofs.Counting.{counts-are, guess-at}
 
 -- the entry of the chain's site is the construct's
-pub entry-is : (at : Stand) (number : ℕ) (h : Header) (guesses : List code_guess.Guess) → slice_get (constructs_in (program_of at.instance.now).main) number ≡ Some (construct_seen at.construct)
+pub entry-is : (at : Stand) (number : ℕ) (h : Header) (guesses : List code_guess.Guess) → slice_get (constructs_in (program_of at.instance.now).main) number ≡ Some (seen_construct at.construct)
     → entry_at (site_of at.instance.now number h at.frame.now at.cells.now guesses) ≡ entry_of at h
 entry-is at number h guesses is = λ i. record {
   program = program_of at.instance.now;

@@ -2,7 +2,7 @@
 use Rattle.std.specs.Prelude.{◌≡◌, ◌≤◌, ℕ, List, length, Some, slice_get, ℤ}
 use Rattle.spf_ast.specs.Carried as carried
 use Rattle.spf_ast.specs.Construct.{constructs_in}
-use Rattle.spf_ast.specs.ConstructView.{construct as construct_seen}
+use Rattle.spf_ast.specs.ConstructView.{construct as seen_construct}
 use Rattle.spf_ast.specs.Program.{cell_count_of}
 use Rattle.spf_ast.specs.Syntax.{Program}
 use Rattle.spf_check.specs.Plans.{AreBlocksOf}
@@ -28,8 +28,8 @@ use Rattle.spf_construct.specs.declared.construct.ConstructReport.{ConstructRepo
 -- a run of this program stands at one of its top constructs, with this number, whose header is done: frame and cells are the program's
 pub record IsAtConstruct (p : Program) (at : Stand) (number : ℕ) (header : Header) : Type 0 where
   pub program : program_of at.instance.now ≡ p
-  pub construct : slice_get (constructs_in (program_of at.instance.now).main) number ≡ Some (construct_seen at.construct)
-  pub blocks : AreBlocksOf (construct_seen at.construct) header.blocks
+  pub construct : slice_get (constructs_in (program_of at.instance.now).main) number ≡ Some (seen_construct at.construct)
+  pub blocks : AreBlocksOf (seen_construct at.construct) header.blocks
   pub some : 1 ≤ header.blocks
   pub few : header.blocks ≤ 4096
   pub frame : length at.frame.now ≡ frame_size (program_of at.instance.now)
@@ -39,14 +39,16 @@ pub record IsAtConstruct (p : Program) (at : Stand) (number : ℕ) (header : Hea
 abbrev pub entry_of : Stand → Header → Entry
 entry_of at header = record {
   program = program_of at.instance.now;
-  construct = construct_seen at.construct;
+  construct = seen_construct at.construct;
   input = at.instance.now.input;
   slots = main_slots (program_of at.instance.now) at.frame.now;
   memory = at.cells.now;
   header = seen_header header;
 }
 
--- The blocks from this entry came to this, and left this memory: the result is that of their plain run, and where none traps, so is the memory. The statistics compare the guesses with the real values. Every merging of the logs that keeps the order of each log is a speculative run from these guesses.
+-- The blocks from this entry came to this, and left this memory: the result is that of their plain run, and where
+-- none traps, so is the memory. The statistics compare the guesses with the real values. Every merging of the logs
+-- that keeps the order of each log is a speculative run from these guesses.
 pub record ComesTo (e : Entry) (guess : ℕ → Guess) (report : ConstructReport) (memory : List ℤ) : Type 0 where
   pub result : (plain_blocks e).result ≡ result_as report.settled
   pub plain_memory : (v : carried.Carried) → report.settled ≡ Carried v → memory ≡ (plain_blocks e).memory

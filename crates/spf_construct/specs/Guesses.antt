@@ -3,7 +3,7 @@ use Rattle.std.specs.Prelude.{◌≡◌, ◌<◌, ◌≤◌, ◌+◌, ◌-◌, �
 use Rattle.spf_ast.specs.BlockRun.{predicts}
 use Rattle.spf_ast.specs.Carried.{Carried}
 use Rattle.spf_ast.specs.Construct.{Construct}
-use Rattle.spf_ast.specs.ConstructView.{construct as construct_seen}
+use Rattle.spf_ast.specs.ConstructView.{construct as seen_construct}
 use Rattle.spf_ast.specs.Syntax.{Host}
 use Rattle.spf_exec.specs.declared.pieces.Header.{Header}
 use Rattle.spf_layout.specs.Frame.{main_slots}
@@ -21,7 +21,8 @@ seen_guess guess = record { value = guess.value; blind = guess.blind }
 
 -- what the construct's predictor comes to for a block number where the run stands, an expression
 abbrev pub predicted : Stand → ℤ → Guess
-predicted at number = guess_of (predicts (program_of at.instance.now) at.instance.now.input (construct_seen at.construct) (main_slots (program_of at.instance.now) at.frame.now) at.cells.now number)
+predicted at number = guess_of (predicts (program_of at.instance.now) at.instance.now.input
+    (seen_construct at.construct) (main_slots (program_of at.instance.now) at.frame.now) at.cells.now number)
 
 -- the same for a block of a construct with this header, by the block's index
 abbrev pub predicted_at : Stand → Header → ℕ → Guess
@@ -37,7 +38,8 @@ answered_at hosts telling host header n = answered hosts telling host (header.lo
 
 -- the guess there for a block number, where these hosts were told so much
 abbrev pub guess_there : Hosts → List Telling → Stand → ℤ → Guess
-guess_there hosts telling at number = guess_for hosts telling (program_of at.instance.now) at.instance.now.input (construct_seen at.construct) (main_slots (program_of at.instance.now) at.frame.now) at.cells.now number
+guess_there hosts telling at number = guess_for hosts telling (program_of at.instance.now) at.instance.now.input
+    (seen_construct at.construct) (main_slots (program_of at.instance.now) at.frame.now) at.cells.now number
 
 -- the same for a block of a construct with this header, by the block's index
 abbrev pub block_guess : Hosts → List Telling → Stand → Header → ℕ → Guess

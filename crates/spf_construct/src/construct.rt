@@ -3,7 +3,7 @@ ghost use Rattle.std.specs.Prelude.{◌≡◌, ◌<◌, ◌≤◌, ◌+◌, ◌+
 ghost use Rattle.spf_ast.specs.View.{program as seen_program};
 ghost use Rattle.spf_chain.specs.Beginning.{site_of};
 ghost use Rattle.spf_chain.specs.Chains.{cells_of, HasEnded};
-ghost use Rattle.spf_ast.specs.ConstructView.{construct as construct_seen};
+ghost use Rattle.spf_ast.specs.ConstructView.{construct as seen_construct};
 ghost use Rattle.spf_entry.specs.Entry.{plain_blocks};
 ghost use Rattle.spf_exec.specs.Pieces.{seen_header};
 ghost use Rattle.spf_guess.specs.Guess.{Hosts, Telling, tells};
@@ -120,7 +120,7 @@ pub fn run_blocks<R: Threads + Wait + Sync, G: Gate + Sync>(
     requires workers { (0 < workers) × (workers ≤ 64) }
     requires there { IsAtConstruct (seen_program checked.now) at number header }
     requires fits { (header.low +ℤ pos header.blocks) ≤ℤ i64.MAX }
-    requires host { IsHandedIn (length hosts.old.items) (construct_seen at.construct) }
+    requires host { IsHandedIn (length hosts.old.items) (seen_construct at.construct) }
     ensures ready { IfOk result IsReady }
     ensures size { IfOk result (λ b. length b.chain.site.memory ≡ length at.entry.cells.now) }
     ensures came { IfOk result (λ b. (before : Hosts) (telling : List Telling)
@@ -128,7 +128,7 @@ pub fn run_blocks<R: Threads + Wait + Sync, G: Gate + Sync>(
         → ComeTo (entry_of at.entry header) (block_guess before telling at.entry header) b) }
     ensures told { IfOk result (λ b. (before : Hosts) (telling : List Telling)
         → WereTold before telling (handed_in (map (λ h. answer h) hosts.old.items))
-        → WereTold before (telling ++ tells (construct_seen at.entry.construct) (seen_header header) (plain_blocks (entry_of at.entry header)).values)
+        → WereTold before (telling ++ tells (seen_construct at.entry.construct) (seen_header header) (plain_blocks (entry_of at.entry header)).values)
         (handed_in (map (λ h. answer h) hosts.new.items))) }
     ensures nothing_told { IfErr result (λ why. (before : Hosts) (telling : List Telling)
         → WereTold before telling (handed_in (map (λ h. answer h) hosts.old.items))

@@ -2,7 +2,7 @@
 ghost use Rattle.std.specs.Prelude.{◌≡◌, ◌<◌, ◌≤◌, ◌-◌, ◌+◌, ◌+ℤ◌, ◌≤ℤ◌, List, length, map, pos, IfOk};
 ghost use Rattle.std.specs.List.{Contains};
 ghost use Rattle.spf_ast.specs.Construct.{constructs_in};
-ghost use Rattle.spf_ast.specs.ConstructView.{construct as construct_seen};
+ghost use Rattle.spf_ast.specs.ConstructView.{construct as seen_construct};
 ghost use Rattle.spf_ast.specs.Program.{cell_count_of};
 ghost use Rattle.spf_ast.specs.Silence.{FunctionsAreSilent};
 ghost use Rattle.spf_layout.specs.Frame.{frame_size};
@@ -39,7 +39,7 @@ pub struct Stand<'a> {
 
 /// What the construct's predictor comes to, an expression, for a block number; `frame` is a frame to run it in.
 pub(crate) fn predict(at: Stand, number: i64, frame: &mut Frame) -> Guess
-    requires construct { Contains (constructs_in (program_of at.instance.now).main) (construct_seen at.construct) }
+    requires construct { Contains (constructs_in (program_of at.instance.now).main) (seen_construct at.construct) }
     requires functions { FunctionsAreSilent (program_of at.instance.now).functions }
     requires own_frame { length at.frame.now ≡ frame_size (program_of at.instance.now) }
     requires own_cells { length at.cells.now ≡ cell_count_of (program_of at.instance.now) (length at.instance.now.input) }
@@ -129,11 +129,11 @@ pub(crate) fn take_guesses<R: Threads + Sync>(
     hosts: &mut Vec<Box<dyn Predictor>>,
 ) -> Result<Vec<Guess>, AllocError>
     requires workers { 0 < workers }
-    requires construct { Contains (constructs_in (program_of at.instance.now).main) (construct_seen at.construct) }
+    requires construct { Contains (constructs_in (program_of at.instance.now).main) (seen_construct at.construct) }
     requires functions { FunctionsAreSilent (program_of at.instance.now).functions }
     requires own_frame { length at.frame.now ≡ frame_size (program_of at.instance.now) }
     requires own_cells { length at.cells.now ≡ cell_count_of (program_of at.instance.now) (length at.instance.now.input) }
-    requires host { IsHandedIn (length hosts.old.items) (construct_seen at.construct) }
+    requires host { IsHandedIn (length hosts.old.items) (seen_construct at.construct) }
     requires some { 1 ≤ header.blocks }
     requires few { header.blocks ≤ 4096 }
     requires fits { (header.low +ℤ pos header.blocks) ≤ℤ i64.MAX }

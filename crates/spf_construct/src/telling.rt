@@ -1,6 +1,6 @@
 //! What hosts are told after a construct.
 ghost use Rattle.std.specs.Prelude.{◌≡◌, ◌<◌, ◌≤◌, ◌+◌, ◌++◌, ◌+ℤ◌, ◌≤ℤ◌, List, length, map, drop, pos};
-ghost use Rattle.spf_ast.specs.ConstructView.{construct as construct_seen};
+ghost use Rattle.spf_ast.specs.ConstructView.{construct as seen_construct};
 ghost use Rattle.spf_exec.specs.Pieces.{seen_header};
 ghost use Rattle.spf_guess.specs.Guess.{Hosts, Telling, tells, tells_from};
 ghost use Rattle.spf_predictors.specs.Answers.{handed_in, WereTold};
@@ -41,13 +41,14 @@ pub(crate) fn tell_history(
     history: &[Validated],
     hosts: &mut Vec<Box<dyn Predictor>>,
 )
-    requires host { IsHandedIn (length hosts.old.items) (construct_seen construct) }
+    requires host { IsHandedIn (length hosts.old.items) (seen_construct construct) }
     requires few { length history.now ≤ header.blocks }
     requires few_blocks { header.blocks ≤ 4096 }
     requires fits { (header.low +ℤ pos header.blocks) ≤ℤ i64.MAX }
     ensures told { (before : Hosts) (telling : List Telling)
         → WereTold before telling (handed_in (map (λ h. answer h) hosts.old.items))
-        → WereTold before (telling ++ tells (construct_seen construct.entry) (seen_header header) (real_values history.now)) (handed_in (map (λ h. answer h) hosts.new.items)) }
+        → WereTold before (telling ++ tells (seen_construct construct.entry) (seen_header header)
+        (real_values history.now)) (handed_in (map (λ h. answer h) hosts.new.items)) }
     ensures count { length hosts.new.items ≡ length hosts.old.items }
 {
     if let Some(host) = host_of(construct) {

@@ -6,7 +6,14 @@ use Rattle.spf_crew.specs.Values.{PlaceValue}
 
 -- what contracts see of a place
 abbrev pub place_value : Inside → PlaceValue
-place_value a = record { table = a.seat.table_id; setting = a.key.value; from = a.seat.me.0.from; to = a.seat.me.0.to; seen = a.seat.me.0.seen; read = a.seat.me.0.read }
+place_value a = record {
+  table = a.seat.table_id;
+  setting = a.key.value;
+  from = a.seat.me.0.from;
+  to = a.seat.me.0.to;
+  seen = a.seat.me.0.seen;
+  read = a.seat.me.0.read;
+}
 
 -- what every place keeps: its seat has a number and holds no chain, and the table has two words and one slot
 pub record IsPlace (a : Inside) : Type 0 where

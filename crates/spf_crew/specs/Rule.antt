@@ -58,7 +58,9 @@ pub record IsCrewTable (k : CrewSetting) (s : State (Option ChainValue) CrewView
   -- where the turn word is even, the chain is at home, and was given half as many reports
   pub home : (half : ℕ) → slice_index s.words 0 ≡ 2 * half → (c : ChainValue) × (s.homes ≡ some (Some c) ∷ []) × IsAtHome k half (slice_index s.words 1) c
   -- where it is odd, one seat holds the chain
-  pub away : (half : ℕ) → slice_index s.words 0 ≡ 2 * half + 1 → (s.homes ≡ none ∷ []) × ((v : CrewView) × (get_elem? s.views holder ≡ some v) × IsHolder (slice_index s.words 1) v)
+  pub away : (half : ℕ) → slice_index s.words 0 ≡ 2 * half + 1
+      → (s.homes ≡ none ∷ []) × ((v : CrewView) × (get_elem? s.views holder ≡ some v)
+      × IsHolder (slice_index s.words 1) v)
   -- a view with a number says what is so
   pub seats : (j : ℕ) (v : CrewView) → get_elem? s.views j ≡ some v → v.from < v.to → Knows k (slice_index s.words 0) (slice_index s.words 1) holder owner j v
 
@@ -79,7 +81,10 @@ abbrev pub IsTake : Step (Option ChainValue) → Me (Option ChainValue) CrewView
 IsTake st m n m' =
     (n ≤ 16384)
     × (n ≡ st.first
-    → (c : ChainValue) × (m' ≡ (record m.0 { seen = n + 1; holds = true; announced = has_ended c }, (0, Some c) ∷ m.1)) × (2 * c.reports ≡ n) × ((k : CrewSetting) → m.0.setting ≡ Some k → IsChainOf k c))
+    → (c : ChainValue) × (m' ≡ (
+      record m.0 { seen = n + 1; holds = true; announced = has_ended c },
+      (0, Some c) ∷ m.1,
+    )) × (2 * c.reports ≡ n) × ((k : CrewSetting) → m.0.setting ≡ Some k → IsChainOf k c))
     × (n ≢ st.first → m' ≡ (record m.0 { seen = n }, m.1))
 
 -- a look at the turn number

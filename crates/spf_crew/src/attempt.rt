@@ -79,7 +79,11 @@ pub struct GatedJob<'a, I, C, G> {
 impl<'a, I: HasInstance, C: HasConstruct, G: Gate> Attempter for GatedJob<'a, I, C, G> {
     ghost use Rattle.spf_crew.specs.Tickets.{ServesCrew};
 
-    ghost serves = { λ k gated. ServesCrew k (record { instance = I.instance gated.instance.now; construct = C.construct gated.construct.now; entry = gated.entry }) };
+    ghost serves = { λ k gated. ServesCrew k (record {
+      instance = I.instance gated.instance.now;
+      construct = C.construct gated.construct.now;
+      entry = gated.entry;
+    }) };
 
     fn attempt(&self, crew: &Crew, ticket: Ticket) -> Report {
         let job = Job {

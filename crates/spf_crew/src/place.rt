@@ -56,7 +56,8 @@ fn take_chain(seat: &mut CrewSeat, crew: &Crew, half: u64) -> Result<Chain, u64>
     requires rests { Rests crew.now.setting seat.old.me }
     requires room { half < 8192 }
     ensures same { seat.new.table_id ≡ seat.old.table_id }
-    ensures taken { IfOk result (λ c. Holds (2 * half + 1) (has_ended c) crew.now.setting seat.old.me seat.new.me × (c.reports ≡ half) × IsChainOf crew.now.setting c) }
+    ensures taken { IfOk result (λ c. Holds (2 * half + 1) (has_ended c) crew.now.setting seat.old.me seat.new.me
+        × (c.reports ≡ half) × IsChainOf crew.now.setting c) }
     ensures out { IfErr result (λ n. (n ≢ 2 * half) × (n ≤ 16384) × (seat.new.me ≡ (record seat.old.me.0 { seen = n }, []))) }
 {
     let shared = &crew.table.shared;
@@ -72,7 +73,13 @@ fn announce(seat: &mut CrewSeat, crew: &Crew, ended: bool)
     requires own { IsSeatOf crew.now.table seat.old.table_id }
     requires holds { HoldsNow crew.now.setting seat.old.me }
     ensures same { seat.new.table_id ≡ seat.old.table_id }
-    ensures announced { seat.new.me ≡ (record seat.old.me.0 { announced = if ended then true else seat.old.me.0.announced; read = if ended then true else seat.old.me.0.read }, seat.old.me.1) }
+    ensures announced { seat.new.me ≡ (
+      record seat.old.me.0 {
+        announced = if ended then true else seat.old.me.0.announced;
+        read = if ended then true else seat.old.me.0.read;
+      },
+      seat.old.me.1,
+    ) }
 {
     if ended {
         let shared = &crew.table.shared;
@@ -111,7 +118,8 @@ impl Place {
         requires own { IsPlaceOf crew.now self.old }
         requires lawful { IsLawfulOf self.old.setting report }
         requires room { half < 8192 }
-        ensures filed { IfOk result (λ f. IsFiledAt self.old.setting half report f × (self.new ≡ record self.old { seen = 2 * half + 2; read = read_after f self.old.read })) }
+        ensures filed { IfOk result (λ f. IsFiledAt self.old.setting half report f
+            × (self.new ≡ record self.old { seen = 2 * half + 2; read = read_after f self.old.read })) }
         ensures out { IfErr result (λ r. (r.0 ≡ report) × (r.1 ≢ 2 * half) × (self.new ≡ record self.old { seen = r.1 })) }
     {
         match take_chain(&mut self.seat, crew, half) {
@@ -133,7 +141,11 @@ impl Place {
     pub(crate) fn file(&mut self, crew: &Crew, report: Report) -> Result<Filed, (Report, u64)>
         requires own { IsPlaceOf crew.now self.old }
         requires lawful { IsLawfulOf self.old.setting report }
-        ensures filed { IfOk result (λ f. IsFiledAt self.old.setting (half_of self.old.seen) report f × (self.new ≡ record self.old { seen = expected self.old.seen + 2; read = read_after f self.old.read })) }
+        ensures filed { IfOk result (λ f. IsFiledAt self.old.setting (half_of self.old.seen) report f
+            × (self.new ≡ record self.old {
+              seen = expected self.old.seen + 2;
+              read = read_after f self.old.read;
+            })) }
         ensures out { IfErr result (λ r. (r.0 ≡ report) × ((r.1 ≡ 16384) ⊎ (r.1 ≢ expected self.old.seen)) × (self.new ≡ record self.old { seen = r.1 })) }
     {
         let half = (self.seen + 1) / 2;

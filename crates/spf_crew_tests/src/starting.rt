@@ -2,7 +2,7 @@
 ghost use Rattle.std.specs.Prelude.{◌≡◌, ℕ, IfOk, IsTrue, MatchOption, Some, length, slice_get};
 ghost use Rattle.spf_ast.specs.View.{program as seen_program};
 ghost use Rattle.spf_ast.specs.Construct.{constructs_in};
-ghost use Rattle.spf_ast.specs.ConstructView.{construct as construct_seen};
+ghost use Rattle.spf_ast.specs.ConstructView.{construct as seen_construct};
 ghost use Rattle.spf_ast.specs.Lawful.{IsLawful};
 ghost use Rattle.spf_ast.specs.Program.{cell_count_of};
 ghost use Rattle.spf_chain.specs.Beginning.{IsStarted};
@@ -58,7 +58,7 @@ pub(crate) fn accepted(alloc: Global, text: &[u8]) -> Result<Checked, Fail> {
 
 /// Whether a construct is a fold, which may have any number of blocks.
 fn is_fold(construct: TopConstruct) -> bool
-    ensures { IsTrue result → (n : ℕ) → AreBlocksOf (construct_seen construct.entry) n }
+    ensures { IsTrue result → (n : ℕ) → AreBlocksOf (seen_construct construct.entry) n }
 {
     match construct.kind {
         ConstructKind::Fold(_) => true,
@@ -89,7 +89,7 @@ pub(crate) fn start(
     values: &[i64],
 ) -> Result<Started, Fail>
     requires program { program_of job.now.instance.now ≡ seen_program checked.now }
-    requires construct { slice_get (constructs_in (program_of job.now.instance.now).main) 0 ≡ Some (construct_seen job.now.construct) }
+    requires construct { slice_get (constructs_in (program_of job.now.instance.now).main) 0 ≡ Some (seen_construct job.now.construct) }
     requires entry { length job.now.entry.now ≡ cell_count_of (program_of job.now.instance.now) (length job.now.instance.now.input) }
     ensures started { IfOk result (λ r. IsStarted r.0.site r.0 r.1 r.2.items) }
     ensures entry { IfOk result (λ r. IsJobOf (entry_at r.0.site) job.now) }

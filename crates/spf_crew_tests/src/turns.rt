@@ -3,7 +3,7 @@ ghost use Rattle.std.specs.Prelude.{◌≡◌, ◌<◌, Some, length, slice_get}
 ghost use Rattle.std.specs.List.{All};
 ghost use Rattle.spf_ast.specs.View.{program as seen_program};
 ghost use Rattle.spf_ast.specs.Construct.{constructs_in};
-ghost use Rattle.spf_ast.specs.ConstructView.{construct as construct_seen};
+ghost use Rattle.spf_ast.specs.ConstructView.{construct as seen_construct};
 ghost use Rattle.spf_ast.specs.Program.{cell_count_of};
 ghost use Rattle.spf_crew.specs.Mates.{IsMateOf};
 ghost use Rattle.spf_layout.specs.Instance.{program_of};
@@ -78,7 +78,7 @@ fn turns_over(
     order: &[usize],
 ) -> Result<Vec<u64>, Fail>
     requires program { program_of job.instance.now ≡ seen_program checked.now }
-    requires construct { slice_get (constructs_in (program_of job.instance.now).main) 0 ≡ Some (construct_seen job.construct) }
+    requires construct { slice_get (constructs_in (program_of job.instance.now).main) 0 ≡ Some (seen_construct job.construct) }
     requires entry { length job.entry.now ≡ cell_count_of (program_of job.instance.now) (length job.instance.now.input) }
 {
     let (chain, cells, tickets) = start(alloc, checked, &job, 1, guesses)?;

@@ -2,7 +2,7 @@
 ghost use Rattle.std.specs.Prelude.{◌≡◌, ◌<◌, ◌≤◌, IfOk, Some, length, slice_get};
 ghost use Rattle.spf_ast.specs.View.{program as seen_program};
 ghost use Rattle.spf_ast.specs.Construct.{constructs_in};
-ghost use Rattle.spf_ast.specs.ConstructView.{construct as construct_seen};
+ghost use Rattle.spf_ast.specs.ConstructView.{construct as seen_construct};
 ghost use Rattle.spf_ast.specs.Program.{cell_count_of};
 ghost use Rattle.spf_chain.specs.Beginning.{IsStarted};
 ghost use Rattle.spf_chain.specs.Chains.{cells_of, HasEnded};
@@ -127,7 +127,7 @@ fn run_over<R: Threads + Wait + Sync>(
     by: By,
 ) -> Result<Came, Fail>
     requires program { program_of job.instance.now ≡ seen_program checked.now }
-    requires construct { slice_get (constructs_in (program_of job.instance.now).main) 0 ≡ Some (construct_seen job.construct) }
+    requires construct { slice_get (constructs_in (program_of job.instance.now).main) 0 ≡ Some (seen_construct job.construct) }
     requires entry { length job.entry.now ≡ cell_count_of (program_of job.instance.now) (length job.instance.now.input) }
     requires workers { (0 < workers) × (workers ≤ 64) }
 {

@@ -36,7 +36,9 @@ LexerFindsTokens =
     → (length machine + length content) + size ≤ max_cells → length content ≤ max_blocks * size
     → (cells : List ℤ) × (outcome (lexer_program size states classes) (machine ++ content) ≡ Done cells (tokens machine content))
 
--- a HUF1 file of bytes, for which the cells and the blocks of the program that decodes it are within their limits. The program has a cell for each word of at most 15 bits and its length, 65,536 in all, and eight for each byte of the file and of one block more; its blocks begin after the header of 264 bytes.
+-- a HUF1 file of bytes, for which the cells and the blocks of the program that decodes it are within their limits.
+-- The program has a cell for each word of at most 15 bits and its length, 65,536 in all, and eight for each byte of
+-- the file and of one block more; its blocks begin after the header of 264 bytes.
 pub record IsWithin (size : ℕ) (file : List ℕ) : Type 0 where
   pub bytes : AllByRecursion (λ b. b < 256) file
   pub huf1 : IsHuf1 file

@@ -1,5 +1,25 @@
 -- Files as they are told: names with their contents. Where nothing is told, nothing is claimed.
-use Rattle.std.specs.Prelude.{◌≡◌, ℕ, ◌<◌, List, length, bytes_eq, find, option_map, nat_le, if◌then◌else◌, Option, None, Some, ⊤, Result, Ok, Err, Vec, MatchResult}
+use Rattle.std.specs.Prelude.{
+  ◌≡◌,
+  ℕ,
+  ◌<◌,
+  List,
+  length,
+  bytes_eq,
+  find,
+  option_map,
+  nat_le,
+  if◌then◌else◌,
+  Option,
+  None,
+  Some,
+  ⊤,
+  Result,
+  Ok,
+  Err,
+  Vec,
+  MatchResult,
+}
 use Rattle.std.specs.declared.alloc.Global.{Global}
 use Rattle.spf_edge.specs.declared.files.FetchError.{FetchError}
 use Rattle.spf_edge.specs.declared.files.FetchError.TheVariants.{Missing, TooLong}

@@ -5,17 +5,22 @@ ghost use Rattle.spf_edge.specs.Entries.{Entry, IsMissing, HasContent, IsLongerT
 ghost use Rattle.spf_edge.specs.Faults.{Rose};
 
 use std::alloc::{AllocError, Global};
+use thiserror::Error;
 
 /// Why a fetch gave no file.
-#[derive(Clone, Copy, PartialEq, Eq, Debug)]
+#[derive(Clone, Copy, PartialEq, Eq, Debug, Error)]
 pub enum FetchError {
     /// The names are known, and this one isn't among them.
+    #[error("no such file")]
     Missing,
     /// The file could not be read.
+    #[error("the file could not be read")]
     Failed,
     /// The file has more bytes than the limit allows.
+    #[error("the file is too long")]
     TooLong,
     /// There was no memory for the content.
+    #[error("out of memory")]
     OutOfMemory,
 }
 

@@ -1,4 +1,4 @@
-// The edge of the program: where files come from, where output goes, and what is called at the ends of attempts.
+//! The edge of the program: where files come from, where output goes, and what is called at the ends of attempts.
 #![tactic(auto)]
 
 mod files;

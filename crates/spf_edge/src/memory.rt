@@ -1,5 +1,33 @@
 // Files and a sink in memory, for tests: the calls that fail are told beforehand.
-ghost use Rattle.std.specs.Prelude.{find, bytes_eq, string_bytes, ◌≡◌, ◌≢◌, ◌↔◌, ℕ, [], Some, None, Err, IfOk, OnOk, IsErr, vec_len, Contains, IsSome, ◌+◌, ◌++◌, option_map, option_copied, ◌∷◌, List, take, length, ◌<◌, ◌≤◌};
+ghost use Rattle.std.specs.Prelude.{
+  find,
+  bytes_eq,
+  string_bytes,
+  ◌≡◌,
+  ◌≢◌,
+  ◌↔◌,
+  ℕ,
+  [],
+  Some,
+  None,
+  Err,
+  IfOk,
+  OnOk,
+  IsErr,
+  vec_len,
+  Contains,
+  IsSome,
+  ◌+◌,
+  ◌++◌,
+  option_map,
+  option_copied,
+  ◌∷◌,
+  List,
+  take,
+  length,
+  ◌<◌,
+  ◌≤◌,
+};
 ghost use Rattle.spf_edge.specs.Entries.{lookup, IsLongerThan};
 ghost use Rattle.spf_edge.specs.Faults.{one_more};
 ghost use Rattle.spf_edge.specs.Memory.{entries_of};

@@ -5,13 +5,16 @@ ghost use Rattle.spf_edge.specs.Bytes.{Adds, AddsPrefix, Hands};
 ghost use Rattle.spf_edge.specs.Faults.{Rose};
 
 use std::alloc::AllocError;
+use thiserror::Error;
 
 /// Why a put did not take its whole piece.
-#[derive(Clone, Copy, PartialEq, Eq, Debug)]
+#[derive(Clone, Copy, PartialEq, Eq, Debug, Error)]
 pub enum PutError {
     /// The device refused; it may have taken a prefix of the piece.
+    #[error("the output could not be written")]
     Failed,
     /// There was no memory for the piece; nothing was taken.
+    #[error("out of memory")]
     OutOfMemory,
 }
 

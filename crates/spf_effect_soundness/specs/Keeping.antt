@@ -34,9 +34,11 @@ HasStored p construct part s (Trapped trap output) stored = Unit {0}
 -- the part stores only what it may write, loads only what is read uncovered or what it has stored, and at its end has stored what is surely written
 abbrev pub KeepsToItsEffects : Program → Construct → Part → Setup → Type 0
 KeepsToItsEffects p construct part s =
-    Keeps (IsAmong p s (part_effects p construct part).may) (IsAmong p s (part_effects p construct part).uncovered) (HasStored p construct part s) [] (part_asks p construct part s)
+    Keeps (IsAmong p s (part_effects p construct part).may) (IsAmong p s (part_effects p construct part).uncovered)
+    (HasStored p construct part s) [] (part_asks p construct part s)
 
 -- in a lawful program each part of each top construct does so, from any slots, at any block number and with any carried value
 abbrev pub PartsKeepToTheirEffects : Type 0
 PartsKeepToTheirEffects =
-    (p : Program) (n : ℕ) (construct : Construct) (part : Part) (s : Setup) → IsLawful p → slice_get (constructs_in p.main) n ≡ Some construct → IsSetup p s → KeepsToItsEffects p construct part s
+    (p : Program) (n : ℕ) (construct : Construct) (part : Part) (s : Setup) → IsLawful p
+    → slice_get (constructs_in p.main) n ≡ Some construct → IsSetup p s → KeepsToItsEffects p construct part s

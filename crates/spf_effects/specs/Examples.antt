@@ -3,7 +3,29 @@ use Rattle.std.specs.Prelude.{◌∷◌, [], pos}
 use Rattle.spf_ast.specs.declared.syntax.Op.TheVariants.{Add, Mul, And}
 use Rattle.spf_ast.specs.declared.syntax.Part.TheVariants.{Body}
 use Rattle.spf_ast.specs.declared.syntax.Test.TheVariants.{Eq}
-use Rattle.spf_ast.specs.Syntax.{Expression, Number, Local, Load, Call, Binary, argument, no_more, Compare, Fill, Store, If, For, Fold, Block, end, on_line, FoldHead, By, Function, Program}
+use Rattle.spf_ast.specs.Syntax.{
+  Expression,
+  Number,
+  Local,
+  Load,
+  Call,
+  Binary,
+  argument,
+  no_more,
+  Compare,
+  Fill,
+  Store,
+  If,
+  For,
+  Fold,
+  Block,
+  end,
+  on_line,
+  FoldHead,
+  By,
+  Function,
+  Program,
+}
 use Rattle.spf_ast.specs.Construct.{fold}
 use Rattle.spf_effects.specs.Parts.{PartEffects, part_effects}
 

@@ -2,10 +2,17 @@
 ghost use Rattle.std.specs.Prelude.{◌≡◌, ℕ, IfOk};
 ghost use Rattle.spf_ast.specs.declared.syntax.Fold.{out-Fold};
 ghost use Rattle.spf_ast.specs.declared.syntax.Pair.{out-Pair};
-ghost use Rattle.spf_ast.specs.ConstructView.{construct as construct_seen};
+ghost use Rattle.spf_ast.specs.ConstructView.{construct as seen_construct};
 ghost use Rattle.spf_ast.specs.Construct.{fold as fold_construct, pair as pair_construct};
 ghost use Rattle.spf_ast.specs.Syntax.{end};
-ghost use Rattle.spf_ast.specs.View.{block as block_of, expression as expression_of, predictor as predictor_of, program as program_of, fold_head, pair_head};
+ghost use Rattle.spf_ast.specs.View.{
+  block as seen_block,
+  expression as seen_expression,
+  predictor as seen_predictor,
+  program as seen_program,
+  fold_head,
+  pair_head,
+};
 ghost use Rattle.spf_effects.specs.Effects.{AreEffects, effects_of};
 ghost use Rattle.spf_effects.specs.Forms.{block_finds, block_then};
 ghost use Rattle.spf_effects.specs.Parts.{guess_finds, outside, part_effects};
@@ -39,7 +46,7 @@ pub fn effects(
     construct: TopConstruct,
     part: Part,
 ) -> Result<Effects, AllocError>
-    ensures exact { IfOk result (AreEffects (part_effects (program_of program.now) (construct_seen construct.entry) part)) }
+    ensures exact { IfOk result (AreEffects (part_effects (seen_program program.now) (seen_construct construct.entry) part)) }
 {
     match construct.kind {
         ConstructKind::Fold(fold) => fold_effects(alloc, program, fold, part),
@@ -54,7 +61,9 @@ fn fold_effects(
     fold: &Fold,
     part: Part,
 ) -> Result<Effects, AllocError>
-    ensures { IfOk result (λ e. (line : ℕ) → AreEffects (part_effects (program_of program.now) (fold_construct line (fold_head fold.now) (block_of (out-Fold fold.now).body.items)) part) e) }
+    ensures { IfOk result (λ e. (line : ℕ) → AreEffects
+        (part_effects (seen_program program.now)
+        (fold_construct line (fold_head fold.now) (seen_block (out-Fold fold.now).body.items)) part) e) }
 {
     let slots = slots_in(alloc, &program.main)?;
     let context = Context {
@@ -78,7 +87,10 @@ fn pair_effects(
     pair: &Pair,
     part: Part,
 ) -> Result<Effects, AllocError>
-    ensures { IfOk result (λ e. (line : ℕ) → AreEffects (part_effects (program_of program.now) (pair_construct line (pair_head pair.now) (block_of (out-Pair pair.now).producer.items) (block_of (out-Pair pair.now).consumer.items)) part) e) }
+    ensures { IfOk result (λ e. (line : ℕ) → AreEffects
+        (part_effects (seen_program program.now)
+        (pair_construct line (pair_head pair.now) (seen_block (out-Pair pair.now).producer.items)
+        (seen_block (out-Pair pair.now).consumer.items)) part) e) }
 {
     let slots = slots_in(alloc, &program.main)?;
     let context = Context {
@@ -97,7 +109,7 @@ fn pair_effects(
 
 /// Bounds for the slots of `main`, of which nothing is known.
 fn unknown_bounds(alloc: Global, program: &Program) -> Result<Vec<Bound>, AllocError>
-    ensures { IfOk result (λ v. v.items ≡ outside (program_of program.now)) }
+    ensures { IfOk result (λ v. v.items ≡ outside (seen_program program.now)) }
 {
     let mut bounds = Vec::new(alloc);
     bounds.resize(program.slots.len(), Bound::Unknown)?;
@@ -113,7 +125,8 @@ fn effects_and(
     statements: &[Stmt],
     last: &Expr,
 ) -> Result<Effects, AllocError>
-    ensures { IfOk result (AreEffects (effects_of (block_then (setting context.now below) bounds.now (block_of statements.now) (expression_of last.now)) (block_of statements.now))) }
+    ensures { IfOk result (AreEffects (effects_of (block_then (setting context.now below) bounds.now
+        (seen_block statements.now) (seen_expression last.now)) (seen_block statements.now))) }
 {
     let mut found = Findings::new(alloc);
     block_and(alloc, context, below, bounds, statements, last, &mut found)?;
@@ -128,7 +141,8 @@ fn block_effects(
     bounds: &[Bound],
     statements: &[Stmt],
 ) -> Result<Effects, AllocError>
-    ensures { IfOk result (AreEffects (effects_of (block_finds (setting context.now below) bounds.now (block_of statements.now)) (block_of statements.now))) }
+    ensures { IfOk result (AreEffects (effects_of (block_finds (setting context.now below) bounds.now
+        (seen_block statements.now)) (seen_block statements.now))) }
 {
     let mut found = Findings::new(alloc);
     block(alloc, context, below, bounds, statements, &mut found)?;
@@ -143,7 +157,7 @@ fn predictor_effects(
     bounds: &[Bound],
     predict: &Predict,
 ) -> Result<Effects, AllocError>
-    ensures { IfOk result (AreEffects (effects_of (guess_finds (setting context.now below) bounds.now (predictor_of predict.now)) end)) }
+    ensures { IfOk result (AreEffects (effects_of (guess_finds (setting context.now below) bounds.now (seen_predictor predict.now)) end)) }
 {
     match predict {
         Predict::Host(_) => Ok(no_effects(alloc)),

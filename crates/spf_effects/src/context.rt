@@ -2,7 +2,7 @@
 ghost use Rattle.std.specs.Prelude.{◌≡◌, ℕ, ◌<◌, MatchOption, Some, map, slice_get, slice_set, slice_index_or, if◌then◌else◌, IfOk, List};
 ghost use Rattle.spf_region.specs.declared.bound.Bound.{Bound as bound_form};
 ghost use Rattle.spf_region.specs.declared.bound.Bound.TheVariants.{Unknown};
-ghost use Rattle.spf_ast.specs.View.{function as function_of};
+ghost use Rattle.spf_ast.specs.View.{function as seen_function};
 ghost use Rattle.spf_effects.specs.Forms.{Entered};
 ghost use Rattle.spf_effects.specs.Parts.{call_before, entered, own_bounds, parameter_bounds};
 ghost use Rattle.spf_effects.specs.SlotSets.{has_slot};
@@ -44,9 +44,9 @@ pub(crate) fn declare(assigned: &SlotSet, slot: u32, bound: Bound, bounds: &mut 
 /// The function that a call reaches, where it stands before the place `below`.
 pub(crate) fn callee(functions: &[Function], below: usize, place: usize) -> Option<&Function>
     ensures { MatchOption result
-        ((given : List bound_form) → call_before (map function_of functions.now) below place given ≡ never_entered)
+        ((given : List bound_form) → call_before (map seen_function functions.now) below place given ≡ never_entered)
         (λ f. (place < below)
-        × (slice_get (map function_of functions.now) place ≡ Some (function_of f.now))) }
+        × (slice_get (map seen_function functions.now) place ≡ Some (seen_function f.now))) }
 {
     if place >= below {
         return None;

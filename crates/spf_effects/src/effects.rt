@@ -1,6 +1,6 @@
 //! Effects of parts.
 ghost use Rattle.std.specs.Prelude.{◌≡◌, IfOk};
-ghost use Rattle.spf_ast.specs.View.{block as block_of};
+ghost use Rattle.spf_ast.specs.View.{block as seen_block};
 ghost use Rattle.spf_ast.specs.Syntax.{end};
 ghost use Rattle.spf_effects.specs.Effects.{AreEffects, effects_of};
 ghost use Rattle.spf_effects.specs.Found.{finds_nothing};
@@ -47,7 +47,7 @@ pub(crate) fn gathered(
     found: Findings,
     statements: &[Stmt],
 ) -> Result<Effects, AllocError>
-    ensures { IfOk result (IsGathered found (block_of statements.now)) }
+    ensures { IfOk result (IsGathered found (seen_block statements.now)) }
 {
     let slots = slots_in(alloc, statements)?;
     Ok(Effects {

@@ -234,7 +234,8 @@ impl Findings {
         end_low: i64,
         end_high: i64,
     ) -> Result<(), AllocError>
-        ensures { OnOk result (Extends (may_write_between array factor low end_high then surely_writes_between array factor low high end_low end_high) self.old self.new) }
+        ensures { OnOk result (Extends (may_write_between array factor low end_high
+            then surely_writes_between array factor low high end_low end_high) self.old self.new) }
     {
         self.may_write_between(alloc, array, factor, low, end_high)?;
         self.surely_write_between(alloc, array, factor, low, high, end_low, end_high)

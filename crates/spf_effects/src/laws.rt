@@ -52,7 +52,12 @@ pub fn sequence()
 /// Lists that grow by one form, and then by another from what was surely written before both, grow by
 /// one of the two, where what both surely write is kept.
 pub fn choice()
-    ensures { (f g : Finds) (old one two : Lists) (copy common : List Range) → offsets_of copy ≡ offsets_of old.written → wholes_of copy ≡ wholes_of old.written → Extends f old one → Extends g (record { uncovered = one.uncovered; may = one.may; written = copy }) two → offsets_of common ≡ in_both (offsets_of one.written) (offsets_of two.written) → wholes_of common ≡ whole_in_both (wholes_of one.written) (wholes_of two.written) → Extends (either f g) old (record { uncovered = two.uncovered; may = two.may; written = common }) }
+    ensures { (f g : Finds) (old one two : Lists) (copy common : List Range) → offsets_of copy ≡ offsets_of old.written
+        → wholes_of copy ≡ wholes_of old.written → Extends f old one
+        → Extends g (record { uncovered = one.uncovered; may = one.may; written = copy }) two
+        → offsets_of common ≡ in_both (offsets_of one.written) (offsets_of two.written)
+        → wholes_of common ≡ whole_in_both (wholes_of one.written) (wholes_of two.written)
+        → Extends (either f g) old (record { uncovered = two.uncovered; may = two.may; written = common }) }
 {}
 
 /// The effects of each part of each construct have lists in normal form.

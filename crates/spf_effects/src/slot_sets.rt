@@ -3,7 +3,7 @@ ghost use Rattle.std.specs.Prelude.{◌≡◌, ◌<◌, ◌^◌, [], length, OnO
 ghost use Rattle.spf_ast.specs.declared.syntax.Fold.{out-Fold};
 ghost use Rattle.spf_ast.specs.declared.syntax.Pair.{out-Pair};
 ghost use Rattle.spf_ast.specs.Syntax.{Fold as fold_form, Pair as pair_form};
-ghost use Rattle.spf_ast.specs.View.{block as block_of, statement as statement_of, fold_head, pair_head};
+ghost use Rattle.spf_ast.specs.View.{block as seen_block, statement as seen_statement, fold_head, pair_head};
 ghost use Rattle.spf_effects.specs.SlotSets.{sets_of, has_slot, no_slot, with_slot, with_statement, with_block};
 
 use spf_ast::syntax::{Fold, Pair, Stmt, StmtKind};
@@ -73,7 +73,7 @@ pub(crate) struct Slots {
 
 /// The slots of a block.
 pub(crate) fn slots_in(alloc: Global, statements: &[Stmt]) -> Result<Slots, AllocError>
-    ensures { IfOk result (λ s. sets_of s ≡ with_block (block_of statements.now) (record { assigned = no_slot; declared = no_slot })) }
+    ensures { IfOk result (λ s. sets_of s ≡ with_block (seen_block statements.now) (record { assigned = no_slot; declared = no_slot })) }
 {
     let mut slots = Slots {
         assigned: SlotSet::new(alloc),
@@ -86,7 +86,7 @@ pub(crate) fn slots_in(alloc: Global, statements: &[Stmt]) -> Result<Slots, Allo
 /// Adds the slots of these statements, and of those within them.
 #[cycle(collect)]
 fn collect(statements: &[Stmt], slots: &mut Slots) -> Result<(), AllocError>
-    ensures { OnOk result (sets_of slots.new ≡ with_block (block_of statements.now) (sets_of slots.old)) }
+    ensures { OnOk result (sets_of slots.new ≡ with_block (seen_block statements.now) (sets_of slots.old)) }
 {
     for statement in statements {
         collect_statement(&statement.kind, slots)?;
@@ -97,7 +97,7 @@ fn collect(statements: &[Stmt], slots: &mut Slots) -> Result<(), AllocError>
 /// Adds the slots of a statement, and of those within it.
 #[cycle(collect)]
 fn collect_statement(kind: &StmtKind, slots: &mut Slots) -> Result<(), AllocError>
-    ensures { OnOk result (sets_of slots.new ≡ with_statement (statement_of kind.now) (sets_of slots.old)) }
+    ensures { OnOk result (sets_of slots.new ≡ with_statement (seen_statement kind.now) (sets_of slots.old)) }
 {
     match kind {
         StmtKind::Let(slot, _) => slots.declared.insert(*slot),
@@ -124,7 +124,8 @@ fn collect_statement(kind: &StmtKind, slots: &mut Slots) -> Result<(), AllocErro
 /// Adds the slots of a fold.
 #[cycle(collect)]
 fn collect_fold(fold: &Fold, slots: &mut Slots) -> Result<(), AllocError>
-    ensures { OnOk result (sets_of slots.new ≡ with_statement (fold_form (fold_head fold.now) (block_of (out-Fold fold.now).body.items)) (sets_of slots.old)) }
+    ensures { OnOk result (sets_of slots.new ≡ with_statement
+        (fold_form (fold_head fold.now) (seen_block (out-Fold fold.now).body.items)) (sets_of slots.old)) }
 {
     slots.declared.insert(fold.carried)?;
     slots.declared.insert(fold.block)?;
@@ -134,7 +135,9 @@ fn collect_fold(fold: &Fold, slots: &mut Slots) -> Result<(), AllocError>
 /// Adds the slots of a pair.
 #[cycle(collect)]
 fn collect_pair(pair: &Pair, slots: &mut Slots) -> Result<(), AllocError>
-    ensures { OnOk result (sets_of slots.new ≡ with_statement (pair_form (pair_head pair.now) (block_of (out-Pair pair.now).producer.items) (block_of (out-Pair pair.now).consumer.items)) (sets_of slots.old)) }
+    ensures { OnOk result (sets_of slots.new ≡ with_statement
+        (pair_form (pair_head pair.now) (seen_block (out-Pair pair.now).producer.items)
+        (seen_block (out-Pair pair.now).consumer.items)) (sets_of slots.old)) }
 {
     slots.declared.insert(pair.carried)?;
     collect(&pair.producer, slots)?;

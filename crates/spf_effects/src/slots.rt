@@ -2,7 +2,7 @@
 ghost use Rattle.std.specs.Prelude.{◌≡◌, ◌||◌, not};
 ghost use Rattle.spf_ast.specs.declared.syntax.Fold.{out-Fold};
 ghost use Rattle.spf_ast.specs.declared.syntax.Pair.{out-Pair};
-ghost use Rattle.spf_ast.specs.View.{block as block_of, statement as statement_of};
+ghost use Rattle.spf_ast.specs.View.{block as seen_block, statement as seen_statement};
 ghost use Rattle.spf_ast.specs.Slots.{emits, statement_emits, assigns, statement_assigns};
 ghost use Rattle.spf_effects.specs.SlotSets.{has_slot};
 
@@ -12,7 +12,7 @@ use spf_ast::syntax::{Fold, Pair, Stmt, StmtKind};
 /// Whether one of these statements, or one within them, emits.
 #[cycle(emits)]
 pub(crate) fn emits(statements: &[Stmt]) -> bool
-    ensures { result ≡ emits (block_of statements.now) }
+    ensures { result ≡ emits (seen_block statements.now) }
 {
     for statement in statements {
         if statement_emits(&statement.kind) {
@@ -25,7 +25,7 @@ pub(crate) fn emits(statements: &[Stmt]) -> bool
 /// Whether a statement, or one within it, emits.
 #[cycle(emits)]
 fn statement_emits(kind: &StmtKind) -> bool
-    ensures { result ≡ statement_emits (statement_of kind.now) }
+    ensures { result ≡ statement_emits (seen_statement kind.now) }
 {
     match kind {
         StmtKind::Emit(_) => true,
@@ -46,7 +46,7 @@ fn statement_emits(kind: &StmtKind) -> bool
 /// Whether the body of a fold emits.
 #[cycle(emits)]
 fn fold_emits(fold: &Fold) -> bool
-    ensures { result ≡ emits (block_of (out-Fold fold.now).body.items) }
+    ensures { result ≡ emits (seen_block (out-Fold fold.now).body.items) }
 {
     emits(&fold.body)
 }
@@ -54,7 +54,7 @@ fn fold_emits(fold: &Fold) -> bool
 /// Whether the producer or the consumer of a pair emits.
 #[cycle(emits)]
 fn pair_emits(pair: &Pair) -> bool
-    ensures { result ≡ (emits (block_of (out-Pair pair.now).producer.items) || emits (block_of (out-Pair pair.now).consumer.items)) }
+    ensures { result ≡ (emits (seen_block (out-Pair pair.now).producer.items) || emits (seen_block (out-Pair pair.now).consumer.items)) }
 {
     emits(&pair.producer) || emits(&pair.consumer)
 }
@@ -62,7 +62,7 @@ fn pair_emits(pair: &Pair) -> bool
 /// Whether one of these statements, or one within them, assigns a slot that isn't among these.
 #[cycle(assigns)]
 pub(crate) fn assigns_other(statements: &[Stmt], declared: &SlotSet) -> bool
-    ensures { result ≡ assigns (λ slot. not (has_slot declared.now slot)) (block_of statements.now) }
+    ensures { result ≡ assigns (λ slot. not (has_slot declared.now slot)) (seen_block statements.now) }
 {
     for statement in statements {
         if statement_assigns_other(&statement.kind, declared) {
@@ -75,7 +75,7 @@ pub(crate) fn assigns_other(statements: &[Stmt], declared: &SlotSet) -> bool
 /// Whether a statement, or one within it, assigns a slot that isn't among these.
 #[cycle(assigns)]
 fn statement_assigns_other(kind: &StmtKind, declared: &SlotSet) -> bool
-    ensures { result ≡ statement_assigns (λ slot. not (has_slot declared.now slot)) (statement_of kind.now) }
+    ensures { result ≡ statement_assigns (λ slot. not (has_slot declared.now slot)) (seen_statement kind.now) }
 {
     match kind {
         StmtKind::Assign(slot, _) => !declared.contains(*slot as usize),
@@ -98,7 +98,7 @@ fn statement_assigns_other(kind: &StmtKind, declared: &SlotSet) -> bool
 /// Whether the body of a fold assigns a slot that isn't among these.
 #[cycle(assigns)]
 fn fold_assigns_other(fold: &Fold, declared: &SlotSet) -> bool
-    ensures { result ≡ assigns (λ slot. not (has_slot declared.now slot)) (block_of (out-Fold fold.now).body.items) }
+    ensures { result ≡ assigns (λ slot. not (has_slot declared.now slot)) (seen_block (out-Fold fold.now).body.items) }
 {
     assigns_other(&fold.body, declared)
 }
@@ -106,7 +106,9 @@ fn fold_assigns_other(fold: &Fold, declared: &SlotSet) -> bool
 /// Whether the producer or the consumer of a pair assigns a slot that isn't among these.
 #[cycle(assigns)]
 fn pair_assigns_other(pair: &Pair, declared: &SlotSet) -> bool
-    ensures { result ≡ (assigns (λ slot. not (has_slot declared.now slot)) (block_of (out-Pair pair.now).producer.items) || assigns (λ slot. not (has_slot declared.now slot)) (block_of (out-Pair pair.now).consumer.items)) }
+    ensures { result ≡ (assigns (λ slot. not (has_slot declared.now slot))
+        (seen_block (out-Pair pair.now).producer.items) || assigns (λ slot. not (has_slot declared.now slot))
+        (seen_block (out-Pair pair.now).consumer.items)) }
 {
     assigns_other(&pair.producer, declared) || assigns_other(&pair.consumer, declared)
 }

@@ -2,7 +2,7 @@
 ghost use Rattle.std.specs.Prelude.{◌≡◌, ℤ, ◌+ℤ◌, if◌then◌else◌, ◌≤◌, ◌^◌, List, OnOk, Some, None, IfSome, MatchOption, unsigned_abs};
 ghost use Rattle.spf_region.specs.Bounds.{is_small};
 ghost use Rattle.spf_region.specs.Ranges.{Offsets};
-ghost use Rattle.spf_ast.specs.View.{expression as expression_of, block as block_of, statement as statement_of};
+ghost use Rattle.spf_ast.specs.View.{expression as seen_expression, block as seen_block, statement as seen_statement};
 ghost use Rattle.spf_effects.specs.Forms.{distance, sweeps};
 ghost use Rattle.spf_effects.specs.Found.{Sweep, sweep_joined, sweeps_joined, swept};
 ghost use Rattle.spf_effects.specs.Sweeping.{IsSwept, slot_of, number_of, signed, moved, sweeps_of};
@@ -37,7 +37,7 @@ fn small_sum(n: i64, distance: i128) -> Option<i64>
 
 /// The slot that an expression is.
 fn slot_of(expr: &Expr) -> Option<u32>
-    ensures { result ≡ slot_of (expression_of expr.now) }
+    ensures { result ≡ slot_of (seen_expression expr.now) }
 {
     match expr {
         Expr::Local(slot) => Some(*slot),
@@ -47,7 +47,7 @@ fn slot_of(expr: &Expr) -> Option<u32>
 
 /// The number that an expression is.
 fn number_of(expr: &Expr) -> Option<i64>
-    ensures { result ≡ number_of (expression_of expr.now) }
+    ensures { result ≡ number_of (seen_expression expr.now) }
 {
     match expr {
         Expr::Number(n) => Some(*n),
@@ -86,7 +86,7 @@ fn moved(name: u32, op: Op, slot: Option<u32>, n: Option<i64>) -> Option<i128>
 /// How far an index is from a loop's name: the name itself, the name plus a number, or the name
 /// minus a number.
 fn distance(name: u32, index: &Expr) -> Option<i128>
-    ensures value { result ≡ distance name (expression_of index.now) }
+    ensures value { result ≡ distance name (seen_expression index.now) }
     ensures size { IfSome result (λ d. unsigned_abs d ≤ 2 ^ 63) }
 {
     match index {
@@ -179,7 +179,7 @@ fn sweep_statement(
     kind: &StmtKind,
     found: &mut Findings,
 ) -> Result<(), AllocError>
-    ensures { OnOk result (IsSwept (sweeps_joined turns.factor turns.first turns.last (sweeps_of name (statement_of kind.now))) found.old found.new) }
+    ensures { OnOk result (IsSwept (sweeps_joined turns.factor turns.first turns.last (sweeps_of name (seen_statement kind.now))) found.old found.new) }
 {
     match kind {
         StmtKind::Store(array, index, _) => match distance(name, index) {
@@ -208,7 +208,7 @@ fn sweep_each(
     body: &[Stmt],
     found: &mut Findings,
 ) -> Result<(), AllocError>
-    ensures { OnOk result (IsSwept (sweeps_joined turns.factor turns.first turns.last (sweeps name (block_of body.now))) found.old found.new) }
+    ensures { OnOk result (IsSwept (sweeps_joined turns.factor turns.first turns.last (sweeps name (seen_block body.now))) found.old found.new) }
 {
     for statement in body {
         sweep_statement(alloc, name, turns, &statement.kind, found)?;
@@ -225,7 +225,7 @@ pub(crate) fn sweep(
     body: &[Stmt],
     found: &mut Findings,
 ) -> Result<(), AllocError>
-    ensures { OnOk result (IsSwept (swept low high (sweeps name (block_of body.now))) found.old found.new) }
+    ensures { OnOk result (IsSwept (swept low high (sweeps name (seen_block body.now))) found.old found.new) }
 {
     match turns_between(low, high) {
         Some(turns) => sweep_each(alloc, name, turns, body, found),

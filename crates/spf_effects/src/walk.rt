@@ -3,10 +3,32 @@ ghost use Rattle.std.specs.Prelude.{◌≡◌, ◌<◌, Some, map, IfOk, OnOk, s
 ghost use Rattle.spf_ast.specs.declared.syntax.Fold.{out-Fold};
 ghost use Rattle.spf_ast.specs.declared.syntax.Pair.{out-Pair};
 ghost use Rattle.spf_ast.specs.Syntax.{Call as call_form, Fill as fill_form, If as if_form, While as while_form, Fold as fold_form, Pair as pair_form};
-ghost use Rattle.spf_ast.specs.View.{expression as expression_of, arguments as arguments_of, condition as condition_of, statement as statement_of, block as block_of, fold_head, pair_head, function as function_of};
+ghost use Rattle.spf_ast.specs.View.{
+  expression as seen_expression,
+  arguments as seen_arguments,
+  condition as seen_condition,
+  statement as seen_statement,
+  block as seen_block,
+  fold_head,
+  pair_head,
+  function as seen_function,
+};
 ghost use Rattle.spf_effects.specs.Extends.{Extends};
 ghost use Rattle.spf_effects.specs.Found.{◌then◌, either, perhaps, turns, turn_bound};
-ghost use Rattle.spf_effects.specs.Forms.{expression_bound, expression_finds, argument_bounds, arguments_find, condition_finds, statement_finds, block_finds, block_then, bounds_behind, bounds_at_end, declared, sweeps};
+ghost use Rattle.spf_effects.specs.Forms.{
+  expression_bound,
+  expression_finds,
+  argument_bounds,
+  arguments_find,
+  condition_finds,
+  statement_finds,
+  block_finds,
+  block_then,
+  bounds_behind,
+  bounds_at_end,
+  declared,
+  sweeps,
+};
 ghost use Rattle.spf_effects.specs.Parts.{call_before, entered};
 ghost use Rattle.spf_effects.specs.Settings.{setting};
 
@@ -36,8 +58,8 @@ pub(crate) fn expression(
     expr: &Expr,
     found: &mut Findings,
 ) -> Result<Bound, AllocError>
-    ensures bound { IfOk result (λ b. b ≡ expression_bound (setting context.now below) bounds.now (expression_of expr.now)) }
-    ensures finds { OnOk result (Extends (expression_finds (setting context.now below) bounds.now (expression_of expr.now)) found.old found.new) }
+    ensures bound { IfOk result (λ b. b ≡ expression_bound (setting context.now below) bounds.now (seen_expression expr.now)) }
+    ensures finds { OnOk result (Extends (expression_finds (setting context.now below) bounds.now (seen_expression expr.now)) found.old found.new) }
 {
     match expr {
         Expr::Number(n) => Ok(Bound::number(*n)),
@@ -75,8 +97,8 @@ fn arguments(
     given: &[Expr],
     found: &mut Findings,
 ) -> Result<Vec<Bound>, AllocError>
-    ensures bounds { IfOk result (λ v. v.items ≡ argument_bounds (setting context.now below) bounds.now (arguments_of given.now)) }
-    ensures finds { OnOk result (Extends (arguments_find (setting context.now below) bounds.now (arguments_of given.now)) found.old found.new) }
+    ensures bounds { IfOk result (λ v. v.items ≡ argument_bounds (setting context.now below) bounds.now (seen_arguments given.now)) }
+    ensures finds { OnOk result (Extends (arguments_find (setting context.now below) bounds.now (seen_arguments given.now)) found.old found.new) }
 {
     let mut known = Vec::new(alloc);
     for argument in given {
@@ -97,8 +119,9 @@ fn call(
     given: &[Expr],
     found: &mut Findings,
 ) -> Result<Bound, AllocError>
-    ensures bound { IfOk result (λ b. b ≡ expression_bound (setting context.now below) bounds.now (call_form function (arguments_of given.now))) }
-    ensures finds { OnOk result (Extends (expression_finds (setting context.now below) bounds.now (call_form function (arguments_of given.now))) found.old found.new) }
+    ensures bound { IfOk result (λ b. b ≡ expression_bound (setting context.now below) bounds.now (call_form function (seen_arguments given.now))) }
+    ensures finds { OnOk result (Extends (expression_finds (setting context.now below) bounds.now
+        (call_form function (seen_arguments given.now))) found.old found.new) }
 {
     let given = arguments(alloc, context, below, bounds, given, found)?;
     let place = function as usize;
@@ -118,8 +141,9 @@ fn enter(
     given: &[Bound],
     found: &mut Findings,
 ) -> Result<Bound, AllocError>
-    ensures bound { IfOk result (λ b. b ≡ (entered (call_before (map function_of functions.now) place) (Some (function_of function.now)) given.now).bound) }
-    ensures finds { OnOk result (Extends (entered (call_before (map function_of functions.now) place) (Some (function_of function.now)) given.now).finds found.old found.new) }
+    ensures bound { IfOk result (λ b. b ≡ (entered (call_before (map seen_function functions.now) place) (Some (seen_function function.now)) given.now).bound) }
+    ensures finds { OnOk result (Extends (entered (call_before (map seen_function functions.now) place)
+        (Some (seen_function function.now)) given.now).finds found.old found.new) }
 {
     let slots = slots_in(alloc, &function.body)?;
     let own = own_bounds(alloc, &slots.assigned, function.slots.len(), given)?;
@@ -148,7 +172,7 @@ fn condition(
     cond: &Cond,
     found: &mut Findings,
 ) -> Result<(), AllocError>
-    ensures finds { OnOk result (Extends (condition_finds (setting context.now below) bounds.now (condition_of cond.now)) found.old found.new) }
+    ensures finds { OnOk result (Extends (condition_finds (setting context.now below) bounds.now (seen_condition cond.now)) found.old found.new) }
 {
     match cond {
         Cond::Compare(_, left, right) => {
@@ -177,8 +201,8 @@ pub(crate) fn block(
     statements: &[Stmt],
     found: &mut Findings,
 ) -> Result<Vec<Bound>, AllocError>
-    ensures bounds { IfOk result (λ v. v.items ≡ bounds_at_end (setting context.now below) bounds.now (block_of statements.now)) }
-    ensures finds { OnOk result (Extends (block_finds (setting context.now below) bounds.now (block_of statements.now)) found.old found.new) }
+    ensures bounds { IfOk result (λ v. v.items ≡ bounds_at_end (setting context.now below) bounds.now (seen_block statements.now)) }
+    ensures finds { OnOk result (Extends (block_finds (setting context.now below) bounds.now (seen_block statements.now)) found.old found.new) }
 {
     let mut known = Vec::from_slice(alloc, bounds)?;
     for item in statements {
@@ -198,8 +222,10 @@ pub(crate) fn block_and(
     last: &Expr,
     found: &mut Findings,
 ) -> Result<Bound, AllocError>
-    ensures bound { IfOk result (λ b. b ≡ expression_bound (setting context.now below) (bounds_at_end (setting context.now below) bounds.now (block_of statements.now)) (expression_of last.now)) }
-    ensures finds { OnOk result (Extends (block_then (setting context.now below) bounds.now (block_of statements.now) (expression_of last.now)) found.old found.new) }
+    ensures bound { IfOk result (λ b. b ≡ expression_bound (setting context.now below)
+        (bounds_at_end (setting context.now below) bounds.now (seen_block statements.now)) (seen_expression last.now)) }
+    ensures finds { OnOk result (Extends (block_then (setting context.now below) bounds.now (seen_block statements.now)
+        (seen_expression last.now)) found.old found.new) }
 {
     let behind = block(alloc, context, below, bounds, statements, found)?;
     expression(alloc, context, below, &behind, last, found)
@@ -215,8 +241,8 @@ fn statement(
     kind: &StmtKind,
     found: &mut Findings,
 ) -> Result<(), AllocError>
-    ensures bounds { OnOk result (bounds.new ≡ bounds_behind (setting context.now below) bounds.old (statement_of kind.now)) }
-    ensures finds { OnOk result (Extends (statement_finds (setting context.now below) bounds.old (statement_of kind.now)) found.old found.new) }
+    ensures bounds { OnOk result (bounds.new ≡ bounds_behind (setting context.now below) bounds.old (seen_statement kind.now)) }
+    ensures finds { OnOk result (Extends (statement_finds (setting context.now below) bounds.old (seen_statement kind.now)) found.old found.new) }
 {
     match kind {
         StmtKind::Let(slot, value) => {
@@ -272,7 +298,9 @@ fn fill(
     value: &Expr,
     found: &mut Findings,
 ) -> Result<(), AllocError>
-    ensures finds { OnOk result (Extends (statement_finds (setting context.now below) bounds.now (fill_form array (expression_of low.now) (expression_of high.now) (expression_of value.now))) found.old found.new) }
+    ensures finds { OnOk result (Extends (statement_finds (setting context.now below) bounds.now
+        (fill_form array (seen_expression low.now) (seen_expression high.now) (seen_expression value.now))) found.old
+        found.new) }
 {
     let low = expression(alloc, context, below, bounds, low, found)?;
     let high = expression(alloc, context, below, bounds, high, found)?;
@@ -292,7 +320,8 @@ fn branches(
     second: &[Stmt],
     found: &mut Findings,
 ) -> Result<(), AllocError>
-    ensures finds { OnOk result (Extends (statement_finds (setting context.now below) bounds.now (if_form (condition_of cond.now) (block_of first.now) (block_of second.now))) found.old found.new) }
+    ensures finds { OnOk result (Extends (statement_finds (setting context.now below) bounds.now
+        (if_form (seen_condition cond.now) (seen_block first.now) (seen_block second.now))) found.old found.new) }
 {
     condition(alloc, context, below, bounds, cond, found)?;
     let before = found.surely_written(alloc)?;
@@ -315,7 +344,10 @@ fn for_turns(
     body: &[Stmt],
     found: &mut Findings,
 ) -> Result<(), AllocError>
-    ensures finds { OnOk result (Extends (turns low high (sweeps slot (block_of body.now)) (block_finds (setting context.now below) (declared (setting context.now below) slot (turn_bound low high) bounds.now) (block_of body.now))) found.old found.new) }
+    ensures finds { OnOk result (Extends (turns low high (sweeps slot (seen_block body.now))
+        (block_finds (setting context.now below)
+        (declared (setting context.now below) slot (turn_bound low high) bounds.now) (seen_block body.now)))
+        found.old found.new) }
 {
     if has_no_turn(low, high) {
         return Ok(());
@@ -339,7 +371,9 @@ fn while_turns(
     body: &[Stmt],
     found: &mut Findings,
 ) -> Result<(), AllocError>
-    ensures finds { OnOk result (Extends (condition_finds (setting context.now below) bounds.now (condition_of cond.now) then perhaps (block_finds (setting context.now below) bounds.now (block_of body.now))) found.old found.new) }
+    ensures finds { OnOk result (Extends (condition_finds (setting context.now below) bounds.now (seen_condition cond.now)
+        then perhaps (block_finds (setting context.now below) bounds.now (seen_block body.now))) found.old
+        found.new) }
 {
     condition(alloc, context, below, bounds, cond, found)?;
     let before = found.surely_written(alloc)?;
@@ -358,7 +392,8 @@ fn inner_fold(
     fold: &Fold,
     found: &mut Findings,
 ) -> Result<(), AllocError>
-    ensures finds { OnOk result (Extends (statement_finds (setting context.now below) bounds.now (fold_form (fold_head fold.now) (block_of (out-Fold fold.now).body.items))) found.old found.new) }
+    ensures finds { OnOk result (Extends (statement_finds (setting context.now below) bounds.now
+        (fold_form (fold_head fold.now) (seen_block (out-Fold fold.now).body.items))) found.old found.new) }
 {
     expression(alloc, context, below, bounds, &fold.start, found)?;
     let low = expression(alloc, context, below, bounds, &fold.low, found)?;
@@ -382,7 +417,10 @@ fn fold_turns(
     next: &Expr,
     found: &mut Findings,
 ) -> Result<(), AllocError>
-    ensures finds { OnOk result (Extends (turns low high [] (block_then (setting context.now below) (declared (setting context.now below) slot (turn_bound low high) bounds.now) (block_of body.now) (expression_of next.now))) found.old found.new) }
+    ensures finds { OnOk result (Extends (turns low high []
+        (block_then (setting context.now below)
+        (declared (setting context.now below) slot (turn_bound low high) bounds.now) (seen_block body.now)
+        (seen_expression next.now))) found.old found.new) }
 {
     if has_no_turn(low, high) {
         return Ok(());
@@ -405,7 +443,9 @@ fn inner_pair(
     pair: &Pair,
     found: &mut Findings,
 ) -> Result<(), AllocError>
-    ensures finds { OnOk result (Extends (statement_finds (setting context.now below) bounds.now (pair_form (pair_head pair.now) (block_of (out-Pair pair.now).producer.items) (block_of (out-Pair pair.now).consumer.items))) found.old found.new) }
+    ensures finds { OnOk result (Extends (statement_finds (setting context.now below) bounds.now
+        (pair_form (pair_head pair.now) (seen_block (out-Pair pair.now).producer.items)
+        (seen_block (out-Pair pair.now).consumer.items))) found.old found.new) }
 {
     block_and(
         alloc,

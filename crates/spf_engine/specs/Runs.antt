@@ -27,7 +27,8 @@ SettlesSo hosts p input s c (Carried value) progress = (last : Stand) → IsSett
 SettlesSo hosts p input s c (Trapped trap) progress = HasCome hosts p input (Stopped trap s.output) progress
 
 -- so it is with the progress after the construct: with what it counted, its trace, and all that hosts were told by then
-pub record LeadsTo (hosts : Hosts) (p : Program) (input : List ℕ) (progress : Progress) (s : Stand) (c : Construct) (passed : Passed) (now : Hosts) : Type 0 where
+pub record LeadsTo (hosts : Hosts) (p : Program) (input : List ℕ) (progress : Progress) (s : Stand) (c : Construct)
+    (passed : Passed) (now : Hosts) : Type 0 where
   pub later : Progress
   pub stats : later.stats ≡ plus progress.stats passed.stats
   pub traces : later.traces ≡ progress.traces ++ option_to_list passed.trace

@@ -1,7 +1,7 @@
 //! The construct that stands next in a run.
 ghost use Rattle.std.specs.Prelude.{◌≡◌, ◌<◌, ◌≤◌, ◌+ℤ◌, ◌≤ℤ◌, ◌++◌, List, length, map, pos, slice_get, Some, None, IfOk, IfErr};
 ghost use Rattle.spf_ast.specs.View.{program as seen_program};
-ghost use Rattle.spf_ast.specs.ConstructView.{construct as construct_seen};
+ghost use Rattle.spf_ast.specs.ConstructView.{construct as seen_construct};
 ghost use Rattle.spf_ast.specs.Construct.{constructs_in};
 ghost use Rattle.spf_ast.specs.Pieces.{construct_first};
 ghost use Rattle.spf_check.specs.Plans.{AreBlocksOf};
@@ -72,21 +72,21 @@ fn run_at<R: Threads + Wait + Sync, G: Gate + Sync>(
     requires workers { (0 < workers) × (workers ≤ 64) }
     requires program { program_of instance.now ≡ seen_program checked.now }
     requires run { IsRunOf (program_of instance.now) (length instance.now.input) run.old }
-    requires construct { slice_get (constructs_in (program_of instance.now).main) number ≡ Some (construct_seen construct) }
-    requires blocks { AreBlocksOf (construct_seen construct) header.blocks }
+    requires construct { slice_get (constructs_in (program_of instance.now).main) number ≡ Some (seen_construct construct) }
+    requires blocks { AreBlocksOf (seen_construct construct) header.blocks }
     requires some { 1 ≤ header.blocks }
     requires few { header.blocks ≤ 4096 }
     requires fits { (header.low +ℤ pos header.blocks) ≤ℤ i64.MAX }
-    requires host { IsHandedIn (length hosts.old.items) (construct_seen construct) }
+    requires host { IsHandedIn (length hosts.old.items) (seen_construct construct) }
     ensures came { IfOk result (λ r. (before : Hosts) (telling : List Telling)
         → WereTold before telling (handed_in (map (λ h. answer h) hosts.old.items))
-        → ComesTo (entry_there (program_of instance.now) instance.now.input (construct_seen construct.entry) (seen_header header) run.old)
-        (guess_there before telling (program_of instance.now) instance.now.input (construct_seen construct.entry) (seen_header header) run.old)
+        → ComesTo (entry_there (program_of instance.now) instance.now.input (seen_construct construct.entry) (seen_header header) run.old)
+        (guess_there before telling (program_of instance.now) instance.now.input (seen_construct construct.entry) (seen_header header) run.old)
         r run.new.cells) }
     ensures told { IfOk result (λ r. (before : Hosts) (telling : List Telling)
         → WereTold before telling (handed_in (map (λ h. answer h) hosts.old.items))
-        → WereTold before (telling ++ tells (construct_seen construct.entry) (seen_header header)
-        (plain_blocks (entry_there (program_of instance.now) instance.now.input (construct_seen construct.entry) (seen_header header) run.old)).values)
+        → WereTold before (telling ++ tells (seen_construct construct.entry) (seen_header header)
+        (plain_blocks (entry_there (program_of instance.now) instance.now.input (seen_construct construct.entry) (seen_header header) run.old)).values)
         (handed_in (map (λ h. answer h) hosts.new.items))) }
     ensures nothing_told { IfErr result (λ why. (before : Hosts) (telling : List Telling)
         → WereTold before telling (handed_in (map (λ h. answer h) hosts.old.items))
@@ -122,13 +122,14 @@ pub(crate) fn pass_construct<R: Threads + Wait + Sync, G: Gate + Sync>(
     requires workers { (0 < workers) × (workers ≤ 64) }
     requires program { program_of instance.now ≡ seen_program checked.now }
     requires run { IsRunOf (program_of instance.now) (length instance.now.input) run.old }
-    requires next { construct_first (ahead (program_of instance.now) run.old) ≡ Some (construct_seen construct) }
-    requires construct { slice_get (constructs_in (program_of instance.now).main) number ≡ Some (construct_seen construct) }
-    requires host { IsHandedIn (length hosts.old.items) (construct_seen construct) }
+    requires next { construct_first (ahead (program_of instance.now) run.old) ≡ Some (seen_construct construct) }
+    requires construct { slice_get (constructs_in (program_of instance.now).main) number ≡ Some (seen_construct construct) }
+    requires host { IsHandedIn (length hosts.old.items) (seen_construct construct) }
     ensures came { IfOk result (λ r. (before : Hosts) (progress : Progress)
         → WereTold before progress.telling (handed_in (map (λ h. answer h) hosts.old.items))
         → GoesOn before (program_of instance.now) instance.now.input run.old progress
-        → LeadsTo before (program_of instance.now) instance.now.input progress run.new (construct_seen construct.entry) r (handed_in (map (λ h. answer h) hosts.new.items))) }
+        → LeadsTo before (program_of instance.now) instance.now.input progress run.new
+        (seen_construct construct.entry) r (handed_in (map (λ h. answer h) hosts.new.items))) }
     ensures nothing_told { IfErr result (λ why. (before : Hosts) (telling : List Telling)
         → WereTold before telling (handed_in (map (λ h. answer h) hosts.old.items))
         → WereTold before telling (handed_in (map (λ h. answer h) hosts.new.items))) }

@@ -4,15 +4,19 @@ ghost use Rattle.spf_engine.specs.declared.error.EngineError.TheVariants as engi
 
 use spf_layout::layout::RunError;
 use std::alloc::AllocError;
+use thiserror::Error;
 
 /// Why a program wasn't run to its end.
-#[derive(Clone, Copy, PartialEq, Eq, Debug)]
+#[derive(Clone, Copy, PartialEq, Eq, Debug, Error)]
 pub enum EngineError {
     /// All arrays together have more than 4,194,304 cells. `count` is their number, or 2^128 - 1 where it is greater than that.
+    #[error("cells {count} over 4194304")]
     TooManyCells { count: u128 },
     /// A construct names this host, and fewer are handed in.
+    #[error("host {number} not handed in")]
     NoHost { number: u64 },
     /// There was no memory for the run.
+    #[error("out of memory")]
     OutOfMemory,
 }
 

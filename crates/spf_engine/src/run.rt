@@ -86,7 +86,8 @@ pub fn run_instance<R: Threads + Wait + Sync, G: Gate + Sync>(
     requires program { program_of instance.now ≡ seen_program checked.now }
     requires hosts { missing_host (length hosts.old.items) (constructs_in (program_of instance.now).main) ≡ None }
     ensures outcome { IfOk result (λ r. seen_outcome r.outcome ≡ outcome_of (program_of instance.now) instance.now.input) }
-    ensures statistics { IfOk result (λ r. r.stats ≡ (tally (handed_in (map (λ h. answer h) hosts.old.items)) (program_of instance.now) instance.now.input).stats) }
+    ensures statistics { IfOk result (λ r. r.stats ≡ (tally (handed_in (map (λ h. answer h) hosts.old.items))
+        (program_of instance.now) instance.now.input).stats) }
     ensures traces { IfOk result (λ r. AreTraces (handed_in (map (λ h. answer h) hosts.old.items)) (program_of instance.now) instance.now.input
         (constructs_in (program_of instance.now).main) (reals (program_of instance.now) instance.now.input) [] r.traces.items) }
     ensures told { IfOk result (λ r. WereTold (handed_in (map (λ h. answer h) hosts.old.items))
@@ -173,7 +174,8 @@ pub fn run_program<R: Threads + Wait + Sync, G: Gate + Sync>(
     ensures few { cell_count_of (seen_program checked.now) (length input.now) ≤ max_cells
         → IfErr result (IsMissing (missing_host (length hosts.old.items) (constructs_in (seen_program checked.now).main))) }
     ensures complete { IfOk result (λ r. missing_host (length hosts.old.items) (constructs_in (seen_program checked.now).main) ≡ None) }
-    ensures untold { IfErr result (λ why. WereToldNothing why (handed_in (map (λ h. answer h) hosts.old.items)) (handed_in (map (λ h. answer h) hosts.new.items))) }
+    ensures untold { IfErr result (λ why. WereToldNothing why (handed_in (map (λ h. answer h) hosts.old.items))
+        (handed_in (map (λ h. answer h) hosts.new.items))) }
 {
     let instance = lay_out(alloc, checked, input)?;
     if let Some(number) = first_missing(checked.program(), hosts.len() as u64) {

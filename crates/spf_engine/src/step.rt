@@ -1,7 +1,7 @@
 //! Steps of a run: from one construct past the next.
 ghost use Rattle.std.specs.Prelude.{◌≡◌, ◌<◌, ◌≤◌, ◌+◌, List, length, map, None, Some, IfOk, IfErr};
 ghost use Rattle.spf_ast.specs.View.{program as seen_program};
-ghost use Rattle.spf_ast.specs.ConstructView.{construct as construct_seen};
+ghost use Rattle.spf_ast.specs.ConstructView.{construct as seen_construct};
 ghost use Rattle.spf_ast.specs.Construct.{constructs_in};
 ghost use Rattle.spf_ast.specs.Pieces.{construct_first};
 ghost use Rattle.spf_exec.specs.Pieces.{IsRunOf, ahead};
@@ -42,8 +42,8 @@ pub(crate) enum Step {
 /// Settles the construct that stands next with what its blocks came to.
 fn settle(run: &mut Run, instance: &Instance, construct: TopConstruct, settled: Settled) -> Step
     requires run { IsRunOf (program_of instance.now) (length instance.now.input) run.old }
-    requires construct { construct_first (ahead (program_of instance.now) run.old) ≡ Some (construct_seen construct) }
-    ensures settled { IsSettledSo (program_of instance.now) (construct_seen construct.entry) run.old run.new settled result }
+    requires construct { construct_first (ahead (program_of instance.now) run.old) ≡ Some (seen_construct construct) }
+    ensures settled { IsSettledSo (program_of instance.now) (seen_construct construct.entry) run.old run.new settled result }
     ensures run { IsRunOf (program_of instance.now) (length instance.now.input) run.new }
 {
     match settled {
@@ -73,7 +73,7 @@ fn pass<R: Threads + Wait + Sync, G: Gate + Sync>(
     requires program { program_of instance.now ≡ seen_program checked.now }
     requires hosts { missing_host (length hosts.old.items) (constructs_in (program_of instance.now).main) ≡ None }
     requires run { IsRunOf (program_of instance.now) (length instance.now.input) run.old }
-    requires next { construct_first (ahead (program_of instance.now) run.old) ≡ Some (construct_seen construct) }
+    requires next { construct_first (ahead (program_of instance.now) run.old) ≡ Some (seen_construct construct) }
     requires number { number + length (constructs_in (ahead (program_of instance.now) run.old)) ≡ length (constructs_in (program_of instance.now).main) }
     requires few { AreFew (program_of instance.now) run.old account.old.stats }
     ensures steps { IfOk result (λ s. (before : Hosts) (progress : Progress)

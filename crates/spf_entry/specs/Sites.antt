@@ -13,7 +13,16 @@ use Rattle.spf_entry.specs.Entry.{Entry, own, plain_blocks, begins_at}
 
 -- a construct that stands for none
 abbrev pub construct_or_none : Option Construct → Construct
-construct_or_none None = fold 0 (record { carried = 0; start = Number no_value; block = 0; low = Number no_value; high = Number no_value; predict = Host 0; next = Number no_value; next_line = 0 }) end
+construct_or_none None = fold 0 (record {
+  carried = 0;
+  start = Number no_value;
+  block = 0;
+  low = Number no_value;
+  high = Number no_value;
+  predict = Host 0;
+  next = Number no_value;
+  next_line = 0;
+}) end
 construct_or_none (Some construct) = construct
 
 -- the entry of a site

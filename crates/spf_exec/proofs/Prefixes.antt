@@ -8,7 +8,7 @@ use Rattle.spf_ast.specs.Program.{environment_of}
 use Rattle.spf_ast.specs.Construct.{Construct, construct_of, constructs_in, is_construct}
 use Rattle.spf_ast.specs.Pieces.{before_construct, from_construct, rest_from, statement_count, construct_first}
 use Rattle.spf_ast.specs.declared.construct.TopConstruct as code_top
-use Rattle.spf_ast.specs.ConstructView.{construct as construct_seen}
+use Rattle.spf_ast.specs.ConstructView.{construct as seen_construct}
 use Rattle.spf_ast.specs.Meaning.{block_means}
 use Rattle.spf_exec.specs.declared.pieces.Pause.{Pause}
 use Rattle.spf_exec.specs.declared.pieces.Pause.TheVariants as pause
@@ -104,7 +104,7 @@ pub advanced_ok : (p : Program) (input : List ℕ) (before after : Stand) (numbe
     → EndsAt p (block_means (environment_of p input) (before_construct (ahead p before))) before after tt
     → ahead p after ≡ from_construct (ahead p before)
     → number + length (constructs_in (ahead p before)) ≡ length (constructs_in p.main)
-    → MatchOption o (from_construct (ahead p before) ≡ end) (λ c. construct_first (from_construct (ahead p before)) ≡ Some (construct_seen c))
+    → MatchOption o (from_construct (ahead p before) ≡ end) (λ c. construct_first (from_construct (ahead p before)) ≡ Some (seen_construct c))
     → MatchOption o (at_ ≡ pause.Finished) (λ c. at_ ≡ pause.AtConstruct number c)
     → Advanced p input before after at_
 advanced_ok p input before after number None at_ went at count next e = rw e (record { went = went; at = at; none = at ∙ next })

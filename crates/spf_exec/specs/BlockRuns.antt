@@ -16,6 +16,7 @@ stop_result (stop.Trapped trap) = Err (halt.Trapped trap)
 stop_result (stop.Cancelled seen) = Err (halt.Cancelled seen)
 
 -- code performed a form, with this output after it and whatever is in the slots
-pub record PerformsOver {M A : Type 0} (leads : List Event → M → M → Type 0) (stop : M → Option ℕ) (may_lack : Type 0) (tree : Interaction (Ending A)) (from : M) (to : M) (result : Result A Halt) (output : List ℕ) : Type 0 where
+pub record PerformsOver {M A : Type 0} (leads : List Event → M → M → Type 0) (stop : M → Option ℕ) (may_lack : Type 0)
+    (tree : Interaction (Ending A)) (from : M) (to : M) (result : Result A Halt) (output : List ℕ) : Type 0 where
   pub slots : List ℤ
   pub performs : Performs leads stop may_lack tree from to result (record { slots = slots; output = output })

@@ -8,7 +8,7 @@ use Rattle.spf_ast.specs.Meaning.{block_means}
 use Rattle.spf_ast.specs.Plain.{plain_answer, plain_memory}
 use Rattle.spf_ast.specs.Program.{environment_of, cell_count_of, start_of, zeros_of}
 use Rattle.spf_ast.specs.Construct.{Construct, Moment, Header, plainly, header_means, constructs_in, carried_of}
-use Rattle.spf_ast.specs.ConstructView.{construct as construct_seen}
+use Rattle.spf_ast.specs.ConstructView.{construct as seen_construct}
 use Rattle.spf_ast.specs.Pieces.{statement_count, rest_from, before_construct, from_construct, construct_first}
 use Rattle.spf_layout.specs.Frame.{frame_size, main_slots}
 use Rattle.spf_exec.specs.declared.memory.Halt.{Halt}
@@ -17,7 +17,8 @@ use Rattle.spf_exec.specs.declared.pieces.Header as code_header
 use Rattle.spf_exec.specs.declared.pieces.Pause.{Pause}
 use Rattle.spf_exec.specs.declared.pieces.Pause.TheVariants as pause
 
--- a run that has stopped between two statements of `main`: its frame, its cells, its output, the index of the next statement, and how many top constructs it has passed
+-- a run that has stopped between two statements of `main`: its frame, its cells, its output, the index of the next
+-- statement, and how many top constructs it has passed
 pub record Stand : Type 0 where
   pub frame : List ℤ
   pub cells : List ℤ
@@ -79,7 +80,7 @@ pub record IsFinished (p : Program) (input : List ℕ) (before after : Stand) : 
 
 -- what the answer of `advance` says
 abbrev pub Advanced : Program → List ℕ → Stand → Stand → Pause → Type 0
-Advanced p input before after (pause.AtConstruct number construct) = StandsAt p input before after number (construct_seen construct)
+Advanced p input before after (pause.AtConstruct number construct) = StandsAt p input before after number (seen_construct construct)
 Advanced p input before after pause.Finished = IsFinished p input before after
 Advanced p input before after (pause.Trapped trap) =
     TrapsAt p (block_means (environment_of p input) (before_construct (ahead p before))) before after trap

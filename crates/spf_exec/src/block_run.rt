@@ -5,9 +5,9 @@ ghost use Rattle.std.specs.List.{Contains};
 ghost use Rattle.spf_ast.specs.declared.syntax.Fold.{out-Fold};
 ghost use Rattle.spf_ast.specs.declared.syntax.Pair.{out-Pair};
 ghost use Rattle.spf_ast.specs.declared.syntax.Part.TheVariants.{Predictor};
-ghost use Rattle.spf_ast.specs.View.{expression, block as block_of, fold_head, pair_head, predictor};
+ghost use Rattle.spf_ast.specs.View.{expression, block as seen_block, fold_head, pair_head, predictor};
 ghost use Rattle.spf_ast.specs.Syntax.{Fold as fold_form, Pair as pair_form};
-ghost use Rattle.spf_ast.specs.ConstructView.{construct as construct_seen};
+ghost use Rattle.spf_ast.specs.ConstructView.{construct as seen_construct};
 ghost use Rattle.spf_ast.specs.Construct.{constructs_in, part_means, guess_means, fold as fold_construct, pair as pair_construct};
 ghost use Rattle.spf_ast.specs.Carried.{no_value};
 ghost use Rattle.spf_ast.specs.BlockRun.{block_setup, part_asks};
@@ -62,13 +62,13 @@ fn perform_value<M: Memory>(
 ) -> Result<Carried, Halt>
     requires within { AreWithin context.now.extents.now (M.cell_count memory.old) }
     requires short { length context.now.input.now < 2 ^ 63 }
-    requires room { block_measure (call_slots context.now below) (block_of statements.now) ≤ length scratch.old }
+    requires room { block_measure (call_slots context.now below) (seen_block statements.now) ≤ length scratch.old }
     requires answer_room { expression_measure (call_slots context.now below) (expression answer.now) ≤ length scratch.old }
     ensures performs { Performs M.leads M.stop M.may_lack_memory
-        (block_value (environment context.now below) (block_of statements.now) line (expression answer.now)
+        (block_value (environment context.now below) (seen_block statements.now) line (expression answer.now)
         (state slots.old (M.output memory.old)))
         memory.old memory.new result (state slots.new (M.output memory.new)) }
-    ensures others { Leaves (block_changes (block_of statements.now)) slots.old slots.new }
+    ensures others { Leaves (block_changes (seen_block statements.now)) slots.old slots.new }
 {
     entry::perform_statements(context, below, statements, slots, scratch, memory)?;
     entry::eval(context, below, line, answer, slots, scratch, memory)
@@ -114,16 +114,16 @@ fn perform_fold<M: Memory>(
     requires within { AreWithin context.now.extents.now (M.cell_count memory.old) }
     requires short { length context.now.input.now < 2 ^ 63 }
     requires room { statement_measure (call_slots context.now below)
-        (fold_form (fold_head fold.now) (block_of (out-Fold fold.now).body.items))
+        (fold_form (fold_head fold.now) (seen_block (out-Fold fold.now).body.items))
         ≤ length scratch.old }
     ensures performs { Performs M.leads M.stop M.may_lack_memory
         (part_means (environment context.now below)
-        (fold_construct line (fold_head fold.now) (block_of (out-Fold fold.now).body.items))
+        (fold_construct line (fold_head fold.now) (seen_block (out-Fold fold.now).body.items))
         part number value
         (state slots.old (M.output memory.old)))
         memory.old memory.new result (state slots.new (M.output memory.new)) }
     ensures kept { LeavesOtherSlots
-        (fold_construct line (fold_head fold.now) (block_of (out-Fold fold.now).body.items))
+        (fold_construct line (fold_head fold.now) (seen_block (out-Fold fold.now).body.items))
         part slots.old slots.new }
 {
     match part {
@@ -167,21 +167,21 @@ fn perform_pair<M: Memory>(
     requires short { length context.now.input.now < 2 ^ 63 }
     requires room { statement_measure (call_slots context.now below)
         (pair_form (pair_head pair.now)
-        (block_of (out-Pair pair.now).producer.items)
-        (block_of (out-Pair pair.now).consumer.items))
+        (seen_block (out-Pair pair.now).producer.items)
+        (seen_block (out-Pair pair.now).consumer.items))
         ≤ length scratch.old }
     ensures performs { Performs M.leads M.stop M.may_lack_memory
         (part_means (environment context.now below)
         (pair_construct line (pair_head pair.now)
-        (block_of (out-Pair pair.now).producer.items)
-        (block_of (out-Pair pair.now).consumer.items))
+        (seen_block (out-Pair pair.now).producer.items)
+        (seen_block (out-Pair pair.now).consumer.items))
         part number value
         (state slots.old (M.output memory.old)))
         memory.old memory.new result (state slots.new (M.output memory.new)) }
     ensures kept { LeavesOtherSlots
         (pair_construct line (pair_head pair.now)
-        (block_of (out-Pair pair.now).producer.items)
-        (block_of (out-Pair pair.now).consumer.items))
+        (seen_block (out-Pair pair.now).producer.items)
+        (seen_block (out-Pair pair.now).consumer.items))
         part slots.old slots.new }
 {
     match part {
@@ -218,13 +218,13 @@ fn perform_part<M: Memory>(
 ) -> Result<Carried, Halt>
     requires within { AreWithin context.now.extents.now (M.cell_count memory.old) }
     requires short { length context.now.input.now < 2 ^ 63 }
-    requires room { construct_measure (call_slots context.now below) (construct_seen block.construct) ≤ length scratch.old }
+    requires room { construct_measure (call_slots context.now below) (seen_construct block.construct) ≤ length scratch.old }
     ensures performs { Performs M.leads M.stop M.may_lack_memory
-        (part_means (environment context.now below) (construct_seen block.entry.construct)
+        (part_means (environment context.now below) (seen_construct block.entry.construct)
         block.entry.part block.entry.number block.entry.value
         (state slots.old (M.output memory.old)))
         memory.old memory.new result (state slots.new (M.output memory.new)) }
-    ensures kept { LeavesOtherSlots (construct_seen block.entry.construct) block.entry.part slots.old slots.new }
+    ensures kept { LeavesOtherSlots (seen_construct block.entry.construct) block.entry.part slots.old slots.new }
 {
     let line = block.construct.line;
     match block.construct.kind {
@@ -262,16 +262,16 @@ fn run_part<M: Memory>(
     frame: &mut Frame,
     memory: &mut M,
 ) -> Result<Carried, Halt>
-    requires construct { Contains (constructs_in (program_of instance.now).main) (construct_seen block.construct) }
+    requires construct { Contains (constructs_in (program_of instance.now).main) (seen_construct block.construct) }
     requires cells { M.cell_count memory.old ≡ cell_count_of (program_of instance.now) (length instance.now.input) }
     requires frame { length frame.old ≡ frame_size (program_of instance.now) }
     ensures performs { Performs M.leads M.stop M.may_lack_memory
-        (part_means (environment_of (program_of instance.now) instance.now.input) (construct_seen block.entry.construct)
+        (part_means (environment_of (program_of instance.now) instance.now.input) (seen_construct block.entry.construct)
         block.entry.part block.entry.number block.entry.value
         (state (main_slots (program_of instance.now) frame.old) (M.output memory.old)))
         memory.old memory.new result
         (state (main_slots (program_of instance.now) frame.new) (M.output memory.new)) }
-    ensures kept { LeavesOtherSlots (construct_seen block.entry.construct) block.entry.part
+    ensures kept { LeavesOtherSlots (seen_construct block.entry.construct) block.entry.part
         (main_slots (program_of instance.now) frame.old) (main_slots (program_of instance.now) frame.new) }
     ensures size { length frame.new ≡ length frame.old }
 {
@@ -294,18 +294,18 @@ fn run_quietly<M: Memory>(
     frame: &mut Frame,
     quiet: &mut Quiet<M>,
 ) -> Result<Carried, Halt>
-    requires construct { Contains (constructs_in (program_of instance.now).main) (construct_seen block.construct) }
+    requires construct { Contains (constructs_in (program_of instance.now).main) (seen_construct block.construct) }
     requires cells { M.cell_count quiet.old.memory.now ≡ cell_count_of (program_of instance.now) (length instance.now.input) }
     requires frame { length frame.old ≡ frame_size (program_of instance.now) }
-    requires silent { PartIsSilent (construct_seen block.construct) block.part }
+    requires silent { PartIsSilent (seen_construct block.construct) block.part }
     requires functions_silent { FunctionsAreSilent (program_of instance.now).functions }
     ensures performs { PerformsOver M.leads M.stop ⊥
-        (part_asks (program_of instance.now) (construct_seen block.entry.construct) block.entry.part
+        (part_asks (program_of instance.now) (seen_construct block.entry.construct) block.entry.part
         (block_setup instance.now.input (main_slots (program_of instance.now) frame.old) block.entry.number block.entry.value))
         quiet.old.memory.now quiet.new.memory.now result [] }
     ensures same_reference { quiet.new.memory.ghost_name ≡ quiet.old.memory.ghost_name }
     ensures output { M.output quiet.new.memory.now ≡ M.output quiet.old.memory.now }
-    ensures kept { LeavesOtherSlots (construct_seen block.entry.construct) block.entry.part
+    ensures kept { LeavesOtherSlots (seen_construct block.entry.construct) block.entry.part
         (main_slots (program_of instance.now) frame.old) (main_slots (program_of instance.now) frame.new) }
     ensures size { length frame.new ≡ length frame.old }
 {
@@ -322,18 +322,18 @@ pub fn exec_block<M: Memory>(
     frame: &mut Frame,
     memory: &mut M,
 ) -> Stop
-    requires construct { Contains (constructs_in (program_of instance.now).main) (construct_seen block.construct) }
+    requires construct { Contains (constructs_in (program_of instance.now).main) (seen_construct block.construct) }
     requires cells { M.cell_count memory.old ≡ cell_count_of (program_of instance.now) (length instance.now.input) }
     requires frame { length frame.old ≡ frame_size (program_of instance.now) }
-    requires silent { PartIsSilent (construct_seen block.construct) block.part }
+    requires silent { PartIsSilent (seen_construct block.construct) block.part }
     requires functions_silent { FunctionsAreSilent (program_of instance.now).functions }
     ensures performs { PerformsOver M.leads M.stop ⊥
-        (part_asks (program_of instance.now) (construct_seen block.entry.construct) block.entry.part
+        (part_asks (program_of instance.now) (seen_construct block.entry.construct) block.entry.part
         (block_setup instance.now.input (main_slots (program_of instance.now) frame.old) block.entry.number block.entry.value))
         memory.old memory.new (stop_result result) [] }
     ensures output { M.output memory.new ≡ M.output memory.old }
     ensures cells { M.cell_count memory.new ≡ M.cell_count memory.old }
-    ensures kept { LeavesOtherSlots (construct_seen block.entry.construct) block.entry.part
+    ensures kept { LeavesOtherSlots (seen_construct block.entry.construct) block.entry.part
         (main_slots (program_of instance.now) frame.old) (main_slots (program_of instance.now) frame.new) }
     ensures size { length frame.new ≡ length frame.old }
 {
@@ -360,15 +360,15 @@ pub fn exec_predictor(
     frame: &mut Frame,
     cells: &[i64],
 ) -> Result<Carried, Trap>
-    requires construct { Contains (constructs_in (program_of instance.now).main) (construct_seen construct) }
+    requires construct { Contains (constructs_in (program_of instance.now).main) (seen_construct construct) }
     requires cells { length cells.now ≡ cell_count_of (program_of instance.now) (length instance.now.input) }
     requires frame { length frame.old ≡ frame_size (program_of instance.now) }
     requires functions_silent { FunctionsAreSilent (program_of instance.now).functions }
     ensures guess { result ≡ result_of (unshared_answer
-        (part_asks (program_of instance.now) (construct_seen construct.entry) Predictor
+        (part_asks (program_of instance.now) (seen_construct construct.entry) Predictor
         (block_setup instance.now.input (main_slots (program_of instance.now) frame.old) number no_value))
         cells.now) }
-    ensures kept { LeavesOtherSlots (construct_seen construct.entry) Predictor
+    ensures kept { LeavesOtherSlots (seen_construct construct.entry) Predictor
         (main_slots (program_of instance.now) frame.old) (main_slots (program_of instance.now) frame.new) }
     ensures size { length frame.new ≡ length frame.old }
 {

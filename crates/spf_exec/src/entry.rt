@@ -1,7 +1,7 @@
 // Where a performance begins: its halt is handed back in its result.
 
 ghost use Rattle.std.specs.Prelude.{◌≡◌, ◌<◌, ◌≤◌, ◌^◌, length};
-ghost use Rattle.spf_ast.specs.View.{expression, block as block_of};
+ghost use Rattle.spf_ast.specs.View.{expression, block as seen_block};
 ghost use Rattle.spf_ast.specs.Meaning.{expression_means, block_means};
 ghost use Rattle.spf_ast.specs.Size.{expression_measure, block_measure};
 ghost use Rattle.spf_exec.specs.Leaves.{Leaves, block_changes};
@@ -51,13 +51,13 @@ pub(crate) fn perform_statements<M: Memory>(
 ) -> Result<(), Halt>
     requires within { AreWithin context.now.extents.now (M.cell_count memory.old) }
     requires short { length context.now.input.now < 2 ^ 63 }
-    requires room { block_measure (call_slots context.now below) (block_of statements.now) ≤ length scratch.old }
+    requires room { block_measure (call_slots context.now below) (seen_block statements.now) ≤ length scratch.old }
     ensures performs { Performs M.leads M.stop M.may_lack_memory
-        (block_means (environment context.now below) (block_of statements.now)
+        (block_means (environment context.now below) (seen_block statements.now)
         (state slots.old (M.output memory.old)))
         memory.old memory.new result (state slots.new (M.output memory.new)) }
     ensures cells { M.cell_count memory.new ≡ M.cell_count memory.old }
-    ensures others { Leaves (block_changes (block_of statements.now)) slots.old slots.new }
+    ensures others { Leaves (block_changes (seen_block statements.now)) slots.old slots.new }
 {
     let mut halt = Halt::NoMemory;
     match run::exec_statements(

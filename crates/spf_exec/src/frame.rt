@@ -1,6 +1,6 @@
 // The slots of a program's `main`, with room for calls.
 
-ghost use Rattle.std.specs.Prelude.{◌≡◌, ℤ, List, length, pos, replicate, IfOk};
+ghost use Rattle.std.specs.Prelude.{◌≡◌, ℤ, List, [], length, pos, replicate, IfOk};
 ghost use Rattle.spf_ast.specs.Carried.{with_carried};
 ghost use Rattle.spf_layout.specs.Frame.{frame_size};
 ghost use Rattle.spf_layout.specs.Instance.{program_of};
@@ -9,6 +9,17 @@ use spf_ast::carried::{Carried, set_carried};
 use spf_layout::instance::Instance;
 use std::alloc::{AllocError, Global};
 use std::marker::Model;
+
+/// Words that stay free after the slots of a frame: two cache lines. Blocks run at the same time on frames that were
+/// made one after another; without the gap their slots would share a line, and each store would slow the others down.
+const GAP: usize = 16;
+
+/// Room for so many slots, with the gap after them.
+fn room_for(alloc: Global, slots: usize) -> Result<Vec<i64>, AllocError>
+    ensures empty { IfOk result (λ room. room.items ≡ []) }
+{
+    Vec::with_capacity(alloc, slots.saturating_add(GAP))
+}
 
 /// The slots of a program's `main`, with room for its deepest chain of calls.
 #[derive(Drop)]
@@ -31,9 +42,10 @@ impl Frame {
     pub fn make(alloc: Global, instance: &Instance) -> Result<Frame, AllocError>
         ensures zeros { IfOk result (λ f. f ≡ replicate (frame_size (program_of instance.now)) (pos 0)) }
     {
-        Ok(Frame {
-            slots: vec![in alloc; 0i64; instance.frame_size()]?,
-        })
+        let size = instance.frame_size();
+        let mut slots = room_for(alloc, size)?;
+        slots.resize(size, 0)?;
+        Ok(Frame { slots })
     }
 
     /// Puts a carried value into its slot.
@@ -51,8 +63,8 @@ impl Frame {
     pub fn copy(&self, alloc: Global) -> Result<Frame, AllocError>
         ensures equal { IfOk result (λ f. f ≡ self.now) }
     {
-        let mut slots = vec![in alloc; 0i64; self.slots.len()]?;
-        slots.copy_from_slice(&self.slots);
+        let mut slots = room_for(alloc, self.slots.len())?;
+        slots.extend_from_slice(&self.slots)?;
         Ok(Frame { slots })
     }
 

@@ -5,11 +5,11 @@ ghost use Rattle.spf_ast.specs.declared.syntax.Fold.{out-Fold};
 ghost use Rattle.std.specs.Borrow.{Lends, Array, sem, i64 as word};
 ghost use Rattle.spf_exec.specs.contracts.pieces.Run.{the_row};
 ghost use Rattle.spf_exec.specs.declared.pieces.Pause.TheVariants.{AtConstruct, Finished};
-ghost use Rattle.spf_ast.specs.View.{block as block_of, fold_head};
+ghost use Rattle.spf_ast.specs.View.{block as seen_block, fold_head};
 ghost use Rattle.spf_ast.specs.Meaning.{block_means, max_blocks};
 ghost use Rattle.spf_ast.specs.Syntax.{end, Fold as fold_form};
 ghost use Rattle.spf_ast.specs.Construct.{constructs_in, header_means, fold as fold_construct};
-ghost use Rattle.spf_ast.specs.ConstructView.{construct as construct_seen};
+ghost use Rattle.spf_ast.specs.ConstructView.{construct as seen_construct};
 ghost use Rattle.spf_ast.specs.Plain.{plain_memory};
 ghost use Rattle.spf_ast.specs.Pieces.{before_construct, from_construct, construct_first, rest_from};
 ghost use Rattle.spf_ast.specs.Program.{cell_count_of, environment_of};
@@ -20,7 +20,20 @@ ghost use Rattle.spf_layout.specs.Instance.{program_of};
 ghost use Rattle.spf_exec.specs.Rooms.{construct_measure};
 ghost use Rattle.spf_exec.specs.Performs.{Performs, AreWithin, IsDecided, call_slots, environment, state};
 ghost use Rattle.spf_exec.specs.PlainMemory.{IsPlainOutcome};
-ghost use Rattle.spf_exec.specs.Pieces.{Stand, IsRunOf, refilled, HasBegun, Advanced, IsHeaderAnswer, header_result, stand, HeaderDone, IsSettled, ahead, moment_of};
+ghost use Rattle.spf_exec.specs.Pieces.{
+  Stand,
+  IsRunOf,
+  refilled,
+  HasBegun,
+  Advanced,
+  IsHeaderAnswer,
+  header_result,
+  stand,
+  HeaderDone,
+  IsSettled,
+  ahead,
+  moment_of,
+};
 
 use crate::context::Context;
 use crate::entry;
@@ -99,11 +112,11 @@ struct Prefix<'a> {
 /// The statements before the first top construct among these.
 fn plain_prefix<'a>(statements: &'a [Stmt]) -> Prefix<'a>
     ensures within { result.count ≤ length statements.now }
-    ensures before { block_of (take result.count statements.now) ≡ before_construct (block_of statements.now) }
-    ensures rest { block_of (drop result.count statements.now) ≡ from_construct (block_of statements.now) }
+    ensures before { seen_block (take result.count statements.now) ≡ before_construct (seen_block statements.now) }
+    ensures rest { seen_block (drop result.count statements.now) ≡ from_construct (seen_block statements.now) }
     ensures construct { MatchOption result.construct
-        (from_construct (block_of statements.now) ≡ end)
-        (λ c. construct_first (from_construct (block_of statements.now)) ≡ Some (construct_seen c)) }
+        (from_construct (seen_block statements.now) ≡ end)
+        (λ c. construct_first (from_construct (seen_block statements.now)) ≡ Some (seen_construct c)) }
 {
     let mut count = 0;
     for statement in statements {
@@ -147,7 +160,7 @@ fn perform_between(
     requires within { to ≤ length instance.now.code.main.items }
     ensures outcome { IsPlainOutcome result
         (block_means (environment_of (program_of instance.now) instance.now.input)
-        (block_of (take (to - from) (drop from instance.now.code.main.items)))
+        (seen_block (take (to - from) (drop from instance.now.code.main.items)))
         (state (main_slots (program_of instance.now) frame.old) memory.old.output.items))
         memory.old.cells.items memory.new.cells.items
         (state (main_slots (program_of instance.now) frame.new) memory.new.output.items) }
@@ -205,11 +218,11 @@ fn perform_header<M: Memory>(
     requires within { AreWithin context.now.extents.now (M.cell_count memory.old) }
     requires short { length context.now.input.now < 2 ^ 63 }
     requires room { statement_measure (call_slots context.now below)
-        (fold_form (fold_head fold.now) (block_of (out-Fold fold.now).body.items))
+        (fold_form (fold_head fold.now) (seen_block (out-Fold fold.now).body.items))
         ≤ length scratch.old }
     ensures performs { Performs M.leads M.stop M.may_lack_memory
         (header_means (environment context.now below)
-        (fold_construct line (fold_head fold.now) (block_of (out-Fold fold.now).body.items))
+        (fold_construct line (fold_head fold.now) (seen_block (out-Fold fold.now).body.items))
         (state slots.now (M.output memory.old)))
         memory.old memory.new (header_result result) (state slots.now (M.output memory.new)) }
     ensures cells { M.cell_count memory.new ≡ M.cell_count memory.old }
@@ -243,19 +256,19 @@ fn header_quietly(
     requires cells { length quiet.old.memory.now.cells.items ≡ cell_count_of (program_of instance.now) (length instance.now.input) }
     requires frame { length frame.old ≡ frame_size (program_of instance.now) }
     requires room { statement_measure (by_slots (function_slots (program_of instance.now)))
-        (fold_form (fold_head fold.now) (block_of (out-Fold fold.now).body.items))
+        (fold_form (fold_head fold.now) (seen_block (out-Fold fold.now).body.items))
         ≤ call_room (program_of instance.now) }
     requires silent { FunctionsAreSilent (program_of instance.now).functions }
     ensures outcome { IsPlainOutcome (header_result result)
         (header_means (environment_of (program_of instance.now) instance.now.input)
-        (fold_construct line (fold_head fold.now) (block_of (out-Fold fold.now).body.items))
+        (fold_construct line (fold_head fold.now) (seen_block (out-Fold fold.now).body.items))
         (state (main_slots (program_of instance.now) frame.old) quiet.old.memory.now.output.items))
         quiet.old.memory.now.cells.items quiet.new.memory.now.cells.items
         (state (main_slots (program_of instance.now) frame.old) quiet.old.memory.now.output.items) }
     ensures decided { IsDecided result }
     ensures memory { quiet.new.memory.now.cells.items
         ≡ plain_memory (header_means (environment_of (program_of instance.now) instance.now.input)
-        (fold_construct line (fold_head fold.now) (block_of (out-Fold fold.now).body.items))
+        (fold_construct line (fold_head fold.now) (seen_block (out-Fold fold.now).body.items))
         (state (main_slots (program_of instance.now) frame.old) quiet.old.memory.now.output.items))
         quiet.old.memory.now.cells.items }
     ensures same_reference { quiet.new.memory.ghost_name ≡ quiet.old.memory.ghost_name }
@@ -290,16 +303,16 @@ fn fold_header(
     requires cells { length memory.old.cells.items ≡ cell_count_of (program_of instance.now) (length instance.now.input) }
     requires frame { length frame.old ≡ frame_size (program_of instance.now) }
     requires room { statement_measure (by_slots (function_slots (program_of instance.now)))
-        (fold_form (fold_head fold.now) (block_of (out-Fold fold.now).body.items))
+        (fold_form (fold_head fold.now) (seen_block (out-Fold fold.now).body.items))
         ≤ call_room (program_of instance.now) }
     requires silent { FunctionsAreSilent (program_of instance.now).functions }
     ensures answer { IsHeaderAnswer (header_means (environment_of (program_of instance.now) instance.now.input)
-        (fold_construct line (fold_head fold.now) (block_of (out-Fold fold.now).body.items))
+        (fold_construct line (fold_head fold.now) (seen_block (out-Fold fold.now).body.items))
         (state (main_slots (program_of instance.now) frame.old) memory.old.output.items))
         memory.old.cells.items
         (state (main_slots (program_of instance.now) frame.old) memory.old.output.items) result }
     ensures memory { memory.new.cells.items ≡ plain_memory (header_means (environment_of (program_of instance.now) instance.now.input)
-        (fold_construct line (fold_head fold.now) (block_of (out-Fold fold.now).body.items))
+        (fold_construct line (fold_head fold.now) (seen_block (out-Fold fold.now).body.items))
         (state (main_slots (program_of instance.now) frame.old) memory.old.output.items))
         memory.old.cells.items }
     ensures output { memory.new.output.items ≡ memory.old.output.items }
@@ -327,10 +340,10 @@ fn header_of(
 ) -> Result<Header, Trap>
     requires cells { length memory.old.cells.items ≡ cell_count_of (program_of instance.now) (length instance.now.input) }
     requires frame { length frame.old ≡ frame_size (program_of instance.now) }
-    requires room { construct_measure (by_slots (function_slots (program_of instance.now))) (construct_seen construct)
+    requires room { construct_measure (by_slots (function_slots (program_of instance.now))) (seen_construct construct)
         ≤ call_room (program_of instance.now) }
     requires silent { FunctionsAreSilent (program_of instance.now).functions }
-    ensures header { (place passed : ℕ) → HeaderDone (program_of instance.now) instance.now.input (construct_seen construct.entry)
+    ensures header { (place passed : ℕ) → HeaderDone (program_of instance.now) instance.now.input (seen_construct construct.entry)
         (stand frame.old memory.old place passed) (stand frame.new memory.new place passed) result }
     ensures output { memory.new.output.items ≡ memory.old.output.items }
     ensures cells { length memory.new.cells.items ≡ length memory.old.cells.items }
@@ -405,8 +418,8 @@ impl Run {
     pub fn header(&mut self, instance: &Instance, construct: TopConstruct) -> Result<Header, Trap>
         requires run { IsRunOf (program_of instance.now) (length instance.now.input) self.old }
         requires silent { FunctionsAreSilent (program_of instance.now).functions }
-        requires construct { construct_first (ahead (program_of instance.now) self.old) ≡ Some (construct_seen construct) }
-        ensures header { HeaderDone (program_of instance.now) instance.now.input (construct_seen construct.entry) self.old self.new result }
+        requires construct { construct_first (ahead (program_of instance.now) self.old) ≡ Some (seen_construct construct) }
+        ensures header { HeaderDone (program_of instance.now) instance.now.input (seen_construct construct.entry) self.old self.new result }
         ensures place { self.new.place ≡ self.old.place }
         ensures run { IsRunOf (program_of instance.now) (length instance.now.input) self.new }
         ensures few { IfOk result (λ h. h.blocks ≤ max_blocks) }
@@ -418,8 +431,8 @@ impl Run {
     /// Settles the top construct that stands next: puts its value into its carried slot and goes past it.
     pub fn settle(&mut self, instance: &Instance, construct: TopConstruct, value: Carried)
         requires run { IsRunOf (program_of instance.now) (length instance.now.input) self.old }
-        requires construct { construct_first (ahead (program_of instance.now) self.old) ≡ Some (construct_seen construct) }
-        ensures settled { IsSettled (program_of instance.now) (construct_seen construct.entry) self.old self.new value }
+        requires construct { construct_first (ahead (program_of instance.now) self.old) ≡ Some (seen_construct construct) }
+        ensures settled { IsSettled (program_of instance.now) (seen_construct construct.entry) self.old self.new value }
         ensures run { IsRunOf (program_of instance.now) (length instance.now.input) self.new }
     {
         let statements = instance.program().main.len();

@@ -1,7 +1,7 @@
 // Whole programs on a memory of their own.
 
 ghost use Rattle.std.specs.Prelude.{◌≡◌, ◌<◌, ◌≤◌, ◌^◌, length, IfOk, IfErr, IsErrAnd};
-ghost use Rattle.spf_ast.specs.View.{block as block_of, program as seen_program};
+ghost use Rattle.spf_ast.specs.View.{block as seen_block, program as seen_program};
 ghost use Rattle.spf_ast.specs.Meaning.{block_means};
 ghost use Rattle.spf_ast.specs.Program.{cell_count_of, max_cells, outcome, seen_outcome};
 ghost use Rattle.spf_layout.specs.declared.layout.RunError.TheVariants.{OutOfMemory};
@@ -32,11 +32,11 @@ pub(crate) fn run_main(
 ) -> Result<(), Halt>
     requires within { AreWithin context.now.extents.now (length memory.old.cells.items) }
     requires short { length context.now.input.now < 2 ^ 63 }
-    requires room { block_measure (call_slots context.now (length context.now.functions.now)) (block_of main.now)
+    requires room { block_measure (call_slots context.now (length context.now.functions.now)) (seen_block main.now)
         ≤ length scratch.old }
     ensures outcome { IsPlainOutcome result
         (block_means (environment context.now (length context.now.functions.now))
-        (block_of main.now)
+        (seen_block main.now)
         (state slots.old memory.old.output.items))
         memory.old.cells.items memory.new.cells.items
         (state slots.new memory.new.output.items) }

@@ -9,7 +9,8 @@ pub record Decodes (lengths : List ℕ) (bits : List Bool) (symbols : List ℕ) 
   pub have_words : HaveWords lengths (length symbols) symbols
   pub rest : List Bool
   pub bits_are : bits ≡ code_words lengths symbols ++ rest
-  pub longest : (others : List ℕ) (more : List Bool) → HaveWords lengths (length others) others → bits ≡ code_words lengths others ++ more → length others ≤ length symbols
+  pub longest : (others : List ℕ) (more : List Bool) → HaveWords lengths (length others) others
+      → bits ≡ code_words lengths others ++ more → length others ≤ length symbols
 
 -- the count of symbols that a file says
 abbrev pub count_of : List ℕ → ℕ

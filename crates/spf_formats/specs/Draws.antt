@@ -1,5 +1,29 @@
 -- A linear congruential generator, and the inputs that are drawn from it.
-use Rattle.std.specs.Prelude.{◌≡◌, ℕ, zero, suc, ◌+◌, ◌-◌, ◌*◌, ◌/◌, ◌%◌, ◌<◌, ◌≤◌, ◌^◌, if◌then◌else◌, ◌==◌, List, [], ◌∷◌, ◌++◌, length, map, replicate, slice_index, codes}
+use Rattle.std.specs.Prelude.{
+  ◌≡◌,
+  ℕ,
+  zero,
+  suc,
+  ◌+◌,
+  ◌-◌,
+  ◌*◌,
+  ◌/◌,
+  ◌%◌,
+  ◌<◌,
+  ◌≤◌,
+  ◌^◌,
+  if◌then◌else◌,
+  ◌==◌,
+  List,
+  [],
+  ◌∷◌,
+  ◌++◌,
+  length,
+  map,
+  replicate,
+  slice_index,
+  codes,
+}
 use Rattle.spf_formats.specs.declared.generate.Kind.{Kind}
 use Rattle.spf_formats.specs.declared.generate.Kind.TheVariants.{Unpack, Unhuff, Lex}
 use Rattle.spf_formats.specs.Huf1.{Encodes}

@@ -20,12 +20,14 @@ pub record Lex1HasOneVerdict : Type 0 where
   pub some : (file : List ℕ) → ((states : ℕ) × (classes : ℕ) × IsLex1 file states classes) ⊎ ((place : ℕ) × IsNoLex1At file place)
   pub apart : (file : List ℕ) (place states classes : ℕ) → IsLex1 file states classes → IsNoLex1At file place → ⊥
   pub one : (file : List ℕ) (place other : ℕ) → IsNoLex1At file place → IsNoLex1At file other → place ≡ other
-  pub counts : (file : List ℕ) (states classes more_states more_classes : ℕ) → IsLex1 file states classes → IsLex1 file more_states more_classes → (states ≡ more_states) × (classes ≡ more_classes)
+  pub counts : (file : List ℕ) (states classes more_states more_classes : ℕ) → IsLex1 file states classes
+      → IsLex1 file more_states more_classes → (states ≡ more_states) × (classes ≡ more_classes)
 
 -- each file is packets and a rest in exactly one way, so it stands for exactly one output
 pub record PackBitsIsCutOnce : Type 0 where
   pub some : (file : List ℕ) → (packets : List Packet) × (rest : List ℕ) × IsCut file packets rest
-  pub one : (file : List ℕ) (packets others : List Packet) (rest other : List ℕ) → IsCut file packets rest → IsCut file others other → (packets ≡ others) × (rest ≡ other)
+  pub one : (file : List ℕ) (packets others : List Packet) (rest other : List ℕ) → IsCut file packets rest
+      → IsCut file others other → (packets ≡ others) × (rest ≡ other)
   pub output : (file output other : List ℕ) → Unpacks file output → Unpacks file other → output ≡ other
 
 -- no code word begins another: bits that begin with the code words of two symbols have one symbol there
@@ -47,4 +49,5 @@ AreBytes numbers = All (λ b. b < 256) numbers
 -- for each kind, seed and size there is a file of bytes that is generated, and only one
 pub record EachInputIsGeneratedOnce : Type 0 where
   pub some : (kind : Kind) (seed size : ℕ) → (file : List ℕ) × AreBytes file × IsGenerated kind seed size file
-  pub one : (kind : Kind) (seed size : ℕ) (file other : List ℕ) → AreBytes file → AreBytes other → IsGenerated kind seed size file → IsGenerated kind seed size other → file ≡ other
+  pub one : (kind : Kind) (seed size : ℕ) (file other : List ℕ) → AreBytes file → AreBytes other
+      → IsGenerated kind seed size file → IsGenerated kind seed size other → file ≡ other

@@ -1,22 +1,34 @@
 //! Encodes symbols as HUF1 files, with code lengths that are given.
 ghost use Rattle.std.specs.Prelude.{◌≡◌, ◌≤◌, ◌<◌, ◌^◌, ◌+◌, ◌==◌, ◌++◌, length, map, MatchOption, MatchResult, IfOk, OnOk};
 ghost use Rattle.std.specs.List.{count_by, range_with_len};
-ghost use Rattle.spf_formats.specs.Huffman.{AreCodeLengths, HaveWords, LacksWordAt, words_of_length as words_with, first_word as first_word_of, word_number as number_of, code_words};
+ghost use Rattle.spf_formats.specs.Huffman.{
+  AreCodeLengths,
+  HaveWords,
+  LacksWordAt,
+  words_of_length as words_with,
+  first_word as first_word_of,
+  word_number as number_of,
+  code_words,
+};
 ghost use Rattle.spf_formats.specs.Huf1.{Encodes, Holds};
 ghost use Rattle.spf_formats.specs.Refusals.{IsRefusedWith};
 
 use crate::bits::BitWriter;
 use crate::huf1::{SIGNATURE, check_lengths};
 use std::alloc::{AllocError, Global};
+use thiserror::Error;
 
 /// Why symbols can't be encoded.
-#[derive(Clone, Copy, PartialEq, Eq, Debug)]
+#[derive(Clone, Copy, PartialEq, Eq, Debug, Error)]
 pub enum EncodeError {
     /// No code has these lengths, and the file would be refused at this place.
+    #[error("no code has these lengths: byte {place} of the file")]
     BadLengths { place: u64 },
     /// The symbol at this place of the symbols has no code word.
+    #[error("symbol {at} has no code word")]
     NoCode { at: u64 },
     /// There was no memory for the file.
+    #[error("out of memory")]
     OutOfMemory,
 }
 

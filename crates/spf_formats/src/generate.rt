@@ -1,6 +1,20 @@
 //! Inputs of any size that are drawn from a number, for trials.
 ghost use Rattle.std.specs.Prelude.{◌≡◌, ◌≤◌, ◌<◌, ◌+◌, ◌++◌, length, IfOk, OnOk};
-ghost use Rattle.spf_formats.specs.Draws.{next_state, given_by, state_after, drawn_bytes, picked_bytes, literal, repeat, packet_from, IsPacked, IsGenerated, five_lengths, five_symbols, letters};
+ghost use Rattle.spf_formats.specs.Draws.{
+  next_state,
+  given_by,
+  state_after,
+  drawn_bytes,
+  picked_bytes,
+  literal,
+  repeat,
+  packet_from,
+  IsPacked,
+  IsGenerated,
+  five_lengths,
+  five_symbols,
+  letters,
+};
 ghost use Rattle.spf_formats.specs.Huf1.{Encodes};
 
 use crate::encoder::encode;

@@ -1,5 +1,12 @@
 // Laws about formats. Each is the contract of a function that does nothing.
-ghost use Rattle.spf_formats.specs.Laws.{Huf1HasOneVerdict, Lex1HasOneVerdict, PackBitsIsCutOnce, CodeWordsArePrefixFree, EncodedFilesDecode, EachInputIsGeneratedOnce};
+ghost use Rattle.spf_formats.specs.Laws.{
+  Huf1HasOneVerdict,
+  Lex1HasOneVerdict,
+  PackBitsIsCutOnce,
+  CodeWordsArePrefixFree,
+  EncodedFilesDecode,
+  EachInputIsGeneratedOnce,
+};
 
 /// A file is HUF1, or it is refused at one place, and not both; and likewise LEX1, with one count of states and one of classes.
 pub fn files_have_one_verdict()

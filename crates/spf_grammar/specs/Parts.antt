@@ -7,7 +7,8 @@ use Rattle.spf_text.specs.declared.token.TokenKind.TheVariants as kind
 use Rattle.spf_ast.specs.Syntax.{Array}
 use Rattle.spf_ast.specs.RawSyntax.{RawExpression, RawPredictor, RawStatement, RawBlock, RawFunction, RawProgram}
 
--- A token, or what a production is named after. The first number of a part is how many levels of nesting are open where it begins; `used` is how many operators its expression has so far.
+-- A token, or what a production is named after. The first number of a part is how many levels of nesting are open
+-- where it begins; `used` is how many operators its expression has so far.
 pub data Part : Type 0 where
   -- this token; a sign that opens a level of nesting; an operator of this rank
   token : TokenKind → Part

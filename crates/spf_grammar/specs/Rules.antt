@@ -6,9 +6,80 @@ use Rattle.spf_text.specs.declared.token.Sign.TheVariants as sign
 use Rattle.spf_ast.specs.declared.syntax.Op.TheVariants as op
 use Rattle.spf_ast.specs.declared.syntax.Test.TheVariants as test
 use Rattle.spf_ast.specs.Syntax.{Array}
-use Rattle.spf_ast.specs.RawSyntax.{RawExpression, Number, Local, Len, Input, Load, Call, Neg, Binary, Compare, Both, Either, Not, arguments_of, RawPredictor, By, Host}
-use Rattle.spf_ast.specs.RawSyntax.{RawStatement, Let, Assign, Store, Fill, Emit, Fail, If, For, While, Do, Fold, Pair, RawBlock, end, on_line, RawFunction, RawProgram}
-use Rattle.spf_grammar.specs.Parts.{Part, operator, opens, name, number, count, many, expression, level, further, compared, operand, arguments, next_argument, form, block, otherwise, guess, size, array, parameters, next_parameter, function, program, Value, keyword, sign, statement, Rule, give, ◌>>=◌, ◌>>◌, ◌or◌}
+use Rattle.spf_ast.specs.RawSyntax.{
+  RawExpression,
+  Number,
+  Local,
+  Len,
+  Input,
+  Load,
+  Call,
+  Neg,
+  Binary,
+  Compare,
+  Both,
+  Either,
+  Not,
+  arguments_of,
+  RawPredictor,
+  By,
+  Host,
+}
+use Rattle.spf_ast.specs.RawSyntax.{
+  RawStatement,
+  Let,
+  Assign,
+  Store,
+  Fill,
+  Emit,
+  Fail,
+  If,
+  For,
+  While,
+  Do,
+  Fold,
+  Pair,
+  RawBlock,
+  end,
+  on_line,
+  RawFunction,
+  RawProgram,
+}
+use Rattle.spf_grammar.specs.Parts.{
+  Part,
+  operator,
+  opens,
+  name,
+  number,
+  count,
+  many,
+  expression,
+  level,
+  further,
+  compared,
+  operand,
+  arguments,
+  next_argument,
+  form,
+  block,
+  otherwise,
+  guess,
+  size,
+  array,
+  parameters,
+  next_parameter,
+  function,
+  program,
+  Value,
+  keyword,
+  sign,
+  statement,
+  Rule,
+  give,
+  ◌>>=◌,
+  ◌>>◌,
+  ◌or◌,
+}
 
 -- what a part says, and no more
 abbrev pub all : (p : Part) → Rule (Value p)

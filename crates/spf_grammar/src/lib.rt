@@ -1,4 +1,4 @@
-// The grammar of the language: which texts say which programs.
+//! The grammar of the language: which texts say which programs.
 #![tactic(auto)]
 
 use spf_text::token::TokenKind;

@@ -29,7 +29,8 @@ Names text Table = text ≡ codes "table"
 -- words begin with pairs that ask for these kinds, and these words are left
 abbrev pub AskFor : List (List ℕ) → List Kind → List (List ℕ) → Type 0
 AskFor words [] left = words ≡ left
-AskFor words (kind ∷ kinds) left = (text : List ℕ) × (others : List (List ℕ)) × (words ≡ codes "--host" ∷ text ∷ others) × Names text kind × AskFor others kinds left
+AskFor words (kind ∷ kinds) left = (text : List ℕ) × (others : List (List ℕ))
+    × (words ≡ codes "--host" ∷ text ∷ others) × Names text kind × AskFor others kinds left
 
 -- words don't begin with a pair
 abbrev pub EndPairs : List (List ℕ) → Type 0

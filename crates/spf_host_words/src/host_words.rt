@@ -5,6 +5,7 @@ ghost use Rattle.spf_host_words.specs.HostWords.{Kind, IsNumber, IsWord, Names, 
 ghost use Rattle.spf_host_words.specs.Seen.{seen_kind, seen};
 
 use std::alloc::{AllocError, AllocFailed, Global};
+use thiserror::Error;
 
 /// A kind of predictor.
 #[derive(Clone, Copy, PartialEq, Eq, Debug)]
@@ -29,11 +30,13 @@ pub struct HostWords {
 }
 
 /// Why words aren't read.
-#[derive(Clone, Copy, PartialEq, Eq, Debug)]
+#[derive(Clone, Copy, PartialEq, Eq, Debug, Error)]
 pub enum WordsError {
     /// A pair has no second word, or one that names no kind.
+    #[error("words not understood")]
     NotUnderstood,
     /// There is no memory for the kinds.
+    #[error("out of memory")]
     OutOfMemory,
 }
 

@@ -46,7 +46,8 @@ EveryMergingOfLanes =
 -- where no block traps, `finish` writes the lanes back to the entry's memory so that it becomes the plain one
 abbrev pub LanesGiveThePlainMemory : Type 0
 LanesGiveThePlainMemory =
-    (e : Entry) (guess : ℕ → Carried) (cells : CellsValue) (lanes : List LaneValue) (trace : List (List LogEntry)) (values : List Carried) (value : Carried) (memory : List ℤ)
+    (e : Entry) (guess : ℕ → Carried) (cells : CellsValue) (lanes : List LaneValue) (trace : List (List LogEntry))
+    (values : List Carried) (value : Carried) (memory : List ℤ)
     → IsEntry e → AreLanesFor e cells lanes → LogsComeTo e guess (logs_in (trace_of lanes)) 0 e.header.start values (Ok value)
     → IsFinish cells lanes trace e.memory memory → memory ≡ (plain_blocks e).memory
 

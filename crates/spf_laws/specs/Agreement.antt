@@ -9,7 +9,18 @@ use Rattle.spf_ast.specs.Syntax.{Program, Expression, Condition, Statement, Bloc
 use Rattle.spf_ast.specs.Meaning.{Extent, environment_before, expression_means, condition_means, statement_means, block_means}
 use Rattle.spf_ast.specs.Slots.{part_declares}
 use Rattle.spf_ast.specs.BlockRun.{block_setup, part_asks}
-use Rattle.spf_ast.specs.Lawful.{IsLawful, Names, Scope, Agree, IsLawfulExpression, IsLawfulCondition, IsLawfulStatement, IsLawfulBlock, scope_after, scope_at_end}
+use Rattle.spf_ast.specs.Lawful.{
+  IsLawful,
+  Names,
+  Scope,
+  Agree,
+  IsLawfulExpression,
+  IsLawfulCondition,
+  IsLawfulStatement,
+  IsLawfulBlock,
+  scope_after,
+  scope_at_end,
+}
 
 -- ---- states and what follows from them
 
@@ -17,7 +28,8 @@ use Rattle.spf_ast.specs.Lawful.{IsLawful, Names, Scope, Agree, IsLawfulExpressi
 abbrev pub Relation : Type 1
 Relation = State → State → Type 0
 
--- Two states agree on these slots, and have equally many slots. A slot that is set in both then has the same word in both, though it wasn't visible before; were one list shorter, the slot could be missing there.
+-- Two states agree on these slots, and have equally many slots. A slot that is set in both then has the same word in
+-- both, though it wasn't visible before; were one list shorter, the slot could be missing there.
 pub record LookAlike (visible : List ℕ) (one other : State) : Type 0 where
   pub agree : Agree visible one other
   pub slot_count : length one.slots ≡ length other.slots
@@ -35,7 +47,8 @@ GoAlike After (Stopped number rest) (Stopped other_number other_rest) = (number 
 GoAlike After Misfit Misfit = Unit {0}
 GoAlike After _ _ = ⊥
 
--- A form relates two states before it to two states after it: from states that are related by `Before` it performs each list of events alike, and its states after it are related by `After`.
+-- A form relates two states before it to two states after it: from states that are related by `Before` it performs
+-- each list of events alike, and its states after it are related by `After`.
 abbrev pub Relates : {A : Type 0} → Relation → Relation → Meaning A → Type 0
 Relates Before After form =
     (one other : State) → Before one other → (shared : ℕ → Bool) (memory : List ℤ) (stop : Option ℕ) (events : List Event)
@@ -76,14 +89,16 @@ BlocksSeeVisibleSlots =
 -- each part of a lawful construct of `main`, predictors too, with each block number and each carried value
 abbrev pub PartsSeeVisibleSlots : Type 0
 PartsSeeVisibleSlots =
-    (names : Names) (scope : Scope) (line : ℕ) (s : Statement) (construct : Construct) → construct_of line s ≡ Some construct → IsLawfulStatement names true scope s
+    (names : Names) (scope : Scope) (line : ℕ) (s : Statement) (construct : Construct)
+    → construct_of line s ≡ Some construct → IsLawfulStatement names true scope s
     → (input : List ℕ) (extents : List Extent) (functions : List Function) (place : ℕ) (part : Part) (number : ℤ) (carried : Carried)
     → Relates (LookAlike scope.visible) (LookAlike scope.visible) (part_means (environment_before input extents functions place) construct part number carried)
 
 -- the header of each lawful construct of `main`
 abbrev pub HeadersSeeVisibleSlots : Type 0
 HeadersSeeVisibleSlots =
-    (names : Names) (scope : Scope) (line : ℕ) (s : Statement) (construct : Construct) → construct_of line s ≡ Some construct → IsLawfulStatement names true scope s
+    (names : Names) (scope : Scope) (line : ℕ) (s : Statement) (construct : Construct)
+    → construct_of line s ≡ Some construct → IsLawfulStatement names true scope s
     → (input : List ℕ) (extents : List Extent) (functions : List Function) (place : ℕ)
     → Relates (LookAlike scope.visible) (LookAlike scope.visible) (header_means (environment_before input extents functions place) construct)
 

@@ -28,7 +28,9 @@ chained_on value (Trapped trap output) after others = record { values = value �
 abbrev pub block_asks : Environment → Construct → List ℤ → ℕ → ℤ → Carried → Interaction (Ending Carried)
 block_asks g construct slots n b v = part_means g construct (part_of construct n) b v (record { slots = slots; output = [] })
 
--- So many block runs of a construct from an index on, with block number b, at value v and on memory m. All of them start from the slots of the construct's entry; each begins with the value that the one before it gave, on the memory that it left.
+-- So many block runs of a construct from an index on, with block number b, at value v and on memory m. All of them
+-- start from the slots of the construct's entry; each begins with the value that the one before it gave, on the
+-- memory that it left.
 abbrev pub chained : Environment → Construct → List ℤ → ℕ → ℕ → ℤ → Carried → List ℤ → Chained
 chained g construct slots n zero b v m = record { values = []; result = Ok v; memory = m }
 chained g construct slots n (suc count) b v m =
@@ -48,7 +50,8 @@ IsSettledAs visible entry carried (Err trap) (Trapped other output) = (other ≡
 IsSettledAs visible entry carried _ _ = ⊥
 
 -- the plain meaning of a construct, and its real values, are what its blocks come to that are run from this entry
-pub record IsItsBlocks (g : Environment) (visible : List ℕ) (line : ℕ) (s : Statement) (construct : Construct) (m : Moment) (header : Header) (after entry : State) : Type 0 where
+pub record IsItsBlocks (g : Environment) (visible : List ℕ) (line : ℕ) (s : Statement) (construct : Construct)
+    (m : Moment) (header : Header) (after entry : State) : Type 0 where
   pub settled : IsSettledAs visible entry (carried_of construct)
       (chained g construct entry.slots 0 header.blocks header.low header.start (plain_memory (header_means g construct m.state) m.memory)).result
       (plainly (statement_means g line s) m)
@@ -59,7 +62,8 @@ pub record IsItsBlocks (g : Environment) (visible : List ℕ) (line : ℕ) (s : 
   pub trapped : (blocks_from g construct 0 header.blocks header.low header.start (moment_after (header_means g construct) m after)).trapped
       ≡ is_trap (chained g construct entry.slots 0 header.blocks header.low header.start (plain_memory (header_means g construct m.state) m.memory)).result
 
--- Each lawful construct of `main` whose blocks can be run on their own: where its header is done, its blocks may be run from any slots that agree with those at the entry on the visible ones.
+-- Each lawful construct of `main` whose blocks can be run on their own: where its header is done, its blocks may be
+-- run from any slots that agree with those at the entry on the visible ones.
 abbrev pub ConstructsAreTheirBlocks : Type 0
 ConstructsAreTheirBlocks =
     (names : Names) (scope : Scope) (line : ℕ) (s : Statement) (construct : Construct)

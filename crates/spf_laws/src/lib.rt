@@ -2,12 +2,21 @@
 #![tactic(auto)]
 
 ghost use Rattle.spf_laws.specs.Chained.{ConstructsAreTheirBlocks, HeadersTrap};
-ghost use Rattle.spf_laws.specs.Agreement.{ExpressionsSeeVisibleSlots, ConditionsSeeVisibleSlots, StatementsSeeVisibleSlots, BlocksSeeVisibleSlots, PartsSeeVisibleSlots, HeadersSeeVisibleSlots, PartsDeclareAnew};
+ghost use Rattle.spf_laws.specs.Agreement.{
+  ExpressionsSeeVisibleSlots,
+  ConditionsSeeVisibleSlots,
+  StatementsSeeVisibleSlots,
+  BlocksSeeVisibleSlots,
+  PartsSeeVisibleSlots,
+  HeadersSeeVisibleSlots,
+  PartsDeclareAnew,
+};
 ghost use Rattle.spf_laws.specs.Keeping.{ConstructsAreSelfContained, ConstructsStandInMain, PartsAssignWhatTheyDeclare};
 
 use spf_ast::laws::silent_forms_leave_the_output;
 
-/// From states that agree on the visible slots each lawful form goes on alike: with the same events, to the same value, trap, stop or misfit, and to states that agree on the slots that are visible then.
+/// From states that agree on the visible slots each lawful form goes on alike: with the same events, to the same
+/// value, trap, stop or misfit, and to states that agree on the slots that are visible then.
 pub fn each_form_sees_visible_slots_alone()
     ensures expressions { ExpressionsSeeVisibleSlots }
     ensures conditions { ConditionsSeeVisibleSlots }
@@ -36,7 +45,9 @@ pub fn each_part_assigns_what_it_declares()
     ensures { PartsAssignWhatTheyDeclare }
 {}
 
-/// What a construct of `main` means is what its block runs come to, one after another, each at the value that the one before it gave: its value or its trap, the memory, and its real values. A construct whose header traps ends with that trap.
+/// What a construct of `main` means is what its block runs come to, one after another, each at the value that the one
+/// before it gave: its value or its trap, the memory, and its real values. A construct whose header traps ends with
+/// that trap.
 pub fn each_construct_is_its_block_runs()
     ensures constructs { ConstructsAreTheirBlocks }
     ensures headers { HeadersTrap }

@@ -5,6 +5,7 @@ ghost use Rattle.spf_layout.specs.declared.layout.RunError.TheVariants.{OutOfMem
 
 use std::alloc::AllocError;
 use std::marker::Model;
+use thiserror::Error;
 
 /// Where the arrays of a program lie among the cells of a run.
 #[derive(Drop)]
@@ -38,11 +39,13 @@ impl Layout {
 }
 
 /// Why a run can't be made.
-#[derive(Clone, Copy, PartialEq, Eq, Debug)]
+#[derive(Clone, Copy, PartialEq, Eq, Debug, Error)]
 pub enum RunError {
     /// All arrays together have more than 4,194,304 cells. `count` is their number, or 2^128 - 1 where it is greater than that.
+    #[error("cells {count} over 4194304")]
     TooManyCells { count: u128 },
     /// There was no memory for the run.
+    #[error("out of memory")]
     OutOfMemory,
 }
 

@@ -10,7 +10,30 @@ use Rattle.spf_ast.specs.RawSyntax.{RawExpression, RawPredictor, RawStatement}
 use Rattle.spf_ast.specs.RawView.{raw_expression, raw_predictor, raw_statement}
 use Rattle.spf_ast.specs.View.{name as seen_name}
 use Rattle.spf_grammar.specs.Lexemes.{Lexeme}
-use Rattle.spf_grammar.specs.Parts.{Part, ◌>>=◌, ◌>>◌, token, opens, name, many, lined, expression, level, further, compared, operand, form, otherwise, guess, size, function, statement, Value, Rule, give}
+use Rattle.spf_grammar.specs.Parts.{
+  Part,
+  ◌>>=◌,
+  ◌>>◌,
+  token,
+  opens,
+  name,
+  many,
+  lined,
+  expression,
+  level,
+  further,
+  compared,
+  operand,
+  form,
+  otherwise,
+  guess,
+  size,
+  function,
+  statement,
+  Value,
+  Rule,
+  give,
+}
 use Rattle.spf_grammar.specs.Rules.{all, rank_of, named}
 use Rattle.spf_grammar.specs.Derivations.{Reading}
 use Rattle.spf_parse.specs.declared.statement.FoldHead.{FoldHead}
@@ -67,7 +90,8 @@ stop (operand n) = 1
 stop size = 3
 stop p = 0
 
--- Of what F says of ts the tokens `read` are read, and of us G says what is left: what G says of any tokens F says of them after `read`, and nothing else, where the next token is the same and F stops at what follows.
+-- Of what F says of ts the tokens `read` are read, and of us G says what is left: what G says of any tokens F says of
+-- them after `read`, and nothing else, where the next token is the same and F stops at what follows.
 pub record Leads {A : Type 0} (n : ℕ) (F : Rule A) (ts : List Lexeme) (G : Rule A) (us : List Lexeme) : Type 0 where
   pub read : List Lexeme
   pub split : ts ≡ read ++ us
@@ -83,7 +107,8 @@ abbrev pub Binds : Bool → ℕ → List Lexeme → Type 0
 Binds true free k = free < length k
 Binds false free k = Unit {0}
 
--- What was read is a prefix of what F says, within the limits: it goes on with `more`. With the next token it isn't: as far as the limits bind, if that token passes one, and in no case else.
+-- What was read is a prefix of what F says, within the limits: it goes on with `more`. With the next token it isn't:
+-- as far as the limits bind, if that token passes one, and in no case else.
 pub record Faults {A : Type 0} (deep : Bool) (n : ℕ) (F : Rule A) (ts : List Lexeme) (left : ℕ) : Type 0 where
   pub read : List Lexeme
   pub rest : List Lexeme
@@ -93,7 +118,8 @@ pub record Faults {A : Type 0} (deep : Bool) (n : ℕ) (F : Rule A) (ts : List L
   pub value : A
   pub begins : Begins deep rest more
   pub viable : (free : ℕ) (k : List Lexeme) → length (more ++ k) ≤ free → Reading free F (read ++ (more ++ k)) value k
-  pub dead : (free : ℕ) (k : List Lexeme) (b : A) (vs : List Lexeme) → Binds deep free k → ahead k ≡ ahead rest → Reading free F (read ++ k) b vs → Stops n vs → ⊥
+  pub dead : (free : ℕ) (k : List Lexeme) (b : A) (vs : List Lexeme) → Binds deep free k → ahead k ≡ ahead rest
+      → Reading free F (read ++ k) b vs → Stops n vs → ⊥
 
 abbrev pub Refuses : {A : Type 0} → ℕ → Rule A → List Lexeme → Fault → Type 0
 Refuses n F ts (fault.Unexpected left) = Faults false n F ts left

@@ -1,4 +1,4 @@
-// The parser: from the bytes of a text to the program that it says.
+//! The parser: from the bytes of a text to the program that it says.
 #![tactic(auto)]
 
 mod expression;

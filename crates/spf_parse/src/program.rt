@@ -26,17 +26,22 @@ use spf_grammar::Lexeme;
 use spf_text::token::{Keyword, TokenKind};
 use spf_text::{ScanError, scan};
 use std::alloc::{AllocError, Global};
+use thiserror::Error;
 
 /// Why a text is no program.
-#[derive(Clone, Copy, PartialEq, Eq, Debug)]
+#[derive(Clone, Copy, PartialEq, Eq, Debug, Error)]
 pub enum ParseError {
     /// The text has no tokens.
+    #[error(transparent)]
     Scan(ScanError),
     /// What stands before byte `at` is a prefix of a program, and with the token there it isn't. At the end of the text `at` is its length.
+    #[error("text byte {at}: unexpected")]
     Unexpected { at: usize },
     /// The token at byte `at` is allowed there, but opens the 65th level of nesting, or is the 33rd binary operator of one expression outside its brackets.
+    #[error("text byte {at}: too deep")]
     TooDeep { at: usize },
     /// There was no memory for the program.
+    #[error("out of memory")]
     OutOfMemory,
 }
 
@@ -136,7 +141,9 @@ fn of_scan(e: ScanError) -> ParseError
 ///
 /// # Errors
 ///
-/// `Scan` comes first, where the text has no tokens. Otherwise the first token that can't stand where it stands decides: `TooDeep` where the limits alone forbid it, and `Unexpected` where the grammar does. `OutOfMemory` may come in place of each.
+/// `Scan` comes first, where the text has no tokens. Otherwise the first token that can't stand where it stands
+/// decides: `TooDeep` where the limits alone forbid it, and `Unexpected` where the grammar does. `OutOfMemory` may
+/// come in place of each.
 pub fn parse(alloc: Global, text: &[u8]) -> Result<RawProgram, ParseError>
     // What is given is the program of the text, which has no other.
     ensures program { IfOk result (λ p. IsProgramOf text.now (raw_program p)) }

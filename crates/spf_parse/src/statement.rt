@@ -322,7 +322,8 @@ pub(crate) fn ended<'b, 'a>(
 ) -> Read<'b, 'a, (Vec<RawStmt>, u32, RawExpr)>
     requires nesting_in { nesting ≤ 64 }
     requires ends { 12 < reach (keyword_kind word) }
-    ensures { Answered 0 (ended_statements nesting word) (lexemes tokens.now) (λ x. (map stated x.0.0.items, x.0.1, raw_expression x.0.2)) (λ x. lexemes x.1.now) result }
+    ensures { Answered 0 (ended_statements nesting word) (lexemes tokens.now)
+        (λ x. (map stated x.0.0.items, x.0.1, raw_expression x.0.2)) (λ x. lexemes x.1.now) result }
 {
     let (body, rest) = opened(alloc, tokens, nesting)?;
     let line = line_of(rest);

@@ -1,7 +1,21 @@
 //! A hand: it gives items to its own deque, and takes them from any.
 ghost use Rattle.std.specs.Prelude.{◌≡◌, ◌+◌, ◌<◌, length, slice_index, MatchResult};
 ghost use Rattle.spf_pool.specs.Ends.{MatchFound};
-ghost use Rattle.spf_pool.specs.Hands.{TookNone, TookOne, HandValue, after_giving, LaterHand, SeenEmpty, SeenBusy, SeenAllEmpty, SeenAllEmptyOrBusy, OthersEmpty, OthersEmptyOrBusy, OwnKept, MatchNext};
+ghost use Rattle.spf_pool.specs.Hands.{
+  TookNone,
+  TookOne,
+  HandValue,
+  after_giving,
+  LaterHand,
+  SeenEmpty,
+  SeenBusy,
+  SeenAllEmpty,
+  SeenAllEmptyOrBusy,
+  OthersEmpty,
+  OthersEmptyOrBusy,
+  OwnKept,
+  MatchNext,
+};
 
 use crate::end::{End, Found};
 use crate::next::Next;
@@ -70,7 +84,8 @@ impl<T: Item<K>, K> Hand<T, K> {
 
     // Takes the front of the hand's own deque.
     fn pop(&mut self) -> Found<T>
-        ensures found { MatchFound result (T.meets self.old.key) (SeenEmpty self.old self.new self.new.own) (SeenBusy self.old self.new self.new.own × (1 < length self.new.given)) }
+        ensures found { MatchFound result (T.meets self.old.key) (SeenEmpty self.old self.new self.new.own)
+            (SeenBusy self.old self.new self.new.own × (1 < length self.new.given)) }
         ensures took { MatchFound result (λ _. TookOne self.old self.new) (TookNone self.old self.new) (TookNone self.old self.new) }
         ensures later { LaterHand self.old self.new }
     {

@@ -106,7 +106,9 @@ impl<T: Item<K>, K> Side<T, K> {
         requires side { IsSide self.old }
         requires stage { (t : Tag K) × knows_tag t (stage self.old) }
         ensures same { SameSide self.old self.new }
-        ensures found { MatchOption result ((stage self.new ≡ stage self.old) × (is_own self.old ≡ true → NoneLeft (stage self.old))) (λ x. (stage self.new ≡ shrunk (stage self.old)) × IsFor T.meets (stage self.old) x) }
+        ensures found { MatchOption result ((stage self.new ≡ stage self.old)
+            × (is_own self.old ≡ true → NoneLeft (stage self.old)))
+            (λ x. (stage self.new ≡ shrunk (stage self.old)) × IsFor T.meets (stage self.old) x) }
     {
         match self {
             Side::Own(worker) => worker.pop_as::<Takes>(),

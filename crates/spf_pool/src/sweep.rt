@@ -16,7 +16,8 @@ fn either(one: bool, other: bool) -> bool
 fn look_at<T: Item<K>, K>(ends: &mut [End<T, K>], own: usize, place: usize) -> Result<bool, T>
     requires order { AreOrdered ends.old }
     requires within { place < length ends.old }
-    ensures looked { MatchResult result (λ busy. LookedAt own place busy ends.old ends.new) (λ x. MeetsAtSome T.meets ends.old x × TookAt own place ends.old ends.new) }
+    ensures looked { MatchResult result (λ busy. LookedAt own place busy ends.old ends.new)
+        (λ x. MeetsAtSome T.meets ends.old x × TookAt own place ends.old ends.new) }
     ensures took { MatchResult result (λ _. TookNoneOf ends.old ends.new) (λ _. TookOneOf ends.old ends.new) }
 {
     if place == own {
@@ -33,7 +34,8 @@ fn look_at<T: Item<K>, K>(ends: &mut [End<T, K>], own: usize, place: usize) -> R
 pub(crate) fn sweep<T: Item<K>, K>(ends: &mut [End<T, K>], own: usize) -> Found<T>
     requires order { AreOrdered ends.old }
     requires within { own < length ends.old }
-    ensures swept { MatchFound result (λ x. MeetsAtSome T.meets ends.old x × AreLater own ends.old ends.new) (Swept own (length ends.old) false ends.old ends.new) (Swept own (length ends.old) true ends.old ends.new) }
+    ensures swept { MatchFound result (λ x. MeetsAtSome T.meets ends.old x × AreLater own ends.old ends.new)
+        (Swept own (length ends.old) false ends.old ends.new) (Swept own (length ends.old) true ends.old ends.new) }
     ensures took { MatchFound result (λ _. TookOneOf ends.old ends.new) (TookNoneOf ends.old ends.new) (TookNoneOf ends.old ends.new) }
 {
     let mut busy = false;

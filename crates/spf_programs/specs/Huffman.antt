@@ -61,7 +61,36 @@
 use Rattle.std.specs.Prelude.{ℕ, ◌*◌, List, [], ◌∷◌, pos, codes}
 use Rattle.spf_ast.specs.declared.syntax.Op.TheVariants.{Shl}
 use Rattle.spf_ast.specs.declared.syntax.Test.TheVariants.{Eq, Ne, Lt, Gt, Ge}
-use Rattle.spf_ast.specs.Syntax.{Expression, Local, Len, Input, Load, Call, Binary, argument, no_more, Compare, By, Statement, Let, Assign, Store, Fill, Emit, Fail, If, For, Fold, Block, end, on_line, FoldHead, Array, Function, Program}
+use Rattle.spf_ast.specs.Syntax.{
+  Expression,
+  Local,
+  Len,
+  Input,
+  Load,
+  Call,
+  Binary,
+  argument,
+  no_more,
+  Compare,
+  By,
+  Statement,
+  Let,
+  Assign,
+  Store,
+  Fill,
+  Emit,
+  Fail,
+  If,
+  For,
+  Fold,
+  Block,
+  end,
+  on_line,
+  FoldHead,
+  Array,
+  Function,
+  Program,
+}
 use Rattle.spf_programs.specs.Writing.{number, plus, minus, times, shifted_right, masked, only, blocks_for}
 
 -- ---- functions

@@ -36,7 +36,34 @@
 -- 31  }
 use Rattle.std.specs.Prelude.{ℕ, ◌+◌, ◌*◌, List, [], ◌∷◌, pos, codes}
 use Rattle.spf_ast.specs.declared.syntax.Test.TheVariants.{Ne, Lt, Ge}
-use Rattle.spf_ast.specs.Syntax.{Expression, Local, Len, Input, Load, Call, argument, no_more, Compare, By, Statement, Let, Assign, Store, Fill, Emit, If, For, Fold, Block, end, on_line, FoldHead, Array, Function, Program}
+use Rattle.spf_ast.specs.Syntax.{
+  Expression,
+  Local,
+  Len,
+  Input,
+  Load,
+  Call,
+  argument,
+  no_more,
+  Compare,
+  By,
+  Statement,
+  Let,
+  Assign,
+  Store,
+  Fill,
+  Emit,
+  If,
+  For,
+  Fold,
+  Block,
+  end,
+  on_line,
+  FoldHead,
+  Array,
+  Function,
+  Program,
+}
 use Rattle.spf_programs.specs.Writing.{number, plus, minus, times, shifted_right, masked, only, blocks_for}
 
 -- the length of the file of a machine

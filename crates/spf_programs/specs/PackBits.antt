@@ -39,7 +39,30 @@
 -- 34  }
 use Rattle.std.specs.Prelude.{ℕ, List, [], ◌∷◌, pos, codes}
 use Rattle.spf_ast.specs.declared.syntax.Test.TheVariants.{Eq, Lt, Gt}
-use Rattle.spf_ast.specs.Syntax.{Expression, Local, Len, Input, Load, Compare, By, Statement, Let, Assign, Store, Fill, Emit, If, For, Fold, Block, end, on_line, FoldHead, Array, Program}
+use Rattle.spf_ast.specs.Syntax.{
+  Expression,
+  Local,
+  Len,
+  Input,
+  Load,
+  Compare,
+  By,
+  Statement,
+  Let,
+  Assign,
+  Store,
+  Fill,
+  Emit,
+  If,
+  For,
+  Fold,
+  Block,
+  end,
+  on_line,
+  FoldHead,
+  Array,
+  Program,
+}
 use Rattle.spf_programs.specs.Writing.{number, plus, minus, times, only, blocks_for}
 
 -- the slots of `main`: s, k, t, i and b of the fold, and i and j of the output

@@ -1,7 +1,23 @@
 // Builds programs form by form. Each function says what its form is as plain data.
 ghost use Rattle.std.specs.Prelude.{◌≡◌, ◌+◌, ◌<◌, ◌≤◌, ◌^◌, List, map, IfOk};
-ghost use Rattle.spf_ast.specs.Syntax.{Input, Load, Call, Binary, Compare, Let, Assign, Store, Fill, Emit, If as if_form, For as for_form, Fold as fold_form, By, FoldHead};
-ghost use Rattle.spf_ast.specs.View.{expression, arguments, condition, statement, block, name as name_seen, array as array_seen};
+ghost use Rattle.spf_ast.specs.Syntax.{
+  Input,
+  Load,
+  Call,
+  Binary,
+  Compare,
+  Let,
+  Assign,
+  Store,
+  Fill,
+  Emit,
+  If as if_form,
+  For as for_form,
+  Fold as fold_form,
+  By,
+  FoldHead,
+};
+ghost use Rattle.spf_ast.specs.View.{expression, arguments, condition, statement, block, name as seen_name, array as seen_array};
 ghost use Rattle.spf_programs.specs.Writing.{number as number_form, blocks_for as blocks_form};
 ghost use Rattle.spf_programs.specs.Built.{head_of, array_form};
 
@@ -180,7 +196,7 @@ pub(crate) fn blocks_for(alloc: Global, bytes: Expr, size: u64) -> Result<Expr, 
 
 /// A name.
 pub(crate) fn name(alloc: Global, text: &[u8]) -> Result<Name, AllocError>
-    ensures { IfOk result (λ n. name_seen n ≡ text.now) }
+    ensures { IfOk result (λ n. seen_name n ≡ text.now) }
 {
     Ok(Name {
         bytes: text.to_vec(alloc)?,
@@ -189,7 +205,7 @@ pub(crate) fn name(alloc: Global, text: &[u8]) -> Result<Name, AllocError>
 
 /// The names of slots.
 pub(crate) fn names(alloc: Global, texts: &[&[u8]]) -> Result<Vec<Name>, AllocError>
-    ensures { IfOk result (λ names. map name_seen names.items ≡ map (λ t. t.now) texts.now) }
+    ensures { IfOk result (λ names. map seen_name names.items ≡ map (λ t. t.now) texts.now) }
 {
     let mut names = Vec::new(alloc);
     for text in texts {
@@ -208,7 +224,7 @@ pub(crate) fn sized_array(
 ) -> Result<Array, AllocError>
     requires factor { factor < 2 ^ 63 }
     requires offset { offset < 2 ^ 63 }
-    ensures { IfOk result (λ a. array_seen a ≡ array_form text.now factor offset line) }
+    ensures { IfOk result (λ a. seen_array a ≡ array_form text.now factor offset line) }
 {
     Ok(Array {
         name: name(alloc, text)?,

@@ -4,8 +4,35 @@ ghost use Rattle.spf_ast.specs.Lawful.{IsLawful};
 ghost use Rattle.spf_ast.specs.declared.syntax.Test.TheVariants.{Ne};
 ghost use Rattle.spf_ast.specs.Syntax.{Fold, Compare, Load, Local};
 ghost use Rattle.spf_programs.specs.Writing.{number as number_form};
-ghost use Rattle.spf_ast.specs.View.{expression, condition, block as block_of, program as seen_program, statement, function as seen_function};
-ghost use Rattle.spf_programs.specs.Huffman.{with_bit as bit_form, bite_whole as bite_whole_form, bite_bits as bite_bits_form, bite as bite_form, look_byte as look_byte_form, look as look_form, table_entry as entry_form, table as table_form, code_bytes as code_bytes_form, block_begin as begin_form, bits_begin as bits_begin_form, bits_end as bits_end_form, sym_place as sym_place_form, word_end as word_form, one_bit as bit_block_form, byte_bits as bits_form, one_byte as byte_form, body as body_form, head as head_form, with_byte as with_byte_form, wanted as wanted_form, symbol_out as symbol_form, symbols_out as symbols_form, too_few as too_few_form, main as main_form, huffman_program};
+ghost use Rattle.spf_ast.specs.View.{expression, condition, block as seen_block, program as seen_program, statement, function as seen_function};
+ghost use Rattle.spf_programs.specs.Huffman.{
+  with_bit as bit_form,
+  bite_whole as bite_whole_form,
+  bite_bits as bite_bits_form,
+  bite as bite_form,
+  look_byte as look_byte_form,
+  look as look_form,
+  table_entry as entry_form,
+  table as table_form,
+  code_bytes as code_bytes_form,
+  block_begin as begin_form,
+  bits_begin as bits_begin_form,
+  bits_end as bits_end_form,
+  sym_place as sym_place_form,
+  word_end as word_form,
+  one_bit as bit_block_form,
+  byte_bits as bits_form,
+  one_byte as byte_form,
+  body as body_form,
+  head as head_form,
+  with_byte as with_byte_form,
+  wanted as wanted_form,
+  symbol_out as symbol_form,
+  symbols_out as symbols_form,
+  too_few as too_few_form,
+  main as main_form,
+  huffman_program,
+};
 
 use crate::build::{
     Blocks, assign, binary, blocks_for, call, choose, compare, count, declare, emit, fill, fold,
@@ -88,7 +115,7 @@ fn is_whole(alloc: Global, state: u32) -> Result<Cond, AllocError>
 
 /// `bite` begins anew where a code word is whole.
 fn bite_whole(alloc: Global) -> Result<Vec<Stmt>, AllocError>
-    ensures { IfOk result (λ v. block_of v.items ≡ bite_whole_form) }
+    ensures { IfOk result (λ v. seen_block v.items ≡ bite_whole_form) }
 {
     let again = vec![in alloc; assign(10, BITE_NEW, number(1))]?;
     let choice = choose(10, is_whole(alloc, BITE_NEW)?, again, Vec::new(alloc));
@@ -97,7 +124,7 @@ fn bite_whole(alloc: Global) -> Result<Vec<Stmt>, AllocError>
 
 /// A bit in `bite`.
 fn bite_bits(alloc: Global) -> Result<Vec<Stmt>, AllocError>
-    ensures { IfOk result (λ v. block_of v.items ≡ bite_bits_form) }
+    ensures { IfOk result (λ v. seen_block v.items ≡ bite_bits_form) }
 {
     let bit = with_bit(alloc, BITE_NEW, BITE_BYTE, BITE_BIT)?;
     let is_lost = compare(alloc, Test::Gt, Expr::Local(BITE_NEW), number(65535))?;
@@ -126,7 +153,7 @@ fn bite(alloc: Global) -> Result<Function, AllocError>
 
 /// A byte in `look`.
 fn look_byte(alloc: Global) -> Result<Vec<Stmt>, AllocError>
-    ensures { IfOk result (λ v. block_of v.items ≡ look_byte_form) }
+    ensures { IfOk result (λ v. seen_block v.items ≡ look_byte_form) }
 {
     let place = binary(alloc, Op::Add, number(264), Expr::Local(LOOK_PLACE))?;
     let byte = input(alloc, place)?;
@@ -161,7 +188,7 @@ fn look(alloc: Global) -> Result<Function, AllocError>
 
 /// The table's entry for a symbol whose code word has the length.
 fn table_entry(alloc: Global) -> Result<Vec<Stmt>, AllocError>
-    ensures { IfOk result (λ v. block_of v.items ≡ entry_form) }
+    ensures { IfOk result (λ v. seen_block v.items ≡ entry_form) }
 {
     let place = binary(alloc, Op::Add, number(4), Expr::Local(SYMBOL))?;
     let length = input(alloc, place)?;
@@ -229,7 +256,7 @@ fn sym_place(alloc: Global, size: u64) -> Result<Expr, AllocError>
 /// Keeps the symbol where a code word is whole.
 fn word_end(alloc: Global, size: u64) -> Result<Vec<Stmt>, AllocError>
     requires { size ≤ 65536 }
-    ensures { IfOk result (λ v. block_of v.items ≡ word_form size) }
+    ensures { IfOk result (λ v. seen_block v.items ≡ word_form size) }
 {
     let found = load(alloc, CODE, Expr::Local(STATE))?;
     let kept = store(40, SYM, sym_place(alloc, size)?, found);
@@ -241,7 +268,7 @@ fn word_end(alloc: Global, size: u64) -> Result<Vec<Stmt>, AllocError>
 /// A bit of a block.
 fn one_bit(alloc: Global, size: u64) -> Result<Vec<Stmt>, AllocError>
     requires { size ≤ 65536 }
-    ensures { IfOk result (λ v. block_of v.items ≡ bit_block_form size) }
+    ensures { IfOk result (λ v. seen_block v.items ≡ bit_block_form size) }
 {
     let bit = with_bit(alloc, STATE, BYTE, BIT)?;
     let is_lost = compare(alloc, Test::Gt, Expr::Local(STATE), number(65535))?;
@@ -255,7 +282,7 @@ fn one_bit(alloc: Global, size: u64) -> Result<Vec<Stmt>, AllocError>
 /// The bits of a byte.
 fn byte_bits(alloc: Global, size: u64) -> Result<Vec<Stmt>, AllocError>
     requires { size ≤ 65536 }
-    ensures { IfOk result (λ v. block_of v.items ≡ bits_form size) }
+    ensures { IfOk result (λ v. seen_block v.items ≡ bits_form size) }
 {
     let behind = binary(alloc, Op::Add, number(264), block_begin(alloc, size)?)?;
     let place = binary(alloc, Op::Add, behind, Expr::Local(PLACE))?;
@@ -267,7 +294,7 @@ fn byte_bits(alloc: Global, size: u64) -> Result<Vec<Stmt>, AllocError>
 /// A byte of a block.
 fn one_byte(alloc: Global, size: u64) -> Result<Vec<Stmt>, AllocError>
     requires { size ≤ 65536 }
-    ensures { IfOk result (λ v. block_of v.items ≡ byte_form size) }
+    ensures { IfOk result (λ v. seen_block v.items ≡ byte_form size) }
 {
     let place = binary(
         alloc,
@@ -283,7 +310,7 @@ fn one_byte(alloc: Global, size: u64) -> Result<Vec<Stmt>, AllocError>
 /// What a block does.
 fn body(alloc: Global, size: u64) -> Result<Vec<Stmt>, AllocError>
     requires { size ≤ 65536 }
-    ensures { IfOk result (λ v. block_of v.items ≡ body_form size) }
+    ensures { IfOk result (λ v. seen_block v.items ≡ body_form size) }
 {
     let low = bits_begin(alloc, size)?;
     let high = bits_end(alloc, size)?;
@@ -336,7 +363,7 @@ fn wanted(alloc: Global) -> Result<Expr, AllocError>
 
 /// Writes a symbol where a code word ends, as long as symbols are wanted.
 fn symbol_out(alloc: Global) -> Result<Vec<Stmt>, AllocError>
-    ensures { IfOk result (λ v. block_of v.items ≡ symbol_form) }
+    ensures { IfOk result (λ v. seen_block v.items ≡ symbol_form) }
 {
     let kept = load(alloc, SYM, Expr::Local(OUT_PLACE))?;
     let symbol = binary(alloc, Op::Sub, kept, number(1))?;
@@ -375,7 +402,7 @@ fn too_few(alloc: Global) -> Result<Stmt, AllocError>
 fn statements(alloc: Global, size: u64) -> Result<Vec<Stmt>, AllocError>
     requires some { 1 ≤ size }
     requires few { size ≤ 65536 }
-    ensures { IfOk result (λ v. block_of v.items ≡ main_form size) }
+    ensures { IfOk result (λ v. seen_block v.items ≡ main_form size) }
 {
     let first = declare(23, WORD, number(0));
     let table = table(alloc)?;

@@ -2,8 +2,24 @@
 ghost use Rattle.std.specs.Prelude.{◌≡◌, ◌≤◌, ◌<◌, ◌^◌, IfOk};
 ghost use Rattle.spf_ast.specs.Lawful.{IsLawful};
 ghost use Rattle.spf_ast.specs.Syntax.{Fold};
-ghost use Rattle.spf_ast.specs.View.{expression, block as block_of, program as seen_program, statement, function as seen_function};
-ghost use Rattle.spf_programs.specs.Lexer.{entry_at as entry_form, look_byte as look_byte_form, look as look_form, block_begin as begin_form, block_end as end_form, content as content_form, step as step_form, one_byte as byte_form, body as body_form, head as head_form, place_byte as place_byte_form, token as token_form, output as output_form, program_for as program_form, lexer_program};
+ghost use Rattle.spf_ast.specs.View.{expression, block as seen_block, program as seen_program, statement, function as seen_function};
+ghost use Rattle.spf_programs.specs.Lexer.{
+  entry_at as entry_form,
+  look_byte as look_byte_form,
+  look as look_form,
+  block_begin as begin_form,
+  block_end as end_form,
+  content as content_form,
+  step as step_form,
+  one_byte as byte_form,
+  body as body_form,
+  head as head_form,
+  place_byte as place_byte_form,
+  token as token_form,
+  output as output_form,
+  program_for as program_form,
+  lexer_program,
+};
 
 use crate::build::{
     Blocks, assign, binary, blocks_for, call, choose, compare, count, declare, emit, fill, fold,
@@ -66,7 +82,7 @@ fn entry_at(alloc: Global, sizes: Sizes, state: u32, place: u32) -> Result<Expr,
 
 /// A byte in `look`.
 fn look_byte(alloc: Global, sizes: Sizes) -> Result<Vec<Stmt>, AllocError>
-    ensures { IfOk result (λ v. block_of v.items ≡ look_byte_form sizes.classes sizes.machine) }
+    ensures { IfOk result (λ v. seen_block v.items ≡ look_byte_form sizes.classes sizes.machine) }
 {
     let next = input(alloc, entry_at(alloc, sizes, LOOK_STATE, LOOK_PLACE)?)?;
     let is_inside = compare(alloc, Test::Ge, Expr::Local(LOOK_PLACE), number(0))?;
@@ -125,7 +141,7 @@ fn content(alloc: Global, sizes: Sizes) -> Result<Expr, AllocError>
 
 /// A step of the machine.
 fn step(alloc: Global, sizes: Sizes) -> Result<Vec<Stmt>, AllocError>
-    ensures { IfOk result (λ v. block_of v.items ≡ step_form sizes.classes sizes.machine) }
+    ensures { IfOk result (λ v. seen_block v.items ≡ step_form sizes.classes sizes.machine) }
 {
     let entry = entry_at(alloc, sizes, STATE, PLACE)?;
     let mark = input(
@@ -142,7 +158,7 @@ fn step(alloc: Global, sizes: Sizes) -> Result<Vec<Stmt>, AllocError>
 
 /// A byte of a block.
 fn one_byte(alloc: Global, sizes: Sizes) -> Result<Vec<Stmt>, AllocError>
-    ensures { IfOk result (λ v. block_of v.items ≡ byte_form sizes.classes sizes.machine) }
+    ensures { IfOk result (λ v. seen_block v.items ≡ byte_form sizes.classes sizes.machine) }
 {
     let is_inside = compare(alloc, Test::Lt, Expr::Local(PLACE), content(alloc, sizes)?)?;
     let choice = choose(14, is_inside, step(alloc, sizes)?, Vec::new(alloc));
@@ -151,7 +167,7 @@ fn one_byte(alloc: Global, sizes: Sizes) -> Result<Vec<Stmt>, AllocError>
 
 /// What a block does.
 fn body(alloc: Global, sizes: Sizes) -> Result<Vec<Stmt>, AllocError>
-    ensures { IfOk result (λ v. block_of v.items ≡ body_form sizes.block sizes.classes sizes.machine) }
+    ensures { IfOk result (λ v. seen_block v.items ≡ body_form sizes.block sizes.classes sizes.machine) }
 {
     let low = block_begin(alloc, sizes)?;
     let high = block_end(alloc, sizes)?;
@@ -193,7 +209,7 @@ fn emit_place(alloc: Global, line: u32, places: u64) -> Result<Stmt, AllocError>
 
 /// Writes a token.
 fn token(alloc: Global) -> Result<Vec<Stmt>, AllocError>
-    ensures { IfOk result (λ v. block_of v.items ≡ token_form) }
+    ensures { IfOk result (λ v. seen_block v.items ≡ token_form) }
 {
     let mark = load(alloc, MARK, Expr::Local(OUT_PLACE))?;
     let highest = binary(alloc, Op::Shr, Expr::Local(OUT_PLACE), number(24))?;

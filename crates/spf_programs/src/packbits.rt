@@ -2,8 +2,21 @@
 ghost use Rattle.std.specs.Prelude.{◌≡◌, ◌≤◌, [], ◌∷◌, IfOk};
 ghost use Rattle.spf_ast.specs.Lawful.{IsLawful};
 ghost use Rattle.spf_ast.specs.Syntax.{Fold};
-ghost use Rattle.spf_ast.specs.View.{expression, block as block_of, program as seen_program, statement};
-ghost use Rattle.spf_programs.specs.PackBits.{block_begin as begin_form, block_end as end_form, header as header_form, copied as copied_form, repeated as repeated_form, data_byte as data_form, one_byte as byte_form, block_bytes as bytes_form, body as body_form, output as output_form, head as head_form, packbits_program};
+ghost use Rattle.spf_ast.specs.View.{expression, block as seen_block, program as seen_program, statement};
+ghost use Rattle.spf_programs.specs.PackBits.{
+  block_begin as begin_form,
+  block_end as end_form,
+  header as header_form,
+  copied as copied_form,
+  repeated as repeated_form,
+  data_byte as data_form,
+  one_byte as byte_form,
+  block_bytes as bytes_form,
+  body as body_form,
+  output as output_form,
+  head as head_form,
+  packbits_program,
+};
 
 use crate::build::{
     Blocks, assign, binary, blocks_for, choose, compare, count, declare, emit, fill, fold, input,
@@ -49,7 +62,7 @@ fn block_end(alloc: Global, size: u64) -> Result<Expr, AllocError>
 
 /// What a header leaves to be done.
 fn header(alloc: Global) -> Result<Vec<Stmt>, AllocError>
-    ensures { IfOk result (λ v. block_of v.items ≡ header_form) }
+    ensures { IfOk result (λ v. seen_block v.items ≡ header_form) }
 {
     let copies = binary(alloc, Op::Add, Expr::Local(BYTE), number(1))?;
     let repeats = binary(alloc, Op::Sub, Expr::Local(BYTE), number(257))?;
@@ -65,7 +78,7 @@ fn header(alloc: Global) -> Result<Vec<Stmt>, AllocError>
 
 /// A byte that is copied.
 fn copied(alloc: Global) -> Result<Vec<Stmt>, AllocError>
-    ensures { IfOk result (λ v. block_of v.items ≡ copied_form) }
+    ensures { IfOk result (λ v. seen_block v.items ≡ copied_form) }
 {
     let fewer = binary(alloc, Op::Sub, Expr::Local(LEFT), number(1))?;
     Ok(vec![in alloc;
@@ -76,7 +89,7 @@ fn copied(alloc: Global) -> Result<Vec<Stmt>, AllocError>
 
 /// A byte that is repeated.
 fn repeated(alloc: Global) -> Result<Vec<Stmt>, AllocError>
-    ensures { IfOk result (λ v. block_of v.items ≡ repeated_form) }
+    ensures { IfOk result (λ v. seen_block v.items ≡ repeated_form) }
 {
     let times = binary(alloc, Op::Sub, number(0), Expr::Local(LEFT))?;
     Ok(vec![in alloc;
@@ -87,7 +100,7 @@ fn repeated(alloc: Global) -> Result<Vec<Stmt>, AllocError>
 
 /// A byte of a packet's data.
 fn data_byte(alloc: Global) -> Result<Vec<Stmt>, AllocError>
-    ensures { IfOk result (λ v. block_of v.items ≡ data_form) }
+    ensures { IfOk result (λ v. seen_block v.items ≡ data_form) }
 {
     let is_copied = compare(alloc, Test::Gt, Expr::Local(LEFT), number(0))?;
     let choice = choose(17, is_copied, copied(alloc)?, repeated(alloc)?);
@@ -96,7 +109,7 @@ fn data_byte(alloc: Global) -> Result<Vec<Stmt>, AllocError>
 
 /// A byte of the input.
 fn one_byte(alloc: Global) -> Result<Vec<Stmt>, AllocError>
-    ensures { IfOk result (λ v. block_of v.items ≡ byte_form) }
+    ensures { IfOk result (λ v. seen_block v.items ≡ byte_form) }
 {
     let byte = input(alloc, Expr::Local(PLACE))?;
     let is_header = compare(alloc, Test::Eq, Expr::Local(LEFT), number(0))?;
@@ -120,7 +133,7 @@ fn block_bytes(alloc: Global, size: u64) -> Result<Stmt, AllocError>
 /// What a block does.
 fn body(alloc: Global, size: u64) -> Result<Vec<Stmt>, AllocError>
     requires { size ≤ 65536 }
-    ensures { IfOk result (λ v. block_of v.items ≡ body_form size) }
+    ensures { IfOk result (λ v. seen_block v.items ≡ body_form size) }
 {
     let low = block_begin(alloc, size)?;
     let high = block_end(alloc, size)?;

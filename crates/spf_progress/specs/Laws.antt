@@ -41,7 +41,8 @@ HeadersEndRuns =
     → TrapsAt p (header_means (environment_of p input) construct) before after trap
     → HasCome hosts p input (Stopped trap after.output) progress
 
--- Where the header of a construct is done that keeps the rules, and its blocks came to a value: the run goes on after it, with this value in the carried slot and with the memory that the blocks left.
+-- Where the header of a construct is done that keeps the rules, and its blocks came to a value: the run goes on after
+-- it, with this value in the carried slot and with the memory that the blocks left.
 abbrev pub ConstructsSettle : Type 0
 ConstructsSettle =
     (hosts : Hosts) (p : Program) (input : List ℕ) (before after last : Stand) (progress : Progress)
@@ -49,8 +50,10 @@ ConstructsSettle =
     → GoesOn hosts p input before progress → construct_first (ahead p before) ≡ Some construct
     → EndsAt p (header_means (environment_of p input) construct) before after header
     → FunctionsAreSilent p.functions → KeepsTheRules p construct
-    → BlocksComeTo (entry_there p input construct header after) (guess_there hosts progress.telling p input construct header after) (Ok value) values last.cells traces
-    → main_slots p last.frame ≡ with_carried (carried_of construct) value (main_slots p after.frame) → last.output ≡ after.output → last.place ≡ before.place + 1
+    → BlocksComeTo (entry_there p input construct header after)
+    (guess_there hosts progress.telling p input construct header after) (Ok value) values last.cells traces
+    → main_slots p last.frame ≡ with_carried (carried_of construct) value (main_slots p after.frame)
+    → last.output ≡ after.output → last.place ≡ before.place + 1
     → GoesOn hosts p input last (with_construct (guess_there hosts progress.telling p input construct header after) construct header values traces progress)
 
 -- where one of them trapped, the run has come to its end
@@ -61,5 +64,8 @@ ConstructsEndRuns =
     → GoesOn hosts p input before progress → construct_first (ahead p before) ≡ Some construct
     → EndsAt p (header_means (environment_of p input) construct) before after header
     → FunctionsAreSilent p.functions → KeepsTheRules p construct
-    → BlocksComeTo (entry_there p input construct header after) (guess_there hosts progress.telling p input construct header after) (Err trap) values memory traces
-    → HasCome hosts p input (Stopped trap after.output) (with_construct (guess_there hosts progress.telling p input construct header after) construct header values traces progress)
+    → BlocksComeTo (entry_there p input construct header after)
+    (guess_there hosts progress.telling p input construct header after) (Err trap) values memory traces
+    → HasCome hosts p input (Stopped trap after.output)
+    (with_construct (guess_there hosts progress.telling p input construct header after) construct header values
+    traces progress)

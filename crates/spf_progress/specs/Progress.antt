@@ -42,13 +42,16 @@ abbrev pub no_progress : Progress
 no_progress = record { stats = none; telling = []; traces = [] }
 
 -- with what the constructs still add that the plain run will reach, the progress is that of the whole run
-pub record IsCompletedBy (hosts : Hosts) (p : Program) (input : List ℕ) (constructs : List Construct) (others : List Reached) (progress : Progress) : Type 0 where
+pub record IsCompletedBy (hosts : Hosts) (p : Program) (input : List ℕ) (constructs : List Construct)
+    (others : List Reached) (progress : Progress) : Type 0 where
   pub stats_are : plus progress.stats (tally_from hosts p input constructs others progress.telling).stats ≡ (tally hosts p input).stats
   pub telling_is : (tally_from hosts p input constructs others progress.telling).telling ≡ (tally hosts p input).telling
   pub traces_are : (more : List Trace) → AreTraces hosts p input constructs others progress.telling more
       → AreTraces hosts p input (constructs_in p.main) (reals p input) [] (progress.traces ++ more)
 
--- A run of a lawful program is where its plain run is at the same place: they agree on the slots that are visible there, on the output and on the memory. What the plain run does from this moment on gives the program's outcome, and completes the run's progress.
+-- A run of a lawful program is where its plain run is at the same place: they agree on the slots that are visible
+-- there, on the output and on the memory. What the plain run does from this moment on gives the program's outcome,
+-- and completes the run's progress.
 pub record GoesOn (hosts : Hosts) (p : Program) (input : List ℕ) (s : Stand) (progress : Progress) : Type 0 where
   pub scope : Scope
   pub moment : Moment
@@ -79,7 +82,8 @@ entry_there p input c h s = record {
 abbrev pub guess_there : Hosts → List Telling → Program → List ℕ → Construct → Header → Stand → ℕ → Guess
 guess_there hosts telling p input c h s n = guess_for hosts telling p input c (main_slots p s.frame) s.cells (h.low +ℤ pos n)
 
--- The blocks from this entry came to this result, began at these values, and left this memory where none trapped. Every merging of their logs is a speculative run from these guesses; without blocks there is no trace.
+-- The blocks from this entry came to this result, began at these values, and left this memory where none trapped.
+-- Every merging of their logs is a speculative run from these guesses; without blocks there is no trace.
 pub record BlocksComeTo (e : Entry) (guess : ℕ → Guess) (r : Result Carried Trap) (values : List Carried) (memory : List ℤ) (traces : List Trace) : Type 0 where
   pub result : (plain_blocks e).result ≡ r
   pub values_are : (plain_blocks e).values ≡ values

@@ -44,7 +44,8 @@ begin_with zero First Later traces = Later traces
 begin_with (suc blocks) First Later [] = ⊥
 begin_with (suc blocks) First Later (trace ∷ traces) = First trace × Later traces
 
--- one trace for each construct that was reached and has blocks, in their order, each with its predictor's guesses; before the first of them hosts were told so much
+-- one trace for each construct that was reached and has blocks, in their order, each with its predictor's guesses;
+-- before the first of them hosts were told so much
 abbrev pub AreTraces : Hosts → Program → List ℕ → List Construct → List Reached → List Telling → List Trace → Type 0
 AreTraces hosts p input (construct ∷ constructs) (r ∷ others) telling traces =
     begin_with r.header.blocks

@@ -1,5 +1,25 @@
 -- Bounds of numbers at a block number k: a number lies between factor * k + low and factor * k + high, or nothing is known of it.
-use Rattle.std.specs.Prelude.{◌^◌, Bool, false, Option, Some, None, if◌then◌else◌, ◌&&◌, nat_le, nat_lt, ℤ, pos, negsuc, ◌+ℤ◌, ◌-ℤ◌, ◌*ℤ◌, neg_ℤ, int_le, int_lt}
+use Rattle.std.specs.Prelude.{
+  ◌^◌,
+  Bool,
+  false,
+  Option,
+  Some,
+  None,
+  if◌then◌else◌,
+  ◌&&◌,
+  nat_le,
+  nat_lt,
+  ℤ,
+  pos,
+  negsuc,
+  ◌+ℤ◌,
+  ◌-ℤ◌,
+  ◌*ℤ◌,
+  neg_ℤ,
+  int_le,
+  int_lt,
+}
 use Rattle.std.specs.Ordering.{int_eq}
 use Rattle.std.specs.Int.{int_min, int_max}
 use Rattle.spf_region.specs.declared.bound.Bound.{Bound}

@@ -21,7 +21,8 @@ pub record AreDisjoint (offsets : Offsets) (wholes arrays : Arrays) (others : Of
 
 -- no cell is in two arrays
 abbrev pub LieApart : List Extent → Type 0
-LieApart extents = (a b cell : ℕ) → a ≢ b → in_extent (slice_index_or extents a (0, 0)) cell ≡ true → in_extent (slice_index_or extents b (0, 0)) cell ≡ true → ⊥
+LieApart extents = (a b cell : ℕ) → a ≢ b → in_extent (slice_index_or extents a (0, 0)) cell ≡ true
+    → in_extent (slice_index_or extents b (0, 0)) cell ≡ true → ⊥
 
 -- a cell of the range at block k
 abbrev pub IsCellAt : List Extent → ℤ → Range → ℕ → Type 0

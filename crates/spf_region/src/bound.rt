@@ -1,6 +1,22 @@
 //! What is known of a number at each block.
 ghost use Rattle.std.specs.Prelude.{◌≡◌, neg_ℤ, ◌+ℤ◌, ◌-ℤ◌, ◌*ℤ◌};
-ghost use Rattle.spf_region.specs.Bounds.{is_small, small, known, number, plus, minus, negated, constant, scaled, times, is_at_least_zero, remainder, masked, masked_by, remainder_by};
+ghost use Rattle.spf_region.specs.Bounds.{
+  is_small,
+  small,
+  known,
+  number,
+  plus,
+  minus,
+  negated,
+  constant,
+  scaled,
+  times,
+  is_at_least_zero,
+  remainder,
+  masked,
+  masked_by,
+  remainder_by,
+};
 ghost use Rattle.spf_region.specs.Between.{known_between};
 
 /// What is known of a number at block k: it lies between `factor * k + low` and

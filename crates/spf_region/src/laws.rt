@@ -12,7 +12,8 @@ pub fn one_normal_form()
     ensures { (xs ys : List Range) → IsNormal xs → IsNormal ys → offsets_of xs ≡ offsets_of ys → wholes_of xs ≡ wholes_of ys → xs ≡ ys }
 {}
 
-/// Each list of ranges has a normal form, with the same offsets and whole arrays; and sets of offsets that are made by adding ranges and by taking what two have in common have a list in normal form.
+/// Each list of ranges has a normal form, with the same offsets and whole arrays; and sets of offsets that are made
+/// by adding ranges and by taking what two have in common have a list in normal form.
 pub fn each_list_has_a_normal_form()
     ensures lists { ListsHaveNormalForms }
     ensures sets { SetsStayListed }
@@ -35,17 +36,20 @@ pub fn separate_offset_by_offset()
 
 /// No range of a list in normal form meets another list exactly where their offsets are disjoint.
 pub fn disjoint_offset_by_offset()
-    ensures { (xs ys : List Range) → IsNormal xs → IsNormal ys → (first_meeting xs ys ≡ None) ↔ AreDisjoint (offsets_of xs) (wholes_of xs) (has_array xs) (offsets_of ys) (wholes_of ys) (has_array ys) }
+    ensures { (xs ys : List Range) → IsNormal xs → IsNormal ys → (first_meeting xs ys ≡ None)
+        ↔ AreDisjoint (offsets_of xs) (wholes_of xs) (has_array xs) (offsets_of ys) (wholes_of ys) (has_array ys) }
 {}
 
 /// Separate ranges share no cell at different blocks, where the arrays lie apart.
 pub fn separate_ranges_share_no_cell()
-    ensures { (extents : List Extent) (k j : ℤ) (r s : Range) (cell : ℕ) → LieApart extents → k ≢ j → separate r s ≡ true → IsCellAt extents k r cell → IsCellAt extents j s cell → ⊥ }
+    ensures { (extents : List Extent) (k j : ℤ) (r s : Range) (cell : ℕ) → LieApart extents → k ≢ j → separate r s ≡ true
+        → IsCellAt extents k r cell → IsCellAt extents j s cell → ⊥ }
 {}
 
 /// Disjoint ranges share no cell at any blocks, where the arrays lie apart.
 pub fn disjoint_ranges_share_no_cell()
-    ensures { (extents : List Extent) (k j : ℤ) (r s : Range) (cell : ℕ) → LieApart extents → disjoint r s ≡ true → IsCellAt extents k r cell → IsCellAt extents j s cell → ⊥ }
+    ensures { (extents : List Extent) (k j : ℤ) (r s : Range) (cell : ℕ) → LieApart extents → disjoint r s ≡ true
+        → IsCellAt extents k r cell → IsCellAt extents j s cell → ⊥ }
 {}
 
 /// Cells have one list of ascending spans with gaps.

@@ -2,7 +2,22 @@
 ghost use Rattle.std.specs.Prelude.{◌≡◌, [], ℕ, ◌+◌, ◌<◌, ◌^◌, length, true, OnOk, OnErr, IfOk};
 ghost use Rattle.std.specs.List.{All};
 ghost use Rattle.spf_region.specs.Cells.{in_spans, cells_at, AreAscending};
-ghost use Rattle.spf_region.specs.Ranges.{offsets_of, wholes_of, joined, whole_joined, array_joined, in_either, whole_in_either, in_both, whole_in_both, covers, has_array, first_unseparated, first_meeting, IsNormal};
+ghost use Rattle.spf_region.specs.Ranges.{
+  offsets_of,
+  wholes_of,
+  joined,
+  whole_joined,
+  array_joined,
+  in_either,
+  whole_in_either,
+  in_both,
+  whole_in_both,
+  covers,
+  has_array,
+  first_unseparated,
+  first_meeting,
+  IsNormal,
+};
 
 use crate::cells::spans_at;
 use crate::merge::{added, merged, met};

@@ -2,7 +2,20 @@
 ghost use Rattle.std.specs.Prelude.{◌≡◌, ◌+ℤ◌, pos, int_le, false, IfOk};
 ghost use Rattle.std.specs.Int.{int_min, int_max};
 ghost use Rattle.spf_region.specs.Merging.{in_order, starts_by, ends_by, hull, overlap, filled, interleaved, coalesced, met};
-ghost use Rattle.spf_region.specs.Ranges.{offsets_of, wholes_of, has_array, joined, whole_joined, array_joined, in_either, whole_in_either, in_both, whole_in_both, is_empty, IsNormal};
+ghost use Rattle.spf_region.specs.Ranges.{
+  offsets_of,
+  wholes_of,
+  has_array,
+  joined,
+  whole_joined,
+  array_joined,
+  in_either,
+  whole_in_either,
+  in_both,
+  whole_in_both,
+  is_empty,
+  IsNormal,
+};
 
 use crate::range::Range;
 use std::alloc::{AllocError, Global};

@@ -31,7 +31,8 @@ abbrev pub HaveDisjointSpans : Program → Construct → Type 0
 HaveDisjointSpans p (fold line head body) =
     (len : ℕ) (k j : ℤ) (cell : ℕ) → k ≢ j → IsOwn p (fold line head body) Body len k cell → IsOwn p (fold line head body) Body len j cell → ⊥
 HaveDisjointSpans p (pair line head producer consumer) =
-    (len : ℕ) (k j : ℤ) (cell : ℕ) → IsOwn p (pair line head producer consumer) Producer len k cell → IsOwn p (pair line head producer consumer) Consumer len j cell → ⊥
+    (len : ℕ) (k j : ℤ) (cell : ℕ) → IsOwn p (pair line head producer consumer) Producer len k cell
+    → IsOwn p (pair line head producer consumer) Consumer len j cell → ⊥
 
 -- the output and the slots that are declared outside of the part are as they were
 pub record LeavesTheRest (construct : Construct) (part : Part) (s : Setup) (state : State) : Type 0 where
@@ -73,4 +74,5 @@ pub record IsRollbackFree (p : Program) (construct : Construct) : Type 0 where
 -- a top construct of a lawful program that keeps the rules is rollback free
 abbrev pub TheRulesSetFree : Type 0
 TheRulesSetFree =
-    (p : Program) (n : ℕ) (construct : Construct) → IsLawful p → slice_get (constructs_in p.main) n ≡ Some construct → KeepsTheRules p construct → IsRollbackFree p construct
+    (p : Program) (n : ℕ) (construct : Construct) → IsLawful p → slice_get (constructs_in p.main) n ≡ Some construct
+    → KeepsTheRules p construct → IsRollbackFree p construct

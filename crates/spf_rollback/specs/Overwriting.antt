@@ -21,9 +21,11 @@ pub record IsTheSameOn (p : Program) (construct : Construct) (s : Setup) (one ot
   pub contents : (value : ℤ) (state : State) (cell : ℕ)
       → plain_answer (part_asks p construct (guessed_part construct) s) one ≡ Value value state
       → IsOwn p construct (guessed_part construct) (length s.input) s.number cell
-      → word_at (plain_memory (part_asks p construct (guessed_part construct) s) one) cell ≡ word_at (plain_memory (part_asks p construct (guessed_part construct) s) other) cell
+      → word_at (plain_memory (part_asks p construct (guessed_part construct) s) one) cell
+      ≡ word_at (plain_memory (part_asks p construct (guessed_part construct) s) other) cell
 
 -- so is every block of a rollback free fold, and the consumer of a rollback free pair
 abbrev pub BlocksOverwrite : Type 0
 BlocksOverwrite =
-    (p : Program) (construct : Construct) (s : Setup) (one other : List ℤ) → IsRollbackFree p construct → IsSetup p s → AgreeOnUnwritten p construct (length s.input) one other → IsTheSameOn p construct s one other
+    (p : Program) (construct : Construct) (s : Setup) (one other : List ℤ) → IsRollbackFree p construct → IsSetup p s
+    → AgreeOnUnwritten p construct (length s.input) one other → IsTheSameOn p construct s one other

@@ -8,7 +8,8 @@ use Rattle.spf_ast.specs.Syntax.{Program}
 use Rattle.spf_ast.specs.Construct.{Construct}
 use Rattle.spf_ast.specs.BlockRun.{Setup, IsSetup, part_asks}
 
--- The events lead along what the part asks, and come to this: an answer, or a turn at which the part is stopped. The loads among them answer anything, and the turns have any numbers.
+-- The events lead along what the part asks, and come to this: an answer, or a turn at which the part is stopped. The
+-- loads among them answer anything, and the turns have any numbers.
 pub record IsPerformance (p : Program) (construct : Construct) (part : Part) (s : Setup) (events : List Event) (result : Performed (Ending ℤ)) : Type 0 where
   pub setup : IsSetup p s
   pub stop : Option ℕ

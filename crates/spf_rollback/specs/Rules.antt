@@ -78,7 +78,8 @@ ReadsAfterWriting p construct =
 -- not-overwritten: the guessed part surely writes all that it may write
 pub record WritesAll (p : Program) (construct : Construct) : Type 0 where
   pub no_whole : (array : ℕ) → wholes_of (may_write p construct (guessed_part construct)) array ≡ false
-  pub sure : (array : ℕ) (f o : ℤ) → offsets_of (may_write p construct (guessed_part construct)) array f o ≡ true → (part_effects p construct (guessed_part construct)).must array f o ≡ true
+  pub sure : (array : ℕ) (f o : ℤ) → offsets_of (may_write p construct (guessed_part construct)) array f o ≡ true
+      → (part_effects p construct (guessed_part construct)).must array f o ≡ true
 
 -- the construct keeps all seven rules
 pub record KeepsTheRules (p : Program) (construct : Construct) : Type 0 where

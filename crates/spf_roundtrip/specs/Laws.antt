@@ -86,7 +86,8 @@ TokensAreOfOneProgram = (free : ℕ) (tokens : List Lexeme) (p q : RawProgram) �
 -- no tokens are left that neither are those of a program nor go wrong at a place
 abbrev pub NoTokensAreLeft : Type 0
 NoTokensAreLeft =
-    (tokens : List Lexeme) (end : ℕ) → ((p : RawProgram) → Reads 0 tokens p → ⊥) → ((at : ℕ) → IsUnexpected tokens end at → ⊥) → ((at : ℕ) → IsTooDeep tokens at → ⊥) → ⊥
+    (tokens : List Lexeme) (end : ℕ) → ((p : RawProgram) → Reads 0 tokens p → ⊥)
+    → ((at : ℕ) → IsUnexpected tokens end at → ⊥) → ((at : ℕ) → IsTooDeep tokens at → ⊥) → ⊥
 
 -- what a text says as the spelling of a scoped program, it says of that one alone
 abbrev pub ReadingsDetermineTheirPrograms : Type 0

@@ -1,6 +1,15 @@
 // Laws about canonical texts.
 
-ghost use Rattle.spf_roundtrip.specs.Laws.{CanonicalTextsReadBack, ScopedProgramsAreWritable, TextsSayTheirPrograms, TokensAreOfOneProgram, NoTokensAreLeft, ReadingsDetermineTheirPrograms, TextsDetermineTheirPrograms, TextsAreReadAsTheirPrograms};
+ghost use Rattle.spf_roundtrip.specs.Laws.{
+  CanonicalTextsReadBack,
+  ScopedProgramsAreWritable,
+  TextsSayTheirPrograms,
+  TokensAreOfOneProgram,
+  NoTokensAreLeft,
+  ReadingsDetermineTheirPrograms,
+  TextsDetermineTheirPrograms,
+  TextsAreReadAsTheirPrograms,
+};
 
 use spf_text::laws::texts_determine_their_tokens;
 use spf_types::laws::spellings_resolve_to_their_programs;
@@ -25,7 +34,8 @@ pub fn tokens_are_of_one_program()
     ensures left { NoTokensAreLeft }
 {}
 
-/// The text of a lawful program determines it, lines apart: what reads as its spelling reads as that of no other, `print` writes the same text of no two, and where `parse` and `resolve` take the text they give this program.
+/// The text of a lawful program determines it, lines apart: what reads as its spelling reads as that of no other,
+/// `print` writes the same text of no two, and where `parse` and `resolve` take the text they give this program.
 pub fn texts_determine_their_programs()
     ensures readings { ReadingsDetermineTheirPrograms }
     ensures texts { TextsDetermineTheirPrograms }

@@ -1,11 +1,20 @@
 // Runs in pieces, whose folds are settled by block runs.
 
 ghost use Rattle.std.specs.Prelude.{◌≡◌, [], pos, Some, IfOk};
-ghost use Rattle.spf_ast.specs.Syntax.{Binary as binary_form, Emit as emit_form, Fold as fold_form, Local as local_form, Number as number_form, By as by_form, end, on_line};
+ghost use Rattle.spf_ast.specs.Syntax.{
+  Binary as binary_form,
+  Emit as emit_form,
+  Fold as fold_form,
+  Local as local_form,
+  Number as number_form,
+  By as by_form,
+  end,
+  on_line,
+};
 ghost use Rattle.spf_ast.specs.declared.syntax.Op.TheVariants.{Mul};
 ghost use Rattle.spf_ast.specs.declared.syntax.Part.TheVariants.{Body};
 ghost use Rattle.spf_ast.specs.View.{program as seen_program};
-ghost use Rattle.spf_ast.specs.ConstructView.{construct as construct_seen};
+ghost use Rattle.spf_ast.specs.ConstructView.{construct as seen_construct};
 ghost use Rattle.spf_ast.specs.Pieces.{construct_first};
 ghost use Rattle.spf_ast.specs.Silence.{FunctionsAreSilent, PartIsSilent};
 ghost use Rattle.spf_layout.specs.Instance.{program_of};
@@ -56,7 +65,16 @@ fn a_run_in_pieces_comes_to_its_end(rt: HostRuntime) -> Result<(), Fail> {
 // specfold s = 1 for k in 0..5 predict k { next s * 2; } emit s;
 pub(crate) fn doubled(alloc: Global) -> Result<Program, AllocError>
     ensures main { IfOk result (λ p. (seen_program p).main
-        ≡ on_line 1 (fold_form (record { carried = 0; start = number_form (pos 1); block = 1; low = number_form (pos 0); high = number_form (pos 5); predict = by_form (local_form 1); next = binary_form Mul (local_form 0) (number_form (pos 2)); next_line = 2 }) end)
+        ≡ on_line 1 (fold_form (record {
+          carried = 0;
+          start = number_form (pos 1);
+          block = 1;
+          low = number_form (pos 0);
+          high = number_form (pos 5);
+          predict = by_form (local_form 1);
+          next = binary_form Mul (local_form 0) (number_form (pos 2));
+          next_line = 2;
+        }) end)
         (on_line 3 (emit_form (local_form 0)) end)) }
     ensures functions { IfOk result (λ p. (seen_program p).functions ≡ []) }
 {
@@ -102,8 +120,8 @@ fn run_body(
 ) -> Result<Stop, AllocError>
     requires run { IsRunOf (program_of instance.now) 0 run.now }
     requires empty { instance.now.input ≡ [] }
-    requires construct { construct_first (ahead (program_of instance.now) run.now) ≡ Some (construct_seen construct) }
-    requires silent { PartIsSilent (construct_seen construct) Body }
+    requires construct { construct_first (ahead (program_of instance.now) run.now) ≡ Some (seen_construct construct) }
+    requires silent { PartIsSilent (seen_construct construct) Body }
     requires functions_silent { FunctionsAreSilent (program_of instance.now).functions }
 {
     let mut frame = run.frame().copy(alloc)?;

@@ -3,7 +3,16 @@
 ghost use Rattle.spf_ast.specs.declared.syntax.Fold.{out-Fold};
 ghost use Rattle.spf_ast.specs.declared.syntax.Pair.{out-Pair};
 ghost use Rattle.spf_ast.specs.Syntax as form;
-ghost use Rattle.spf_ast.specs.View.{expression as seen_expression, arguments as seen_arguments, condition as seen_condition, predictor as seen_predictor, block as seen_block, statement as seen_statement, fold_head, pair_head};
+ghost use Rattle.spf_ast.specs.View.{
+  expression as seen_expression,
+  arguments as seen_arguments,
+  condition as seen_condition,
+  predictor as seen_predictor,
+  block as seen_block,
+  statement as seen_statement,
+  fold_head,
+  pair_head,
+};
 ghost use Rattle.spf_ast.specs.Size.{expression_measure, arguments_measure, condition_measure, predictor_measure, block_measure, statement_measure};
 ghost use Rattle.spf_size.specs.Sizes.{Counts, HasSize, IsSize, IsTable};
 
@@ -138,7 +147,9 @@ fn statement(sizes: &[Size], kind: &StmtKind) -> Size
 /// A fold.
 #[cycle(statement)]
 fn fold(sizes: &[Size], fold: &Fold) -> Size
-    ensures { (counts : Counts) → IsTable counts sizes.now → HasSize counts (λ m. statement_measure m (form.Fold (fold_head fold.now) (seen_block (out-Fold fold.now).body.items))) result }
+    ensures { (counts : Counts) → IsTable counts sizes.now
+        → HasSize counts (λ m. statement_measure m
+        (form.Fold (fold_head fold.now) (seen_block (out-Fold fold.now).body.items))) result }
 {
     let range = beside(expression(sizes, &fold.low), expression(sizes, &fold.high));
     let header = beside(expression(sizes, &fold.start), range);
@@ -149,7 +160,10 @@ fn fold(sizes: &[Size], fold: &Fold) -> Size
 /// A pair.
 #[cycle(statement)]
 fn pair(sizes: &[Size], pair: &Pair) -> Size
-    ensures { (counts : Counts) → IsTable counts sizes.now → HasSize counts (λ m. statement_measure m (form.Pair (pair_head pair.now) (seen_block (out-Pair pair.now).producer.items) (seen_block (out-Pair pair.now).consumer.items))) result }
+    ensures { (counts : Counts) → IsTable counts sizes.now
+        → HasSize counts (λ m. statement_measure m
+        (form.Pair (pair_head pair.now) (seen_block (out-Pair pair.now).producer.items)
+        (seen_block (out-Pair pair.now).consumer.items))) result }
 {
     let produced = beside(block(sizes, &pair.producer), expression(sizes, &pair.give));
     let consumed = beside(

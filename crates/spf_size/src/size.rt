@@ -2,7 +2,8 @@
 
 ghost use Rattle.spf_size.specs.Sizes.{IsBeside, IsWithin};
 
-/// How many statements and expressions a form has, how many of them stand within each other, and how many slots a chain of its calls has at most. A number that doesn't fit is the largest.
+/// How many statements and expressions a form has, how many of them stand within each other, and how many slots a
+/// chain of its calls has at most. A number that doesn't fit is the largest.
 #[derive(Clone, Copy)]
 pub struct Size {
     /// The statements and expressions.

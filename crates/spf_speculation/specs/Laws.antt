@@ -13,7 +13,8 @@ use Rattle.spf_speculation.specs.Runs.{IsRealLog, LogsComeTo, IsSpeculativeRun}
 
 -- ---- attempts
 
--- A performance of a block with all cells shared, whose loads outside the block's spans gave the entry's words, is an attempt without these loads. A run of a block in its lane is one.
+-- A performance of a block with all cells shared, whose loads outside the block's spans gave the entry's words, is an
+-- attempt without these loads. A run of a block in its lane is one.
 abbrev pub BlockRunsAreAttempts : Type 0
 BlockRunsAreAttempts =
     (e : Entry) (n : ℕ) (v : Carried) (attempt : ℕ) (events : List Event) (result : Performed (Ending Carried))
@@ -36,7 +37,8 @@ pub record IsItsPlainRun (e : Entry) (n : ℕ) (v : Carried) (log : List Event) 
   pub contents : (value : Carried) (state : State) (cell : ℕ) → answer ≡ Value value state → own e n cell ≡ true
       → word_at (plain_memory (asks_at e n v) memory) cell ≡ word_at (after log e.memory) cell
 
--- a plain run of block n may begin at v on this memory: that of block 0 at the start and on the entry's memory, that of any other on a memory that is as the entry's where no array is written
+-- a plain run of block n may begin at v on this memory: that of block 0 at the start and on the entry's memory, that
+-- of any other on a memory that is as the entry's where no array is written
 abbrev pub MayBegin : Entry → ℕ → Carried → List ℤ → Type 0
 MayBegin e zero v memory = (v ≡ e.header.start) × (memory ≡ e.memory)
 MayBegin e (suc n) v memory = AgreeOnUnwritten e.program e.construct (length e.input) e.memory memory
@@ -57,7 +59,8 @@ abbrev pub IsBefore : Entry → ℕ → List Event → Type 0
 IsBefore e zero before = before ≡ []
 IsBefore e (suc n) before = (before ≡ []) ⊎ ((w : Carried) × (other : ℕ) × IsAttempt e (suc n) w other before)
 
--- Each whole attempt, at a wrong value too, comes to what the block's run at this value comes to on the entry's memory. So the answer depends on the block and the value alone.
+-- Each whole attempt, at a wrong value too, comes to what the block's run at this value comes to on the entry's
+-- memory. So the answer depends on the block and the value alone.
 abbrev pub AttemptsAnswerAsOnTheEntry : Type 0
 AttemptsAnswerAsOnTheEntry =
     (e : Entry) (n : ℕ) (v : Carried) (attempt : ℕ) (before log : List Event) (answer : Ending Carried)
@@ -76,7 +79,8 @@ pub record IsLeftBy (e : Entry) (logs : ℕ → List Event) (n : ℕ) (memory : 
   pub inside : (k cell : ℕ) → k < n → own e k cell ≡ true → word_at memory cell ≡ word_at (after (logs k) e.memory) cell
   pub outside : (cell : ℕ) → ((k : ℕ) → k < n → own e k cell ≡ false) → word_at memory cell ≡ word_at e.memory cell
 
--- from a memory that is as the logs of the first n blocks leave it, the plain run of block n has the answer of this block's log; where that is a value, it leaves the memory as one log more does
+-- from a memory that is as the logs of the first n blocks leave it, the plain run of block n has the answer of this
+-- block's log; where that is a value, it leaves the memory as one log more does
 pub record ContinuesAt (e : Entry) (logs : ℕ → List Event) (n : ℕ) (v : Carried) (answer : Ending Carried) (memory : List ℤ) : Type 0 where
   pub same : plain_answer (asks_at e n v) memory ≡ answer
   pub left : (value : Carried) (state : State) → answer ≡ Value value state → IsLeftBy e logs (suc n) (plain_memory (asks_at e n v) memory)

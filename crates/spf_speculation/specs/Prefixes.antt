@@ -25,10 +25,14 @@ pub record IsTheRest (e : Entry) (values : List Carried) (rest : Chained) : Type
 abbrev pub PrefixComesTo : Entry → (ℕ → Carried) → (ℕ → List Event) → ℕ → List Carried → Carried → Type 0
 PrefixComesTo e guess logs n values v =
     (others : ℕ → List Event) → ((k : ℕ) → k < n → others k ≡ logs k)
-    → (later : List Carried) (result : Result Carried Trap) → LogsComeTo e guess others n v later result → LogsComeTo e guess others 0 e.header.start (values ++ later) result
+    → (later : List Carried) (result : Result Carried Trap) → LogsComeTo e guess others n v later result
+    → LogsComeTo e guess others 0 e.header.start (values ++ later) result
 
--- The first n blocks are a validated prefix: their logs come to these real values, v is the real value of block n, and on this memory the plain run stands at that block. Where n is the number of blocks, v is the value after the last one.
-pub record IsValidatedPrefix (e : Entry) (guess : ℕ → Carried) (logs : ℕ → List Event) (n : ℕ) (values : List Carried) (v : Carried) (memory : List ℤ) : Type 0 where
+-- The first n blocks are a validated prefix: their logs come to these real values, v is the real value of block n,
+-- and on this memory the plain run stands at that block. Where n is the number of blocks, v is the value after the
+-- last one.
+pub record IsValidatedPrefix (e : Entry) (guess : ℕ → Carried) (logs : ℕ → List Event) (n : ℕ) (values : List Carried)
+    (v : Carried) (memory : List ℤ) : Type 0 where
   pub within : n ≤ e.header.blocks
   pub count : length values ≡ n
   pub first : n ≡ 0 → v ≡ e.header.start

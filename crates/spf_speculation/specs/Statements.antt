@@ -22,7 +22,8 @@ use Rattle.spf_speculation.specs.Runs.{IsSpeculativeRun}
 abbrev pub environment_at : Entry → Environment
 environment_at e = environment_of e.program e.input
 
--- The plain run of `main` reached the construct of this statement at this moment; its header was done then, and left this state, which looks like that of the entry.
+-- The plain run of `main` reached the construct of this statement at this moment; its header was done then, and left
+-- this state, which looks like that of the entry.
 pub record IsReached (e : Entry) (scope : Scope) (line : ℕ) (s : Statement) (m : Moment) (left entry : State) : Type 0 where
   pub names : Names
   pub is : construct_of line s ≡ Some e.construct
@@ -40,10 +41,13 @@ abbrev pub reals_at : Entry → Moment → State → RealValues
 reals_at e m left =
     blocks_from (environment_at e) e.construct 0 e.header.blocks e.header.low e.header.start (moment_after (header_means (environment_at e) e.construct) m left)
 
--- the statement, run plainly, puts this result into its carried slot or ends with this trap; the memory after it is the one that the steps leave, where no block traps; and its real values are these
-pub record IsTheStatement (e : Entry) (scope : Scope) (line : ℕ) (s : Statement) (m : Moment) (left entry : State) (steps : List Step) (values : List Carried) (result : Result Carried Trap) : Type 0 where
+-- the statement, run plainly, puts this result into its carried slot or ends with this trap; the memory after it is
+-- the one that the steps leave, where no block traps; and its real values are these
+pub record IsTheStatement (e : Entry) (scope : Scope) (line : ℕ) (s : Statement) (m : Moment) (left entry : State)
+    (steps : List Step) (values : List Carried) (result : Result Carried Trap) : Type 0 where
   pub settled : IsSettledAs scope.visible entry (carried_of e.construct) result (plainly (statement_means (environment_at e) line s) m)
-  pub memory : (value : Carried) → result ≡ Ok value → after (events_of steps) e.memory ≡ plain_memory (statement_means (environment_at e) line s m.state) m.memory
+  pub memory : (value : Carried) → result ≡ Ok value
+      → after (events_of steps) e.memory ≡ plain_memory (statement_means (environment_at e) line s m.state) m.memory
   pub reals : values ≡ (reals_at e m left).values
   pub trapped : is_trap result ≡ (reals_at e m left).trapped
 

@@ -1,8 +1,29 @@
 //! Speculative runs of top constructs, and that they mean the plain run. Each law is the contract of a function that does nothing.
 #![tactic(auto)]
 
-ghost use Rattle.spf_speculation.specs.Laws.{BlockRunsAreAttempts, UnstoppedAttemptsAreWhole, RealLogsArePlainRuns, AttemptsAnswerAsOnTheEntry, PlainRunsAnswerAsOnTheEntry, RealLogsContinueThePlainRun, BlocksAreFirstAttemptedAtTheirGuess, SpeculativeRunsMeanThePlainRun, LogsMeanThePlainRun, PlainRunsAreAnswered, EveryMergingIsASpeculativeRun, JoinedLogsAreMerged, EachGuessHasARun};
-ghost use Rattle.spf_speculation.specs.Prefixes.{PrefixesBegin, PrefixesGrow, PrefixesEnd, PrefixesComplete, PrefixesHaveRealValues, PrefixesDependOnEarlierLogs};
+ghost use Rattle.spf_speculation.specs.Laws.{
+  BlockRunsAreAttempts,
+  UnstoppedAttemptsAreWhole,
+  RealLogsArePlainRuns,
+  AttemptsAnswerAsOnTheEntry,
+  PlainRunsAnswerAsOnTheEntry,
+  RealLogsContinueThePlainRun,
+  BlocksAreFirstAttemptedAtTheirGuess,
+  SpeculativeRunsMeanThePlainRun,
+  LogsMeanThePlainRun,
+  PlainRunsAreAnswered,
+  EveryMergingIsASpeculativeRun,
+  JoinedLogsAreMerged,
+  EachGuessHasARun,
+};
+ghost use Rattle.spf_speculation.specs.Prefixes.{
+  PrefixesBegin,
+  PrefixesGrow,
+  PrefixesEnd,
+  PrefixesComplete,
+  PrefixesHaveRealValues,
+  PrefixesDependOnEarlierLogs,
+};
 ghost use Rattle.spf_speculation.specs.Statements.{SpeculativeRunsMeanTheirStatement};
 
 use spf_ast::laws::each_form_has_one_plain_run;

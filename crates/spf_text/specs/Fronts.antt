@@ -1,5 +1,14 @@
 -- What stands at the start of the bytes that are left of a text.
-use Rattle.std.specs.Prelude.{◌≡◌, ℕ, ◌≤◌, List, length, take, drop, slice_index}
+use Rattle.std.specs.Prelude.{
+  ◌≡◌,
+  ℕ,
+  ◌≤◌,
+  List,
+  length,
+  take,
+  drop,
+  slice_index,
+}
 use Rattle.spf_text.specs.declared.front.Front.{Front}
 use Rattle.spf_text.specs.declared.front.Front.TheVariants as front
 use Rattle.spf_text.specs.Tokens.{Piece, Blank, Comment, Lexeme, IsPiece, bytes_of, BeginsNothing, BeginsTooLarge}

@@ -15,7 +15,8 @@ TokensAreSpelledByTheirSlices = (text : List ℕ) (tokens : List Token) → AreT
 -- a text has tokens, or a byte at which nothing begins, or a number that is too large
 abbrev pub TextsHaveTokensOrAFault : Type 0
 TextsHaveTokensOrAFault =
-    (text : List ℕ) → ((tokens : List Token) × AreTokensOf text tokens) ⊎ ((at : ℕ) × IsFaultyAt BeginsNothing text at) ⊎ ((at : ℕ) × IsFaultyAt BeginsTooLarge text at)
+    (text : List ℕ) → ((tokens : List Token) × AreTokensOf text tokens)
+    ⊎ ((at : ℕ) × IsFaultyAt BeginsNothing text at) ⊎ ((at : ℕ) × IsFaultyAt BeginsTooLarge text at)
 
 -- a text has a fault at one place and of one kind, and none where it has tokens
 pub record HasOneFault (text : List ℕ) : Type 0 where

@@ -179,7 +179,8 @@ BeginsNothing (b ∷ rest) =
 
 -- a number begins here that is too large
 abbrev pub BeginsTooLarge : List ℕ → Type 0
-BeginsTooLarge bytes = (digits : List ℕ) × (after : List ℕ) × (bytes ≡ digits ++ after) × Begins IsDigit IsDigit digits × EndsBefore IsDigit after × (max_number < number_from 0 digits)
+BeginsTooLarge bytes = (digits : List ℕ) × (after : List ℕ) × (bytes ≡ digits ++ after)
+    × Begins IsDigit IsDigit digits × EndsBefore IsDigit after × (max_number < number_from 0 digits)
 
 -- the text is cut into pieces up to this place, at which the rest is as told
 pub record IsFaultyAt (Fault : List ℕ → Type 0) (text : List ℕ) (at : ℕ) : Type 0 where

@@ -1,4 +1,4 @@
-// The scanner: from the bytes of a text to its tokens.
+//! The scanner: from the bytes of a text to its tokens.
 #![tactic(auto)]
 
 mod bytes;

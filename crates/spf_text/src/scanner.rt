@@ -2,26 +2,39 @@
 
 ghost use Rattle.std.specs.Prelude.{All, ◌≡◌, ℕ, ◌<◌, ◌≤◌, ◌⊎◌, List, length, IfOk, MatchResult, IsOkUnless};
 ghost use Rattle.spf_text.specs.declared.token.Token.{Token};
-ghost use Rattle.spf_text.specs.Tokens.{AreTokensOf, AreInOrder, IsSpelledIn, IsFaultyAt, BeginsNothing, BeginsTooLarge, max_text};
+ghost use Rattle.spf_text.specs.Tokens.{
+  AreTokensOf,
+  AreInOrder,
+  IsSpelledIn,
+  IsFaultyAt,
+  BeginsNothing,
+  BeginsTooLarge,
+  max_text,
+};
 ghost use Rattle.spf_text.specs.Refusals.{IsRefusedWith};
 
 use crate::front::{Front, front_of};
 use crate::token::Token;
 use std::alloc::Global;
+use thiserror::Error;
 
 /// How many bytes a text may have.
 const MAX_TEXT: usize = 1_048_576;
 
 /// Why a text has no tokens.
-#[derive(Clone, Copy, PartialEq, Eq, Debug)]
+#[derive(Clone, Copy, PartialEq, Eq, Debug, Error)]
 pub enum ScanError {
     /// At byte `at`, outside every comment, stands a byte that begins no token.
+    #[error("text byte {at}: bad byte")]
     BadByte { at: usize },
     /// The number whose first digit is byte `at` is over 9,223,372,036,854,775,807.
+    #[error("text byte {at}: number too large")]
     NumberTooLarge { at: usize },
     /// The text has more than 1,048,576 bytes, and `at` is that number.
+    #[error("text byte {at}: text too long")]
     TooLong { at: usize },
     /// There was no memory for the tokens.
+    #[error("out of memory")]
     OutOfMemory,
 }
 

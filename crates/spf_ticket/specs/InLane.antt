@@ -26,7 +26,8 @@ pub record InLane : Type 0 where
 abbrev pub in_lane : LaneValue → List ℤ → ℕ → InLane
 in_lane lane entry attempt = record { lane = lane; entry = entry; attempt = attempt }
 
--- These events lead from the first to the second: the lane logged those of its own cells, and the turns; a load of another cell gave the entry's word, and a store to another cell changed nothing.
+-- These events lead from the first to the second: the lane logged those of its own cells, and the turns; a load of
+-- another cell gave the entry's word, and a store to another cell changed nothing.
 pub record LeadsInLane (es : List Event) (a b : InLane) : Type 0 where
   pub entry : b.entry ≡ a.entry
   pub attempt : b.attempt ≡ a.attempt

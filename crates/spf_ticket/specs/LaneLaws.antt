@@ -47,10 +47,13 @@ joined-lane es fs a b c p q =
       entry = q.entry ∙ p.entry;
       attempt = q.attempt ∙ p.attempt;
       lane = (q.lane.0 ∙ p.lane.0, q.lane.1 ∙ p.lane.1, q.lane.2 ∙ p.lane.2);
-      logged = q.logged ∙ ap (λ l. l ++ own_events (is_in b.lane) fs) p.logged ∙ ap (λ f. (events a.lane.log ++ own_events (is_in a.lane) es) ++ own_events f fs) same
+      logged = q.logged ∙ ap (λ l. l ++ own_events (is_in b.lane) fs) p.logged ∙ ap
+          (λ f. (events a.lane.log ++ own_events (is_in a.lane) es) ++ own_events f fs) same
           ∙ append_assoc (events a.lane.log) (own_events (is_in a.lane) es) (own_events (is_in a.lane) fs)
           ∙ ap (λ l. events a.lane.log ++ l) (sym (own-append (is_in a.lane) es fs));
-      others = others-append a.entry (is_in a.lane) es fs p.others (subst (λ m. OthersAreOf m (is_in a.lane) fs) p.entry (subst (λ f. OthersAreOf b.entry f fs) same q.others));
+      others = others-append a.entry (is_in a.lane) es fs p.others
+          (subst (λ m. OthersAreOf m (is_in a.lane) fs) p.entry
+          (subst (λ f. OthersAreOf b.entry f fs) same q.others));
     }
 
 pub lane_laws : {S : Type 0} (at : S → InLane) → Laws {M = S} (λ es a b. LeadsInLane es (at a) (at b)) (λ s. Some (at s).attempt)

@@ -3,7 +3,7 @@ ghost use Rattle.std.specs.Prelude.{◌≡◌, ℕ, length, false};
 ghost use Rattle.std.specs.List.{Contains};
 ghost use Rattle.spf_ast.specs.Carried.{Carried as CarriedValue};
 ghost use Rattle.spf_ast.specs.Construct.{constructs_in, part_of, statements_of};
-ghost use Rattle.spf_ast.specs.ConstructView.{construct as construct_seen};
+ghost use Rattle.spf_ast.specs.ConstructView.{construct as seen_construct};
 ghost use Rattle.spf_ast.specs.Lawful.{IsLawful};
 ghost use Rattle.spf_ast.specs.Program.{cell_count_of};
 ghost use Rattle.spf_ast.specs.Silence.{PartIsSilent};
@@ -54,12 +54,12 @@ impl Ticket {
     pub fn run<G: Gate>(self, cells: &Cells, job: &Job, gate: &G) -> Report
         requires own { self.lane.table ≡ cells.now.table }
         requires lawful { IsLawful (program_of job.now.instance.now) }
-        requires construct { Contains (constructs_in (program_of job.now.instance.now).main) (construct_seen job.now.construct) }
+        requires construct { Contains (constructs_in (program_of job.now.instance.now).main) (seen_construct job.now.construct) }
         requires entry { length job.now.entry.now ≡ cell_count_of (program_of job.now.instance.now) (length job.now.instance.now.input) }
         requires frame { length self.frame ≡ frame_size (program_of job.now.instance.now) }
-        requires silent { PartIsSilent (construct_seen job.now.construct) (part_of (construct_seen job.now.construct) self.block) }
-        requires outer { assigns_outer (statements_of (construct_seen job.now.construct) (part_of (construct_seen job.now.construct) self.block)) ≡ false }
-        ensures same { IsSameTicket (program_of job.now.instance.now) (construct_seen job.now.construct) self result.ticket }
+        requires silent { PartIsSilent (seen_construct job.now.construct) (part_of (seen_construct job.now.construct) self.block) }
+        requires outer { assigns_outer (statements_of (seen_construct job.now.construct) (part_of (seen_construct job.now.construct) self.block)) ≡ false }
+        ensures same { IsSameTicket (program_of job.now.instance.now) (seen_construct job.now.construct) self result.ticket }
         ensures ran { (e : Entry) → IsEntry e → AreMadeFor e cells.now.setting → IsJobOf e job.now
             → IsTicketAt e cells.now self → Ran e self result }
         ensures lawful { (e : Entry) (guess : ℕ → CarriedValue) → IsEntry e → AreMadeFor e cells.now.setting → IsJobOf e job.now

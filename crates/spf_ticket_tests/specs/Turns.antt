@@ -8,7 +8,16 @@ use Rattle.spf_cells.specs.declared.view.Setting.{Setting}
 use Rattle.spf_entry.specs.Entry.{Entry}
 
 abbrev pub counting_head : FoldHead
-counting_head = record { carried = 0; start = Number (pos 1); block = 1; low = Number (pos 0); high = Number (pos 2); predict = By (Number (pos 5)); next = Number (pos 1); next_line = 1 }
+counting_head = record {
+  carried = 0;
+  start = Number (pos 1);
+  block = 1;
+  low = Number (pos 0);
+  high = Number (pos 2);
+  predict = By (Number (pos 5));
+  next = Number (pos 1);
+  next_line = 1;
+}
 
 abbrev pub counting_body : Block
 counting_body = on_line 1 (For 2 (Number (pos 0)) (Local 0) end) end
@@ -19,7 +28,12 @@ counting_fold = fold 1 counting_head counting_body
 
 -- the fold, and then `emit s;`
 abbrev pub counting : Program
-counting = record { arrays = []; functions = []; slots = codes "s" ∷ codes "k" ∷ codes "i" ∷ []; main = on_line 1 (Fold counting_head counting_body) (on_line 1 (Emit (Local 0)) end) }
+counting = record {
+  arrays = [];
+  functions = [];
+  slots = codes "s" ∷ codes "k" ∷ codes "i" ∷ [];
+  main = on_line 1 (Fold counting_head counting_body) (on_line 1 (Emit (Local 0)) end);
+}
 
 -- two blocks with no cells
 abbrev pub no_cells : List (List Span)
@@ -31,7 +45,14 @@ counting_setting = record { plan = no_cells; entry = []; raisable = 1 ∷ [] }
 
 -- the fold's entry
 abbrev pub counting_entry : Entry
-counting_entry = record { program = counting; construct = counting_fold; input = []; slots = pos 0 ∷ pos 0 ∷ pos 0 ∷ []; memory = []; header = record { low = pos 0; blocks = 2; start = pos 1 } }
+counting_entry = record {
+  program = counting;
+  construct = counting_fold;
+  input = [];
+  slots = pos 0 ∷ pos 0 ∷ pos 0 ∷ [];
+  memory = [];
+  header = record { low = pos 0; blocks = 2; start = pos 1 };
+}
 
 -- five turns that polled 0
 abbrev pub five_turns : List Event

@@ -2,14 +2,23 @@
 ghost use Rattle.std.specs.Prelude.{◌≡◌, [], ◌∷◌, ◌++◌, length, pos, IfOk, replicate};
 ghost use Rattle.spf_ast.specs.Carried.{Carried as CarriedValue};
 ghost use Rattle.spf_ast.specs.Syntax.{Fold as fold_form};
-ghost use Rattle.spf_ast.specs.View.{program as seen_program, block as block_of, statement as statement_of};
-ghost use Rattle.spf_ast.specs.ConstructView.{construct as construct_seen};
+ghost use Rattle.spf_ast.specs.View.{program as seen_program, block as seen_block, statement as seen_statement};
+ghost use Rattle.spf_ast.specs.ConstructView.{construct as seen_construct};
 ghost use Rattle.spf_layout.specs.Instance.{program_of};
 ghost use Rattle.spf_layout.specs.declared.stop.Stop.TheVariants as stop;
 ghost use Rattle.spf_cells.specs.Log.{events};
 ghost use Rattle.spf_cells.specs.Made.{spans_in, new_warden, new_lane};
 ghost use Rattle.spf_ticket.specs.Tickets.{IsSameTicket, IsTicketAt};
-ghost use Rattle.spf_ticket_tests.specs.Turns.{counting, counting_head, counting_body, counting_fold as fold_of_counting, counting_entry, counting_setting, no_cells, five_turns};
+ghost use Rattle.spf_ticket_tests.specs.Turns.{
+  counting,
+  counting_head,
+  counting_body,
+  counting_fold as fold_of_counting,
+  counting_entry,
+  counting_setting,
+  no_cells,
+  five_turns,
+};
 
 use spf_ast::construct::find_construct;
 use spf_ast::syntax::{Expr, Fold, Name, Predict, Program, Stmt, StmtKind};
@@ -37,7 +46,7 @@ fn name(alloc: Global, byte: u8) -> Result<Name, AllocError>
 
 /// for i in 0..s { }
 fn loop_to_carried(alloc: Global) -> Result<Vec<Stmt>, AllocError>
-    ensures { IfOk result (λ v. block_of v.items ≡ counting_body) }
+    ensures { IfOk result (λ v. seen_block v.items ≡ counting_body) }
 {
     let mut body = Vec::new(alloc);
     body.push(Stmt {
@@ -49,7 +58,7 @@ fn loop_to_carried(alloc: Global) -> Result<Vec<Stmt>, AllocError>
 
 /// specfold s = 1 for k in 0..2 predict 5 { for i in 0..s { } next 1; }
 fn counting_fold(alloc: Global) -> Result<StmtKind, AllocError>
-    ensures { IfOk result (λ kind. statement_of kind ≡ fold_form counting_head counting_body) }
+    ensures { IfOk result (λ kind. seen_statement kind ≡ fold_form counting_head counting_body) }
 {
     let fold = Fold {
         carried: 0,
@@ -112,7 +121,7 @@ pub(crate) fn lane_of_block_one(alloc: Global) -> Result<(Cells, Warden, Lane), 
 pub(crate) fn attempt(cells: &Cells, job: &Job, ticket: Ticket) -> Report
     requires program { program_of job.now.instance.now ≡ counting }
     requires input { job.now.instance.now.input ≡ [] }
-    requires construct { construct_seen job.now.construct ≡ fold_of_counting }
+    requires construct { seen_construct job.now.construct ≡ fold_of_counting }
     requires entry { job.now.entry.now ≡ [] }
     requires setting { cells.now.setting ≡ counting_setting }
     requires table { ticket.lane.table ≡ cells.now.table }
@@ -130,7 +139,7 @@ pub(crate) fn attempt(cells: &Cells, job: &Job, ticket: Ticket) -> Report
 fn first_attempt(cells: &Cells, job: &Job, lane: Lane, frame: Frame) -> Report
     requires program { program_of job.now.instance.now ≡ counting }
     requires input { job.now.instance.now.input ≡ [] }
-    requires construct { construct_seen job.now.construct ≡ fold_of_counting }
+    requires construct { seen_construct job.now.construct ≡ fold_of_counting }
     requires entry { job.now.entry.now ≡ [] }
     requires setting { cells.now.setting ≡ counting_setting }
     requires lane { lane ≡ new_lane cells.now 1 }

@@ -1,7 +1,7 @@
 //! Attempts in threads of their own, while the warden raises a flag.
 ghost use Rattle.std.specs.Prelude.{◌≡◌, [], ◌<◌, length};
 ghost use Rattle.std.specs.List.{Contains};
-ghost use Rattle.spf_ast.specs.ConstructView.{construct as construct_seen};
+ghost use Rattle.spf_ast.specs.ConstructView.{construct as seen_construct};
 ghost use Rattle.spf_layout.specs.Instance.{program_of};
 ghost use Rattle.spf_cells.specs.Values.{IsWardenOf};
 ghost use Rattle.spf_ticket_tests.specs.Turns.{counting, counting_fold as fold_of_counting, counting_setting};
@@ -26,7 +26,7 @@ const LONG: i64 = 100_000_000_000;
 fn attempt_twice(cells: &Cells, job: &Job, ticket: Ticket) -> (Stop, Stop)
     requires program { program_of job.now.instance.now ≡ counting }
     requires input { job.now.instance.now.input ≡ [] }
-    requires construct { construct_seen job.now.construct ≡ fold_of_counting }
+    requires construct { seen_construct job.now.construct ≡ fold_of_counting }
     requires entry { job.now.entry.now ≡ [] }
     requires setting { cells.now.setting ≡ counting_setting }
     requires table { ticket.lane.table ≡ cells.now.table }
@@ -49,7 +49,7 @@ fn raised_meanwhile<R: Threads + Sync>(
 ) -> (Stop, Stop)
     requires program { program_of job.now.instance.now ≡ counting }
     requires input { job.now.instance.now.input ≡ [] }
-    requires construct { construct_seen job.now.construct ≡ fold_of_counting }
+    requires construct { seen_construct job.now.construct ≡ fold_of_counting }
     requires entry { job.now.entry.now ≡ [] }
     requires setting { cells.now.setting ≡ counting_setting }
     requires table { ticket.lane.table ≡ cells.now.table }

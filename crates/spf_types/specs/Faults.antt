@@ -1,10 +1,73 @@
 -- The faults of a raw program, in the order of its text: at a node in the order of `TypeFault`, and a node before its parts.
-use Rattle.std.specs.Prelude.{ℕ, ◌+◌, Bool, true, false, ◌||◌, not, if◌then◌else◌, nat_eq, nat_lt, List, [], ◌∷◌, ◌++◌, length, map, Option, Some, None, ℤ, pos, negsuc}
+use Rattle.std.specs.Prelude.{
+  ℕ,
+  ◌+◌,
+  Bool,
+  true,
+  false,
+  ◌||◌,
+  not,
+  if◌then◌else◌,
+  nat_eq,
+  nat_lt,
+  List,
+  [],
+  ◌∷◌,
+  ◌++◌,
+  length,
+  map,
+  Option,
+  Some,
+  None,
+  ℤ,
+  pos,
+  negsuc,
+}
 use Rattle.std.specs.Option.{is_some}
 use Rattle.std.specs.Str.{bytes_eq}
 use Rattle.spf_ast.specs.Syntax.{Array}
-use Rattle.spf_ast.specs.RawSyntax.{RawExpression, Number, Local, Len, Input, Load, Call, Neg, Binary, Compare, Both, Either, Not, RawArguments, no_more, argument}
-use Rattle.spf_ast.specs.RawSyntax.{RawPredictor, By, Host, RawFoldHead, RawStatement, Let, Assign, Store, Fill, Emit, Fail, If, For, While, Do, Fold, Pair, RawBlock, end, on_line, RawFunction, RawProgram}
+use Rattle.spf_ast.specs.RawSyntax.{
+  RawExpression,
+  Number,
+  Local,
+  Len,
+  Input,
+  Load,
+  Call,
+  Neg,
+  Binary,
+  Compare,
+  Both,
+  Either,
+  Not,
+  RawArguments,
+  no_more,
+  argument,
+}
+use Rattle.spf_ast.specs.RawSyntax.{
+  RawPredictor,
+  By,
+  Host,
+  RawFoldHead,
+  RawStatement,
+  Let,
+  Assign,
+  Store,
+  Fill,
+  Emit,
+  Fail,
+  If,
+  For,
+  While,
+  Do,
+  Fold,
+  Pair,
+  RawBlock,
+  end,
+  on_line,
+  RawFunction,
+  RawProgram,
+}
 use Rattle.spf_types.specs.declared.fault.TypeFault.{TypeFault}
 use Rattle.spf_types.specs.declared.fault.TypeFault.TheVariants.{UnknownName, Twice, Arity, Kind, CallsLater, Misplaced}
 use Rattle.spf_types.specs.declared.globals.Outer.{Outer}

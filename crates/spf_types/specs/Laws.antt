@@ -1,4 +1,5 @@
--- Programs without faults are those that spell scoped programs, what is spelled resolves to its program, and each raw program resolves to one or is refused for one fault.
+-- Programs without faults are those that spell scoped programs, what is spelled resolves to its program, and each raw
+-- program resolves to one or is refused for one fault.
 use Rattle.std.specs.Prelude.{◌≡◌, ◌⊎◌, ℕ, []}
 use Rattle.spf_ast.specs.Syntax.{Program}
 use Rattle.spf_ast.specs.RawSyntax.{RawProgram}

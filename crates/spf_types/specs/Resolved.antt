@@ -4,7 +4,30 @@ use Rattle.spf_ast.specs.declared.syntax.Test.TheVariants as test
 use Rattle.spf_ast.specs.Syntax as s
 use Rattle.spf_ast.specs.Syntax.{Expression, Arguments, Condition, Predictor, FoldHead, PairHead, Statement, Block, Array, Function, Program}
 use Rattle.spf_ast.specs.RawSyntax.{RawExpression, Number, Local, Input, Load, Call, Neg, Binary, Compare, Both, Either, Not, RawArguments, no_more, argument}
-use Rattle.spf_ast.specs.RawSyntax.{RawPredictor, By, Host, RawFoldHead, RawStatement, Let, Assign, Store, Fill, Emit, Fail, If, For, While, Do, Fold, Pair, RawBlock, end, on_line, RawFunction, RawProgram}
+use Rattle.spf_ast.specs.RawSyntax.{
+  RawPredictor,
+  By,
+  Host,
+  RawFoldHead,
+  RawStatement,
+  Let,
+  Assign,
+  Store,
+  Fill,
+  Emit,
+  Fail,
+  If,
+  For,
+  While,
+  Do,
+  Fold,
+  Pair,
+  RawBlock,
+  end,
+  on_line,
+  RawFunction,
+  RawProgram,
+}
 use Rattle.spf_types.specs.declared.globals.Outer.{Outer}
 use Rattle.spf_types.specs.declared.globals.Outer.TheVariants as outer
 use Rattle.spf_types.specs.declared.locals.Binding.{Binding}

@@ -1,7 +1,13 @@
 // Expressions: numbers, and truth values as conditions.
 
 ghost use Rattle.std.specs.Prelude.{◌≡◌, IfErr, Some, length};
-ghost use Rattle.spf_ast.specs.View.{expression as seen_expression, arguments as seen_arguments, condition as seen_condition, predictor as seen_predictor, name as seen_name};
+ghost use Rattle.spf_ast.specs.View.{
+  expression as seen_expression,
+  arguments as seen_arguments,
+  condition as seen_condition,
+  predictor as seen_predictor,
+  name as seen_name,
+};
 ghost use Rattle.spf_ast.specs.RawView.{raw_expression, raw_arguments, raw_predictor};
 ghost use Rattle.spf_types.specs.declared.fault.TypeError.TheVariants.{Refused};
 ghost use Rattle.spf_types.specs.declared.fault.TypeFault.TheVariants.{Kind};
@@ -32,7 +38,9 @@ pub(crate) fn number<'a>(
     line: u32,
     raw: &'a RawExpr,
 ) -> Result<Expr, TypeError>
-    ensures { Answers (expression_faults (setting here.now) (scope locals.now.locals) line a_number (raw_expression raw.now)) seen_expression (resolved_expression here.now.globals.now locals.now.locals (raw_expression raw.now)) result }
+    ensures { Answers (expression_faults (setting here.now) (scope locals.now.locals) line a_number
+        (raw_expression raw.now)) seen_expression
+        (resolved_expression here.now.globals.now locals.now.locals (raw_expression raw.now)) result }
 {
     match raw {
         RawExpr::Number(n) => Ok(Expr::Number(*n)),
@@ -78,7 +86,9 @@ fn boxed<'a>(
     line: u32,
     raw: &'a RawExpr,
 ) -> Result<Box<Expr>, TypeError>
-    ensures { Answers (expression_faults (setting here.now) (scope locals.now.locals) line a_number (raw_expression raw.now)) (λ b. seen_expression b.value) (resolved_expression here.now.globals.now locals.now.locals (raw_expression raw.now)) result }
+    ensures { Answers (expression_faults (setting here.now) (scope locals.now.locals) line a_number
+        (raw_expression raw.now)) (λ b. seen_expression b.value)
+        (resolved_expression here.now.globals.now locals.now.locals (raw_expression raw.now)) result }
 {
     let expr = number(here, locals, line, raw)?;
     Ok(Box::new(here.alloc, expr)?)
@@ -92,7 +102,9 @@ pub(crate) fn numbers<'a>(
     line: u32,
     raw: &'a [RawExpr],
 ) -> Result<Vec<Expr>, TypeError>
-    ensures { Answers (arguments_faults (setting here.now) (scope locals.now.locals) line (raw_arguments raw.now)) (λ v. seen_arguments v.items) (resolved_arguments here.now.globals.now locals.now.locals (raw_arguments raw.now)) result }
+    ensures { Answers (arguments_faults (setting here.now) (scope locals.now.locals) line (raw_arguments raw.now))
+        (λ v. seen_arguments v.items) (resolved_arguments here.now.globals.now locals.now.locals
+        (raw_arguments raw.now)) result }
 {
     let mut arguments = Vec::new(here.alloc);
     for argument in raw {
@@ -109,7 +121,8 @@ pub(crate) fn truth<'a>(
     line: u32,
     raw: &'a RawExpr,
 ) -> Result<Cond, TypeError>
-    ensures { Answers (expression_faults (setting here.now) (scope locals.now.locals) line a_truth (raw_expression raw.now)) seen_condition (resolved_condition here.now.globals.now locals.now.locals (raw_expression raw.now)) result }
+    ensures { Answers (expression_faults (setting here.now) (scope locals.now.locals) line a_truth (raw_expression raw.now))
+        seen_condition (resolved_condition here.now.globals.now locals.now.locals (raw_expression raw.now)) result }
 {
     match raw {
         RawExpr::Compare(test, left, right) => {
@@ -160,7 +173,8 @@ pub(crate) fn predictor<'a>(
     line: u32,
     raw: &'a RawPredict,
 ) -> Result<Predict, TypeError>
-    ensures { Answers (predictor_faults (setting here.now) (scope locals.now.locals) line (raw_predictor raw.now)) seen_predictor (resolved_predictor here.now.globals.now locals.now.locals (raw_predictor raw.now)) result }
+    ensures { Answers (predictor_faults (setting here.now) (scope locals.now.locals) line (raw_predictor raw.now))
+        seen_predictor (resolved_predictor here.now.globals.now locals.now.locals (raw_predictor raw.now)) result }
 {
     match raw {
         RawPredict::Expr(guess) => {

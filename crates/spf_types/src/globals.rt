@@ -57,7 +57,8 @@ fn enter<'a>(
     name: &'a [u8],
     outer: Outer,
 ) -> Result<(), TypeError>
-    ensures first { IfOk result (λ _. (q : Bor (List ℕ)) → found table.new q ≡ either (found table.old q) (if bytes_eq name.now q.now then Some outer else None)) }
+    ensures first { IfOk result (λ _. (q : Bor (List ℕ)) → found table.new q
+        ≡ either (found table.old q) (if bytes_eq name.now q.now then Some outer else None)) }
     ensures memory { IfErr result (λ e. e ≡ OutOfMemory) }
 {
     if table.get(&name).is_none() {

@@ -63,7 +63,12 @@ fn guess<'a>(
     block: u32,
 ) -> Result<Predict, TypeError>
     requires { binding_of locals.old.locals (seen_name (out-RawFold raw.now).block) ≡ None }
-    ensures answers { Answers (predictor_faults (setting here.now) (showing_fixed (seen_name (out-RawFold raw.now).block) (scope locals.old.locals)) line (raw_fold_head raw.now).predict) seen_predictor (resolved_predictor here.now.globals.now (fixed (seen_name (out-RawFold raw.now).block) block ∷ locals.old.locals) (raw_fold_head raw.now).predict) result }
+    ensures answers { Answers (predictor_faults (setting here.now)
+        (showing_fixed (seen_name (out-RawFold raw.now).block) (scope locals.old.locals)) line
+        (raw_fold_head raw.now).predict) seen_predictor
+        (resolved_predictor here.now.globals.now
+        (fixed (seen_name (out-RawFold raw.now).block) block ∷ locals.old.locals) (raw_fold_head raw.now).predict)
+        result }
     ensures after { IfOk result (λ _. locals.new ≡ locals.old) }
 {
     let count = locals.count();
@@ -80,9 +85,22 @@ pub(crate) fn header_of<'a>(
     line: u32,
     raw: &'a RawFold,
 ) -> Result<Header, TypeError>
-    ensures answers { Answers {A = Expression × Expression × Expression × Predictor} (fold_faults (setting here.now) (scope locals.old.locals) line (raw_fold_head raw.now)) (λ h. (seen_expression h.start, seen_expression h.low, seen_expression h.high, seen_predictor h.predict)) (resolved_expression here.now.globals.now locals.old.locals (raw_fold_head raw.now).start, resolved_expression here.now.globals.now locals.old.locals (raw_fold_head raw.now).low, resolved_expression here.now.globals.now locals.old.locals (raw_fold_head raw.now).high, resolved_predictor here.now.globals.now (fixed (raw_fold_head raw.now).block (length locals.old.slots + 1) ∷ locals.old.locals) (raw_fold_head raw.now).predict) result }
+    ensures answers { Answers {A = Expression × Expression × Expression × Predictor}
+        (fold_faults (setting here.now) (scope locals.old.locals) line (raw_fold_head raw.now))
+        (λ h. (seen_expression h.start, seen_expression h.low, seen_expression h.high, seen_predictor h.predict)) (
+          resolved_expression here.now.globals.now locals.old.locals (raw_fold_head raw.now).start,
+          resolved_expression here.now.globals.now locals.old.locals (raw_fold_head raw.now).low,
+          resolved_expression here.now.globals.now locals.old.locals (raw_fold_head raw.now).high,
+          resolved_predictor here.now.globals.now
+              (fixed (raw_fold_head raw.now).block (length locals.old.slots + 1) ∷ locals.old.locals)
+              (raw_fold_head raw.now).predict,
+        ) result }
     ensures slots { IfOk result (λ h. (h.carried ≡ length locals.old.slots) × (h.block ≡ length locals.old.slots + 1)) }
-    ensures after { IfOk result (λ _. locals.new ≡ record { locals = locals.old.locals; slots = locals.old.slots ++ seen_name (out-RawFold raw.now).carried ∷ seen_name (out-RawFold raw.now).block ∷ [] }) }
+    ensures after { IfOk result (λ _. locals.new ≡ record {
+      locals = locals.old.locals;
+      slots = locals.old.slots ++ seen_name (out-RawFold raw.now).carried
+          ∷ seen_name (out-RawFold raw.now).block ∷ [];
+    }) }
     ensures carried { IfOk result (λ _. binding_of locals.old.locals (seen_name (out-RawFold raw.now).carried) ≡ None) }
     ensures block { IfOk result (λ _. binding_of locals.old.locals (seen_name (out-RawFold raw.now).block) ≡ None) }
     ensures apart { IfOk result (λ _. bytes_eq (seen_name (out-RawFold raw.now).carried) (seen_name (out-RawFold raw.now).block) ≡ false) }

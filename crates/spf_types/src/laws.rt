@@ -1,6 +1,15 @@
 // What the definitions of faults, of spellings and of lawful programs have to do with each other. Each law is the contract of a function that does nothing.
 
-ghost use Rattle.spf_types.specs.Laws.{ScopedProgramsHaveNoFaults, LawfulProgramsHaveNoFaults, FaultlessProgramsAreScoped, SpellingsResolveToTheirPrograms, ResolveOrAreRefused, ResolveToOne, AreRefusedForOne, ResolvedAreNotRefused};
+ghost use Rattle.spf_types.specs.Laws.{
+  ScopedProgramsHaveNoFaults,
+  LawfulProgramsHaveNoFaults,
+  FaultlessProgramsAreScoped,
+  SpellingsResolveToTheirPrograms,
+  ResolveOrAreRefused,
+  ResolveToOne,
+  AreRefusedForOne,
+  ResolvedAreNotRefused,
+};
 
 /// A lawful program is spelled without faults, and so is one that passes limits alone: nothing is a fault that a lawful program may hold.
 pub fn lawful_programs_have_no_faults()

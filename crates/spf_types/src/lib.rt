@@ -1,4 +1,4 @@
-// From raw programs to resolved ones: names get the numbers of what they stand for, and kinds are checked.
+//! From raw programs to resolved ones: names get the numbers of what they stand for, and kinds are checked.
 #![tactic(auto)]
 
 mod expression;

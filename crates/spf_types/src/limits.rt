@@ -49,7 +49,8 @@ fn is_main_small(size: Size) -> bool
 
 /// The sizes of all functions; refuses at the first one that is too large.
 fn sizes_of(alloc: Global, functions: &[Function]) -> Result<Vec<Size>, TypeError>
-    ensures answers { Answers (large_functions (all_counts (map seen_function functions.now)).nodes 0 (map seen_function functions.now)) (λ _. tt {0}) (tt {0}) result }
+    ensures answers { Answers (large_functions (all_counts (map seen_function functions.now)).nodes 0
+        (map seen_function functions.now)) (λ _. tt {0}) (tt {0}) result }
     ensures sizes { IfOk result (λ v. IsTable (all_counts (map seen_function functions.now)) v.items) }
 {
     let mut sizes = Vec::new(alloc);

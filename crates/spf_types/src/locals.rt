@@ -89,7 +89,11 @@ impl<'a> LocalTable<'a> {
     /// Makes a local usable whose name isn't that of another.
     pub(crate) fn show(&mut self, name: &'a Name, slot: u32, fixed: bool) -> Result<(), TypeError>
         requires { binding_of self.old.locals (seen_name name.now) ≡ None }
-        ensures shown { IfOk result (λ _. self.new ≡ record { locals = record { name = seen_name name.now; slot = slot; fixed = fixed } ∷ self.old.locals; slots = self.old.slots }) }
+        ensures shown { IfOk result (λ _. self.new ≡ record {
+          locals = record
+              { name = seen_name name.now; slot = slot; fixed = fixed } ∷ self.old.locals;
+          slots = self.old.slots;
+        }) }
         ensures memory { IfErr result (λ e. e ≡ OutOfMemory) }
     {
         let name: &[u8] = &name.bytes;

@@ -44,7 +44,8 @@ pub(crate) fn used<'a>(
     line: u32,
     name: &'a Name,
 ) -> Result<u32, TypeError>
-    ensures { Answers (used_faults (setting here.now) (scope locals.now.locals) line (seen_name name.now)) (λ n. n) (slot_of locals.now.locals (seen_name name.now)) result }
+    ensures { Answers (used_faults (setting here.now) (scope locals.now.locals) line (seen_name name.now)) (λ n. n)
+        (slot_of locals.now.locals (seen_name name.now)) result }
 {
     match locals.find(name) {
         Some(binding) => Ok(binding.slot),
@@ -63,7 +64,8 @@ pub(crate) fn assigned<'a>(
     line: u32,
     name: &'a Name,
 ) -> Result<u32, TypeError>
-    ensures { Answers (assigned_faults (setting here.now) (scope locals.now.locals) line (seen_name name.now)) (λ n. n) (slot_of locals.now.locals (seen_name name.now)) result }
+    ensures { Answers (assigned_faults (setting here.now) (scope locals.now.locals) line (seen_name name.now)) (λ n. n)
+        (slot_of locals.now.locals (seen_name name.now)) result }
 {
     match locals.find(name) {
         Some(binding) => {
@@ -87,7 +89,8 @@ pub(crate) fn indexed<'a>(
     line: u32,
     name: &'a Name,
 ) -> Result<u32, TypeError>
-    ensures { Answers (indexed_faults (setting here.now) (scope locals.now.locals) line (seen_name name.now)) (λ n. n) (place_of here.now.globals.now (seen_name name.now)) result }
+    ensures { Answers (indexed_faults (setting here.now) (scope locals.now.locals) line (seen_name name.now)) (λ n. n)
+        (place_of here.now.globals.now (seen_name name.now)) result }
 {
     match here.globals.find(name) {
         Some(Outer::Array(place)) => Ok(place),
@@ -106,7 +109,8 @@ pub(crate) fn callee<'a>(
     name: &'a Name,
     count: usize,
 ) -> Result<u32, TypeError>
-    ensures answers { Answers (callee_faults (setting here.now) (scope locals.now.locals) line (seen_name name.now) count) (λ n. n) (place_of here.now.globals.now (seen_name name.now)) result }
+    ensures answers { Answers (callee_faults (setting here.now) (scope locals.now.locals) line (seen_name name.now) count) (λ n. n)
+        (place_of here.now.globals.now (seen_name name.now)) result }
     ensures known { IfOk result (λ n. global_named here.now.globals.now (seen_name name.now) ≡ Some (Function n)) }
 {
     match here.globals.find(name) {
@@ -132,7 +136,8 @@ pub(crate) fn called<'a>(
     name: &'a Name,
     count: usize,
 ) -> Result<u32, TypeError>
-    ensures { Answers (called_faults (setting here.now) (scope locals.now.locals) line (seen_name name.now) count []) (λ n. n) (place_of here.now.globals.now (seen_name name.now)) result }
+    ensures { Answers (called_faults (setting here.now) (scope locals.now.locals) line (seen_name name.now) count [])
+        (λ n. n) (place_of here.now.globals.now (seen_name name.now)) result }
 {
     let place = callee(here, locals, line, name, count)?;
     if place as usize >= here.place {

@@ -92,7 +92,8 @@ fn parameters<'a>(
 
 /// A function.
 fn function_of<'a>(here: &Here<'_, 'a>, raw: &'a RawFunction) -> Result<Function, TypeError>
-    ensures { Answers (function_faults (setting here.now) (raw_function raw.now)) seen_function (resolved_function here.now.globals.now (raw_function raw.now)) result }
+    ensures { Answers (function_faults (setting here.now) (raw_function raw.now)) seen_function
+        (resolved_function here.now.globals.now (raw_function raw.now)) result }
 {
     let alloc = here.alloc;
     let mut locals = LocalTable::make(alloc);
@@ -119,7 +120,8 @@ fn functions_of<'a>(
     raw: &'a [RawFunction],
 ) -> Result<Vec<Function>, TypeError>
     requires { globals.now ≡ globals_of (map seen_array arrays.now) (map raw_function raw.now) }
-    ensures { Answers (functions_faults globals.now globals.now.arrays 0 (map raw_function raw.now)) (λ v. map seen_function v.items) (map (resolved_function globals.now) (map raw_function raw.now)) result }
+    ensures { Answers (functions_faults globals.now globals.now.arrays 0 (map raw_function raw.now))
+        (λ v. map seen_function v.items) (map (resolved_function globals.now) (map raw_function raw.now)) result }
 {
     let mut functions = Vec::new(alloc);
     for (place, function) in raw.iter().enumerate() {
@@ -142,7 +144,12 @@ fn functions_of<'a>(
 
 /// What a program has besides its arrays.
 fn parts_of(alloc: Global, raw: &RawProgram) -> Result<Parts, TypeError>
-    ensures { Answers {A = List function_form × List (List ℕ) × block_form} (faults (raw_program raw.now)) (λ p. (map seen_function p.functions.items, map seen_name p.slots.items, seen_block p.main.items)) ((resolved (raw_program raw.now)).functions, (resolved (raw_program raw.now)).slots, (resolved (raw_program raw.now)).main) result }
+    ensures { Answers {A = List function_form × List (List ℕ) × block_form} (faults (raw_program raw.now))
+        (λ p. (map seen_function p.functions.items, map seen_name p.slots.items, seen_block p.main.items)) (
+          (resolved (raw_program raw.now)).functions,
+          (resolved (raw_program raw.now)).slots,
+          (resolved (raw_program raw.now)).main,
+        ) result }
 {
     let arrays: &[Array] = &raw.arrays;
     let functions: &[RawFunction] = &raw.functions;
@@ -183,7 +190,9 @@ fn resolved_of(alloc: Global, raw: RawProgram) -> Result<Program, TypeError>
 ///
 /// # Errors
 ///
-/// `Refused` tells the first fault of the program, in the order of its text; where it has none, `TooLarge` at the first array or function at which it passes a limit, or at `main`. `OutOfMemory` comes where memory is short, as it is for lists of 2^32 names.
+/// `Refused` tells the first fault of the program, in the order of its text; where it has none, `TooLarge` at the
+/// first array or function at which it passes a limit, or at `main`. `OutOfMemory` comes where memory is short, as it
+/// is for lists of 2^32 names.
 pub fn resolve(alloc: Global, raw: RawProgram) -> Result<Program, TypeError>
     requires { IsWritable (raw_program raw) }
     // What is given is the program that the raw one stands for, and there is no other.

@@ -43,7 +43,10 @@ pub(crate) fn declaration<'a>(
     name: &'a Name,
     value: &'a RawExpr,
 ) -> Result<StmtKind, TypeError>
-    ensures answers { Answers (statement_faults (setting here.now) (scope locals.old.locals) line (raw_form.Let (seen_name name.now) (raw_expression value.now))) seen_statement (resolved_statement here.now.globals.now locals.old.locals (length locals.old.slots) (raw_form.Let (seen_name name.now) (raw_expression value.now))) result }
+    ensures answers { Answers (statement_faults (setting here.now) (scope locals.old.locals) line
+        (raw_form.Let (seen_name name.now) (raw_expression value.now))) seen_statement
+        (resolved_statement here.now.globals.now locals.old.locals (length locals.old.slots)
+        (raw_form.Let (seen_name name.now) (raw_expression value.now))) result }
     ensures after { IfOk result (λ _. locals.new ≡ after_statement locals.old (raw_form.Let (seen_name name.now) (raw_expression value.now))) }
 {
     declarable(here, locals, line, name)?;
@@ -61,7 +64,10 @@ pub(crate) fn assignment<'a>(
     name: &'a Name,
     value: &'a RawExpr,
 ) -> Result<StmtKind, TypeError>
-    ensures { Answers (statement_faults (setting here.now) (scope locals.now.locals) line (raw_form.Assign (seen_name name.now) (raw_expression value.now))) seen_statement (resolved_statement here.now.globals.now locals.now.locals (length locals.now.slots) (raw_form.Assign (seen_name name.now) (raw_expression value.now))) result }
+    ensures { Answers (statement_faults (setting here.now) (scope locals.now.locals) line
+        (raw_form.Assign (seen_name name.now) (raw_expression value.now))) seen_statement
+        (resolved_statement here.now.globals.now locals.now.locals (length locals.now.slots)
+        (raw_form.Assign (seen_name name.now) (raw_expression value.now))) result }
 {
     let slot = assigned(here, locals, line, name)?;
     let value = number(here, locals, line, value)?;
@@ -77,7 +83,10 @@ pub(crate) fn store<'a>(
     index: &'a RawExpr,
     value: &'a RawExpr,
 ) -> Result<StmtKind, TypeError>
-    ensures { Answers (statement_faults (setting here.now) (scope locals.now.locals) line (raw_form.Store (seen_name name.now) (raw_expression index.now) (raw_expression value.now))) seen_statement (resolved_statement here.now.globals.now locals.now.locals (length locals.now.slots) (raw_form.Store (seen_name name.now) (raw_expression index.now) (raw_expression value.now))) result }
+    ensures { Answers (statement_faults (setting here.now) (scope locals.now.locals) line
+        (raw_form.Store (seen_name name.now) (raw_expression index.now) (raw_expression value.now)))
+        seen_statement (resolved_statement here.now.globals.now locals.now.locals (length locals.now.slots)
+        (raw_form.Store (seen_name name.now) (raw_expression index.now) (raw_expression value.now))) result }
 {
     let array = indexed(here, locals, line, name)?;
     let index = number(here, locals, line, index)?;
@@ -95,7 +104,12 @@ pub(crate) fn fill<'a>(
     high: &'a RawExpr,
     value: &'a RawExpr,
 ) -> Result<StmtKind, TypeError>
-    ensures { Answers (statement_faults (setting here.now) (scope locals.now.locals) line (raw_form.Fill (seen_name name.now) (raw_expression low.now) (raw_expression high.now) (raw_expression value.now))) seen_statement (resolved_statement here.now.globals.now locals.now.locals (length locals.now.slots) (raw_form.Fill (seen_name name.now) (raw_expression low.now) (raw_expression high.now) (raw_expression value.now))) result }
+    ensures { Answers (statement_faults (setting here.now) (scope locals.now.locals) line
+        (raw_form.Fill (seen_name name.now) (raw_expression low.now) (raw_expression high.now)
+        (raw_expression value.now))) seen_statement
+        (resolved_statement here.now.globals.now locals.now.locals (length locals.now.slots)
+        (raw_form.Fill (seen_name name.now) (raw_expression low.now) (raw_expression high.now)
+        (raw_expression value.now))) result }
 {
     let array = indexed(here, locals, line, name)?;
     let low = number(here, locals, line, low)?;
@@ -111,7 +125,10 @@ pub(crate) fn emission<'a>(
     line: u32,
     value: &'a RawExpr,
 ) -> Result<StmtKind, TypeError>
-    ensures { Answers (statement_faults (setting here.now) (scope locals.now.locals) line (raw_form.Emit (raw_expression value.now))) seen_statement (resolved_statement here.now.globals.now locals.now.locals (length locals.now.slots) (raw_form.Emit (raw_expression value.now))) result }
+    ensures { Answers (statement_faults (setting here.now) (scope locals.now.locals) line
+        (raw_form.Emit (raw_expression value.now))) seen_statement
+        (resolved_statement here.now.globals.now locals.now.locals (length locals.now.slots)
+        (raw_form.Emit (raw_expression value.now))) result }
 {
     if !here.in_main {
         let fault = TypeFault::Misplaced;
@@ -128,7 +145,9 @@ pub(crate) fn failure<'a>(
     line: u32,
     number: i64,
 ) -> Result<StmtKind, TypeError>
-    ensures { Answers (statement_faults (setting here.now) (scope locals.now.locals) line (raw_form.Fail number)) seen_statement (resolved_statement here.now.globals.now locals.now.locals (length locals.now.slots) (raw_form.Fail number)) result }
+    ensures { Answers (statement_faults (setting here.now) (scope locals.now.locals) line (raw_form.Fail number))
+        seen_statement (resolved_statement here.now.globals.now locals.now.locals (length locals.now.slots)
+        (raw_form.Fail number)) result }
 {
     match u8::try_from(number) {
         Ok(number) => Ok(StmtKind::Fail(number)),
@@ -148,7 +167,10 @@ pub(crate) fn call<'a>(
     name: &'a Name,
     given: &'a [RawExpr],
 ) -> Result<StmtKind, TypeError>
-    ensures { Answers (statement_faults (setting here.now) (scope locals.now.locals) line (raw_form.Do (seen_name name.now) (raw_arguments given.now))) seen_statement (resolved_statement here.now.globals.now locals.now.locals (length locals.now.slots) (raw_form.Do (seen_name name.now) (raw_arguments given.now))) result }
+    ensures { Answers (statement_faults (setting here.now) (scope locals.now.locals) line
+        (raw_form.Do (seen_name name.now) (raw_arguments given.now))) seen_statement
+        (resolved_statement here.now.globals.now locals.now.locals (length locals.now.slots)
+        (raw_form.Do (seen_name name.now) (raw_arguments given.now))) result }
 {
     let function = called(here, locals, line, name, given.len())?;
     let arguments = numbers(here, locals, line, given)?;

@@ -7,13 +7,31 @@ ghost use Rattle.spf_ast.specs.declared.syntax.Pair.{out-Pair};
 ghost use Rattle.spf_ast.specs.Syntax.{Block, Expression};
 ghost use Rattle.spf_ast.specs.declared.raw.RawFold.{out-RawFold};
 ghost use Rattle.spf_ast.specs.declared.raw.RawPair.{out-RawPair};
-ghost use Rattle.spf_ast.specs.View.{expression as seen_expression, predictor as seen_predictor, fold_head, pair_head, statement as seen_statement, block as seen_block, name as seen_name};
+ghost use Rattle.spf_ast.specs.View.{
+  expression as seen_expression,
+  predictor as seen_predictor,
+  fold_head,
+  pair_head,
+  statement as seen_statement,
+  block as seen_block,
+  name as seen_name,
+};
 ghost use Rattle.spf_ast.specs.RawView.{raw_expression, raw_statement, raw_block, raw_fold_head, raw_pair_head};
 ghost use Rattle.spf_ast.specs.RawSyntax as raw_form;
 ghost use Rattle.spf_types.specs.HereView.{setting};
 ghost use Rattle.spf_types.specs.Locals.{binding_of};
 ghost use Rattle.spf_types.specs.Faults.{statement_faults, block_faults, valued_faults};
-ghost use Rattle.spf_types.specs.Resolved.{scope, fixed, locals_at_end, resolved_expression, resolved_statement, resolved_block, after_statement, after_block, after_inner};
+ghost use Rattle.spf_types.specs.Resolved.{
+  scope,
+  fixed,
+  locals_at_end,
+  resolved_expression,
+  resolved_statement,
+  resolved_block,
+  after_statement,
+  after_block,
+  after_inner,
+};
 ghost use Rattle.spf_types.specs.Answers.{Answers};
 
 use crate::expression::{number, predictor, truth};
@@ -32,7 +50,9 @@ pub(crate) fn block<'a>(
     locals: &mut LocalTable<'a>,
     raw: &'a [RawStmt],
 ) -> Result<Vec<Stmt>, TypeError>
-    ensures answers { Answers (block_faults (setting here.now) (scope locals.old.locals) (raw_block raw.now)) (λ v. seen_block v.items) (resolved_block here.now.globals.now locals.old.locals (length locals.old.slots) (raw_block raw.now)) result }
+    ensures answers { Answers (block_faults (setting here.now) (scope locals.old.locals) (raw_block raw.now))
+        (λ v. seen_block v.items) (resolved_block here.now.globals.now locals.old.locals (length locals.old.slots)
+        (raw_block raw.now)) result }
     ensures after { IfOk result (λ _. locals.new ≡ after_block locals.old (raw_block raw.now)) }
 {
     let mut statements = Vec::new(here.alloc);
@@ -51,7 +71,9 @@ fn inner<'a>(
     locals: &mut LocalTable<'a>,
     raw: &'a [RawStmt],
 ) -> Result<Vec<Stmt>, TypeError>
-    ensures answers { Answers (block_faults (setting here.now) (scope locals.old.locals) (raw_block raw.now)) (λ v. seen_block v.items) (resolved_block here.now.globals.now locals.old.locals (length locals.old.slots) (raw_block raw.now)) result }
+    ensures answers { Answers (block_faults (setting here.now) (scope locals.old.locals) (raw_block raw.now))
+        (λ v. seen_block v.items) (resolved_block here.now.globals.now locals.old.locals (length locals.old.slots)
+        (raw_block raw.now)) result }
     ensures after { IfOk result (λ _. locals.new ≡ after_inner locals.old (raw_block raw.now)) }
 {
     let count = locals.count();
@@ -68,7 +90,9 @@ fn statement_kind<'a>(
     line: u32,
     raw: &'a RawStmtKind,
 ) -> Result<StmtKind, TypeError>
-    ensures answers { Answers (statement_faults (setting here.now) (scope locals.old.locals) line (raw_statement raw.now)) seen_statement (resolved_statement here.now.globals.now locals.old.locals (length locals.old.slots) (raw_statement raw.now)) result }
+    ensures answers { Answers (statement_faults (setting here.now) (scope locals.old.locals) line (raw_statement raw.now))
+        seen_statement (resolved_statement here.now.globals.now locals.old.locals (length locals.old.slots)
+        (raw_statement raw.now)) result }
     ensures after { IfOk result (λ _. locals.new ≡ after_statement locals.old (raw_statement raw.now)) }
 {
     match raw {
@@ -101,8 +125,12 @@ fn choice<'a>(
     first: &'a [RawStmt],
     second: &'a [RawStmt],
 ) -> Result<StmtKind, TypeError>
-    ensures answers { Answers (statement_faults (setting here.now) (scope locals.old.locals) line (raw_form.If (raw_expression test.now) (raw_block first.now) (raw_block second.now))) seen_statement (resolved_statement here.now.globals.now locals.old.locals (length locals.old.slots) (raw_form.If (raw_expression test.now) (raw_block first.now) (raw_block second.now))) result }
-    ensures after { IfOk result (λ _. locals.new ≡ after_statement locals.old (raw_form.If (raw_expression test.now) (raw_block first.now) (raw_block second.now))) }
+    ensures answers { Answers (statement_faults (setting here.now) (scope locals.old.locals) line
+        (raw_form.If (raw_expression test.now) (raw_block first.now) (raw_block second.now))) seen_statement
+        (resolved_statement here.now.globals.now locals.old.locals (length locals.old.slots)
+        (raw_form.If (raw_expression test.now) (raw_block first.now) (raw_block second.now))) result }
+    ensures after { IfOk result (λ _. locals.new ≡ after_statement locals.old
+        (raw_form.If (raw_expression test.now) (raw_block first.now) (raw_block second.now))) }
 {
     let test = truth(here, locals, line, test)?;
     let first = inner(here, locals, first)?;
@@ -121,8 +149,14 @@ fn counted<'a>(
     high: &'a RawExpr,
     body: &'a [RawStmt],
 ) -> Result<StmtKind, TypeError>
-    ensures answers { Answers (statement_faults (setting here.now) (scope locals.old.locals) line (raw_form.For (seen_name name.now) (raw_expression low.now) (raw_expression high.now) (raw_block body.now))) seen_statement (resolved_statement here.now.globals.now locals.old.locals (length locals.old.slots) (raw_form.For (seen_name name.now) (raw_expression low.now) (raw_expression high.now) (raw_block body.now))) result }
-    ensures after { IfOk result (λ _. locals.new ≡ after_statement locals.old (raw_form.For (seen_name name.now) (raw_expression low.now) (raw_expression high.now) (raw_block body.now))) }
+    ensures answers { Answers (statement_faults (setting here.now) (scope locals.old.locals) line
+        (raw_form.For (seen_name name.now) (raw_expression low.now) (raw_expression high.now)
+        (raw_block body.now))) seen_statement (resolved_statement here.now.globals.now locals.old.locals
+        (length locals.old.slots) (raw_form.For (seen_name name.now) (raw_expression low.now)
+        (raw_expression high.now) (raw_block body.now))) result }
+    ensures after { IfOk result (λ _. locals.new ≡ after_statement locals.old
+        (raw_form.For (seen_name name.now) (raw_expression low.now) (raw_expression high.now)
+        (raw_block body.now))) }
 {
     declarable(here, locals, line, name)?;
     let low = number(here, locals, line, low)?;
@@ -145,7 +179,10 @@ fn repeated<'a>(
     most: u64,
     body: &'a [RawStmt],
 ) -> Result<StmtKind, TypeError>
-    ensures answers { Answers (statement_faults (setting here.now) (scope locals.old.locals) line (raw_form.While (raw_expression test.now) most (raw_block body.now))) seen_statement (resolved_statement here.now.globals.now locals.old.locals (length locals.old.slots) (raw_form.While (raw_expression test.now) most (raw_block body.now))) result }
+    ensures answers { Answers (statement_faults (setting here.now) (scope locals.old.locals) line
+        (raw_form.While (raw_expression test.now) most (raw_block body.now))) seen_statement
+        (resolved_statement here.now.globals.now locals.old.locals (length locals.old.slots)
+        (raw_form.While (raw_expression test.now) most (raw_block body.now))) result }
     ensures after { IfOk result (λ _. locals.new ≡ after_statement locals.old (raw_form.While (raw_expression test.now) most (raw_block body.now))) }
 {
     let test = truth(here, locals, line, test)?;
@@ -162,7 +199,13 @@ pub(crate) fn valued<'a>(
     line: u32,
     value: &'a RawExpr,
 ) -> Result<(Vec<Stmt>, Expr), TypeError>
-    ensures answers { Answers {A = Block × Expression} (valued_faults (setting here.now) (scope locals.old.locals) (raw_block raw.now) line (raw_expression value.now)) (λ p. (seen_block p.0.items, seen_expression p.1)) (resolved_block here.now.globals.now locals.old.locals (length locals.old.slots) (raw_block raw.now), resolved_expression here.now.globals.now (locals_at_end locals.old.locals (length locals.old.slots) (raw_block raw.now)) (raw_expression value.now)) result }
+    ensures answers { Answers {A = Block × Expression} (valued_faults (setting here.now) (scope locals.old.locals)
+        (raw_block raw.now) line (raw_expression value.now)) (λ p. (seen_block p.0.items, seen_expression p.1)) (
+          resolved_block here.now.globals.now locals.old.locals (length locals.old.slots) (raw_block raw.now),
+          resolved_expression here.now.globals.now
+              (locals_at_end locals.old.locals (length locals.old.slots) (raw_block raw.now))
+              (raw_expression value.now),
+        ) result }
     ensures after { IfOk result (λ _. locals.new ≡ after_inner locals.old (raw_block raw.now)) }
 {
     let count = locals.count();
@@ -184,8 +227,17 @@ fn folded<'a>(
     requires carried { binding_of locals.old.locals (seen_name (out-RawFold raw.now).carried) ≡ None }
     requires block { binding_of locals.old.locals (seen_name (out-RawFold raw.now).block) ≡ None }
     requires apart { bytes_eq (seen_name (out-RawFold raw.now).carried) (seen_name (out-RawFold raw.now).block) ≡ false }
-    ensures answers { let inside = fixed (seen_name (out-RawFold raw.now).block) block ∷ fixed (seen_name (out-RawFold raw.now).carried) carried ∷ locals.old.locals in
-        Answers {A = Block × Expression} (valued_faults (setting here.now) (scope inside) (raw_block (out-RawFold raw.now).body.items) (out-RawFold raw.now).next_line (raw_expression (out-RawFold raw.now).next)) (λ p. (seen_block p.0.items, seen_expression p.1)) (resolved_block here.now.globals.now inside (length locals.old.slots) (raw_block (out-RawFold raw.now).body.items), resolved_expression here.now.globals.now (locals_at_end inside (length locals.old.slots) (raw_block (out-RawFold raw.now).body.items)) (raw_expression (out-RawFold raw.now).next)) result }
+    ensures answers { let inside = fixed (seen_name (out-RawFold raw.now).block) block
+        ∷ fixed (seen_name (out-RawFold raw.now).carried) carried ∷ locals.old.locals in
+        Answers {A = Block × Expression} (valued_faults (setting here.now) (scope inside)
+        (raw_block (out-RawFold raw.now).body.items) (out-RawFold raw.now).next_line
+        (raw_expression (out-RawFold raw.now).next)) (λ p. (seen_block p.0.items, seen_expression p.1)) (
+          resolved_block here.now.globals.now inside (length locals.old.slots)
+              (raw_block (out-RawFold raw.now).body.items),
+          resolved_expression here.now.globals.now
+              (locals_at_end inside (length locals.old.slots) (raw_block (out-RawFold raw.now).body.items))
+              (raw_expression (out-RawFold raw.now).next),
+        ) result }
     ensures after { IfOk result (λ _. locals.new ≡ after_inner locals.old (raw_block (out-RawFold raw.now).body.items)) }
 {
     let count = locals.count();
@@ -204,8 +256,12 @@ fn fold<'a>(
     line: u32,
     raw: &'a RawFold,
 ) -> Result<StmtKind, TypeError>
-    ensures answers { Answers (statement_faults (setting here.now) (scope locals.old.locals) line (raw_form.Fold (raw_fold_head raw.now) (raw_block (out-RawFold raw.now).body.items))) seen_statement (resolved_statement here.now.globals.now locals.old.locals (length locals.old.slots) (raw_form.Fold (raw_fold_head raw.now) (raw_block (out-RawFold raw.now).body.items))) result }
-    ensures after { IfOk result (λ _. locals.new ≡ after_statement locals.old (raw_form.Fold (raw_fold_head raw.now) (raw_block (out-RawFold raw.now).body.items))) }
+    ensures answers { Answers (statement_faults (setting here.now) (scope locals.old.locals) line
+        (raw_form.Fold (raw_fold_head raw.now) (raw_block (out-RawFold raw.now).body.items))) seen_statement
+        (resolved_statement here.now.globals.now locals.old.locals (length locals.old.slots)
+        (raw_form.Fold (raw_fold_head raw.now) (raw_block (out-RawFold raw.now).body.items))) result }
+    ensures after { IfOk result (λ _. locals.new ≡ after_statement locals.old
+        (raw_form.Fold (raw_fold_head raw.now) (raw_block (out-RawFold raw.now).body.items))) }
 {
     let header = header_of(here, locals, line, raw)?;
     let (body, next) = folded(here, locals, raw, header.carried, header.block)?;
@@ -224,7 +280,9 @@ fn consumed<'a>(
 ) -> Result<Vec<Stmt>, TypeError>
     requires { binding_of locals.old.locals (seen_name (out-RawPair raw.now).carried) ≡ None }
     ensures answers { let inside = fixed (seen_name (out-RawPair raw.now).carried) carried ∷ locals.old.locals in
-        Answers (block_faults (setting here.now) (scope inside) (raw_block (out-RawPair raw.now).consumer.items)) (λ v. seen_block v.items) (resolved_block here.now.globals.now inside (length locals.old.slots) (raw_block (out-RawPair raw.now).consumer.items)) result }
+        Answers (block_faults (setting here.now) (scope inside) (raw_block (out-RawPair raw.now).consumer.items))
+        (λ v. seen_block v.items) (resolved_block here.now.globals.now inside (length locals.old.slots)
+        (raw_block (out-RawPair raw.now).consumer.items)) result }
     ensures after { IfOk result (λ _. locals.new ≡ after_inner locals.old (raw_block (out-RawPair raw.now).consumer.items)) }
 {
     let count = locals.count();
@@ -242,8 +300,15 @@ fn pair<'a>(
     line: u32,
     raw: &'a RawPair,
 ) -> Result<StmtKind, TypeError>
-    ensures answers { Answers (statement_faults (setting here.now) (scope locals.old.locals) line (raw_form.Pair (raw_pair_head raw.now) (raw_block (out-RawPair raw.now).producer.items) (raw_block (out-RawPair raw.now).consumer.items))) seen_statement (resolved_statement here.now.globals.now locals.old.locals (length locals.old.slots) (raw_form.Pair (raw_pair_head raw.now) (raw_block (out-RawPair raw.now).producer.items) (raw_block (out-RawPair raw.now).consumer.items))) result }
-    ensures after { IfOk result (λ _. locals.new ≡ after_statement locals.old (raw_form.Pair (raw_pair_head raw.now) (raw_block (out-RawPair raw.now).producer.items) (raw_block (out-RawPair raw.now).consumer.items))) }
+    ensures answers { Answers (statement_faults (setting here.now) (scope locals.old.locals) line
+        (raw_form.Pair (raw_pair_head raw.now) (raw_block (out-RawPair raw.now).producer.items)
+        (raw_block (out-RawPair raw.now).consumer.items))) seen_statement
+        (resolved_statement here.now.globals.now locals.old.locals (length locals.old.slots)
+        (raw_form.Pair (raw_pair_head raw.now) (raw_block (out-RawPair raw.now).producer.items)
+        (raw_block (out-RawPair raw.now).consumer.items))) result }
+    ensures after { IfOk result (λ _. locals.new ≡ after_statement locals.old
+        (raw_form.Pair (raw_pair_head raw.now) (raw_block (out-RawPair raw.now).producer.items)
+        (raw_block (out-RawPair raw.now).consumer.items))) }
 {
     declarable(here, locals, line, &raw.carried)?;
     let carried = locals.declare(here.alloc, &raw.carried)?;
@@ -257,7 +322,16 @@ fn pair<'a>(
 
 /// A fold of these parts.
 fn fold_of(header: Header, body: Vec<Stmt>, next: Expr, next_line: u32) -> Fold
-    ensures head { fold_head result ≡ record { carried = header.carried; start = seen_expression header.start; block = header.block; low = seen_expression header.low; high = seen_expression header.high; predict = seen_predictor header.predict; next = seen_expression next; next_line = next_line } }
+    ensures head { fold_head result ≡ record {
+      carried = header.carried;
+      start = seen_expression header.start;
+      block = header.block;
+      low = seen_expression header.low;
+      high = seen_expression header.high;
+      predict = seen_predictor header.predict;
+      next = seen_expression next;
+      next_line = next_line;
+    } }
     ensures body { (out-Fold result).body ≡ body }
 {
     Fold {

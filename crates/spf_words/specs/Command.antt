@@ -42,7 +42,8 @@ number_words name (Some n) = name ∷ decimal n ∷ []
 
 -- the words of options, in their order
 abbrev pub option_words : Options → List (List ℕ)
-option_words o = number_words (codes "--workers") o.workers ++ (option o.stats (codes "--stats") ++ (option o.cells (codes "--cells") ++ option o.plain (codes "--plain")))
+option_words o = number_words (codes "--workers") o.workers
+    ++ (option o.stats (codes "--stats") ++ (option o.cells (codes "--cells") ++ option o.plain (codes "--plain")))
 
 -- the words of a decoder's options, in their order
 abbrev pub decode_words : DecodeOptions → List (List ℕ)

@@ -115,7 +115,9 @@ pub(crate) fn push_index(
     names: &Names,
     index: &Expr,
 ) -> Result<(), AllocError>
-    ensures { IfOk result (λ _. text.new.items ≡ text.old.items ++ joined (codes "[" ∷ expression_text (spelled_expression (vocabulary_of names.now) (expression index.now)) ∷ codes "]" ∷ [])) }
+    ensures { IfOk result (λ _. text.new.items ≡ text.old.items
+        ++ joined (codes "[" ∷ expression_text
+        (spelled_expression (vocabulary_of names.now) (expression index.now)) ∷ codes "]" ∷ [])) }
 {
     push(text, b"[")?;
     push_expression(alloc, text, names, index)?;
@@ -130,7 +132,9 @@ pub(crate) fn push_arguments(
     names: &Names,
     given: &[Expr],
 ) -> Result<(), AllocError>
-    ensures { IfOk result (λ _. text.new.items ≡ text.old.items ++ joined (codes "(" ∷ arguments_text (spelled_arguments (vocabulary_of names.now) (arguments given.now)) ∷ codes ")" ∷ [])) }
+    ensures { IfOk result (λ _. text.new.items ≡ text.old.items
+        ++ joined (codes "(" ∷ arguments_text (spelled_arguments (vocabulary_of names.now) (arguments given.now))
+        ∷ codes ")" ∷ [])) }
 {
     push(text, b"(")?;
     if let Some((first, others)) = given.split_first() {
@@ -235,7 +239,9 @@ pub(crate) fn push_range(
     low: &Expr,
     high: &Expr,
 ) -> Result<(), AllocError>
-    ensures { IfOk result (λ _. text.new.items ≡ text.old.items ++ joined (expression_text (spelled_expression (vocabulary_of names.now) (expression low.now)) ∷ codes ".." ∷ expression_text (spelled_expression (vocabulary_of names.now) (expression high.now)) ∷ [])) }
+    ensures { IfOk result (λ _. text.new.items ≡ text.old.items
+        ++ joined (expression_text (spelled_expression (vocabulary_of names.now) (expression low.now))
+        ∷ codes ".." ∷ expression_text (spelled_expression (vocabulary_of names.now) (expression high.now)) ∷ [])) }
 {
     push_expression(alloc, text, names, low)?;
     push(text, b"..")?;
@@ -251,7 +257,10 @@ pub(crate) fn push_slice(
     low: &Expr,
     high: &Expr,
 ) -> Result<(), AllocError>
-    ensures { IfOk result (λ _. text.new.items ≡ text.old.items ++ joined (name_at (vocabulary_of names.now).arrays array ∷ codes "[" ∷ expression_text (spelled_expression (vocabulary_of names.now) (expression low.now)) ∷ codes ".." ∷ expression_text (spelled_expression (vocabulary_of names.now) (expression high.now)) ∷ codes "]" ∷ [])) }
+    ensures { IfOk result (λ _. text.new.items ≡ text.old.items
+        ++ joined (name_at (vocabulary_of names.now).arrays array ∷ codes "["
+        ∷ expression_text (spelled_expression (vocabulary_of names.now) (expression low.now)) ∷ codes ".."
+        ∷ expression_text (spelled_expression (vocabulary_of names.now) (expression high.now)) ∷ codes "]" ∷ [])) }
 {
     push(text, array_name(names.arrays, array))?;
     push(text, b"[")?;
@@ -266,7 +275,9 @@ pub(crate) fn push_predict(
     names: &Names,
     predict: &Predict,
 ) -> Result<(), AllocError>
-    ensures { IfOk result (λ _. text.new.items ≡ text.old.items ++ joined (codes " predict " ∷ predictor_text (spelled_predictor (vocabulary_of names.now) (predictor predict.now)) ∷ codes " {" ∷ []) ++ 10 ∷ []) }
+    ensures { IfOk result (λ _. text.new.items ≡ text.old.items
+        ++ joined (codes " predict " ∷ predictor_text
+        (spelled_predictor (vocabulary_of names.now) (predictor predict.now)) ∷ codes " {" ∷ []) ++ 10 ∷ []) }
 {
     push(text, b" predict ")?;
     push_predictor(alloc, text, names, predict)?;

@@ -3,7 +3,7 @@
 ghost use Rattle.std.specs.Prelude.{◌≡◌, ◌++◌, ◌∷◌, [], codes, IfOk, map, pos};
 ghost use Rattle.std.specs.Fmt.{decimal, signed_decimal};
 ghost use Rattle.spf_ast.specs.Syntax.{Store as store_form, Fill as fill_form, Do as do_form};
-ghost use Rattle.spf_ast.specs.View.{name as name_of, expression, arguments, condition, predictor, fold_head};
+ghost use Rattle.spf_ast.specs.View.{name as seen_name, expression, arguments, condition, predictor, fold_head};
 ghost use Rattle.spf_ast.specs.Spelling.{name_at, spelled_expression, spelled_condition, spelled_predictor, spelled_fold, spelled_statement};
 ghost use Rattle.spf_ast.specs.Canonical.{joined, line, expression_text, predictor_text, fold_line, statement_text};
 ghost use Rattle.spf_ast.specs.Printing.{vocabulary_of};
@@ -25,7 +25,9 @@ pub(crate) fn push_with_word(
     word: &[u8],
     value: &Expr,
 ) -> Result<(), AllocError>
-    ensures { IfOk result (λ _. text.new.items ≡ text.old.items ++ line indent.now (word.now ∷ expression_text (spelled_expression (vocabulary_of names.now) (expression value.now)) ∷ codes ";" ∷ [])) }
+    ensures { IfOk result (λ _. text.new.items ≡ text.old.items
+        ++ line indent.now (word.now ∷ expression_text
+        (spelled_expression (vocabulary_of names.now) (expression value.now)) ∷ codes ";" ∷ [])) }
 {
     push(text, indent)?;
     push(text, word)?;
@@ -43,7 +45,9 @@ pub(crate) fn push_set(
     slot: u32,
     value: &Expr,
 ) -> Result<(), AllocError>
-    ensures { IfOk result (λ _. text.new.items ≡ text.old.items ++ line indent.now (word.now ∷ name_at (map name_of names.now.slots.now) slot ∷ codes " = " ∷ expression_text (spelled_expression (vocabulary_of names.now) (expression value.now)) ∷ codes ";" ∷ [])) }
+    ensures { IfOk result (λ _. text.new.items ≡ text.old.items
+        ++ line indent.now (word.now ∷ name_at (map seen_name names.now.slots.now) slot ∷ codes " = "
+        ∷ expression_text (spelled_expression (vocabulary_of names.now) (expression value.now)) ∷ codes ";" ∷ [])) }
 {
     push(text, indent)?;
     push(text, word)?;
@@ -63,7 +67,9 @@ pub(crate) fn push_store(
     index: &Expr,
     value: &Expr,
 ) -> Result<(), AllocError>
-    ensures { IfOk result (λ _. text.new.items ≡ text.old.items ++ statement_text indent.now (spelled_statement (vocabulary_of names.now) (store_form array (expression index.now) (expression value.now)))) }
+    ensures { IfOk result (λ _. text.new.items ≡ text.old.items
+        ++ statement_text indent.now (spelled_statement (vocabulary_of names.now)
+        (store_form array (expression index.now) (expression value.now)))) }
 {
     push(text, indent)?;
     push(text, array_name(names.arrays, array))?;
@@ -84,7 +90,9 @@ pub(crate) fn push_fill(
     high: &Expr,
     value: &Expr,
 ) -> Result<(), AllocError>
-    ensures { IfOk result (λ _. text.new.items ≡ text.old.items ++ statement_text indent.now (spelled_statement (vocabulary_of names.now) (fill_form array (expression low.now) (expression high.now) (expression value.now)))) }
+    ensures { IfOk result (λ _. text.new.items ≡ text.old.items
+        ++ statement_text indent.now (spelled_statement (vocabulary_of names.now)
+        (fill_form array (expression low.now) (expression high.now) (expression value.now)))) }
 {
     push(text, indent)?;
     push(text, b"fill ")?;
@@ -118,7 +126,9 @@ pub(crate) fn push_call(
     f: u32,
     given: &[Expr],
 ) -> Result<(), AllocError>
-    ensures { IfOk result (λ _. text.new.items ≡ text.old.items ++ statement_text indent.now (spelled_statement (vocabulary_of names.now) (do_form f (arguments given.now)))) }
+    ensures { IfOk result (λ _. text.new.items ≡ text.old.items
+        ++ statement_text indent.now (spelled_statement (vocabulary_of names.now)
+        (do_form f (arguments given.now)))) }
 {
     push(text, indent)?;
     push(text, function_name(names.functions, f))?;
@@ -136,7 +146,10 @@ pub(crate) fn push_for_head(
     low: &Expr,
     high: &Expr,
 ) -> Result<(), AllocError>
-    ensures { IfOk result (λ _. text.new.items ≡ text.old.items ++ line indent.now (codes "for " ∷ name_at (vocabulary_of names.now).slots slot ∷ codes " in " ∷ expression_text (spelled_expression (vocabulary_of names.now) (expression low.now)) ∷ codes ".." ∷ expression_text (spelled_expression (vocabulary_of names.now) (expression high.now)) ∷ codes " {" ∷ [])) }
+    ensures { IfOk result (λ _. text.new.items ≡ text.old.items
+        ++ line indent.now (codes "for " ∷ name_at (vocabulary_of names.now).slots slot ∷ codes " in "
+        ∷ expression_text (spelled_expression (vocabulary_of names.now) (expression low.now)) ∷ codes ".."
+        ∷ expression_text (spelled_expression (vocabulary_of names.now) (expression high.now)) ∷ codes " {" ∷ [])) }
 {
     push(text, indent)?;
     push(text, b"for ")?;
@@ -155,7 +168,10 @@ pub(crate) fn push_while_head(
     test: &Cond,
     most: u64,
 ) -> Result<(), AllocError>
-    ensures { IfOk result (λ _. text.new.items ≡ text.old.items ++ line indent.now (codes "while " ∷ expression_text (spelled_condition (vocabulary_of names.now) (condition test.now)) ∷ codes " max " ∷ decimal most ∷ codes " {" ∷ [])) }
+    ensures { IfOk result (λ _. text.new.items ≡ text.old.items
+        ++ line indent.now (codes "while " ∷ expression_text
+        (spelled_condition (vocabulary_of names.now) (condition test.now)) ∷ codes " max " ∷ decimal most
+        ∷ codes " {" ∷ [])) }
 {
     push(text, indent)?;
     push(text, b"while ")?;
@@ -173,7 +189,9 @@ pub(crate) fn push_if_head(
     indent: &[u8],
     test: &Cond,
 ) -> Result<(), AllocError>
-    ensures { IfOk result (λ _. text.new.items ≡ text.old.items ++ line indent.now (codes "if " ∷ expression_text (spelled_condition (vocabulary_of names.now) (condition test.now)) ∷ codes " {" ∷ [])) }
+    ensures { IfOk result (λ _. text.new.items ≡ text.old.items
+        ++ line indent.now (codes "if " ∷ expression_text
+        (spelled_condition (vocabulary_of names.now) (condition test.now)) ∷ codes " {" ∷ [])) }
 {
     push(text, indent)?;
     push(text, b"if ")?;
@@ -189,7 +207,9 @@ fn push_fold_start(
     indent: &[u8],
     fold: &Fold,
 ) -> Result<(), AllocError>
-    ensures { IfOk result (λ _. text.new.items ≡ text.old.items ++ indent.now ++ joined (codes "specfold " ∷ (spelled_fold (vocabulary_of names.now) (fold_head fold.now)).carried ∷ codes " = " ∷ expression_text (spelled_fold (vocabulary_of names.now) (fold_head fold.now)).start ∷ [])) }
+    ensures { IfOk result (λ _. text.new.items ≡ text.old.items ++ indent.now
+        ++ joined (codes "specfold " ∷ (spelled_fold (vocabulary_of names.now) (fold_head fold.now)).carried
+        ∷ codes " = " ∷ expression_text (spelled_fold (vocabulary_of names.now) (fold_head fold.now)).start ∷ [])) }
 {
     push(text, indent)?;
     push(text, b"specfold ")?;
@@ -205,7 +225,10 @@ fn push_fold_range(
     names: &Names,
     fold: &Fold,
 ) -> Result<(), AllocError>
-    ensures { IfOk result (λ _. text.new.items ≡ text.old.items ++ joined (codes " for " ∷ (spelled_fold (vocabulary_of names.now) (fold_head fold.now)).block ∷ codes " in " ∷ expression_text (spelled_fold (vocabulary_of names.now) (fold_head fold.now)).low ∷ codes ".." ∷ expression_text (spelled_fold (vocabulary_of names.now) (fold_head fold.now)).high ∷ [])) }
+    ensures { IfOk result (λ _. text.new.items ≡ text.old.items
+        ++ joined (codes " for " ∷ (spelled_fold (vocabulary_of names.now) (fold_head fold.now)).block
+        ∷ codes " in " ∷ expression_text (spelled_fold (vocabulary_of names.now) (fold_head fold.now)).low
+        ∷ codes ".." ∷ expression_text (spelled_fold (vocabulary_of names.now) (fold_head fold.now)).high ∷ [])) }
 {
     push(text, b" for ")?;
     push(text, slot_name(names.slots, fold.block))?;
@@ -235,7 +258,8 @@ pub(crate) fn push_pair_head(
     indent: &[u8],
     carried: u32,
 ) -> Result<(), AllocError>
-    ensures { IfOk result (λ _. text.new.items ≡ text.old.items ++ line indent.now (codes "spec " ∷ name_at (vocabulary_of names.now).slots carried ∷ codes " = {" ∷ [])) }
+    ensures { IfOk result (λ _. text.new.items ≡ text.old.items
+        ++ line indent.now (codes "spec " ∷ name_at (vocabulary_of names.now).slots carried ∷ codes " = {" ∷ [])) }
 {
     push(text, indent)?;
     push(text, b"spec ")?;
@@ -251,7 +275,9 @@ pub(crate) fn push_consumer_head(
     indent: &[u8],
     predict: &Predict,
 ) -> Result<(), AllocError>
-    ensures { IfOk result (λ _. text.new.items ≡ text.old.items ++ line indent.now (codes "} predict " ∷ predictor_text (spelled_predictor (vocabulary_of names.now) (predictor predict.now)) ∷ codes " {" ∷ [])) }
+    ensures { IfOk result (λ _. text.new.items ≡ text.old.items
+        ++ line indent.now (codes "} predict "
+        ∷ predictor_text (spelled_predictor (vocabulary_of names.now) (predictor predict.now)) ∷ codes " {" ∷ [])) }
 {
     push(text, indent)?;
     push(text, b"}")?;

@@ -2,7 +2,7 @@
 
 ghost use Rattle.std.specs.Prelude.{◌≡◌, ◌++◌, ◌∷◌, [], codes, IfOk, map};
 ghost use Rattle.std.specs.Fmt.{decimal, signed_decimal};
-ghost use Rattle.spf_ast.specs.View.{name as name_of, program as program_of};
+ghost use Rattle.spf_ast.specs.View.{name as seen_name, program as seen_program};
 ghost use Rattle.spf_ast.specs.Spelling.{name_at, vocabulary};
 ghost use Rattle.spf_ast.specs.Canonical.{line, deeper as deeper_of, op_sign as op_sign_of, test_sign as test_sign_of};
 ghost use Rattle.spf_ast.specs.Printing.{vocabulary_of};
@@ -36,7 +36,7 @@ pub(crate) struct Names<'a> {
 
 /// The name of an array; of one that isn't there, no bytes.
 pub(crate) fn array_name(arrays: &[Array], place: u32) -> &[u8]
-    ensures { result.now ≡ name_at (map (λ a. name_of a.name) arrays.now) place }
+    ensures { result.now ≡ name_at (map (λ a. seen_name a.name) arrays.now) place }
 {
     match arrays.get(place as usize) {
         Some(array) => &array.name.bytes,
@@ -46,7 +46,7 @@ pub(crate) fn array_name(arrays: &[Array], place: u32) -> &[u8]
 
 /// The name of a function; of one that isn't there, no bytes.
 pub(crate) fn function_name(functions: &[Function], place: u32) -> &[u8]
-    ensures { result.now ≡ name_at (map (λ f. name_of f.name) functions.now) place }
+    ensures { result.now ≡ name_at (map (λ f. seen_name f.name) functions.now) place }
 {
     match functions.get(place as usize) {
         Some(function) => &function.name.bytes,
@@ -56,7 +56,7 @@ pub(crate) fn function_name(functions: &[Function], place: u32) -> &[u8]
 
 /// The name of a slot; of one that isn't there, no bytes.
 pub(crate) fn slot_name(slots: &[Name], place: u32) -> &[u8]
-    ensures { result.now ≡ name_at (map name_of slots.now) place }
+    ensures { result.now ≡ name_at (map seen_name slots.now) place }
 {
     match slots.get(place as usize) {
         Some(name) => &name.bytes,
@@ -146,14 +146,14 @@ pub(crate) fn push_else(text: &mut Vec<u8>, indent: &[u8]) -> Result<(), AllocEr
 
 /// Adds a name.
 pub(crate) fn push_name(text: &mut Vec<u8>, name: &Name) -> Result<(), AllocError>
-    ensures { IfOk result (λ _. text.new.items ≡ text.old.items ++ name_of name.now) }
+    ensures { IfOk result (λ _. text.new.items ≡ text.old.items ++ seen_name name.now) }
 {
     push(text, &name.bytes)
 }
 
 /// The names that the numbers of a form in this program stand for, whose slots have these names.
 pub(crate) fn names_of<'a>(program: &'a Program, slots: &'a [Name]) -> Names<'a>
-    ensures { vocabulary_of result ≡ vocabulary (program_of program.now) (map name_of slots.now) }
+    ensures { vocabulary_of result ≡ vocabulary (seen_program program.now) (map seen_name slots.now) }
 {
     Names {
         arrays: &program.arrays,

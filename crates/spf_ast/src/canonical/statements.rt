@@ -26,7 +26,8 @@ pub(crate) fn push_nested(
     indent: &[u8],
     statements: &[Stmt],
 ) -> Result<(), AllocError>
-    ensures { IfOk result (λ _. text.new.items ≡ text.old.items ++ block_text (deeper_of indent.now) (spelled_block (vocabulary_of names.now) (block statements.now))) }
+    ensures { IfOk result (λ _. text.new.items ≡ text.old.items
+        ++ block_text (deeper_of indent.now) (spelled_block (vocabulary_of names.now) (block statements.now))) }
 {
     let inner = deeper(alloc, indent)?;
     for statement in statements {
@@ -63,7 +64,8 @@ fn push_statement(
     indent: &[u8],
     kind: &StmtKind,
 ) -> Result<(), AllocError>
-    ensures { IfOk result (λ _. text.new.items ≡ text.old.items ++ statement_text indent.now (spelled_statement (vocabulary_of names.now) (statement kind.now))) }
+    ensures { IfOk result (λ _. text.new.items ≡ text.old.items
+        ++ statement_text indent.now (spelled_statement (vocabulary_of names.now) (statement kind.now))) }
 {
     match kind {
         StmtKind::Let(slot, value) => {
@@ -108,7 +110,9 @@ fn push_fold(
     indent: &[u8],
     fold: &Fold,
 ) -> Result<(), AllocError>
-    ensures { IfOk result (λ _. text.new.items ≡ text.old.items ++ statement_text indent.now (spelled_statement (vocabulary_of names.now) (fold_form (fold_head fold.now) (block (out-Fold fold.now).body.items)))) }
+    ensures { IfOk result (λ _. text.new.items ≡ text.old.items
+        ++ statement_text indent.now (spelled_statement (vocabulary_of names.now)
+        (fold_form (fold_head fold.now) (block (out-Fold fold.now).body.items)))) }
 {
     push_fold_head(alloc, text, names, indent, fold)?;
     push_nested(alloc, text, names, indent, &fold.body)?;
@@ -126,7 +130,10 @@ fn push_pair(
     indent: &[u8],
     pair: &Pair,
 ) -> Result<(), AllocError>
-    ensures { IfOk result (λ _. text.new.items ≡ text.old.items ++ statement_text indent.now (spelled_statement (vocabulary_of names.now) (pair_form (pair_head pair.now) (block (out-Pair pair.now).producer.items) (block (out-Pair pair.now).consumer.items)))) }
+    ensures { IfOk result (λ _. text.new.items ≡ text.old.items
+        ++ statement_text indent.now (spelled_statement (vocabulary_of names.now)
+        (pair_form (pair_head pair.now) (block (out-Pair pair.now).producer.items)
+        (block (out-Pair pair.now).consumer.items)))) }
 {
     push_pair_head(text, names, indent, pair.carried)?;
     push_nested(alloc, text, names, indent, &pair.producer)?;

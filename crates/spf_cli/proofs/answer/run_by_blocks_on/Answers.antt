@@ -29,7 +29,7 @@ returns-clause-whole g c =
     let options = seen_options c.args.options in
     let p = program c.args.checked.now in
     let given = handed (map (λ h. (goal.Predictor-dyn g (h.vtable, h.value)).answer h.value) c.args.hosts.now.items) in
-    let said = subst (λ content. AnswersWith (IsOnly (Runs options given p content)) c.run_by_blocks.result) c.deref.ensures.value c.run_by_blocks.ensures in
+    let said = subst (λ content. AnswersWith (IsOnly (Runs options given p content)) c.run_by_blocks.result) c.deref.ensures.value c.run_by_blocks.ensures.answer in
     answers_with (IsWholeUnless (RunsOn options given c.args.input.now p) (IsInputFault c.args.input.now) told Fault) (IsOnly (Runs options given p c.in_ok-content.content.items)) c.run_by_blocks.result said (λ a r.
     on_whole told c.args.input.now c.in_ok-content.content.items options given p Fault a c.in_ok-content.ensures.content c.in_ok-content.ensures.within r)
 
@@ -40,5 +40,5 @@ returns-clause-cause g c =
     let options = seen_options c.args.options in
     let p = program c.args.checked.now in
     let given = handed (map (λ h. (goal.Predictor-dyn g (h.vtable, h.value)).answer h.value) c.args.hosts.now.items) in
-    let said = subst (λ content. AnswersWith (IsOnly (Runs options given p content)) c.run_by_blocks.result) c.deref.ensures.value c.run_by_blocks.ensures in
+    let said = subst (λ content. AnswersWith (IsOnly (Runs options given p content)) c.run_by_blocks.result) c.deref.ensures.value c.run_by_blocks.ensures.answer in
     answers_with (IsCaused told Fault) (IsOnly (Runs options given p c.in_ok-content.content.items)) c.run_by_blocks.result said (λ a r. run_cause options given p c.in_ok-content.content.items a told Fault r.is)

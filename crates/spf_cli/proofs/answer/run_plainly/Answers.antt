@@ -1,6 +1,6 @@
 use Rattle.std.proofs.Common.{◌≡◌, length, ◌∙◌, sym, ap}
 use Rattle.std.specs.Prelude.{if◌then◌else◌, None}
-use Rattle.spf_ast.specs.View.{program as program_of}
+use Rattle.spf_ast.specs.View.{program as seen_program}
 use Rattle.spf_ast.specs.Program.{outcome, seen_outcome}
 use Rattle.spf_ast.specs.Construct.{constructs_in}
 use Rattle.spf_guess.specs.Statistics.{none, tally}
@@ -14,7 +14,7 @@ use Rattle.spf_cli.proofs.answer.run_plainly.Goals as goal
 pub returns : goal.returns
 returns c given =
     let options = seen_options c.args.options in
-    let p = program_of c.args.program.now in
+    let p = seen_program c.args.program.now in
     let same = c.in-Ok.ensures.program in
     let content = c.in-Ok.ensures.input in
     let plain = c.requires.plain in

@@ -1,5 +1,5 @@
 use Rattle.std.proofs.Common.{◌≡◌, ◌∙◌, sym, ap, subst, arith, ◌+◌, length, map, drop, List, ◌++◌}
-use Rattle.spf_ast.specs.ConstructView.{construct as construct_seen}
+use Rattle.spf_ast.specs.ConstructView.{construct as seen_construct}
 use Rattle.spf_ast.specs.Lawful.{IsLawful}
 use Rattle.spf_ast.specs.View.{program as seen_program}
 use Rattle.spf_layout.specs.Instance.{program_of}
@@ -54,4 +54,4 @@ returns-clause-told g c = λ before telling were.
     let values : real_values c.history-history.result.now ≡ (plain_blocks (entry_of c.args.at c.args.header)).values
     = ap real_values c.history-history.ensures.history ∙ c.merged_logs_are_speculative_runs.ensures.values
     ∙ ap (λ x. (plain_blocks (entry_at x)).values) site ∙ ap (λ x. (plain_blocks x).values) (entry-is c.args.at c.args.number c.args.header items c.requires.there.construct) in
-    retold before _ _ _ (ap (λ vs. telling ++ tells (construct_seen c.args.at.construct) (seen_header c.args.header) vs) values) (c.tell_history.ensures.told before telling (c.in_ok-guesses.ensures.told before telling were))
+    retold before _ _ _ (ap (λ vs. telling ++ tells (seen_construct c.args.at.construct) (seen_header c.args.header) vs) values) (c.tell_history.ensures.told before telling (c.in_ok-guesses.ensures.told before telling were))

@@ -1,6 +1,6 @@
 use Rattle.std.proofs.Common.{◌≡◌, ◌∙◌, sym, ap, subst, arith, rules, w64, FitsSigned, ◌≤◌, List}
 use Rattle.std.proofs.lemmas.Int.{to_z-of_z}
-use Rattle.spf_ast.specs.ConstructView.{construct as construct_seen}
+use Rattle.spf_ast.specs.ConstructView.{construct as seen_construct}
 use Rattle.spf_ast.specs.Lawful.{IsLawful}
 use Rattle.spf_ast.specs.Program.{environment_of}
 use Rattle.spf_layout.specs.Instance.{program_of}
@@ -22,7 +22,7 @@ header-requires-clause-silent g c =
 
 pub returns-in-Err-clause-came : goal.returns-in-Err-clause-came
 returns-in-Err-clause-came g c = λ before progress were goes.
-    header-leads c.runs_in_pieces_go_on.ensures.headers before (program_of c.args.instance.now) c.args.instance.now.input c.args.run.now c.header.new.self progress (construct_seen c.args.construct) c.in-Err.trap
+    header-leads c.runs_in_pieces_go_on.ensures.headers before (program_of c.args.instance.now) c.args.instance.now.input c.args.run.now c.header.new.self progress (seen_construct c.args.construct) c.in-Err.trap
     c.without_blocks.result _ goes c.requires.next c.in-Err.ensures.header c.without_blocks.ensures.settled c.without_blocks.ensures.stats c.without_blocks.ensures.trace were
 
 pub returns-in-Err-clause-few : goal.returns-in-Err-clause-few
@@ -32,10 +32,10 @@ pub returns-then-header-eq0-clause-came : goal.returns-then-header-eq0-clause-ca
 returns-then-header-eq0-clause-came g c = λ before progress were goes.
     let p = program_of c.args.instance.now in
     let fits : FitsSigned w64 c.in-Ok.header.start = search rules in
-    leads-nothing c.runs_in_pieces_go_on.ensures.settle c.runs_in_pieces_go_on.ensures.blocks before p c.args.instance.now.input c.args.run.now c.header.new.self progress (construct_seen c.args.construct)
+    leads-nothing c.runs_in_pieces_go_on.ensures.settle c.runs_in_pieces_go_on.ensures.blocks before p c.args.instance.now.input c.args.run.now c.header.new.self progress (seen_construct c.args.construct)
     (seen_header c.in-Ok.header) c.without_blocks-then-header-eq0.result _ goes c.requires.next c.in-Ok.ensures.header
     (c.lawful_programs_are_quiet_and_small.ensures.functions p (subst IsLawful (sym c.requires.program) c.program-program.ensures.lawful))
-    (subst IsAccepted (sym c.requires.program) c.program-program.ensures.accepted c.args.number (construct_seen c.args.construct) c.requires.construct)
+    (subst IsAccepted (sym c.requires.program) c.program-program.ensures.accepted c.args.number (seen_construct c.args.construct) c.requires.construct)
     c.header.ensures.place c.if-header-eq0.true (c.without_blocks-then-header-eq0.ensures.settled ∙ ap Carried (to_z-of_z w64 c.in-Ok.header.start fits)) c.without_blocks-then-header-eq0.ensures.stats c.without_blocks-then-header-eq0.ensures.trace were
 
 pub returns-then-header-eq0-clause-few : goal.returns-then-header-eq0-clause-few
@@ -43,12 +43,12 @@ returns-then-header-eq0-clause-few g c = subst (λ (s : Stats). AreAtMost s 4096
 
 pub run_at-requires-clause-blocks : goal.run_at-requires-clause-blocks
 run_at-requires-clause-blocks g c κs within =
-    has-its-blocks (environment_of (program_of c.args.instance.now) c.args.instance.now.input) (construct_seen c.args.construct) (moment_of (program_of c.args.instance.now) c.args.run.now) c.in-Ok.header _ c.in-Ok.ensures.header.answer
+    has-its-blocks (environment_of (program_of c.args.instance.now) c.args.instance.now.input) (seen_construct c.args.construct) (moment_of (program_of c.args.instance.now) c.args.run.now) c.in-Ok.header _ c.in-Ok.ensures.header.answer
 
 pub returns-clause-came : goal.returns-clause-came
 returns-clause-came g c = λ before progress were goes.
     let p = program_of c.args.instance.now in
-    let construct = construct_seen c.args.construct in
+    let construct = seen_construct c.args.construct in
     let header = seen_header c.in-Ok.header in
     let after = c.header.new.self in
     let some : 1 ≤ c.in-Ok.header.blocks = (let not_zero = c.if-header-eq0.false in omega (arith, not_zero)) in

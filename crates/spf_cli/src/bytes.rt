@@ -1,0 +1,134 @@
+// A run over bytes at hand.
+
+ghost use Rattle.std.specs.Prelude.{◌≡◌, ◌⊎◌, ◌≤◌, ◌<◌, [], map, IfOk};
+ghost use Rattle.spf_ast.specs.Syntax.{Program};
+ghost use Rattle.spf_guess.specs.Statistics.{tally};
+ghost use Rattle.spf_predictors.specs.Answers.{handed_in, WereTold};
+ghost use Rattle.spf_engine.specs.Runs.{WereToldFirst};
+ghost use Rattle.spf_cli.specs.Reading.{IsVerdict, Refusal, Refuses, Says};
+ghost use Rattle.spf_edge.specs.Faults.{Rose};
+ghost use Rattle.spf_words.specs.Only.{IsOnly};
+ghost use Rattle.spf_cli.specs.Whole.{handed, RunsText, IsPut, IsPutInPart};
+ghost use Rattle.spf_cli.specs.Answering.{AnswersWith, IsRunToItsEnd, seen_answer};
+
+use crate::answer::{Answer, Exit, accept, read, run_by_blocks};
+use crate::laws::rules_say_one_thing;
+use crate::status::{Status, number};
+use crate::top::{put, put_status};
+use spf_edge::{Gate, Sink};
+use spf_predictors::Predictor;
+use spf_words::Options;
+use std::alloc::{AllocError, Global};
+use std::sync::Wait;
+use std::thread::Threads;
+
+/// Runs a program's text on an input, and shows the statistics.
+fn run_text<R: Threads + Wait + Sync, G: Gate + Sync>(
+    rt: &R,
+    alloc: Global,
+    text: &[u8],
+    input: &[u8],
+    workers: u64,
+    hosts: &mut Vec<Box<dyn Predictor>>,
+    gate: &G,
+) -> Result<Answer, Exit>
+    requires workers { (0 < workers) × (workers ≤ 64) }
+    ensures answer { AnswersWith (IsOnly (RunsText (handed (map (λ h. answer h) hosts.old.items)) workers text.now input.now)) result }
+    ensures told_first { (p : Program) → IsVerdict text.now (Says p)
+        → WereToldFirst (handed_in (map (λ h. answer h) hosts.old.items)) p input.now (handed_in (map (λ h. answer h) hosts.new.items)) }
+    ensures told { AnswersWith (λ a. (p : Program) → IsVerdict text.now (Says p) → IsRunToItsEnd a
+        → WereTold (handed_in (map (λ h. answer h) hosts.old.items))
+        (tally (handed_in (map (λ h. answer h) hosts.old.items)) p input.now).telling
+        (handed_in (map (λ h. answer h) hosts.new.items))) result }
+    ensures untold { (refusal : Refusal) → IsVerdict text.now (Refuses refusal)
+        → WereTold (handed_in (map (λ h. answer h) hosts.old.items)) [] (handed_in (map (λ h. answer h) hosts.new.items)) }
+{
+    rules_say_one_thing();
+    let program = read(alloc, text)?;
+    let checked = accept(alloc, program)?;
+    let options = Options {
+        workers: Some(workers),
+        stats: true,
+        cells: false,
+        plain: false,
+    };
+    run_by_blocks(rt, alloc, options, &checked, input, hosts, gate)
+}
+
+/// The answer of a run with statistics over a program's text and an input.
+fn answer_text<R: Threads + Wait + Sync, G: Gate + Sync>(
+    rt: &R,
+    alloc: Global,
+    text: &[u8],
+    input: &[u8],
+    workers: u64,
+    hosts: &mut Vec<Box<dyn Predictor>>,
+    gate: &G,
+) -> Result<Answer, AllocError>
+    requires workers { (0 < workers) × (workers ≤ 64) }
+    ensures answer { IfOk result (λ a. IsOnly (RunsText (handed (map (λ h. answer h) hosts.old.items)) workers text.now input.now) (seen_answer a)) }
+    ensures told_first { (p : Program) → IsVerdict text.now (Says p)
+        → WereToldFirst (handed_in (map (λ h. answer h) hosts.old.items)) p input.now (handed_in (map (λ h. answer h) hosts.new.items)) }
+    ensures told { IfOk result (λ a. (p : Program) → IsVerdict text.now (Says p) → IsRunToItsEnd (seen_answer a)
+        → WereTold (handed_in (map (λ h. answer h) hosts.old.items))
+        (tally (handed_in (map (λ h. answer h) hosts.old.items)) p input.now).telling
+        (handed_in (map (λ h. answer h) hosts.new.items))) }
+    ensures untold { (refusal : Refusal) → IsVerdict text.now (Refuses refusal)
+        → WereTold (handed_in (map (λ h. answer h) hosts.old.items)) [] (handed_in (map (λ h. answer h) hosts.new.items)) }
+{
+    match run_text(rt, alloc, text, input, workers, hosts, gate) {
+        Ok(given) => Ok(given),
+        Err(Exit::Answered(given)) => Ok(given),
+        Err(Exit::NoMemory) => Err(AllocError),
+    }
+}
+
+/// Runs a program over an input, both at hand: `run` with `--stats`, without files and the limits of their lengths.
+///
+/// `program` is the text. `hosts` are the predictors that it names by number; they are asked before a construct's blocks run, and
+/// told the real values after. `gate` watches the attempts. Blocks run on 1 to 64 workers, in threads, and the call waits for them.
+/// The bytes that the program emits go to `out`, and the line of a refusal or a trap, and that of the statistics, to `err`.
+///
+/// The statuses are those of [`spf_main`](crate::spf_main): 0 where the run is done, 1 where the program trapped, 3 where the text
+/// has no lawful program, 4 where the rules refuse it, 6 where a sink failed, 7 where it has too many cells or names a host that
+/// isn't handed in, and 8 where memory ran out.
+pub fn run_file<R: Threads + Wait + Sync, S: Sink, G: Gate + Sync>(
+    rt: &R,
+    alloc: Global,
+    program: &[u8],
+    input: &[u8],
+    workers: u64,
+    hosts: &mut Vec<Box<dyn Predictor>>,
+    gate: &G,
+    out: &mut S,
+    err: &mut S,
+) -> u8
+    requires workers { (0 < workers) × (workers ≤ 64) }
+    // The whole answer is given, unless a sink failed or memory ran out.
+    ensures answered { IsPut (RunsText (handed (map (λ h. answer h) hosts.old.items)) workers program.now input.now)
+        (Rose (S.faults out.old) (S.faults out.new) ⊎ Rose (S.faults err.old) (S.faults err.new)) result
+        (S.taken out.old) (S.taken out.new) (S.taken err.old) (S.taken err.new) (S.pieces err.old) (S.pieces err.new) }
+
+    // With every status each sink took a prefix of what the whole answer has for it.
+    ensures in_part { IsPutInPart (RunsText (handed (map (λ h. answer h) hosts.old.items)) workers program.now input.now)
+        result (S.taken out.old) (S.taken out.new) (S.taken err.old) (S.taken err.new) }
+    // The hosts were told the first of what they are told in the whole run of the program that the text says.
+    ensures told_first { (p : Program) → IsVerdict program.now (Says p) → WereToldFirst (handed_in (map (λ h. answer h) hosts.old.items)) p input.now
+        (handed_in (map (λ h. answer h) hosts.new.items)) }
+    // All of it, where the program was run to its end or to its trap; nothing, where the text says none.
+    ensures told { (p : Program) → IsVerdict program.now (Says p) → (result ≡ 0) ⊎ (result ≡ 1)
+        → WereTold (handed_in (map (λ h. answer h) hosts.old.items))
+        (tally (handed_in (map (λ h. answer h) hosts.old.items)) p input.now).telling
+        (handed_in (map (λ h. answer h) hosts.new.items)) }
+    ensures untold { (refusal : Refusal) → IsVerdict program.now (Refuses refusal)
+        → WereTold (handed_in (map (λ h. answer h) hosts.old.items)) [] (handed_in (map (λ h. answer h) hosts.new.items)) }
+    ensures put_fault { result ≡ 6 → Rose (S.faults out.old) (S.faults out.new) ⊎ Rose (S.faults err.old) (S.faults err.new) }
+{
+    let Ok(given) = answer_text(rt, alloc, program, input, workers, hosts, gate) else {
+        return number(Status::NoMemory);
+    };
+    match put(&given, out, err) {
+        Ok(()) => number(given.status),
+        Err(error) => number(put_status(error)),
+    }
+}
