@@ -2,72 +2,62 @@
 use Rattle.std.specs.Prelude.{◌≡◌, ℕ, Bool, true, false, not, ◌==◌, ◌||◌, List, ℤ, slice_get}
 use Rattle.spf_ast.specs.declared.syntax.Part.{Part}
 use Rattle.spf_ast.specs.declared.syntax.Part.TheVariants.{Body, Producer, Consumer, Predictor}
-use Rattle.spf_ast.specs.Syntax.{Statement, Let, Assign, Store, Fill, Emit, Fail, If, For, While, Do, Fold, Pair, Block, end, on_line}
+use Rattle.spf_ast.specs.Syntax.{Statement, Let, Assign, Emit, If, For, While, Fold, Pair, Block, end, on_line}
 use Rattle.spf_ast.specs.Construct.{Construct, fold, pair, statements_of}
 
--- a slot that passes the test is assigned
+-- Whether some statement is as asked, at any depth: the question is answered for a statement from the answer for the blocks within it.
 abbrev mutual
-  pub statement_assigns : (ℕ → Bool) → Statement → Bool
-  statement_assigns test (Let slot value) = false
-  statement_assigns test (Assign slot value) = test slot
-  statement_assigns test (Store array index value) = false
-  statement_assigns test (Fill array low high value) = false
-  statement_assigns test (Emit value) = false
-  statement_assigns test (Fail number) = false
-  statement_assigns test (If c first second) = assigns test first || assigns test second
-  statement_assigns test (For slot low high body) = assigns test body
-  statement_assigns test (While c most body) = assigns test body
-  statement_assigns test (Do f given) = false
-  statement_assigns test (Fold head body) = assigns test body
-  statement_assigns test (Pair head producer consumer) = assigns test producer || assigns test consumer
+  pub in_statement : (Statement → Bool → Bool) → Statement → Bool
+  in_statement ask (If c first second) = ask (If c first second) (in_block ask first || in_block ask second)
+  in_statement ask (For slot low high body) = ask (For slot low high body) (in_block ask body)
+  in_statement ask (While c most body) = ask (While c most body) (in_block ask body)
+  in_statement ask (Fold head body) = ask (Fold head body) (in_block ask body)
+  in_statement ask (Pair head producer consumer) = ask (Pair head producer consumer) (in_block ask producer || in_block ask consumer)
+  in_statement ask other = ask other false
 
-  pub assigns : (ℕ → Bool) → Block → Bool
-  assigns test end = false
-  assigns test (on_line line first rest) = statement_assigns test first || assigns test rest
+  pub in_block : (Statement → Bool → Bool) → Block → Bool
+  in_block ask end = false
+  in_block ask (on_line line first rest) = in_statement ask first || in_block ask rest
 
--- this slot is declared
-abbrev mutual
-  pub statement_declares : ℕ → Statement → Bool
-  statement_declares x (Let slot value) = x == slot
-  statement_declares x (Assign slot value) = false
-  statement_declares x (Store array index value) = false
-  statement_declares x (Fill array low high value) = false
-  statement_declares x (Emit value) = false
-  statement_declares x (Fail number) = false
-  statement_declares x (If c first second) = declares x first || declares x second
-  statement_declares x (For slot low high body) = (x == slot) || declares x body
-  statement_declares x (While c most body) = declares x body
-  statement_declares x (Do f given) = false
-  statement_declares x (Fold head body) = (x == head.carried) || ((x == head.block) || declares x body)
-  statement_declares x (Pair head producer consumer) = (x == head.carried) || (declares x producer || declares x consumer)
+-- a slot that passes the test is assigned, here or within
+abbrev assigns_here : (ℕ → Bool) → Statement → Bool → Bool
+assigns_here test (Assign slot value) within = test slot
+assigns_here test _ within = within
 
-  pub declares : ℕ → Block → Bool
-  declares x end = false
-  declares x (on_line line first rest) = statement_declares x first || declares x rest
+abbrev pub statement_assigns : (ℕ → Bool) → Statement → Bool
+statement_assigns test = in_statement (assigns_here test)
+
+abbrev pub assigns : (ℕ → Bool) → Block → Bool
+assigns test = in_block (assigns_here test)
+
+-- this slot is declared, here or within
+abbrev declares_here : ℕ → Statement → Bool → Bool
+declares_here x (Let slot value) within = x == slot
+declares_here x (For slot low high body) within = (x == slot) || within
+declares_here x (Fold head body) within = (x == head.carried) || ((x == head.block) || within)
+declares_here x (Pair head producer consumer) within = (x == head.carried) || within
+declares_here x _ within = within
+
+abbrev pub statement_declares : ℕ → Statement → Bool
+statement_declares x = in_statement (declares_here x)
+
+abbrev pub declares : ℕ → Block → Bool
+declares x = in_block (declares_here x)
 
 -- a slot is assigned that is declared outside of the block
 abbrev pub assigns_outer : Block → Bool
 assigns_outer b = assigns (λ slot. not (declares slot b)) b
 
--- a byte is emitted
-abbrev mutual
-  pub statement_emits : Statement → Bool
-  statement_emits (Let slot value) = false
-  statement_emits (Assign slot value) = false
-  statement_emits (Store array index value) = false
-  statement_emits (Fill array low high value) = false
-  statement_emits (Emit value) = true
-  statement_emits (Fail number) = false
-  statement_emits (If c first second) = emits first || emits second
-  statement_emits (For slot low high body) = emits body
-  statement_emits (While c most body) = emits body
-  statement_emits (Do f given) = false
-  statement_emits (Fold head body) = emits body
-  statement_emits (Pair head producer consumer) = emits producer || emits consumer
+-- a byte is emitted, here or within
+abbrev emits_here : Statement → Bool → Bool
+emits_here (Emit value) within = true
+emits_here _ within = within
 
-  pub emits : Block → Bool
-  emits end = false
-  emits (on_line line first rest) = statement_emits first || emits rest
+abbrev pub statement_emits : Statement → Bool
+statement_emits = in_statement emits_here
+
+abbrev pub emits : Block → Bool
+emits = in_block emits_here
 
 -- ---- parts
 
