@@ -134,9 +134,9 @@ impl Mate {
     /// One turn. A mate with a report tries once to take the chain, and files it. A mate with a ticket to rerun runs it. Any other one
     /// looks whether the chain has ended; if not, it takes a ticket and runs it. `attempter` makes the attempts.
     ///
-    /// `Ended` comes exactly where the mate held nothing and read 1 in the ending word, and from then on. `Idle` with `ChainOut` comes
+    /// `Ended` comes only where the mate held nothing and read 1 in the ending word, and from then on. `Idle` with `ChainOut` comes
     /// only where it has a report and found another turn number than the even one at or after that which it saw last, or 16,384, at
-    /// which no report is filed; it keeps the report. `Idle` with `Empty` or `Again` comes exactly where it held nothing and its hand
+    /// which no report is filed; it keeps the report. `Idle` with `Empty` or `Again` comes only where it held nothing and its hand
     /// found no ticket. It neither takes memory nor waits.
     pub fn turn<A: Attempter>(&mut self, crew: &Crew, attempter: &A) -> Turn
         requires own { IsMateOf crew.now self.old }

@@ -3,7 +3,7 @@ use Rattle.std.proofs.lemmas.Result.{err_from_is_err_and}
 use Rattle.std.proofs.lemmas.Int.{to_z-of_z, to_z_pos, ints}
 use Rattle.std.specs.Prelude.{map, ◌<ℤ◌, ◌≤ℤ◌}
 use Rattle.std.specs.Int.{int_gap}
-use Rattle.spf_ast.specs.View.{function, block, statement, condition, expression, arguments}
+use Rattle.spf_ast.specs.View.{function, block, statement, condition, expression, arguments, fold_head, pair_head}
 use Rattle.spf_ast.specs.Size.{expression_measure, arguments_measure, condition_measure, statement_measure, block_measure}
 use Rattle.spf_ast.proofs.Views.{expression-call, statement-if, statement-for, statement-while, statement-fold, statement-pair}
 use Rattle.spf_ast.specs.declared.syntax.Fold.{out-Fold}
@@ -13,7 +13,7 @@ use Rattle.spf_ast.specs.Meaning.{while_turns, for_turns, fold_blocks, sets, fun
 use Rattle.spf_exec.proofs.Forms.{expr_means, cond_means, stmts_mean, expr_weight, exprs_weight, cond_weight, kind_weight, stmts_weight, fold_weight, pair_weight}
 use Rattle.spf_exec.proofs.Weight.{weight_before, weight_of}
 use Rattle.spf_exec.proofs.Forms.{expr_means-call, call_means-is, slot_count, kind_means-if, kind_means-for, kind_means-while, kind_means-fold, kind_means-pair, expr_weight-call, kind_weight-if, kind_weight-for, kind_weight-while, kind_weight-fold, kind_weight-pair, weight_at, fold_room, pair_room, room_at}
-use Rattle.spf_exec.proofs.Leaving.{leaves-then, set-then, sets-then, one-leaves, let-leaves, assign-leaves, first-leaves, second-leaves, for-leaves, while-leaves, same-leaves}
+use Rattle.spf_exec.proofs.Leaving.{leaves-then, set-then, sets-then, one-leaves, let-leaves, assign-leaves, first-leaves, second-leaves, for-leaves, while-leaves, fold-leaves, fold_end-leaves, producer-leaves, pair-leaves, same-leaves}
 use Rattle.spf_exec.specs.Performs.{block_value, call_slots, environment, state, at_line}
 use Rattle.spf_exec.proofs.Steps.{at_once, checked_is, traps_now, load_now, store_now, then_value, then_halt, exit_left, along, in_own, steps}
 use Rattle.spf_exec.proofs.Turns.{no_statements, next_statement, still, next_fits, to_z_fits, for_turn, while_is, while_last, while_turn, after_sets, block_turn, int_gap_none}
@@ -989,3 +989,25 @@ exec_blocks-returns-in_err-exec_statements-clause-others g t c =
 pub exec_blocks-returns-in_err-value-clause-others : goal.exec_blocks-returns-in_err-value-clause-others
 exec_blocks-returns-in_err-value-clause-others g t c =
     sets-then c.args.carried_slot c.args.block_slot (to_z w64 c.loop-k.value-bits) (to_z w64 c.loop-k.k-bits) c.loop-k.invariant.others c.write_slot.ensures c.write_slot-in-loop-k.ensures c.in_ok-exec_statements.ensures.others
+
+-- ---- folds and pairs
+
+pub exec_pair-returns-in_err-exec_statements-clause-others : goal.exec_pair-returns-in_err-exec_statements-clause-others
+exec_pair-returns-in_err-exec_statements-clause-others g t c =
+    producer-leaves (pair_head c.args.pair.now) (block (out-Pair c.args.pair.now).producer.items) (block (out-Pair c.args.pair.now).consumer.items) (rw c.deref.ensures.value at c.in_err-exec_statements.ensures.others)
+
+pub exec_pair-returns-in_err-value-clause-others : goal.exec_pair-returns-in_err-value-clause-others
+exec_pair-returns-in_err-value-clause-others g t c =
+    producer-leaves (pair_head c.args.pair.now) (block (out-Pair c.args.pair.now).producer.items) (block (out-Pair c.args.pair.now).consumer.items) (rw c.deref.ensures.value at c.in_ok-exec_statements.ensures.others)
+
+pub exec_pair-returns-clause-others : goal.exec_pair-returns-clause-others
+exec_pair-returns-clause-others g t c =
+    pair-leaves (pair_head c.args.pair.now) (block (out-Pair c.args.pair.now).producer.items) (block (out-Pair c.args.pair.now).consumer.items) _ (rw c.deref.ensures.value at c.in_ok-exec_statements.ensures.others) c.write_slot.ensures (rw c.deref-2.ensures.value at c.exec_statements-2.ensures.others)
+
+pub exec_fold-returns-in_err-last-clause-others : goal.exec_fold-returns-in_err-last-clause-others
+exec_fold-returns-in_err-last-clause-others g t c =
+    fold-leaves (fold_head c.args.fold.now) (block (out-Fold c.args.fold.now).body.items) (rw c.deref.ensures.value at c.in_err-last.ensures.others)
+
+pub exec_fold-returns-clause-others : goal.exec_fold-returns-clause-others
+exec_fold-returns-clause-others g t c =
+    fold_end-leaves (fold_head c.args.fold.now) (block (out-Fold c.args.fold.now).body.items) _ (rw c.deref.ensures.value at c.in_ok-last.ensures.others) c.write_slot.ensures
