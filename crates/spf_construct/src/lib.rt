@@ -4,5 +4,6 @@
 pub mod construct;
 mod counts;
 pub mod guesses;
+mod host;
 mod pieces;
 mod telling;

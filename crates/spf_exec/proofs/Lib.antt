@@ -10,3 +10,4 @@ pub mod Constructs
 pub mod Leaving
 pub mod BlockRuns
 pub mod Prefixes
+pub mod Simple

@@ -16,3 +16,4 @@ pub mod plain_run;
 mod primitives;
 mod quiet;
 mod run;
+mod terms;
