@@ -8,7 +8,7 @@ use Rattle.spf_ast.specs.Lawful.{IsLawful}
 use Rattle.spf_ast.specs.Silence.{PartIsSilent}
 use Rattle.spf_ast.specs.Slots.{assigns_outer}
 use Rattle.spf_ast.specs.Construct.{Construct, fold, pair, constructs_in, part_of, statements_of}
-use Rattle.spf_code.specs.ConstructView.{construct}
+use Rattle.spf_ast.specs.ConstructView.{construct}
 use Rattle.spf_ast.specs.Program.{cell_count_of}
 use Rattle.spf_layout.specs.Instance.{program_of}
 use Rattle.spf_rollback.specs.Rules.{KeepsTheRules}

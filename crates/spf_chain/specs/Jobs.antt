@@ -2,7 +2,7 @@
 use Rattle.std.specs.Prelude.{◌≡◌, ℕ, false, length, Some, slice_get}
 use Rattle.std.specs.List.{Contains}
 use Rattle.spf_ast.specs.Construct.{constructs_in, part_of, statements_of}
-use Rattle.spf_code.specs.ConstructView.{construct}
+use Rattle.spf_ast.specs.ConstructView.{construct}
 use Rattle.spf_ast.specs.Lawful.{IsLawful}
 use Rattle.spf_ast.specs.Program.{cell_count_of}
 use Rattle.spf_ast.specs.Silence.{PartIsSilent}

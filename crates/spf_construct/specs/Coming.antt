@@ -2,7 +2,7 @@
 use Rattle.std.specs.Prelude.{◌≡◌, ◌≤◌, ℕ, List, length, Some, slice_get, ℤ}
 use Rattle.spf_ast.specs.Carried as carried
 use Rattle.spf_ast.specs.Construct.{constructs_in}
-use Rattle.spf_code.specs.ConstructView.{construct as seen_construct}
+use Rattle.spf_ast.specs.ConstructView.{construct as seen_construct}
 use Rattle.spf_ast.specs.Program.{cell_count_of}
 use Rattle.spf_ast.specs.Syntax.{Program}
 use Rattle.spf_check.specs.Plans.{AreBlocksOf}

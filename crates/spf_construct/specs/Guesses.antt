@@ -3,7 +3,7 @@ use Rattle.std.specs.Prelude.{◌≡◌, ◌<◌, ◌≤◌, ◌+◌, ◌-◌, �
 use Rattle.spf_ast.specs.BlockRun.{predicts}
 use Rattle.spf_ast.specs.Carried.{Carried}
 use Rattle.spf_ast.specs.Construct.{Construct}
-use Rattle.spf_code.specs.ConstructView.{construct as seen_construct}
+use Rattle.spf_ast.specs.ConstructView.{construct as seen_construct}
 use Rattle.spf_ast.specs.Syntax.{Host}
 use Rattle.spf_exec.specs.declared.pieces.Header.{Header}
 use Rattle.spf_layout.specs.Frame.{main_slots}

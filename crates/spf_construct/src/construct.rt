@@ -3,7 +3,7 @@ ghost use Rattle.std.specs.Prelude.{◌≡◌, ◌<◌, ◌≤◌, ◌+◌, ◌+
 ghost use Rattle.spf_ast.specs.View.{program as seen_program};
 ghost use Rattle.spf_chain.specs.Beginning.{site_of};
 ghost use Rattle.spf_chain.specs.Chains.{cells_of, HasEnded};
-ghost use Rattle.spf_code.specs.ConstructView.{construct as seen_construct};
+ghost use Rattle.spf_ast.specs.ConstructView.{construct as seen_construct};
 ghost use Rattle.spf_entry.specs.Entry.{plain_blocks};
 ghost use Rattle.spf_exec.specs.Pieces.{seen_header};
 ghost use Rattle.spf_guess.specs.Guess.{Hosts, Telling, tells};

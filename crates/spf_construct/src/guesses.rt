@@ -2,7 +2,7 @@
 ghost use Rattle.std.specs.Prelude.{◌≡◌, ◌<◌, ◌≤◌, ◌-◌, ◌+◌, ◌+ℤ◌, ◌≤ℤ◌, List, length, map, pos, IfOk};
 ghost use Rattle.std.specs.List.{Contains};
 ghost use Rattle.spf_ast.specs.Construct.{constructs_in};
-ghost use Rattle.spf_code.specs.ConstructView.{construct as seen_construct};
+ghost use Rattle.spf_ast.specs.ConstructView.{construct as seen_construct};
 ghost use Rattle.spf_ast.specs.Program.{cell_count_of};
 ghost use Rattle.spf_ast.specs.Silence.{FunctionsAreSilent};
 ghost use Rattle.spf_layout.specs.Frame.{frame_size};
@@ -11,9 +11,8 @@ ghost use Rattle.spf_guess.specs.Guess.{Hosts, Telling};
 ghost use Rattle.spf_predictors.specs.Answers.{handed_in, WereTold};
 ghost use Rattle.spf_construct.specs.Guesses.{seen_guess, predicted, answered, answered_at, block_guess, guesses_from, IsHandedIn};
 
-use crate::host::host_of;
 use crate::pieces::predict_all;
-use spf_code::construct::TopConstruct;
+use spf_ast::construct::TopConstruct;
 use spf_chain::validated::Guess;
 use spf_exec::block_run::exec_predictor;
 use spf_exec::frame::Frame;
@@ -21,6 +20,7 @@ use spf_exec::pieces::Header;
 use spf_layout::instance::Instance;
 use spf_predictors::Predictor;
 use spf_predictors::hosts::ask;
+use spf_predictors::missing::host_of;
 use std::alloc::{AllocError, Global};
 use std::thread::Threads;
 

@@ -4,6 +4,5 @@
 pub mod construct;
 mod counts;
 pub mod guesses;
-mod host;
 mod pieces;
 mod telling;

@@ -2,7 +2,7 @@
 ghost use Rattle.std.specs.Prelude.{◌≡◌, ◌<◌, ◌≤◌, ◌-◌, ◌+◌, ◌*◌, ◌+ℤ◌, ◌≤ℤ◌, ℕ, length, map, min, pos, slice_get, IfOk, IfSome};
 ghost use Rattle.std.specs.List.{Contains};
 ghost use Rattle.spf_ast.specs.Construct.{constructs_in};
-ghost use Rattle.spf_code.specs.ConstructView.{construct as seen_construct};
+ghost use Rattle.spf_ast.specs.ConstructView.{construct as seen_construct};
 ghost use Rattle.spf_ast.specs.Program.{cell_count_of};
 ghost use Rattle.spf_ast.specs.Silence.{FunctionsAreSilent};
 ghost use Rattle.spf_layout.specs.Frame.{frame_size};

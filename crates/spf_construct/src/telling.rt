@@ -1,18 +1,18 @@
 //! What hosts are told after a construct.
 ghost use Rattle.std.specs.Prelude.{◌≡◌, ◌<◌, ◌≤◌, ◌+◌, ◌++◌, ◌+ℤ◌, ◌≤ℤ◌, List, length, map, drop, pos};
-ghost use Rattle.spf_code.specs.ConstructView.{construct as seen_construct};
+ghost use Rattle.spf_ast.specs.ConstructView.{construct as seen_construct};
 ghost use Rattle.spf_exec.specs.Pieces.{seen_header};
 ghost use Rattle.spf_guess.specs.Guess.{Hosts, Telling, tells, tells_from};
 ghost use Rattle.spf_predictors.specs.Answers.{handed_in, WereTold};
 ghost use Rattle.spf_construct.specs.Guesses.{real_values, IsHandedIn};
 
-use crate::host::host_of;
 use crate::guesses::number_at;
-use spf_code::construct::TopConstruct;
+use spf_ast::construct::TopConstruct;
 use spf_chain::validated::Validated;
 use spf_exec::pieces::Header;
 use spf_predictors::Predictor;
 use spf_predictors::hosts::tell;
+use spf_predictors::missing::host_of;
 
 /// Tells a host the real values of blocks, in their order; the first of them has index 1.
 fn tell_from_one(

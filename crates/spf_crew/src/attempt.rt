@@ -1,13 +1,13 @@
 //! What makes the attempts of a crew's tickets.
 ghost use denote.Ref.{Bor};
 ghost use Rattle.std.specs.Prelude.{◌≡◌};
-ghost use Rattle.spf_code.specs.declared.construct.TopConstruct.{TopConstruct};
+ghost use Rattle.spf_ast.specs.declared.construct.TopConstruct.{TopConstruct};
 ghost use Rattle.spf_layout.specs.Instance.{InstanceValue};
 ghost use Rattle.spf_crew.specs.declared.view.CrewSetting.{CrewSetting};
 ghost use Rattle.spf_crew.specs.Tickets.{IsFreshOf, IsLawfulOf, IsAttemptBy, ServesCrew};
 
 use crate::crew::Crew;
-use spf_code::construct::TopConstruct;
+use spf_ast::construct::TopConstruct;
 use spf_edge::Gate;
 use spf_layout::instance::Instance;
 use spf_ticket::run::Job;

@@ -2,7 +2,7 @@
 ghost use Rattle.std.specs.Prelude.{◌≡◌, ℕ, IfOk, IsTrue, MatchOption, Some, length, slice_get};
 ghost use Rattle.spf_ast.specs.View.{program as seen_program};
 ghost use Rattle.spf_ast.specs.Construct.{constructs_in};
-ghost use Rattle.spf_code.specs.ConstructView.{construct as seen_construct};
+ghost use Rattle.spf_ast.specs.ConstructView.{construct as seen_construct};
 ghost use Rattle.spf_ast.specs.Lawful.{IsLawful};
 ghost use Rattle.spf_ast.specs.Program.{cell_count_of};
 ghost use Rattle.spf_chain.specs.Beginning.{IsStarted};
@@ -12,7 +12,7 @@ ghost use Rattle.spf_entry.specs.Sites.{entry_at};
 ghost use Rattle.spf_layout.specs.Instance.{program_of};
 ghost use Rattle.spf_ticket.specs.Tickets.{IsJobOf};
 
-use spf_code::construct::{ConstructKind, TopConstruct};
+use spf_ast::construct::{ConstructKind, TopConstruct};
 use spf_ast::syntax::Program;
 use spf_cells::cells::Cells;
 use spf_chain::chain::Chain;

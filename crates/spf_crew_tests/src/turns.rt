@@ -3,13 +3,13 @@ ghost use Rattle.std.specs.Prelude.{◌≡◌, ◌<◌, Some, length, slice_get}
 ghost use Rattle.std.specs.List.{All};
 ghost use Rattle.spf_ast.specs.View.{program as seen_program};
 ghost use Rattle.spf_ast.specs.Construct.{constructs_in};
-ghost use Rattle.spf_code.specs.ConstructView.{construct as seen_construct};
+ghost use Rattle.spf_ast.specs.ConstructView.{construct as seen_construct};
 ghost use Rattle.spf_ast.specs.Program.{cell_count_of};
 ghost use Rattle.spf_crew.specs.Mates.{IsMateOf};
 ghost use Rattle.spf_layout.specs.Instance.{program_of};
 
 use crate::starting::{accepted, start};
-use spf_code::construct::find_construct;
+use spf_ast::construct::find_construct;
 use spf_check::checked::Checked;
 use spf_crew::attempt::{Attempter, GatedJob};
 use spf_crew::crew::Crew;
@@ -100,7 +100,7 @@ fn turns(alloc: Global, guesses: &[i64], order: &[usize]) -> Result<Vec<u64>, Fa
     let Ok(instance) = Instance::make(alloc, program, &[]) else {
         return Err(Fail::new("no instance"));
     };
-    let Some(construct) = find_construct(instance.main(), 0) else {
+    let Some(construct) = find_construct(&program.main, 0) else {
         return Err(Fail::new("no construct"));
     };
     let entry = vec![in alloc; 0i64; instance.layout().cells() as usize]?;

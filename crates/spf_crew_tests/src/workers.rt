@@ -2,7 +2,7 @@
 ghost use Rattle.std.specs.Prelude.{◌≡◌, ◌<◌, ◌≤◌, IfOk, Some, length, slice_get};
 ghost use Rattle.spf_ast.specs.View.{program as seen_program};
 ghost use Rattle.spf_ast.specs.Construct.{constructs_in};
-ghost use Rattle.spf_code.specs.ConstructView.{construct as seen_construct};
+ghost use Rattle.spf_ast.specs.ConstructView.{construct as seen_construct};
 ghost use Rattle.spf_ast.specs.Program.{cell_count_of};
 ghost use Rattle.spf_chain.specs.Beginning.{IsStarted};
 ghost use Rattle.spf_chain.specs.Chains.{cells_of, HasEnded};
@@ -13,7 +13,7 @@ ghost use Rattle.spf_ticket.specs.Tickets.{IsJobOf};
 
 use crate::own_threads::run_on_threads;
 use crate::starting::{Started, accepted, start};
-use spf_code::construct::find_construct;
+use spf_ast::construct::find_construct;
 use spf_cells::cells::Cells;
 use spf_chain::chain::Chain;
 use spf_chain::validated::Settled;
@@ -152,7 +152,7 @@ fn run<R: Threads + Wait + Sync>(
     let Ok(instance) = Instance::make(alloc, program, &[]) else {
         return Err(Fail::new("no instance"));
     };
-    let Some(construct) = find_construct(instance.main(), 0) else {
+    let Some(construct) = find_construct(&program.main, 0) else {
         return Err(Fail::new("no construct"));
     };
     let entry = vec![in alloc; 0i64; instance.layout().cells() as usize]?;

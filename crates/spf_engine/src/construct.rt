@@ -1,7 +1,7 @@
 //! The construct that stands next in a run.
 ghost use Rattle.std.specs.Prelude.{◌≡◌, ◌<◌, ◌≤◌, ◌+ℤ◌, ◌≤ℤ◌, ◌++◌, List, length, map, pos, slice_get, Some, None, IfOk, IfErr};
 ghost use Rattle.spf_ast.specs.View.{program as seen_program};
-ghost use Rattle.spf_code.specs.ConstructView.{construct as seen_construct};
+ghost use Rattle.spf_ast.specs.ConstructView.{construct as seen_construct};
 ghost use Rattle.spf_ast.specs.Construct.{constructs_in};
 ghost use Rattle.spf_ast.specs.Pieces.{construct_first};
 ghost use Rattle.spf_check.specs.Plans.{AreBlocksOf};
@@ -16,7 +16,7 @@ ghost use Rattle.spf_construct.specs.Coming.{ComesTo};
 ghost use Rattle.spf_progress.specs.Progress.{Progress, GoesOn, entry_there, guess_there};
 ghost use Rattle.spf_engine.specs.Runs.{LeadsTo};
 
-use spf_code::construct::TopConstruct;
+use spf_ast::construct::TopConstruct;
 use spf_ast::laws::lawful_programs_are_quiet_and_small;
 use spf_cells::finish::Trace;
 use spf_chain::validated::Settled;

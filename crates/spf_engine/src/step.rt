@@ -1,7 +1,7 @@
 //! Steps of a run: from one construct past the next.
 ghost use Rattle.std.specs.Prelude.{◌≡◌, ◌<◌, ◌≤◌, ◌+◌, List, length, map, None, Some, IfOk, IfErr};
 ghost use Rattle.spf_ast.specs.View.{program as seen_program};
-ghost use Rattle.spf_code.specs.ConstructView.{construct as seen_construct};
+ghost use Rattle.spf_ast.specs.ConstructView.{construct as seen_construct};
 ghost use Rattle.spf_ast.specs.Construct.{constructs_in};
 ghost use Rattle.spf_ast.specs.Pieces.{construct_first};
 ghost use Rattle.spf_exec.specs.Pieces.{IsRunOf, ahead};
@@ -14,7 +14,7 @@ ghost use Rattle.spf_engine.specs.Runs.{IsSettledSo, AreFew, AgreesWith, StepsTo
 
 use crate::account::Account;
 use crate::construct::pass_construct;
-use spf_code::construct::TopConstruct;
+use spf_ast::construct::TopConstruct;
 use spf_ast::laws::lawful_programs_are_quiet_and_small;
 use spf_ast::outcome::Trap;
 use spf_chain::validated::Settled;

@@ -10,4 +10,3 @@ pub mod Constructs
 pub mod Leaving
 pub mod BlockRuns
 pub mod Prefixes
-pub mod Simple

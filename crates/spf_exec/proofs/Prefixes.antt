@@ -1,14 +1,14 @@
 -- The statements before the first construct among them.
 use Rattle.std.proofs.Common.{◌≡◌, ℕ, zero, suc, ◌+◌, ◌-◌, ◌<◌, true, false, List, [], ◌∷◌, length, get_or, take, drop, refl, sym, ap, ◌∙◌, arith, length-drop, take_all, replicate}
 use Rattle.std.specs.Prelude.{MatchOption, Option, None, Some, slice_set, ℤ}
-use Rattle.spf_code.specs.declared.code.Node.{Node}
+use Rattle.spf_ast.specs.declared.syntax.Stmt.{Stmt}
 use Rattle.spf_ast.specs.Syntax.{Statement, end, on_line, Let, Assign, Store, Fill, Emit, Fail, If, For, While, Do, Fold, Pair, Program}
-use Rattle.spf_code.specs.View.{statement, block}
+use Rattle.spf_ast.specs.View.{statement, block}
 use Rattle.spf_ast.specs.Program.{environment_of}
 use Rattle.spf_ast.specs.Construct.{Construct, construct_of, constructs_in, is_construct}
 use Rattle.spf_ast.specs.Pieces.{before_construct, from_construct, rest_from, statement_count, construct_first}
-use Rattle.spf_code.specs.declared.construct.TopConstruct as code_top
-use Rattle.spf_code.specs.ConstructView.{construct as seen_construct}
+use Rattle.spf_ast.specs.declared.construct.TopConstruct as code_top
+use Rattle.spf_ast.specs.ConstructView.{construct as seen_construct}
 use Rattle.spf_ast.specs.Meaning.{block_means}
 use Rattle.spf_exec.specs.declared.pieces.Pause.{Pause}
 use Rattle.spf_exec.specs.declared.pieces.Pause.TheVariants as pause
@@ -16,15 +16,15 @@ use Rattle.spf_exec.specs.Pieces.{Stand, EndsAt, Advanced, ahead}
 use Rattle.spf_exec.proofs.Constructs.{constructs_from}
 
 -- none of so many first statements is a construct
-abbrev pub IsPlainPrefix : List Node → ℕ → Type 0
+abbrev pub IsPlainPrefix : List Stmt → ℕ → Type 0
 IsPlainPrefix xs zero = Unit {0}
 IsPlainPrefix [] (suc n) = ⊥
 IsPlainPrefix (x ∷ xs) (suc n) = (is_construct (statement x.kind) ≡ false) × IsPlainPrefix xs n
 
 -- one more
-pub prefix_grows : (xs : List Node) (n : ℕ) (x : Node) → n < length xs → x ≡ get_or xs n x → is_construct (statement x.kind) ≡ false → IsPlainPrefix xs n → IsPlainPrefix xs (suc n)
+pub prefix_grows : (xs : List Stmt) (n : ℕ) (x : Stmt) → n < length xs → x ≡ get_or xs n x → is_construct (statement x.kind) ≡ false → IsPlainPrefix xs n → IsPlainPrefix xs (suc n)
 prefix_grows [] n x h e f p = let no : ⊥ = omega arith in absurd no
-prefix_grows (y ∷ ys) zero x h e f p = (ap (λ (z : Node). is_construct (statement z.kind)) (sym e) ∙ f, tt)
+prefix_grows (y ∷ ys) zero x h e f p = (ap (λ (z : Stmt). is_construct (statement z.kind)) (sym e) ∙ f, tt)
 prefix_grows (y ∷ ys) (suc n) x h e f p = (p.0, prefix_grows ys n x (omega arith) e f p.1)
 
 -- whether a statement is a construct
@@ -57,45 +57,45 @@ some_is line (Fold head body) k e = refl
 some_is line (Pair head producer consumer) k e = refl
 
 -- what the prefix and the rest are, at a construct and at the end
-pub record IsSplit (xs : List Node) (n : ℕ) : Type 0 where
+pub record IsSplit (xs : List Stmt) (n : ℕ) : Type 0 where
   pub before : block (take n xs) ≡ before_construct (block xs)
   pub rest : block (drop n xs) ≡ from_construct (block xs)
 
-pub split_at : (xs : List Node) (n : ℕ) (x : Node) → n < length xs → x ≡ get_or xs n x → is_construct (statement x.kind) ≡ true → IsPlainPrefix xs n → IsSplit xs n
+pub split_at : (xs : List Stmt) (n : ℕ) (x : Stmt) → n < length xs → x ≡ get_or xs n x → is_construct (statement x.kind) ≡ true → IsPlainPrefix xs n → IsSplit xs n
 split_at [] n x h e f p = let no : ⊥ = omega arith in absurd no
 split_at (y ∷ ys) zero x h e f p =
-    let g : is_construct (statement y.kind) ≡ true = ap (λ (z : Node). is_construct (statement z.kind)) (sym e) ∙ f in
+    let g : is_construct (statement y.kind) ≡ true = ap (λ (z : Stmt). is_construct (statement z.kind)) (sym e) ∙ f in
     record { before = rw g refl; rest = rw g refl }
 split_at (y ∷ ys) (suc n) x h e f p =
     let r = split_at ys n x (omega arith) e f p.1 in
     record { before = rw p.0 (ap (on_line y.line (statement y.kind)) r.before); rest = rw p.0 r.rest }
 
-pub split_end : (xs : List Node) → IsPlainPrefix xs (length xs) → IsSplit xs (length xs)
+pub split_end : (xs : List Stmt) → IsPlainPrefix xs (length xs) → IsSplit xs (length xs)
 split_end [] p = record { before = refl; rest = refl }
 split_end (y ∷ ys) p =
     let r = split_end ys p.1 in
     record { before = rw p.0 (ap (on_line y.line (statement y.kind)) r.before); rest = rw p.0 r.rest }
 
 -- after a prefix of all statements there is none
-pub end_of : (xs : List Node) → IsPlainPrefix xs (length xs) → from_construct (block xs) ≡ end
+pub end_of : (xs : List Stmt) → IsPlainPrefix xs (length xs) → from_construct (block xs) ≡ end
 end_of [] p = refl
 end_of (y ∷ ys) p = rw p.0 (end_of ys p.1)
 
 -- and after one that ends at a construct this stands next
-pub construct_at : (xs : List Node) (n : ℕ) (x : Node) (k : Construct) → n < length xs → x ≡ get_or xs n x → construct_of x.line (statement x.kind) ≡ Some k → IsPlainPrefix xs n → construct_first (from_construct (block xs)) ≡ Some k
+pub construct_at : (xs : List Stmt) (n : ℕ) (x : Stmt) (k : Construct) → n < length xs → x ≡ get_or xs n x → construct_of x.line (statement x.kind) ≡ Some k → IsPlainPrefix xs n → construct_first (from_construct (block xs)) ≡ Some k
 construct_at [] n x k h e f p = let no : ⊥ = omega arith in absurd no
 construct_at (y ∷ ys) zero x k h e f p =
-    let g : construct_of y.line (statement y.kind) ≡ Some k = ap (λ (z : Node). construct_of z.line (statement z.kind)) (sym e) ∙ f in
+    let g : construct_of y.line (statement y.kind) ≡ Some k = ap (λ (z : Stmt). construct_of z.line (statement z.kind)) (sym e) ∙ f in
     rw (some_is y.line (statement y.kind) k g) g
 construct_at (y ∷ ys) (suc n) x k h e f p = rw p.0 (construct_at ys n x k (omega arith) e f p.1)
 
 -- what is seen of the statements from an index on
-pub rest_is : (xs : List Node) (n : ℕ) → block (drop n xs) ≡ rest_from n (block xs)
+pub rest_is : (xs : List Stmt) (n : ℕ) → block (drop n xs) ≡ rest_from n (block xs)
 rest_is xs zero = refl
 rest_is [] (suc n) = refl
 rest_is (x ∷ xs) (suc n) = rest_is xs n
 
-pub count_is : (xs : List Node) → statement_count (block xs) ≡ length xs
+pub count_is : (xs : List Stmt) → statement_count (block xs) ≡ length xs
 count_is [] = refl
 count_is (x ∷ xs) = ap suc (count_is xs)
 
@@ -121,19 +121,19 @@ pub part_from : {A : Type 0} (xs : List A) (n : ℕ) → take (length xs - n) (d
 part_from xs n = take_all (length xs - n) (drop n xs) (rw (length-drop n xs) (omega arith))
 
 -- dropping twice
-drop_sum : (n m : ℕ) (xs : List Node) → drop m (drop n xs) ≡ drop (n + m) xs
+drop_sum : (n m : ℕ) (xs : List Stmt) → drop m (drop n xs) ≡ drop (n + m) xs
 drop_sum zero m xs = let e : m ≡ 0 + m = omega arith in ap (λ k. drop k xs) e
 drop_sum (suc n) zero [] = let e : suc n + 0 ≡ suc n = omega arith in rw e refl
 drop_sum (suc n) (suc m) [] = let e : suc n + suc m ≡ suc (n + suc m) = omega arith in rw e refl
 drop_sum (suc n) m (x ∷ xs) = let e : suc (n + m) ≡ suc n + m = omega arith in drop_sum n m xs ∙ ap (λ k. drop k (x ∷ xs)) e
 
 -- where a prefix ends
-pub prefix_is : (xs ys : List Node) (n count : ℕ) → ys ≡ drop n xs → block (take count ys) ≡ before_construct (block ys) → block (take (n + count - n) (drop n xs)) ≡ before_construct (rest_from n (block xs))
+pub prefix_is : (xs ys : List Stmt) (n count : ℕ) → ys ≡ drop n xs → block (take count ys) ≡ before_construct (block ys) → block (take (n + count - n) (drop n xs)) ≡ before_construct (rest_from n (block xs))
 prefix_is xs ys n count e f =
     let m : n + count - n ≡ count = omega arith in
     ap (λ k. block (take k (drop n xs))) m ∙ ap (λ l. block (take count l)) (sym e) ∙ f ∙ ap (λ l. before_construct (block l)) e ∙ ap before_construct (rest_is xs n)
 
-pub back_is : (xs ys : List Node) (n count : ℕ) → ys ≡ drop n xs → block (drop count ys) ≡ from_construct (block ys) → rest_from (n + count) (block xs) ≡ from_construct (rest_from n (block xs))
+pub back_is : (xs ys : List Stmt) (n count : ℕ) → ys ≡ drop n xs → block (drop count ys) ≡ from_construct (block ys) → rest_from (n + count) (block xs) ≡ from_construct (rest_from n (block xs))
 back_is xs ys n count e f =
     sym (rest_is xs (n + count)) ∙ ap block (sym (drop_sum n count xs)) ∙ ap (λ l. block (drop count l)) (sym e) ∙ f ∙ ap (λ l. from_construct (block l)) e ∙ ap from_construct (rest_is xs n)
 

@@ -3,26 +3,26 @@ use Rattle.std.proofs.Common.{◌≡◌, ℕ, zero, suc, ◌+◌, ◌-◌, ◌�
 use Rattle.std.proofs.lemmas.Option.{slice_get-get_or}
 use Rattle.std.specs.List.{Contains}
 use Rattle.std.specs.Prelude.{slice_get, MatchOption}
-use Rattle.spf_code.specs.declared.code.Node.{Node}
+use Rattle.spf_ast.specs.declared.syntax.Stmt.{Stmt}
 use Rattle.spf_ast.specs.Syntax.{Block, end, on_line, Let, Assign, Store, Fill, Emit, Fail, If, For, While, Do, Fold, Pair}
-use Rattle.spf_code.specs.View.{block}
+use Rattle.spf_ast.specs.View.{block}
 use Rattle.spf_ast.specs.Size.{by_slots, block_measure}
 use Rattle.spf_ast.specs.Construct.{Construct, constructs_in}
 use Rattle.spf_exec.specs.Rooms.{construct_measure}
 
 -- the prefix of a list of statements needs no more than the list
-prefix_room : (f : ℕ → ℕ) (xs : List Node) (n : ℕ) → block_measure (by_slots f) (block (take n xs)) ≤ block_measure (by_slots f) (block xs)
+prefix_room : (f : ℕ → ℕ) (xs : List Stmt) (n : ℕ) → block_measure (by_slots f) (block (take n xs)) ≤ block_measure (by_slots f) (block xs)
 prefix_room f xs zero = omega arith
 prefix_room f [] (suc n) = omega arith
 prefix_room f (x ∷ xs) (suc n) = let r = prefix_room f xs n in omega (arith, r)
 
 -- nor do those after it
-back_room : (f : ℕ → ℕ) (xs : List Node) (n : ℕ) → block_measure (by_slots f) (block (drop n xs)) ≤ block_measure (by_slots f) (block xs)
+back_room : (f : ℕ → ℕ) (xs : List Stmt) (n : ℕ) → block_measure (by_slots f) (block (drop n xs)) ≤ block_measure (by_slots f) (block xs)
 back_room f xs zero = omega arith
 back_room f [] (suc n) = omega arith
 back_room f (x ∷ xs) (suc n) = let r = back_room f xs n in omega (arith, r)
 
-pub room_between : (f : ℕ → ℕ) (xs : List Node) (from count : ℕ) → block_measure (by_slots f) (block (take count (drop from xs))) ≤ block_measure (by_slots f) (block xs)
+pub room_between : (f : ℕ → ℕ) (xs : List Stmt) (from count : ℕ) → block_measure (by_slots f) (block (take count (drop from xs))) ≤ block_measure (by_slots f) (block xs)
 room_between f xs from count = let a = prefix_room f (drop from xs) count in let b = back_room f xs from in omega (arith, a, b)
 
 -- a construct that is there fits

@@ -8,7 +8,7 @@ use Rattle.spf_ast.specs.Meaning.{block_means}
 use Rattle.spf_ast.specs.Plain.{plain_answer, plain_memory}
 use Rattle.spf_ast.specs.Program.{environment_of, cell_count_of, start_of, zeros_of}
 use Rattle.spf_ast.specs.Construct.{Construct, Moment, Header, plainly, header_means, constructs_in, carried_of}
-use Rattle.spf_code.specs.ConstructView.{construct as seen_construct}
+use Rattle.spf_ast.specs.ConstructView.{construct as seen_construct}
 use Rattle.spf_ast.specs.Pieces.{statement_count, rest_from, before_construct, from_construct, construct_first}
 use Rattle.spf_layout.specs.Frame.{frame_size, main_slots}
 use Rattle.spf_exec.specs.declared.memory.Halt.{Halt}

@@ -2,12 +2,12 @@
 
 ghost use Rattle.std.specs.Prelude.{◌≡◌, ◌≤◌, ◌<◌, ◌^◌, [], length};
 ghost use Rattle.std.specs.List.{Contains};
-ghost use Rattle.spf_code.specs.declared.code.FoldCode.{out-FoldCode};
-ghost use Rattle.spf_code.specs.declared.code.PairCode.{out-PairCode};
+ghost use Rattle.spf_ast.specs.declared.syntax.Fold.{out-Fold};
+ghost use Rattle.spf_ast.specs.declared.syntax.Pair.{out-Pair};
 ghost use Rattle.spf_ast.specs.declared.syntax.Part.TheVariants.{Predictor};
-ghost use Rattle.spf_code.specs.View.{value as expression, block as seen_block, fold_head, pair_head, predictor};
+ghost use Rattle.spf_ast.specs.View.{expression, block as seen_block, fold_head, pair_head, predictor};
 ghost use Rattle.spf_ast.specs.Syntax.{Fold as fold_form, Pair as pair_form};
-ghost use Rattle.spf_code.specs.ConstructView.{construct as seen_construct};
+ghost use Rattle.spf_ast.specs.ConstructView.{construct as seen_construct};
 ghost use Rattle.spf_ast.specs.Construct.{constructs_in, part_means, guess_means, fold as fold_construct, pair as pair_construct};
 ghost use Rattle.spf_ast.specs.Carried.{no_value};
 ghost use Rattle.spf_ast.specs.BlockRun.{block_setup, part_asks};
@@ -31,10 +31,9 @@ use crate::memory::{Halt, Memory};
 use crate::primitives::write_slot;
 use crate::quiet::{Quiet, ReadOnly};
 use spf_ast::carried::{Carried, set_carried};
+use spf_ast::construct::{ConstructKind, TopConstruct};
 use spf_ast::outcome::Trap;
-use spf_ast::syntax::Part;
-use spf_code::code::{FoldCode, Node, PairCode, Predict, Value};
-use spf_code::construct::{ConstructKind, TopConstruct};
+use spf_ast::syntax::{Expr, Fold, Pair, Part, Predict, Stmt};
 use spf_layout::instance::Instance;
 use spf_layout::stop::Stop;
 
@@ -54,9 +53,9 @@ pub struct Block<'a> {
 fn perform_value<M: Memory>(
     context: &Context,
     below: usize,
-    statements: &[Node],
+    statements: &[Stmt],
     line: u32,
-    answer: &Value,
+    answer: &Expr,
     slots: &mut [i64],
     scratch: &mut [i64],
     memory: &mut M,
@@ -94,7 +93,7 @@ fn perform_guess<M: Memory>(
         memory.old memory.new result (state slots.now (M.output memory.new)) }
 {
     match predict {
-        Predict::Value(guess) => entry::eval(context, below, line, guess, slots, scratch, memory),
+        Predict::Expr(guess) => entry::eval(context, below, line, guess, slots, scratch, memory),
         Predict::Host(_) => Ok(NO_VALUE),
     }
 }
@@ -104,7 +103,7 @@ fn perform_fold<M: Memory>(
     context: &Context,
     below: usize,
     line: u32,
-    fold: &FoldCode,
+    fold: &Fold,
     part: Part,
     number: i64,
     value: Carried,
@@ -115,16 +114,16 @@ fn perform_fold<M: Memory>(
     requires within { AreWithin context.now.extents.now (M.cell_count memory.old) }
     requires short { length context.now.input.now < 2 ^ 63 }
     requires room { statement_measure (call_slots context.now below)
-        (fold_form (fold_head fold.now) (seen_block (out-FoldCode fold.now).body.items))
+        (fold_form (fold_head fold.now) (seen_block (out-Fold fold.now).body.items))
         ≤ length scratch.old }
     ensures performs { Performs M.leads M.stop M.may_lack_memory
         (part_means (environment context.now below)
-        (fold_construct line (fold_head fold.now) (seen_block (out-FoldCode fold.now).body.items))
+        (fold_construct line (fold_head fold.now) (seen_block (out-Fold fold.now).body.items))
         part number value
         (state slots.old (M.output memory.old)))
         memory.old memory.new result (state slots.new (M.output memory.new)) }
     ensures kept { LeavesOtherSlots
-        (fold_construct line (fold_head fold.now) (seen_block (out-FoldCode fold.now).body.items))
+        (fold_construct line (fold_head fold.now) (seen_block (out-Fold fold.now).body.items))
         part slots.old slots.new }
 {
     match part {
@@ -156,7 +155,7 @@ fn perform_pair<M: Memory>(
     context: &Context,
     below: usize,
     line: u32,
-    pair: &PairCode,
+    pair: &Pair,
     part: Part,
     number: i64,
     value: Carried,
@@ -168,21 +167,21 @@ fn perform_pair<M: Memory>(
     requires short { length context.now.input.now < 2 ^ 63 }
     requires room { statement_measure (call_slots context.now below)
         (pair_form (pair_head pair.now)
-        (seen_block (out-PairCode pair.now).producer.items)
-        (seen_block (out-PairCode pair.now).consumer.items))
+        (seen_block (out-Pair pair.now).producer.items)
+        (seen_block (out-Pair pair.now).consumer.items))
         ≤ length scratch.old }
     ensures performs { Performs M.leads M.stop M.may_lack_memory
         (part_means (environment context.now below)
         (pair_construct line (pair_head pair.now)
-        (seen_block (out-PairCode pair.now).producer.items)
-        (seen_block (out-PairCode pair.now).consumer.items))
+        (seen_block (out-Pair pair.now).producer.items)
+        (seen_block (out-Pair pair.now).consumer.items))
         part number value
         (state slots.old (M.output memory.old)))
         memory.old memory.new result (state slots.new (M.output memory.new)) }
     ensures kept { LeavesOtherSlots
         (pair_construct line (pair_head pair.now)
-        (seen_block (out-PairCode pair.now).producer.items)
-        (seen_block (out-PairCode pair.now).consumer.items))
+        (seen_block (out-Pair pair.now).producer.items)
+        (seen_block (out-Pair pair.now).consumer.items))
         part slots.old slots.new }
 {
     match part {

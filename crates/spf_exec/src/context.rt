@@ -6,14 +6,14 @@ ghost use Rattle.spf_ast.specs.Size.{by_slots, function_slots};
 ghost use Rattle.spf_layout.specs.Instance.{program_of};
 ghost use Rattle.spf_exec.specs.Performs.{AreWithin, call_slots, environment};
 
-use spf_code::code::FunctionCode;
+use spf_ast::syntax::Function;
 use spf_layout::instance::Instance;
 
 /// What a form is performed in.
 #[derive(Clone, Copy)]
 pub struct Context<'a> {
     /// The program's functions.
-    pub functions: &'a [FunctionCode<'a>],
+    pub functions: &'a [Function],
     /// The first cell and the number of elements of each array.
     pub extents: &'a [(u64, u64)],
     /// The input's bytes.
@@ -29,7 +29,7 @@ impl<'a> Context<'a> {
         ensures short { length result.input.now < 2 ^ 63 }
     {
         Context {
-            functions: instance.functions(),
+            functions: &instance.program().functions,
             extents: instance.layout().extents(),
             input: instance.input(),
         }

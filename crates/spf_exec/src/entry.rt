@@ -1,7 +1,7 @@
 // Where a performance begins: its halt is handed back in its result.
 
 ghost use Rattle.std.specs.Prelude.{◌≡◌, ◌<◌, ◌≤◌, ◌^◌, length};
-ghost use Rattle.spf_code.specs.View.{value as expression, block as seen_block};
+ghost use Rattle.spf_ast.specs.View.{expression, block as seen_block};
 ghost use Rattle.spf_ast.specs.Meaning.{expression_means, block_means};
 ghost use Rattle.spf_ast.specs.Size.{expression_measure, block_measure};
 ghost use Rattle.spf_exec.specs.Leaves.{Leaves, block_changes};
@@ -10,14 +10,14 @@ ghost use Rattle.spf_exec.specs.Performs.{Performs, AreWithin, call_slots, envir
 use crate::context::Context;
 use crate::memory::{Halt, Halted, Memory};
 use crate::run;
-use spf_code::code::{Node, Value};
+use spf_ast::syntax::{Expr, Stmt};
 
 /// Performs an expression.
 pub(crate) fn eval<M: Memory>(
     context: &Context,
     below: usize,
     line: u32,
-    expr: &Value,
+    expr: &Expr,
     slots: &[i64],
     scratch: &mut [i64],
     memory: &mut M,
@@ -44,7 +44,7 @@ pub(crate) fn eval<M: Memory>(
 pub(crate) fn perform_statements<M: Memory>(
     context: &Context,
     below: usize,
-    statements: &[Node],
+    statements: &[Stmt],
     slots: &mut [i64],
     scratch: &mut [i64],
     memory: &mut M,

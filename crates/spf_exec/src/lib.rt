@@ -16,4 +16,3 @@ pub mod plain_run;
 mod primitives;
 mod quiet;
 mod run;
-mod terms;

@@ -1,20 +1,20 @@
 // Plain runs in pieces: `main` is run from one top construct to the next, and each construct is settled by who runs it.
 
 ghost use Rattle.std.specs.Prelude.{◌≡◌, ◌+◌, ◌-◌, ◌<◌, ◌≤◌, ◌^◌, ◌+ℤ◌, ◌≤ℤ◌, ℕ, length, pos, drop, take, Some, IfOk, MatchOption};
-ghost use Rattle.spf_code.specs.declared.code.FoldCode.{out-FoldCode};
+ghost use Rattle.spf_ast.specs.declared.syntax.Fold.{out-Fold};
 ghost use Rattle.std.specs.Borrow.{Lends, Array, sem, i64 as word};
 ghost use Rattle.spf_exec.specs.contracts.pieces.Run.{the_row};
 ghost use Rattle.spf_exec.specs.declared.pieces.Pause.TheVariants.{AtConstruct, Finished};
-ghost use Rattle.spf_code.specs.View.{block as seen_block, fold_head};
+ghost use Rattle.spf_ast.specs.View.{block as seen_block, fold_head};
 ghost use Rattle.spf_ast.specs.Meaning.{block_means, max_blocks};
 ghost use Rattle.spf_ast.specs.Syntax.{end, Fold as fold_form};
 ghost use Rattle.spf_ast.specs.Construct.{constructs_in, header_means, fold as fold_construct};
-ghost use Rattle.spf_code.specs.ConstructView.{construct as seen_construct};
+ghost use Rattle.spf_ast.specs.ConstructView.{construct as seen_construct};
 ghost use Rattle.spf_ast.specs.Plain.{plain_memory};
-ghost use Rattle.spf_ast.specs.Pieces.{statement_count, before_construct, from_construct, construct_first, rest_from};
+ghost use Rattle.spf_ast.specs.Pieces.{before_construct, from_construct, construct_first, rest_from};
 ghost use Rattle.spf_ast.specs.Program.{cell_count_of, environment_of};
 ghost use Rattle.spf_ast.specs.Silence.{FunctionsAreSilent};
-ghost use Rattle.spf_ast.specs.Size.{by_slots, block_measure, statement_measure, function_slots};
+ghost use Rattle.spf_ast.specs.Size.{by_slots, statement_measure, function_slots};
 ghost use Rattle.spf_layout.specs.Frame.{call_room, frame_size, main_slots};
 ghost use Rattle.spf_layout.specs.Instance.{program_of};
 ghost use Rattle.spf_exec.specs.Rooms.{construct_measure};
@@ -44,9 +44,9 @@ use crate::plain_run::run_main;
 use crate::primitives::{are_too_many, block_count};
 use crate::quiet::Quiet;
 use spf_ast::carried::Carried;
+use spf_ast::construct::{ConstructKind, TopConstruct, as_construct};
 use spf_ast::outcome::{Trap, TrapKind};
-use spf_code::code::{FoldCode, Node};
-use spf_code::construct::{ConstructKind, TopConstruct, as_construct};
+use spf_ast::syntax::{Fold, Stmt};
 use spf_layout::instance::Instance;
 use std::alloc::{AllocError, Global};
 use std::marker::Model;
@@ -110,7 +110,7 @@ struct Prefix<'a> {
 }
 
 /// The statements before the first top construct among these.
-fn plain_prefix<'a>(statements: &'a [Node]) -> Prefix<'a>
+fn plain_prefix<'a>(statements: &'a [Stmt]) -> Prefix<'a>
     ensures within { result.count ≤ length statements.now }
     ensures before { seen_block (take result.count statements.now) ≡ before_construct (seen_block statements.now) }
     ensures rest { seen_block (drop result.count statements.now) ≡ from_construct (seen_block statements.now) }
@@ -147,19 +147,20 @@ impl<'a> Prefix<'a> {
 }
 
 /// Performs some of the statements of `main`.
-fn perform_some(
+fn perform_between(
     instance: &Instance,
-    statements: &[Node],
+    from: usize,
+    to: usize,
     frame: &mut Frame,
     memory: &mut Plain,
 ) -> Result<(), Halt>
     requires cells { length memory.old.cells.items ≡ cell_count_of (program_of instance.now) (length instance.now.input) }
     requires frame { length frame.old ≡ frame_size (program_of instance.now) }
-    requires room { block_measure (by_slots (function_slots (program_of instance.now))) (seen_block statements.now)
-        ≤ call_room (program_of instance.now) }
+    requires order { from ≤ to }
+    requires within { to ≤ length instance.now.code.main.items }
     ensures outcome { IsPlainOutcome result
         (block_means (environment_of (program_of instance.now) instance.now.input)
-        (seen_block statements.now)
+        (seen_block (take (to - from) (drop from instance.now.code.main.items)))
         (state (main_slots (program_of instance.now) frame.old) memory.old.output.items))
         memory.old.cells.items memory.new.cells.items
         (state (main_slots (program_of instance.now) frame.new) memory.new.output.items) }
@@ -167,13 +168,14 @@ fn perform_some(
     ensures size { length frame.new ≡ length frame.old }
 {
     let context = Context::of(instance);
-    let (slots, scratch) = frame.slots.split_at_mut(instance.program().slots.len());
-    run_main(&context, statements, slots, scratch, memory)
+    let program = instance.program();
+    let (slots, scratch) = frame.slots.split_at_mut(program.slots.len());
+    run_main(&context, &program.main[from..to], slots, scratch, memory)
 }
 
 /// Performs the statements of `main` up to the next top construct, and gives the index that was reached.
 fn advance_from<'a>(
-    instance: &'a Instance,
+    instance: &Instance<'a>,
     place: usize,
     passed: usize,
     frame: &mut Frame,
@@ -181,23 +183,21 @@ fn advance_from<'a>(
 ) -> Result<(usize, Pause<'a>), AllocError>
     requires cells { length memory.old.cells.items ≡ cell_count_of (program_of instance.now) (length instance.now.input) }
     requires frame { length frame.old ≡ frame_size (program_of instance.now) }
-    requires within { place ≤ statement_count (program_of instance.now).main }
+    requires within { place ≤ length instance.now.code.main.items }
     requires passed { passed + length (constructs_in (rest_from place (program_of instance.now).main))
         ≡ length (constructs_in (program_of instance.now).main) }
     requires few_constructs { length (constructs_in (program_of instance.now).main) < 2 ^ 32 }
     ensures advanced { IfOk result (λ r. Advanced (program_of instance.now) instance.now.input
         (stand frame.old memory.old place passed) (stand frame.new memory.new r.0 passed) r.1) }
-    ensures place { IfOk result (λ r. r.0 ≤ statement_count (program_of instance.now).main) }
+    ensures place { IfOk result (λ r. r.0 ≤ length instance.now.code.main.items) }
     ensures passed { IfOk result (λ r. passed + length (constructs_in (rest_from r.0 (program_of instance.now).main))
         ≡ length (constructs_in (program_of instance.now).main)) }
     ensures cells { length memory.new.cells.items ≡ length memory.old.cells.items }
     ensures size { length frame.new ≡ length frame.old }
 {
-    let main = instance.main();
-    prove!(place <= main.len());
-    let prefix = plain_prefix(&main[place..]);
+    let prefix = plain_prefix(&instance.program().main[place..]);
     let next = place + prefix.count;
-    match perform_some(instance, &main[place..next], frame, memory) {
+    match perform_between(instance, place, next, frame, memory) {
         Ok(()) => Ok((next, prefix.pause(passed as u32))),
         Err(Halt::Trapped(trap)) => Ok((place, Pause::Trapped(trap))),
         Err(Halt::Cancelled { .. }) => unreachable!(),
@@ -210,7 +210,7 @@ fn perform_header<M: Memory>(
     context: &Context,
     below: usize,
     line: u32,
-    fold: &FoldCode,
+    fold: &Fold,
     slots: &[i64],
     scratch: &mut [i64],
     memory: &mut M,
@@ -218,11 +218,11 @@ fn perform_header<M: Memory>(
     requires within { AreWithin context.now.extents.now (M.cell_count memory.old) }
     requires short { length context.now.input.now < 2 ^ 63 }
     requires room { statement_measure (call_slots context.now below)
-        (fold_form (fold_head fold.now) (seen_block (out-FoldCode fold.now).body.items))
+        (fold_form (fold_head fold.now) (seen_block (out-Fold fold.now).body.items))
         ≤ length scratch.old }
     ensures performs { Performs M.leads M.stop M.may_lack_memory
         (header_means (environment context.now below)
-        (fold_construct line (fold_head fold.now) (seen_block (out-FoldCode fold.now).body.items))
+        (fold_construct line (fold_head fold.now) (seen_block (out-Fold fold.now).body.items))
         (state slots.now (M.output memory.old)))
         memory.old memory.new (header_result result) (state slots.now (M.output memory.new)) }
     ensures cells { M.cell_count memory.new ≡ M.cell_count memory.old }
@@ -249,26 +249,26 @@ fn perform_header<M: Memory>(
 fn header_quietly(
     instance: &Instance,
     line: u32,
-    fold: &FoldCode,
+    fold: &Fold,
     frame: &mut Frame,
     quiet: &mut Quiet<Plain>,
 ) -> Result<Header, Halt>
     requires cells { length quiet.old.memory.now.cells.items ≡ cell_count_of (program_of instance.now) (length instance.now.input) }
     requires frame { length frame.old ≡ frame_size (program_of instance.now) }
     requires room { statement_measure (by_slots (function_slots (program_of instance.now)))
-        (fold_form (fold_head fold.now) (seen_block (out-FoldCode fold.now).body.items))
+        (fold_form (fold_head fold.now) (seen_block (out-Fold fold.now).body.items))
         ≤ call_room (program_of instance.now) }
     requires silent { FunctionsAreSilent (program_of instance.now).functions }
     ensures outcome { IsPlainOutcome (header_result result)
         (header_means (environment_of (program_of instance.now) instance.now.input)
-        (fold_construct line (fold_head fold.now) (seen_block (out-FoldCode fold.now).body.items))
+        (fold_construct line (fold_head fold.now) (seen_block (out-Fold fold.now).body.items))
         (state (main_slots (program_of instance.now) frame.old) quiet.old.memory.now.output.items))
         quiet.old.memory.now.cells.items quiet.new.memory.now.cells.items
         (state (main_slots (program_of instance.now) frame.old) quiet.old.memory.now.output.items) }
     ensures decided { IsDecided result }
     ensures memory { quiet.new.memory.now.cells.items
         ≡ plain_memory (header_means (environment_of (program_of instance.now) instance.now.input)
-        (fold_construct line (fold_head fold.now) (seen_block (out-FoldCode fold.now).body.items))
+        (fold_construct line (fold_head fold.now) (seen_block (out-Fold fold.now).body.items))
         (state (main_slots (program_of instance.now) frame.old) quiet.old.memory.now.output.items))
         quiet.old.memory.now.cells.items }
     ensures same_reference { quiet.new.memory.ghost_name ≡ quiet.old.memory.ghost_name }
@@ -296,23 +296,23 @@ fn header_quietly(
 fn fold_header(
     instance: &Instance,
     line: u32,
-    fold: &FoldCode,
+    fold: &Fold,
     frame: &mut Frame,
     memory: &mut Plain,
 ) -> Result<Header, Trap>
     requires cells { length memory.old.cells.items ≡ cell_count_of (program_of instance.now) (length instance.now.input) }
     requires frame { length frame.old ≡ frame_size (program_of instance.now) }
     requires room { statement_measure (by_slots (function_slots (program_of instance.now)))
-        (fold_form (fold_head fold.now) (seen_block (out-FoldCode fold.now).body.items))
+        (fold_form (fold_head fold.now) (seen_block (out-Fold fold.now).body.items))
         ≤ call_room (program_of instance.now) }
     requires silent { FunctionsAreSilent (program_of instance.now).functions }
     ensures answer { IsHeaderAnswer (header_means (environment_of (program_of instance.now) instance.now.input)
-        (fold_construct line (fold_head fold.now) (seen_block (out-FoldCode fold.now).body.items))
+        (fold_construct line (fold_head fold.now) (seen_block (out-Fold fold.now).body.items))
         (state (main_slots (program_of instance.now) frame.old) memory.old.output.items))
         memory.old.cells.items
         (state (main_slots (program_of instance.now) frame.old) memory.old.output.items) result }
     ensures memory { memory.new.cells.items ≡ plain_memory (header_means (environment_of (program_of instance.now) instance.now.input)
-        (fold_construct line (fold_head fold.now) (seen_block (out-FoldCode fold.now).body.items))
+        (fold_construct line (fold_head fold.now) (seen_block (out-Fold fold.now).body.items))
         (state (main_slots (program_of instance.now) frame.old) memory.old.output.items))
         memory.old.cells.items }
     ensures output { memory.new.output.items ≡ memory.old.output.items }
@@ -393,7 +393,7 @@ impl Run {
     /// # Errors
     ///
     /// `AllocError` where there is no memory for the output.
-    pub fn advance<'a>(&mut self, instance: &'a Instance) -> Result<Pause<'a>, AllocError>
+    pub fn advance<'a>(&mut self, instance: &Instance<'a>) -> Result<Pause<'a>, AllocError>
         requires run { IsRunOf (program_of instance.now) (length instance.now.input) self.old }
         requires few_constructs { length (constructs_in (program_of instance.now).main) < 2 ^ 32 }
         ensures advanced { IfOk result (λ pause. Advanced (program_of instance.now) instance.now.input self.old self.new pause) }
@@ -435,7 +435,7 @@ impl Run {
         ensures settled { IsSettled (program_of instance.now) (seen_construct construct.entry) self.old self.new value }
         ensures run { IsRunOf (program_of instance.now) (length instance.now.input) self.new }
     {
-        let statements = instance.main().len();
+        let statements = instance.program().main.len();
         prove!(self.place < statements);
         self.frame.set_carried(construct.carried_slot(), value);
         self.place += 1;

@@ -1,8 +1,7 @@
 // Whole programs on a memory of their own.
 
 ghost use Rattle.std.specs.Prelude.{◌≡◌, ◌<◌, ◌≤◌, ◌^◌, length, IfOk, IfErr, IsErrAnd};
-ghost use Rattle.spf_ast.specs.View.{program as seen_program};
-ghost use Rattle.spf_code.specs.View.{block as seen_block};
+ghost use Rattle.spf_ast.specs.View.{block as seen_block, program as seen_program};
 ghost use Rattle.spf_ast.specs.Meaning.{block_means};
 ghost use Rattle.spf_ast.specs.Program.{cell_count_of, max_cells, outcome, seen_outcome};
 ghost use Rattle.spf_layout.specs.declared.layout.RunError.TheVariants.{OutOfMemory};
@@ -18,8 +17,7 @@ use crate::frame::Frame;
 use crate::memory::Halt;
 use crate::plain::Plain;
 use spf_ast::outcome::Outcome;
-use spf_ast::syntax::Program;
-use spf_code::code::Node;
+use spf_ast::syntax::{Program, Stmt};
 use spf_layout::instance::Instance;
 use spf_layout::layout::RunError;
 use std::alloc::{AllocError, Global};
@@ -27,7 +25,7 @@ use std::alloc::{AllocError, Global};
 /// Performs the statements of `main` on a memory of its own.
 pub(crate) fn run_main(
     context: &Context,
-    main: &[Node],
+    main: &[Stmt],
     slots: &mut [i64],
     scratch: &mut [i64],
     memory: &mut Plain,
@@ -69,8 +67,9 @@ pub fn run_instance(alloc: Global, instance: &Instance) -> Result<Outcome, Alloc
         output: Vec::new(alloc),
     };
     let context = Context::of(instance);
-    let (slots, scratch) = frame.slots.split_at_mut(instance.program().slots.len());
-    match run_main(&context, instance.main(), slots, scratch, &mut memory) {
+    let program = instance.program();
+    let (slots, scratch) = frame.slots.split_at_mut(program.slots.len());
+    match run_main(&context, &program.main, slots, scratch, &mut memory) {
         Ok(()) => Ok(Outcome::Done {
             cells: memory.cells,
             output: memory.output,

@@ -1,9 +1,8 @@
 // Programs with an input that they run on.
 
-ghost use Rattle.std.specs.Prelude.{◌≡◌, ◌<◌, ◌≤◌, ◌^◌, length, map, IfOk, IfErr, IsErrAnd};
+ghost use Rattle.std.specs.Prelude.{◌≡◌, ◌<◌, ◌≤◌, ◌^◌, length, IfOk, IfErr, IsErrAnd};
 ghost use Rattle.spf_ast.specs.View.{program as seen_program};
 ghost use Rattle.spf_ast.specs.Program.{cell_count_of, max_cells};
-ghost use Rattle.spf_code.specs.View.{function as seen_function, block as seen_block};
 ghost use Rattle.spf_layout.specs.declared.layout.RunError.TheVariants.{OutOfMemory};
 ghost use Rattle.spf_layout.specs.Frame.{frame_size as size_of_frame};
 ghost use Rattle.spf_layout.specs.Layout.{IsLayoutOf};
@@ -14,20 +13,16 @@ use crate::arrays::layout;
 use crate::frame_size::slot_count;
 use crate::layout::{Layout, RunError};
 use spf_ast::syntax::Program;
-use spf_code::code::{FunctionCode, Node, ProgramCode};
-use spf_code::lower::program as lowered;
 use std::alloc::Global;
 use std::marker::Model;
 
-/// A program with an input that it runs on, and what follows from both once: where its arrays lie, how many slots a frame has, and
-/// the form in which it is performed.
+/// A program with an input that it runs on, and what follows from both once: where its arrays lie, and how many slots a frame has.
 #[derive(Drop)]
 pub struct Instance<'a> {
     program: &'a Program,
     input: &'a [u8],
     layout: Layout,
     frame_size: usize,
-    code: ProgramCode<'a>,
 }
 
 impl<'a> Model for Instance<'a> {
@@ -42,11 +37,11 @@ impl<'a> Model for Instance<'a> {
 
     ghost view = { λ i. record { code = i.program.now; input = i.input.now } };
 
-    ghost invariant = { λ i. IsInstance (seen_program i.program.now) i.input.now i.layout i.frame_size i.code };
+    ghost invariant = { λ i. IsInstance (seen_program i.program.now) i.input.now i.layout i.frame_size };
 }
 
 impl<'a> Instance<'a> {
-    /// Lays out the arrays of a program for an input, counts the slots of a frame, and lowers the program.
+    /// Lays out the arrays of a program for an input, and counts the slots of a frame.
     ///
     /// # Errors
     ///
@@ -65,13 +60,11 @@ impl<'a> Instance<'a> {
     {
         let layout = layout(alloc, program, input.len() as u64)?;
         let frame_size = slot_count(alloc, program)?;
-        let code = lowered(alloc, program)?;
         Ok(Instance {
             program,
             input,
             layout,
             frame_size,
-            code,
         })
     }
 
@@ -102,19 +95,5 @@ impl<'a> Instance<'a> {
         ensures { result ≡ size_of_frame (program_of self.now) }
     {
         self.frame_size
-    }
-
-    /// The functions in the form in which they are performed.
-    pub fn functions(&self) -> &[FunctionCode<'a>]
-        ensures { map seen_function result.now ≡ (program_of self.now).functions }
-    {
-        &self.code.functions
-    }
-
-    /// The statements of `main` in the form in which they are performed.
-    pub fn main(&self) -> &[Node]
-        ensures { seen_block result.now ≡ (program_of self.now).main }
-    {
-        &self.code.main
     }
 }

@@ -7,7 +7,7 @@ ghost use Rattle.spf_ast.specs.Silence.{BlockIsSilent, FunctionsAreSilent};
 use crate::pieces::doubled;
 use crate::programs::{array, binary, name, names, on_line};
 use spf_ast::carried::Carried;
-use spf_code::construct::find_construct;
+use spf_ast::construct::find_construct;
 use spf_ast::outcome::Trap;
 use spf_ast::syntax::{Expr, Fold, Function, Op, Predict, Program, Stmt, StmtKind};
 use spf_exec::block_run::exec_predictor;
@@ -74,7 +74,7 @@ fn guess(
     let Ok(instance) = Instance::make(alloc, program, &[]) else {
         return Ok(None);
     };
-    let Some(construct) = find_construct(instance.main(), 0) else {
+    let Some(construct) = find_construct(&program.main, 0) else {
         return Ok(None);
     };
     let mut frame = Frame::make(alloc, &instance)?;

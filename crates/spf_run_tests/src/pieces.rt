@@ -14,7 +14,7 @@ ghost use Rattle.spf_ast.specs.Syntax.{
 ghost use Rattle.spf_ast.specs.declared.syntax.Op.TheVariants.{Mul};
 ghost use Rattle.spf_ast.specs.declared.syntax.Part.TheVariants.{Body};
 ghost use Rattle.spf_ast.specs.View.{program as seen_program};
-ghost use Rattle.spf_code.specs.ConstructView.{construct as seen_construct};
+ghost use Rattle.spf_ast.specs.ConstructView.{construct as seen_construct};
 ghost use Rattle.spf_ast.specs.Pieces.{construct_first};
 ghost use Rattle.spf_ast.specs.Silence.{FunctionsAreSilent, PartIsSilent};
 ghost use Rattle.spf_layout.specs.Instance.{program_of};
@@ -22,7 +22,7 @@ ghost use Rattle.spf_exec.specs.Pieces.{IsRunOf, ahead};
 
 use crate::programs::{names, on_line};
 use spf_ast::carried::Carried;
-use spf_code::construct::TopConstruct;
+use spf_ast::construct::TopConstruct;
 use spf_ast::syntax::{Expr, Fold, Op, Part, Predict, Program, Stmt, StmtKind};
 use spf_exec::block_run::{Block, exec_block};
 use spf_exec::frame::Frame;

@@ -5,7 +5,7 @@ use Rattle.spf_ast.specs.Event.{Event}
 use Rattle.spf_ast.specs.Interaction.{Performed, Ended, Stopped, State, Ending, Value, Trapped}
 use Rattle.spf_ast.specs.Syntax.{Program}
 use Rattle.spf_ast.specs.Construct.{Construct, part_of}
-use Rattle.spf_code.specs.ConstructView.{construct}
+use Rattle.spf_ast.specs.ConstructView.{construct}
 use Rattle.spf_laws.specs.Agreement.{AgreeOutside}
 use Rattle.spf_layout.specs.declared.stop.Stop.{Stop}
 use Rattle.spf_layout.specs.declared.stop.Stop.TheVariants as stop

@@ -3,7 +3,7 @@ ghost use Rattle.std.specs.Prelude.{◌≡◌, ℕ, length, false};
 ghost use Rattle.std.specs.List.{Contains};
 ghost use Rattle.spf_ast.specs.Carried.{Carried as CarriedValue};
 ghost use Rattle.spf_ast.specs.Construct.{constructs_in, part_of, statements_of};
-ghost use Rattle.spf_code.specs.ConstructView.{construct as seen_construct};
+ghost use Rattle.spf_ast.specs.ConstructView.{construct as seen_construct};
 ghost use Rattle.spf_ast.specs.Lawful.{IsLawful};
 ghost use Rattle.spf_ast.specs.Program.{cell_count_of};
 ghost use Rattle.spf_ast.specs.Silence.{PartIsSilent};
@@ -17,7 +17,7 @@ ghost use Rattle.spf_ticket.specs.Tickets.{IsJobOf, IsTicketAt, IsSameTicket, Ra
 
 use crate::memory::LaneMemory;
 use crate::ticket::{Report, Ticket};
-use spf_code::construct::TopConstruct;
+use spf_ast::construct::TopConstruct;
 use spf_ast::laws::lawful_programs_are_quiet_and_small;
 use spf_cells::cells::Cells;
 use spf_edge::{Gate, Place};

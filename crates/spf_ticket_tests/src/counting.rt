@@ -3,7 +3,7 @@ ghost use Rattle.std.specs.Prelude.{◌≡◌, [], ◌∷◌, ◌++◌, length, 
 ghost use Rattle.spf_ast.specs.Carried.{Carried as CarriedValue};
 ghost use Rattle.spf_ast.specs.Syntax.{Fold as fold_form};
 ghost use Rattle.spf_ast.specs.View.{program as seen_program, block as seen_block, statement as seen_statement};
-ghost use Rattle.spf_code.specs.ConstructView.{construct as seen_construct};
+ghost use Rattle.spf_ast.specs.ConstructView.{construct as seen_construct};
 ghost use Rattle.spf_layout.specs.Instance.{program_of};
 ghost use Rattle.spf_layout.specs.declared.stop.Stop.TheVariants as stop;
 ghost use Rattle.spf_cells.specs.Log.{events};
@@ -20,7 +20,7 @@ ghost use Rattle.spf_ticket_tests.specs.Turns.{
   five_turns,
 };
 
-use spf_code::construct::find_construct;
+use spf_ast::construct::find_construct;
 use spf_ast::syntax::{Expr, Fold, Name, Predict, Program, Stmt, StmtKind};
 use spf_cells::cells::Cells;
 use spf_cells::lane::Lane;
@@ -159,7 +159,7 @@ fn both_attempts(alloc: Global, raised: bool) -> Result<Option<(Stop, Stop)>, Al
     let Ok(instance) = Instance::make(alloc, &program, &[]) else {
         return Ok(None);
     };
-    let Some(construct) = find_construct(instance.main(), 0) else {
+    let Some(construct) = find_construct(&program.main, 0) else {
         return Ok(None);
     };
     let job = Job {

@@ -1,13 +1,13 @@
 //! Attempts in threads of their own, while the warden raises a flag.
 ghost use Rattle.std.specs.Prelude.{◌≡◌, [], ◌<◌, length};
 ghost use Rattle.std.specs.List.{Contains};
-ghost use Rattle.spf_code.specs.ConstructView.{construct as seen_construct};
+ghost use Rattle.spf_ast.specs.ConstructView.{construct as seen_construct};
 ghost use Rattle.spf_layout.specs.Instance.{program_of};
 ghost use Rattle.spf_cells.specs.Values.{IsWardenOf};
 ghost use Rattle.spf_ticket_tests.specs.Turns.{counting, counting_fold as fold_of_counting, counting_setting};
 
 use crate::counting::{attempt, counting, lane_of_block_one};
-use spf_code::construct::find_construct;
+use spf_ast::construct::find_construct;
 use spf_cells::cells::Cells;
 use spf_cells::warden::Warden;
 use spf_exec::frame::Frame;
@@ -77,7 +77,7 @@ fn both_attempts<R: Threads + Sync>(
     let Ok(instance) = Instance::make(alloc, &program, &[]) else {
         return Ok(None);
     };
-    let Some(construct) = find_construct(instance.main(), 0) else {
+    let Some(construct) = find_construct(&program.main, 0) else {
         return Ok(None);
     };
     let job = Job {

@@ -1,5 +1,5 @@
 use Rattle.std.proofs.Common.{◌∙◌, sym, ap, List, ◌++◌}
-use Rattle.spf_code.specs.ConstructView.{construct as seen_construct}
+use Rattle.spf_ast.specs.ConstructView.{construct as seen_construct}
 use Rattle.spf_exec.specs.Pieces.{seen_header}
 use Rattle.spf_guess.specs.Guess.{predictor_of, tells}
 use Rattle.spf_chain.specs.declared.validated.Validated.{Validated}

@@ -1,6 +1,6 @@
 use Rattle.std.proofs.Common.{◌≡◌, ◌∙◌, sym, ap, subst, arith, rules, w64, FitsSigned, ◌≤◌, List}
 use Rattle.std.proofs.lemmas.Int.{to_z-of_z}
-use Rattle.spf_code.specs.ConstructView.{construct as seen_construct}
+use Rattle.spf_ast.specs.ConstructView.{construct as seen_construct}
 use Rattle.spf_ast.specs.Lawful.{IsLawful}
 use Rattle.spf_ast.specs.Program.{environment_of}
 use Rattle.spf_layout.specs.Instance.{program_of}

@@ -1,5 +1,5 @@
 use Rattle.std.proofs.Common.{◌≡◌, ◌∙◌, sym, ap, List, ◌++◌, length, refl}
-use Rattle.spf_code.specs.ConstructView.{construct as seen_construct}
+use Rattle.spf_ast.specs.ConstructView.{construct as seen_construct}
 use Rattle.spf_layout.specs.Instance.{program_of}
 use Rattle.spf_exec.specs.Pieces.{seen_header}
 use Rattle.spf_entry.specs.Entry.{plain_blocks}

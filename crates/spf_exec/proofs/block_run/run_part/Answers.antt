@@ -1,7 +1,7 @@
 use Rattle.std.proofs.Common.{◌≡◌, ◌++◌, rules, ◌≤◌, length, take, drop, sym, ap, ◌∙◌, arith}
 use Rattle.std.proofs.Math.ListN.{length-map}
 use Rattle.spf_ast.specs.View.{name}
-use Rattle.spf_code.specs.ConstructView.{construct}
+use Rattle.spf_ast.specs.ConstructView.{construct}
 use Rattle.spf_ast.specs.Size.{function_slots}
 use Rattle.spf_layout.specs.Frame.{main_slots}
 use Rattle.spf_layout.specs.Instance.{program_of}

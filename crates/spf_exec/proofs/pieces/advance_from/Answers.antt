@@ -1,68 +1,50 @@
-use Rattle.std.proofs.Common.{◌≡◌, ◌+◌, ◌-◌, ◌≤◌, Err, Some, sym, subst, ap, ◌∙◌, length, take, drop, arith}
+use Rattle.std.proofs.Common.{rules, ◌≡◌, ◌+◌, Err, Some, subst, ap, ◌∙◌, length, drop}
 use Rattle.std.specs.Prelude.{MatchOption}
-use Rattle.spf_code.specs.View.{block}
+use Rattle.spf_ast.specs.View.{block}
 use Rattle.spf_ast.specs.Syntax.{end}
 use Rattle.spf_ast.specs.Meaning.{block_means}
 use Rattle.spf_ast.specs.Program.{environment_of}
 use Rattle.spf_ast.specs.Construct.{constructs_in}
-use Rattle.spf_code.specs.ConstructView.{construct}
-use Rattle.spf_ast.specs.Pieces.{rest_from, before_construct, from_construct, construct_first, statement_count}
-use Rattle.spf_ast.specs.Size.{by_slots, block_measure, function_slots}
+use Rattle.spf_ast.specs.ConstructView.{construct}
+use Rattle.spf_ast.specs.Pieces.{rest_from, from_construct, construct_first}
 use Rattle.spf_layout.specs.Instance.{program_of}
 use Rattle.spf_exec.specs.Pieces.{EndsAt, TrapsAt, stand}
 use Rattle.spf_exec.proofs.Outcome.{trapped_outcome}
 use Rattle.spf_exec.proofs.Constructs.{constructs_from}
-use Rattle.spf_exec.proofs.Rooms.{room_between}
-use Rattle.spf_exec.proofs.Prefixes.{count_is, rest_is, advanced_ok, prefix_is, back_is, part_from}
+use Rattle.spf_exec.proofs.Prefixes.{rest_is, advanced_ok, prefix_is, back_is, part_from}
 use Rattle.spf_exec.proofs.pieces.advance_from.Goals as goal
 
 pub returns-in-Ok-clause-advanced : goal.returns-in-Ok-clause-advanced
 returns-in-Ok-clause-advanced c =
     let p = program_of c.args.instance.now in
-    let xs = c.main-main.result.now in
+    let xs = c.args.instance.now.code.main.items in
     let before = stand c.args.frame.now c.args.memory.now c.args.place c.args.passed in
-    let after = stand c.perform_some.new.frame c.perform_some.new.memory (c.args.place + c.plain_prefix-prefix.result.count) c.args.passed in
-    let e = part_from xs c.args.place in
-    let main = c.main-main.ensures in
-    let prefix = prefix_is xs _ c.args.place c.plain_prefix-prefix.result.count e c.plain_prefix-prefix.ensures.before ∙ ap (λ b. before_construct (rest_from c.args.place b)) main in
-    let back = sym (ap (rest_from (c.args.place + c.plain_prefix-prefix.result.count)) c.main-main.ensures) ∙ back_is xs _ c.args.place c.plain_prefix-prefix.result.count e c.plain_prefix-prefix.ensures.rest ∙ ap (λ b. from_construct (rest_from c.args.place b)) c.main-main.ensures in
+    let after = stand c.perform_between.new.frame c.perform_between.new.memory (c.args.place + c.plain_prefix-prefix.result.count) c.args.passed in
+    let statements : c.deref.result.now ≡ xs = search rules in
+    let e = part_from c.deref.result.now c.args.place ∙ ap (drop c.args.place) statements in
+    let prefix = prefix_is xs _ c.args.place c.plain_prefix-prefix.result.count e c.plain_prefix-prefix.ensures.before in
+    let back = back_is xs _ c.args.place c.plain_prefix-prefix.result.count e c.plain_prefix-prefix.ensures.rest in
     let went = subst (λ b. EndsAt p (block_means (environment_of p c.args.instance.now.input) b) before after tt) prefix (record { answer = c.in-Ok.ensures.outcome.0; memory = c.in-Ok.ensures.outcome.1 }) in
-    let next = subst (λ b. MatchOption c.plain_prefix-prefix.result.construct (from_construct b ≡ end) (λ k. construct_first (from_construct b) ≡ Some (construct k))) (ap block e ∙ rest_is xs c.args.place ∙ ap (rest_from c.args.place) c.main-main.ensures) c.plain_prefix-prefix.ensures.construct in
+    let next = subst (λ b. MatchOption c.plain_prefix-prefix.result.construct (from_construct b ≡ end) (λ k. construct_first (from_construct b) ≡ Some (construct k))) (ap block e ∙ rest_is xs c.args.place) c.plain_prefix-prefix.ensures.construct in
     advanced_ok p c.args.instance.now.input before after c.args.passed c.plain_prefix-prefix.result.construct c.pause.result went back c.requires.passed next c.pause.ensures
 
 pub returns-in-Ok-clause-passed : goal.returns-in-Ok-clause-passed
 returns-in-Ok-clause-passed c =
     let p = program_of c.args.instance.now in
-    let xs = c.main-main.result.now in
-    let e = part_from xs c.args.place in
-    let back = sym (ap (rest_from (c.args.place + c.plain_prefix-prefix.result.count)) c.main-main.ensures) ∙ back_is xs _ c.args.place c.plain_prefix-prefix.result.count e c.plain_prefix-prefix.ensures.rest ∙ ap (λ b. from_construct (rest_from c.args.place b)) c.main-main.ensures in
+    let xs = c.args.instance.now.code.main.items in
+    let statements : c.deref.result.now ≡ xs = search rules in
+    let e = part_from c.deref.result.now c.args.place ∙ ap (drop c.args.place) statements in
+    let back = back_is xs _ c.args.place c.plain_prefix-prefix.result.count e c.plain_prefix-prefix.ensures.rest in
     ap (λ b. c.args.passed + length (constructs_in b)) back ∙ ap (λ l. c.args.passed + length l) (constructs_from (rest_from c.args.place p.main)) ∙ c.requires.passed
 
 pub returns-in-Err-Trapped-clause-advanced : goal.returns-in-Err-Trapped-clause-advanced
 returns-in-Err-Trapped-clause-advanced c =
     let p = program_of c.args.instance.now in
-    let xs = c.main-main.result.now in
+    let xs = c.args.instance.now.code.main.items in
     let before = stand c.args.frame.now c.args.memory.now c.args.place c.args.passed in
-    let after = stand c.perform_some.new.frame c.perform_some.new.memory c.args.place c.args.passed in
-    let e = part_from xs c.args.place in
-    let main = c.main-main.ensures in
-    let prefix = prefix_is xs _ c.args.place c.plain_prefix-prefix.result.count e c.plain_prefix-prefix.ensures.before ∙ ap (λ b. before_construct (rest_from c.args.place b)) main in
-    let stopped = trapped_outcome _ _ _ _ (c.in-Err-Trapped.is ∙ ap Err c.in-Err-Trapped.field-0-is) c.perform_some.ensures.outcome in
+    let after = stand c.perform_between.new.frame c.perform_between.new.memory c.args.place c.args.passed in
+    let statements : c.deref.result.now ≡ xs = search rules in
+    let e = part_from c.deref.result.now c.args.place ∙ ap (drop c.args.place) statements in
+    let prefix = prefix_is xs _ c.args.place c.plain_prefix-prefix.result.count e c.plain_prefix-prefix.ensures.before in
+    let stopped = trapped_outcome _ _ _ _ (c.in-Err-Trapped.is ∙ ap Err c.in-Err-Trapped.field-0-is) c.perform_between.ensures.outcome in
     rw c.in-Err-Trapped.field-0-is (subst (λ b. TrapsAt p (block_means (environment_of p c.args.instance.now.input) b) before after c.in-Err-Trapped.trap) prefix stopped.0)
-
-pub prove-unreachable-requires : goal.prove-unreachable-requires
-prove-unreachable-requires c =
-    let count = ap statement_count c.main-main.ensures in
-    omega (arith, c.requires.within, count, count_is c.main-main.result.now, c.if-prove.true)
-
-pub perform_some-requires-clause-room : goal.perform_some-requires-clause-room
-perform_some-requires-clause-room c =
-    let p = program_of c.args.instance.now in
-    let all = room_between (function_slots p) c.main-main.result.now c.args.place (c.args.place + c.plain_prefix-prefix.result.count - c.args.place) in
-    let main = ap (block_measure (by_slots (function_slots p))) c.main-main.ensures in
-    omega (arith, all, main)
-
-pub returns-in-Ok-clause-place : goal.returns-in-Ok-clause-place
-returns-in-Ok-clause-place c =
-    let count = ap statement_count c.main-main.ensures in
-    omega (arith, count, count_is c.main-main.result.now, c.plain_prefix-prefix.ensures.within, c.if-prove.false)

@@ -1,8 +1,7 @@
 use Rattle.std.proofs.Common.{◌≡◌, rules, length, take, sym, ap, ◌∙◌, arith}
 use Rattle.std.proofs.Math.ListN.{length-map}
-use Rattle.spf_code.specs.declared.code.FoldCode.{out-FoldCode}
-use Rattle.spf_code.specs.View.{block, fold_head}
-use Rattle.spf_ast.specs.View.{name}
+use Rattle.spf_ast.specs.declared.syntax.Fold.{out-Fold}
+use Rattle.spf_ast.specs.View.{block, fold_head, name}
 use Rattle.spf_ast.specs.Construct.{fold, header_means}
 use Rattle.spf_ast.specs.Program.{environment_of, extents_of}
 use Rattle.spf_ast.proofs.Leaving.{calls-leave, header-leaves}
@@ -26,7 +25,7 @@ perform_header-requires-clause-room c =
 pub returns-clause-outcome : goal.returns-clause-outcome
 returns-clause-outcome c =
     let p = program_of c.args.instance.now in
-    let construct = fold c.args.line (fold_head c.args.fold.now) (block (out-FoldCode c.args.fold.now).body.items) in
+    let construct = fold c.args.line (fold_head c.args.fold.now) (block (out-Fold c.args.fold.now).body.items) in
     let count : c.len.result ≡ length c.args.instance.now.code.slots.items = search rules in
     let own : c.len.result ≡ length p.slots = count ∙ sym (length-map c.args.instance.now.code.slots.items name) in
     let first : c.split_at_mut-slots.result.0.now ≡ take c.len.result c.args.frame.now = search rules in
@@ -40,7 +39,7 @@ returns-clause-outcome c =
 pub returns-clause-memory : goal.returns-clause-memory
 returns-clause-memory c =
     let p = program_of c.args.instance.now in
-    let construct = fold c.args.line (fold_head c.args.fold.now) (block (out-FoldCode c.args.fold.now).body.items) in
+    let construct = fold c.args.line (fold_head c.args.fold.now) (block (out-Fold c.args.fold.now).body.items) in
     let count : c.len.result ≡ length c.args.instance.now.code.slots.items = search rules in
     let own : c.len.result ≡ length p.slots = count ∙ sym (length-map c.args.instance.now.code.slots.items name) in
     let first : c.split_at_mut-slots.result.0.now ≡ take c.len.result c.args.frame.now = search rules in

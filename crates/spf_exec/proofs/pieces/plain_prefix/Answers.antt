@@ -1,6 +1,6 @@
 use Rattle.std.proofs.Common.{rules, ◌≡◌, arith, sym, subst, length, add-one}
-use Rattle.spf_code.specs.View.{statement}
-use Rattle.spf_code.specs.ConstructView.{construct}
+use Rattle.spf_ast.specs.View.{statement}
+use Rattle.spf_ast.specs.ConstructView.{construct}
 use Rattle.spf_exec.proofs.Prefixes.{IsPlainPrefix, prefix_grows, none_is, some_is, split_at, split_end, construct_at, end_of}
 use Rattle.spf_exec.proofs.pieces.plain_prefix.Goals as goal
 

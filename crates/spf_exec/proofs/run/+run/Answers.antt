@@ -1,28 +1,23 @@
-use Rattle.std.proofs.Common.{rules, inl, inr, arith, refl, ◌≡◌, ◌+◌, ◌-◌, ◌*◌, ◌<◌, ◌≤◌, List, take, drop, length, true, false, w64, ℤ, pos, ◌+ℤ◌, to_z, FitsSigned, sym, ap, ◌∙◌, Ok}
+use Rattle.std.proofs.Common.{rules, inl, inr, arith, refl, ◌≡◌, ◌+◌, ◌-◌, ◌*◌, ◌<◌, ◌≤◌, List, take, drop, length, true, false, w64, ℤ, pos, ◌+ℤ◌, to_z, FitsSigned, sym, ap, ◌∙◌}
 use Rattle.std.proofs.lemmas.Result.{err_from_is_err_and}
 use Rattle.std.proofs.lemmas.Int.{to_z-of_z, to_z_pos, ints}
 use Rattle.std.specs.Prelude.{map, ◌<ℤ◌, ◌≤ℤ◌}
 use Rattle.std.specs.Int.{int_gap}
-use Rattle.spf_code.specs.View.{function, block, statement, condition, value as expression, arguments}
+use Rattle.spf_ast.specs.View.{function, block, statement, condition, expression, arguments, fold_head, pair_head}
 use Rattle.spf_ast.specs.Size.{expression_measure, arguments_measure, condition_measure, statement_measure, block_measure}
-use Rattle.spf_code.proofs.Views.{value-call as expression-call, statement-if, statement-if_simple, statement-for, statement-while, statement-fold, statement-pair}
-use Rattle.spf_code.specs.declared.code.FoldCode.{out-FoldCode}
-use Rattle.spf_code.specs.declared.code.PairCode.{out-PairCode}
+use Rattle.spf_ast.proofs.Views.{expression-call, statement-if, statement-for, statement-while, statement-fold, statement-pair}
+use Rattle.spf_ast.specs.declared.syntax.Fold.{out-Fold}
+use Rattle.spf_ast.specs.declared.syntax.Pair.{out-Pair}
 use Rattle.spf_ast.specs.Interaction.{◌>>◌, ◌>>=◌, Meaning}
 use Rattle.spf_ast.specs.Meaning.{while_turns, for_turns, fold_blocks, sets, function_means, own_slots}
 use Rattle.spf_exec.proofs.Forms.{expr_means, cond_means, stmts_mean, expr_weight, exprs_weight, cond_weight, kind_weight, stmts_weight, fold_weight, pair_weight}
 use Rattle.spf_exec.proofs.Weight.{weight_before, weight_of}
-use Rattle.spf_exec.proofs.Forms.{expr_means-call, call_means-is, slot_count, kind_means-if, kind_means-if_simple, kind_means-for, kind_means-while, kind_means-fold, kind_means-pair, expr_weight-call, kind_weight-if, kind_weight-if_simple, kind_weight-for, kind_weight-while, kind_weight-fold, kind_weight-pair, weight_at, fold_room, pair_room, room_at}
+use Rattle.spf_exec.proofs.Forms.{expr_means-call, call_means-is, slot_count, kind_means-if, kind_means-for, kind_means-while, kind_means-fold, kind_means-pair, expr_weight-call, kind_weight-if, kind_weight-for, kind_weight-while, kind_weight-fold, kind_weight-pair, weight_at, fold_room, pair_room, room_at}
 use Rattle.spf_exec.proofs.Leaving.{leaves-then, set-then, sets-then, one-leaves, let-leaves, assign-leaves, first-leaves, second-leaves, for-leaves, while-leaves, fold-leaves, fold_end-leaves, producer-leaves, pair-leaves, same-leaves}
 use Rattle.spf_exec.specs.Performs.{block_value, call_slots, environment, state, at_line}
 use Rattle.spf_exec.proofs.Steps.{at_once, checked_is, traps_now, load_now, store_now, then_value, then_halt, exit_left, along, in_own, steps}
 use Rattle.spf_exec.proofs.Turns.{no_statements, next_statement, still, next_fits, to_z_fits, for_turn, while_is, while_last, while_turn, after_sets, block_turn, int_gap_none}
 use Rattle.spf_exec.proofs.Calls.{call_of, room_of, depth_at, own_is, filled, filled_one, filled_two, none_left, one_left, two_left, first_left, rest_is}
-use Rattle.spf_ast.specs.Syntax.{Binary, Compare}
-use Rattle.spf_code.specs.View.{operand, fold_head, pair_head}
-use Rattle.spf_code.specs.declared.code.Term.TheVariants as term_form
-use Rattle.spf_code.specs.declared.code.Guard.TheVariants as guard_form
-use Rattle.spf_exec.proofs.Simple.{term_performs, guard_performs}
 use Rattle.spf_exec.proofs.run.+run.Goals as goal
 
 pub call-returns-in_default-clause-performs : goal.call-returns-in_default-clause-performs
@@ -57,7 +52,7 @@ call-exec_statements-requires g t c =
     let count = slot_count c.in-Some.callee.now c.len.result (search rules) in
     let q = depth_at (map function c.args.context.now.functions.now) c.args.function c.args.below p.1 in
     let d = ap stmts_weight c.deref.ensures.value in
-    let k : weight_before (map function c.args.context.now.functions.now) c.args.function + 2 * stmts_weight c.deref.result.now + 1 < t = omega (arith, m, q, ap weight_of p.2, d) in
+    let k : weight_before (map function c.args.context.now.functions.now) c.args.function + 2 * stmts_weight c.deref.result.now < t = omega (arith, m, q, ap weight_of p.2, d) in
     λ κs h. (k, (h, (rw c.in_ok-pass.ensures.cells c.requires.within, (c.requires.short, omega (arith, r, count, c.requires.room, c.split_at_mut-own.ensures.back_len, ap (λ ss. block_measure (call_slots c.args.context.now c.args.function) (block ss)) c.deref.ensures.value)))))
 
 pub call-returns-in_err-exec_statements-clause-performs : goal.call-returns-in_err-exec_statements-clause-performs
@@ -69,7 +64,7 @@ call-returns-in_err-exec_statements-clause-performs g t c =
     let le : length c.args.arguments.now ≤ c.len.result = omega (arith, count, p.3) in
     let own = own_is c.pass.new.scratch _ _ (length c.args.arguments.now) c.len.result c.split_at_mut-own.ensures.value c.split_at_mut-own.ensures.front_len le in
     let same = ap (λ k. own_slots k vs) (sym count) ∙ own ∙ sym c.clear.ensures in
-    let run = in_own (own_slots (length (function c.in-Some.callee.now).slots) vs) (stmts_mean (environment c.args.context.now c.args.function) c.in-Some.callee.now.body.items >> expr_means (environment c.args.context.now c.args.function) c.in-Some.callee.now.source.now.answer_line c.in-Some.callee.now.answer) (state c.args.slots.now (g.M.Memory.output c.pass.new.memory)) (exit_left (λ _. expr_means (environment c.args.context.now c.args.function) c.in-Some.callee.now.source.now.answer_line c.in-Some.callee.now.answer) (err_from_is_err_and c.from_residual-in_err-exec_statements.result c.from_residual-in_err-exec_statements.ensures.1).1 (rw (c.deref.ensures.value, ← same) at c.in_err-exec_statements.ensures.performs)) in
+    let run = in_own (own_slots (length (function c.in-Some.callee.now).slots) vs) (stmts_mean (environment c.args.context.now c.args.function) c.in-Some.callee.now.body.items >> expr_means (environment c.args.context.now c.args.function) c.in-Some.callee.now.answer_line c.in-Some.callee.now.answer) (state c.args.slots.now (g.M.Memory.output c.pass.new.memory)) (exit_left (λ _. expr_means (environment c.args.context.now c.args.function) c.in-Some.callee.now.answer_line c.in-Some.callee.now.answer) (err_from_is_err_and c.from_residual-in_err-exec_statements.result c.from_residual-in_err-exec_statements.ensures.1).1 (rw (c.deref.ensures.value, ← same) at c.in_err-exec_statements.ensures.performs)) in
     along (call_means-is (environment c.args.context.now c.args.below) c.args.line c.args.function c.args.arguments.now true p.0) (then_value _ g.met.M.Memory.laws c.in_ok-pass.ensures.performs (along called run))
 
 pub call-eval_value-requires : goal.call-eval_value-requires
@@ -91,7 +86,7 @@ call-returns-clause-performs g t c =
     let le : length c.args.arguments.now ≤ c.len.result = omega (arith, count, p.3) in
     let own = own_is c.pass.new.scratch _ _ (length c.args.arguments.now) c.len.result c.split_at_mut-own.ensures.value c.split_at_mut-own.ensures.front_len le in
     let same = ap (λ k. own_slots k vs) (sym count) ∙ own ∙ sym c.clear.ensures in
-    let run = in_own (own_slots (length (function c.in-Some.callee.now).slots) vs) (stmts_mean (environment c.args.context.now c.args.function) c.in-Some.callee.now.body.items >> expr_means (environment c.args.context.now c.args.function) c.in-Some.callee.now.source.now.answer_line c.in-Some.callee.now.answer) (state c.args.slots.now (g.M.Memory.output c.pass.new.memory)) (then_value (λ _. expr_means (environment c.args.context.now c.args.function) c.in-Some.callee.now.source.now.answer_line c.in-Some.callee.now.answer) g.met.M.Memory.laws (rw (c.deref.ensures.value, ← same) at c.in_ok-exec_statements.ensures.performs) c.eval_value.ensures.performs) in
+    let run = in_own (own_slots (length (function c.in-Some.callee.now).slots) vs) (stmts_mean (environment c.args.context.now c.args.function) c.in-Some.callee.now.body.items >> expr_means (environment c.args.context.now c.args.function) c.in-Some.callee.now.answer_line c.in-Some.callee.now.answer) (state c.args.slots.now (g.M.Memory.output c.pass.new.memory)) (then_value (λ _. expr_means (environment c.args.context.now c.args.function) c.in-Some.callee.now.answer_line c.in-Some.callee.now.answer) g.met.M.Memory.laws (rw (c.deref.ensures.value, ← same) at c.in_ok-exec_statements.ensures.performs) c.eval_value.ensures.performs) in
     along (call_means-is (environment c.args.context.now c.args.below) c.args.line c.args.function c.args.arguments.now true p.0) (then_value _ g.met.M.Memory.laws c.in_ok-pass.ensures.performs (along called run))
 
 pub compute-returns-in_err-x-in-Neg-clause-performs : goal.compute-returns-in_err-x-in-Neg-clause-performs
@@ -132,6 +127,30 @@ compute-call-requires g t c =
     let given = ap (λ es. arguments_measure (call_slots c.args.context.now c.args.below) (arguments es)) c.deref-in-Call.ensures.value in
     λ κs h. (k, (h, (c.requires.within, (c.requires.short, omega (arith, c.requires.room, room, given)))))
 
+pub compute-returns-in-Number-clause-performs : goal.compute-returns-in-Number-clause-performs
+compute-returns-in-Number-clause-performs g t c =
+    let f : FitsSigned w64 c.in-Number.n = search rules in
+    rw (to_z-of_z w64 c.in-Number.n f, c.in-Number.is) (at_once g.met.M.Memory.laws _ _ _)
+
+pub eval-returns-in-Number-clause-performs : goal.eval-returns-in-Number-clause-performs
+eval-returns-in-Number-clause-performs g t c =
+    let f : FitsSigned w64 c.in-Number.n = search rules in
+    rw (to_z-of_z w64 c.in-Number.n f, c.in-Number.is) (at_once g.met.M.Memory.laws _ _ _)
+
+pub compute-returns-in-Local-clause-performs : goal.compute-returns-in-Local-clause-performs
+compute-returns-in-Local-clause-performs g t c =
+    let f : FitsSigned w64 c.read_slot.result = search rules in
+    rw (to_z-of_z w64 c.read_slot.result f, c.read_slot.ensures, c.in-Local.is) (at_once g.met.M.Memory.laws _ _ _)
+
+pub eval-returns-in-Local-clause-performs : goal.eval-returns-in-Local-clause-performs
+eval-returns-in-Local-clause-performs g t c =
+    let f : FitsSigned w64 c.read_slot.result = search rules in
+    rw (to_z-of_z w64 c.read_slot.result f, c.read_slot.ensures, c.in-Local.is) (at_once g.met.M.Memory.laws _ _ _)
+
+pub compute-returns-in-Len-clause-performs : goal.compute-returns-in-Len-clause-performs
+compute-returns-in-Len-clause-performs g t c =
+    rw (to_z_pos w64 (length c.args.context.now.input.now) c.requires.short, c.in-Len.is) (at_once g.met.M.Memory.laws _ _ _)
+
 pub compute-returns-in_ok-x-in-Neg-clause-performs : goal.compute-returns-in_ok-x-in-Neg-clause-performs
 compute-returns-in_ok-x-in-Neg-clause-performs g t c =
     let f : FitsSigned w64 c.in_ok-x-in-Neg.x = search rules in
@@ -164,6 +183,26 @@ compute-returns-in-Call-clause-performs g t c =
     rw c.in-Call.is
     (along (expr_means-call (environment c.args.context.now c.args.below) c.args.line c.in-Call.function c.in-Call.arguments)
     (rw (← c.deref-in-Call.ensures.value) c.call.ensures.performs))
+
+pub eval_operand-returns-in-Number-clause-performs : goal.eval_operand-returns-in-Number-clause-performs
+eval_operand-returns-in-Number-clause-performs g t c =
+    let f : FitsSigned w64 c.in-Number.n = search rules in
+    rw (to_z-of_z w64 c.in-Number.n f, c.in-Number.is) (at_once g.met.M.Memory.laws _ _ _)
+
+pub eval_operand-returns-in-Local-clause-performs : goal.eval_operand-returns-in-Local-clause-performs
+eval_operand-returns-in-Local-clause-performs g t c =
+    let f : FitsSigned w64 c.read_slot.result = search rules in
+    rw (to_z-of_z w64 c.read_slot.result f, c.read_slot.ensures, c.in-Local.is) (at_once g.met.M.Memory.laws _ _ _)
+
+pub eval_value-returns-in-Number-clause-performs : goal.eval_value-returns-in-Number-clause-performs
+eval_value-returns-in-Number-clause-performs g t c =
+    let f : FitsSigned w64 c.in-Number.n = search rules in
+    rw (to_z-of_z w64 c.in-Number.n f, c.in-Number.is) (at_once g.met.M.Memory.laws _ _ _)
+
+pub eval_value-returns-in-Local-clause-performs : goal.eval_value-returns-in-Local-clause-performs
+eval_value-returns-in-Local-clause-performs g t c =
+    let f : FitsSigned w64 c.read_slot.result = search rules in
+    rw (to_z-of_z w64 c.read_slot.result f, c.read_slot.ensures, c.in-Local.is) (at_once g.met.M.Memory.laws _ _ _)
 
 pub eval_operand-returns-in_err-i-in-Load-clause-performs : goal.eval_operand-returns-in_err-i-in-Load-clause-performs
 eval_operand-returns-in_err-i-in-Load-clause-performs g t c =
@@ -226,8 +265,8 @@ exec-returns-in_ok-value-in-Let-clause-performs g t c =
     let f : FitsSigned w64 c.in_ok-value-in-Let.value = search rules in
     let p = then_value (sets c.in-Let.slot) g.met.M.Memory.laws c.in_ok-value-in-Let.ensures.performs (at_once g.met.M.Memory.laws _ _ _) in
     elim c.in-Let.is [
-      | inl e ↦ rw (e, c.write_slot-in-Let.ensures, to_z-of_z w64 c.in_ok-value-in-Let.value f) p
-      | inr e ↦ rw (e, c.write_slot-in-Let.ensures, to_z-of_z w64 c.in_ok-value-in-Let.value f) p
+      | inl e ↦ rw (e, c.write_slot.ensures, to_z-of_z w64 c.in_ok-value-in-Let.value f) p
+      | inr e ↦ rw (e, c.write_slot.ensures, to_z-of_z w64 c.in_ok-value-in-Let.value f) p
     ]
 
 pub exec-returns-in_err-i-in-Store-clause-performs : goal.exec-returns-in_err-i-in-Store-clause-performs
@@ -282,22 +321,22 @@ exec-returns-in_err-test-in-If-clause-performs g t c =
     (along (kind_means-if (environment c.args.context.now c.args.below) c.args.line c.in-If.cond c.in-If.first c.in-If.second)
     (exit_left _ (err_from_is_err_and c.from_residual-in_err-test-in-If.result c.from_residual-in_err-test-in-If.ensures.1).1 c.in_err-test-in-If.ensures.performs))
 
-pub exec-exec_block-requires : goal.exec-exec_block-requires
-exec-exec_block-requires g t c =
+pub exec-exec_statements-requires : goal.exec-exec_statements-requires
+exec-exec_statements-requires g t c =
     let m : t ≡ weight_before (map function c.args.context.now.functions.now) c.args.below + 2 * kind_weight c.args.kind.now + 1 = sym c.decreases in
     let e = ap kind_weight c.in-If.is ∙ kind_weight-if c.in-If.cond c.in-If.first c.in-If.second in
     let d = ap stmts_weight c.deref.ensures.value in
-    let k : weight_before (map function c.args.context.now.functions.now) c.args.below + 2 * stmts_weight c.deref.result.now + 2 < t = omega (arith, m, e, d) in
+    let k : weight_before (map function c.args.context.now.functions.now) c.args.below + 2 * stmts_weight c.deref.result.now < t = omega (arith, m, e, d) in
     let room = ap (statement_measure (call_slots c.args.context.now c.args.below)) (ap statement c.in-If.is ∙ statement-if c.in-If.cond c.in-If.first c.in-If.second) in
     let part = ap (λ ss. block_measure (call_slots c.args.context.now c.args.below) (block ss)) c.deref.ensures.value in
     λ κs h. (k, (h, (rw c.test.ensures.cells c.requires.within, (c.requires.short, omega (arith, c.requires.room, room, part)))))
 
-pub exec-exec_block-requires-else-is_empty : goal.exec-exec_block-requires-else-is_empty
-exec-exec_block-requires-else-is_empty g t c =
+pub exec-exec_statements-requires-else-is_empty : goal.exec-exec_statements-requires-else-is_empty
+exec-exec_statements-requires-else-is_empty g t c =
     let m : t ≡ weight_before (map function c.args.context.now.functions.now) c.args.below + 2 * kind_weight c.args.kind.now + 1 = sym c.decreases in
     let e = ap kind_weight c.in-If.is ∙ kind_weight-if c.in-If.cond c.in-If.first c.in-If.second in
     let d = ap stmts_weight c.deref-else-is_empty.ensures.value in
-    let k : weight_before (map function c.args.context.now.functions.now) c.args.below + 2 * stmts_weight c.deref-else-is_empty.result.now + 2 < t = omega (arith, m, e, d) in
+    let k : weight_before (map function c.args.context.now.functions.now) c.args.below + 2 * stmts_weight c.deref-else-is_empty.result.now < t = omega (arith, m, e, d) in
     let room = ap (statement_measure (call_slots c.args.context.now c.args.below)) (ap statement c.in-If.is ∙ statement-if c.in-If.cond c.in-If.first c.in-If.second) in
     let part = ap (λ ss. block_measure (call_slots c.args.context.now c.args.below) (block ss)) c.deref-else-is_empty.ensures.value in
     λ κs h. (k, (h, (rw c.test.ensures.cells c.requires.within, (c.requires.short, omega (arith, c.requires.room, room, part)))))
@@ -319,7 +358,7 @@ exec-exec_for-requires g t c =
     let m : t ≡ weight_before (map function c.args.context.now.functions.now) c.args.below + 2 * kind_weight c.args.kind.now + 1 = sym c.decreases in
     let e = ap kind_weight c.in-For.is ∙ kind_weight-for c.in-For.slot c.in-For.low c.in-For.high c.in-For.body in
     let d = ap stmts_weight c.deref-in-For.ensures.value in
-    let k : weight_before (map function c.args.context.now.functions.now) c.args.below + 2 * stmts_weight c.deref-in-For.result.now + 2 < t = omega (arith, m, e, d) in
+    let k : weight_before (map function c.args.context.now.functions.now) c.args.below + 2 * stmts_weight c.deref-in-For.result.now + 1 < t = omega (arith, m, e, d) in
     let room = ap (statement_measure (call_slots c.args.context.now c.args.below)) (ap statement c.in-For.is ∙ statement-for c.in-For.slot c.in-For.low c.in-For.high c.in-For.body) in
     let part = ap (λ ss. block_measure (call_slots c.args.context.now c.args.below) (block ss)) c.deref-in-For.ensures.value in
     λ κs h. (k, (h, (rw (c.in_ok-high-in-For.ensures.cells, c.in_ok-low-in-For.ensures.cells) c.requires.within, (c.requires.short, omega (arith, c.requires.room, room, part)))))
@@ -376,7 +415,7 @@ pub exec-returns-then-branch-clause-performs : goal.exec-returns-then-branch-cla
 exec-returns-then-branch-clause-performs g t c =
     rw c.in-If.is
     (along (kind_means-if (environment c.args.context.now c.args.below) c.args.line c.in-If.cond c.in-If.first c.in-If.second)
-    (then_value _ g.met.M.Memory.laws c.in_ok-test-in-If.ensures.performs (rw (c.if-branch.true, ← c.deref.ensures.value) c.exec_block.ensures.performs)))
+    (then_value _ g.met.M.Memory.laws c.in_ok-test-in-If.ensures.performs (rw (c.if-branch.true, ← c.deref.ensures.value) c.exec_statements.ensures.performs)))
 
 pub exec-returns-then-is_empty-clause-performs : goal.exec-returns-then-is_empty-clause-performs
 exec-returns-then-is_empty-clause-performs g t c =
@@ -389,7 +428,7 @@ pub exec-returns-else-is_empty-clause-performs : goal.exec-returns-else-is_empty
 exec-returns-else-is_empty-clause-performs g t c =
     rw c.in-If.is
     (along (kind_means-if (environment c.args.context.now c.args.below) c.args.line c.in-If.cond c.in-If.first c.in-If.second)
-    (then_value _ g.met.M.Memory.laws c.in_ok-test-in-If.ensures.performs (rw (c.if-branch.false, ← c.deref-else-is_empty.ensures.value) c.exec_block-else-is_empty.ensures.performs)))
+    (then_value _ g.met.M.Memory.laws c.in_ok-test-in-If.ensures.performs (rw (c.if-branch.false, ← c.deref-else-is_empty.ensures.value) c.exec_statements-else-is_empty.ensures.performs)))
 
 pub exec-returns-in_ok-high-in-For-clause-performs : goal.exec-returns-in_ok-high-in-For-clause-performs
 exec-returns-in_ok-high-in-For-clause-performs g t c =
@@ -415,26 +454,26 @@ pub exec-returns-in-Fold-clause-performs : goal.exec-returns-in-Fold-clause-perf
 exec-returns-in-Fold-clause-performs g t c =
     rw c.in-Fold.is (along (kind_means-fold (environment c.args.context.now c.args.below) c.args.line c.in-Fold.fold) (rw (← c.deref-in-Fold.ensures) c.exec_fold.ensures.performs))
 
-pub exec_statements-step-requires : goal.exec_statements-step-requires
-exec_statements-step-requires g t c =
-    let m : t ≡ weight_before (map function c.args.context.now.functions.now) c.args.below + 2 * stmts_weight c.args.statements.now + 1 = sym c.decreases in
+pub exec_statements-exec-requires : goal.exec_statements-exec-requires
+exec_statements-exec-requires g t c =
+    let m : t ≡ weight_before (map function c.args.context.now.functions.now) c.args.below + 2 * stmts_weight c.args.statements.now = sym c.decreases in
     let w = weight_at c.args.statements.now c.loop-statement.statement-index c.statement-item.result c.loop-statement-test.true c.statement-item.is in
-    let k : weight_before (map function c.args.context.now.functions.now) c.args.below + 2 * kind_weight c.statement-item.result.kind + 2 < t = omega (arith, m, w) in
+    let k : weight_before (map function c.args.context.now.functions.now) c.args.below + 2 * kind_weight c.statement-item.result.kind + 1 < t = omega (arith, m, w) in
     let part = room_at (call_slots c.args.context.now c.args.below) refl c.args.statements.now c.loop-statement.statement-index c.statement-item.result c.loop-statement-test.true c.statement-item.is in
     λ κs h. (k, (h, (rw c.loop-statement.invariant.cells c.requires.within, (c.requires.short, omega (arith, c.requires.room, part)))))
 
-pub exec_statements-returns-in_err-step-clause-performs : goal.exec_statements-returns-in_err-step-clause-performs
-exec_statements-returns-in_err-step-clause-performs g t c =
+pub exec_statements-returns-in_err-exec-clause-performs : goal.exec_statements-returns-in_err-exec-clause-performs
+exec_statements-returns-in_err-exec-clause-performs g t c =
     c.loop-statement.invariant.goes.with _ _ _
     (along (next_statement (environment c.args.context.now c.args.below) c.args.statements.now c.loop-statement.statement-index c.statement-item.result c.loop-statement-test.true c.statement-item.is)
-    (exit_left _ (err_from_is_err_and c.from_residual.result c.from_residual.ensures.1).1 c.in_err-step.ensures.performs))
+    (exit_left _ (err_from_is_err_and c.from_residual.result c.from_residual.ensures.1).1 c.in_err-exec.ensures.performs))
 
 pub exec_statements-loop-statement-preserved : goal.exec_statements-loop-statement-preserved
 exec_statements-loop-statement-preserved g t c =
     record {
-      goes = steps _ g.met.M.Memory.laws (still (next_statement (environment c.args.context.now c.args.below) c.args.statements.now c.loop-statement.statement-index c.statement-item.result c.loop-statement-test.true c.statement-item.is) c.loop-statement.invariant.goes) c.in_ok-step.ensures.performs;
-      cells = c.in_ok-step.ensures.cells ∙ c.loop-statement.invariant.cells;
-      others = one-leaves c.args.statements.now c.loop-statement.statement-index c.statement-item.result c.loop-statement-test.true c.statement-item.is c.loop-statement.invariant.others c.in_ok-step.ensures.others;
+      goes = steps _ g.met.M.Memory.laws (still (next_statement (environment c.args.context.now c.args.below) c.args.statements.now c.loop-statement.statement-index c.statement-item.result c.loop-statement-test.true c.statement-item.is) c.loop-statement.invariant.goes) c.in_ok-exec.ensures.performs;
+      cells = c.in_ok-exec.ensures.cells ∙ c.loop-statement.invariant.cells;
+      others = one-leaves c.args.statements.now c.loop-statement.statement-index c.statement-item.result c.loop-statement-test.true c.statement-item.is c.loop-statement.invariant.others c.in_ok-exec.ensures.others;
     }
 
 pub exec_blocks-returns-in_err-turn-clause-performs : goal.exec_blocks-returns-in_err-turn-clause-performs
@@ -498,7 +537,7 @@ exec_blocks-returns-clause-performs g t c =
 pub exec_fold-eval-requires : goal.exec_fold-eval-requires
 exec_fold-eval-requires g t c =
     let m : t ≡ weight_before (map function c.args.context.now.functions.now) c.args.below + 2 * fold_weight c.args.fold.now = sym c.decreases in
-    let k : weight_before (map function c.args.context.now.functions.now) c.args.below + 2 * expr_weight (out-FoldCode c.args.fold.now).start + 1 < t = omega (arith, m) in
+    let k : weight_before (map function c.args.context.now.functions.now) c.args.below + 2 * expr_weight (out-Fold c.args.fold.now).start + 1 < t = omega (arith, m) in
     λ κs h. (k, (h, (c.requires.within, (c.requires.short, omega (arith, c.requires.room)))))
 
 pub exec_fold-returns-in_err-start-clause-performs : goal.exec_fold-returns-in_err-start-clause-performs
@@ -508,7 +547,7 @@ exec_fold-returns-in_err-start-clause-performs g t c =
 pub exec_fold-eval-requires-2 : goal.exec_fold-eval-requires-2
 exec_fold-eval-requires-2 g t c =
     let m : t ≡ weight_before (map function c.args.context.now.functions.now) c.args.below + 2 * fold_weight c.args.fold.now = sym c.decreases in
-    let k : weight_before (map function c.args.context.now.functions.now) c.args.below + 2 * expr_weight (out-FoldCode c.args.fold.now).low + 1 < t = omega (arith, m) in
+    let k : weight_before (map function c.args.context.now.functions.now) c.args.below + 2 * expr_weight (out-Fold c.args.fold.now).low + 1 < t = omega (arith, m) in
     λ κs h. (k, (h, (rw c.in_ok-start.ensures.cells c.requires.within, (c.requires.short, omega (arith, c.requires.room)))))
 
 pub exec_fold-returns-in_err-low-clause-performs : goal.exec_fold-returns-in_err-low-clause-performs
@@ -518,7 +557,7 @@ exec_fold-returns-in_err-low-clause-performs g t c =
 pub exec_fold-eval-requires-3 : goal.exec_fold-eval-requires-3
 exec_fold-eval-requires-3 g t c =
     let m : t ≡ weight_before (map function c.args.context.now.functions.now) c.args.below + 2 * fold_weight c.args.fold.now = sym c.decreases in
-    let k : weight_before (map function c.args.context.now.functions.now) c.args.below + 2 * expr_weight (out-FoldCode c.args.fold.now).high + 1 < t = omega (arith, m) in
+    let k : weight_before (map function c.args.context.now.functions.now) c.args.below + 2 * expr_weight (out-Fold c.args.fold.now).high + 1 < t = omega (arith, m) in
     λ κs h. (k, (h, (rw (c.in_ok-low.ensures.cells, c.in_ok-start.ensures.cells) c.requires.within, (c.requires.short, omega (arith, c.requires.room)))))
 
 pub exec_fold-returns-in_err-high-clause-performs : goal.exec_fold-returns-in_err-high-clause-performs
@@ -539,7 +578,7 @@ pub exec_fold-exec_blocks-requires : goal.exec_fold-exec_blocks-requires
 exec_fold-exec_blocks-requires g t c =
     let m : t ≡ weight_before (map function c.args.context.now.functions.now) c.args.below + 2 * fold_weight c.args.fold.now = sym c.decreases in
     let d = ap stmts_weight c.deref.ensures.value in
-    let k : weight_before (map function c.args.context.now.functions.now) c.args.below + 2 * (stmts_weight c.deref.result.now + expr_weight (out-FoldCode c.args.fold.now).next) + 2 < t = omega (arith, m, d) in
+    let k : weight_before (map function c.args.context.now.functions.now) c.args.below + 2 * (stmts_weight c.deref.result.now + expr_weight (out-Fold c.args.fold.now).next) + 2 < t = omega (arith, m, d) in
     let part = ap (λ ss. block_measure (call_slots c.args.context.now c.args.below) (block ss)) c.deref.ensures.value in
     λ κs h. (k, (h, (rw (c.in_ok-high.ensures.cells, c.in_ok-low.ensures.cells, c.in_ok-start.ensures.cells) c.requires.within, (c.requires.short, (omega (arith, c.requires.room), omega (arith, c.requires.room, part))))))
 
@@ -723,25 +762,25 @@ pass_others-returns-in_ok-pass_others-in-Some-clause-performs g t c =
 
 pub test-returns-in_err-x-in-Compare-clause-performs : goal.test-returns-in_err-x-in-Compare-clause-performs
 test-returns-in_err-x-in-Compare-clause-performs g t c =
-    rw c.in-Compare.is (exit_left _ (err_from_is_err_and c.from_residual.result c.from_residual.ensures.1).1 c.in_err-x-in-Compare.ensures.performs)
+    rw (c.in-Compare.is, ← c.deref.ensures) (exit_left _ (err_from_is_err_and c.from_residual.result c.from_residual.ensures.1).1 c.in_err-x-in-Compare.ensures.performs)
 
 pub decide-returns-in_err-x-in-Compare-clause-performs : goal.decide-returns-in_err-x-in-Compare-clause-performs
 decide-returns-in_err-x-in-Compare-clause-performs g t c =
-    rw c.in-Compare.is (exit_left _ (err_from_is_err_and c.from_residual.result c.from_residual.ensures.1).1 c.in_err-x-in-Compare.ensures.performs)
+    rw (c.in-Compare.is, ← c.deref.ensures) (exit_left _ (err_from_is_err_and c.from_residual.result c.from_residual.ensures.1).1 c.in_err-x-in-Compare.ensures.performs)
 
 pub test-returns-in_err-y-in-Compare-clause-performs : goal.test-returns-in_err-y-in-Compare-clause-performs
 test-returns-in_err-y-in-Compare-clause-performs g t c =
-    rw c.in-Compare.is
+    rw (c.in-Compare.is, ← c.deref.ensures, ← c.deref-in-Compare.ensures)
     (then_value _ g.met.M.Memory.laws c.in_ok-x-in-Compare.ensures.performs (exit_left _ (err_from_is_err_and c.from_residual-in_err-y-in-Compare.result c.from_residual-in_err-y-in-Compare.ensures.1).1 c.in_err-y-in-Compare.ensures.performs))
 
 pub decide-returns-in_err-y-in-Compare-clause-performs : goal.decide-returns-in_err-y-in-Compare-clause-performs
 decide-returns-in_err-y-in-Compare-clause-performs g t c =
-    rw c.in-Compare.is
+    rw (c.in-Compare.is, ← c.deref.ensures, ← c.deref-in-Compare.ensures)
     (then_value _ g.met.M.Memory.laws c.in_ok-x-in-Compare.ensures.performs (exit_left _ (err_from_is_err_and c.from_residual-in_err-y-in-Compare.result c.from_residual-in_err-y-in-Compare.ensures.1).1 c.in_err-y-in-Compare.ensures.performs))
 
 pub decide-returns-in_err-test-in-Both-clause-performs : goal.decide-returns-in_err-test-in-Both-clause-performs
 decide-returns-in_err-test-in-Both-clause-performs g t c =
-    rw (c.in-Both.is, ← c.deref.ensures) (exit_left _ (err_from_is_err_and c.from_residual-in_err-test-in-Both.result c.from_residual-in_err-test-in-Both.ensures.1).1 c.in_err-test-in-Both.ensures.performs)
+    rw (c.in-Both.is, ← c.deref-in-Both.ensures) (exit_left _ (err_from_is_err_and c.from_residual-in_err-test-in-Both.result c.from_residual-in_err-test-in-Both.ensures.1).1 c.in_err-test-in-Both.ensures.performs)
 
 pub decide-returns-in_err-test-in-Either-clause-performs : goal.decide-returns-in_err-test-in-Either-clause-performs
 decide-returns-in_err-test-in-Either-clause-performs g t c =
@@ -755,24 +794,24 @@ pub test-returns-in_ok-y-in-Compare-clause-performs : goal.test-returns-in_ok-y-
 test-returns-in_ok-y-in-Compare-clause-performs g t c =
     let fx : FitsSigned w64 c.in_ok-x-in-Compare.x = search rules in
     let fy : FitsSigned w64 c.in_ok-y-in-Compare.y = search rules in
-    rw (c.compares.ensures, to_z-of_z w64 c.in_ok-x-in-Compare.x fx, to_z-of_z w64 c.in_ok-y-in-Compare.y fy, c.in-Compare.is)
+    rw (c.compares.ensures, to_z-of_z w64 c.in_ok-x-in-Compare.x fx, to_z-of_z w64 c.in_ok-y-in-Compare.y fy, c.in-Compare.is, ← c.deref.ensures, ← c.deref-in-Compare.ensures)
     (then_value _ g.met.M.Memory.laws c.in_ok-x-in-Compare.ensures.performs (then_value _ g.met.M.Memory.laws c.in_ok-y-in-Compare.ensures.performs (at_once g.met.M.Memory.laws _ _ _)))
 
 pub decide-returns-in_ok-y-in-Compare-clause-performs : goal.decide-returns-in_ok-y-in-Compare-clause-performs
 decide-returns-in_ok-y-in-Compare-clause-performs g t c =
     let fx : FitsSigned w64 c.in_ok-x-in-Compare.x = search rules in
     let fy : FitsSigned w64 c.in_ok-y-in-Compare.y = search rules in
-    rw (c.compares.ensures, to_z-of_z w64 c.in_ok-x-in-Compare.x fx, to_z-of_z w64 c.in_ok-y-in-Compare.y fy, c.in-Compare.is)
+    rw (c.compares.ensures, to_z-of_z w64 c.in_ok-x-in-Compare.x fx, to_z-of_z w64 c.in_ok-y-in-Compare.y fy, c.in-Compare.is, ← c.deref.ensures, ← c.deref-in-Compare.ensures)
     (then_value _ g.met.M.Memory.laws c.in_ok-x-in-Compare.ensures.performs (then_value _ g.met.M.Memory.laws c.in_ok-y-in-Compare.ensures.performs (at_once g.met.M.Memory.laws _ _ _)))
 
 pub decide-returns-then-branch-clause-performs : goal.decide-returns-then-branch-clause-performs
 decide-returns-then-branch-clause-performs g t c =
-    rw (c.in-Both.is, ← c.deref.ensures, ← c.deref-then-branch.ensures)
+    rw (c.in-Both.is, ← c.deref-in-Both.ensures, ← c.deref-then-branch.ensures)
     (then_value _ g.met.M.Memory.laws c.in_ok-test-in-Both.ensures.performs (rw c.if-branch.true c.test-then-branch.ensures.performs))
 
 pub decide-returns-else-branch-clause-performs : goal.decide-returns-else-branch-clause-performs
 decide-returns-else-branch-clause-performs g t c =
-    rw (c.in-Both.is, ← c.deref.ensures)
+    rw (c.in-Both.is, ← c.deref-in-Both.ensures)
     (then_value _ g.met.M.Memory.laws c.in_ok-test-in-Both.ensures.performs (rw c.if-branch.false (at_once g.met.M.Memory.laws _ _ _)))
 
 pub decide-returns-then-branch-2-clause-performs : goal.decide-returns-then-branch-2-clause-performs
@@ -798,21 +837,21 @@ pub exec_pair-exec_statements-requires : goal.exec_pair-exec_statements-requires
 exec_pair-exec_statements-requires g t c =
     let m : t ≡ weight_before (map function c.args.context.now.functions.now) c.args.below + 2 * pair_weight c.args.pair.now = sym c.decreases in
     let d = ap stmts_weight c.deref.ensures.value in
-    let k : weight_before (map function c.args.context.now.functions.now) c.args.below + 2 * stmts_weight c.deref.result.now + 1 < t = omega (arith, m, d) in
+    let k : weight_before (map function c.args.context.now.functions.now) c.args.below + 2 * stmts_weight c.deref.result.now < t = omega (arith, m, d) in
     let part = ap (λ ss. block_measure (call_slots c.args.context.now c.args.below) (block ss)) c.deref.ensures.value in
     λ κs h. (k, (h, (c.requires.within, (c.requires.short, omega (arith, c.requires.room, part)))))
 
 pub exec_pair-eval-requires : goal.exec_pair-eval-requires
 exec_pair-eval-requires g t c =
     let m : t ≡ weight_before (map function c.args.context.now.functions.now) c.args.below + 2 * pair_weight c.args.pair.now = sym c.decreases in
-    let k : weight_before (map function c.args.context.now.functions.now) c.args.below + 2 * expr_weight (out-PairCode c.args.pair.now).give + 1 < t = omega (arith, m) in
+    let k : weight_before (map function c.args.context.now.functions.now) c.args.below + 2 * expr_weight (out-Pair c.args.pair.now).give + 1 < t = omega (arith, m) in
     λ κs h. (k, (h, (rw c.in_ok-exec_statements.ensures.cells c.requires.within, (c.requires.short, omega (arith, c.requires.room)))))
 
 pub exec_pair-exec_statements-requires-2 : goal.exec_pair-exec_statements-requires-2
 exec_pair-exec_statements-requires-2 g t c =
     let m : t ≡ weight_before (map function c.args.context.now.functions.now) c.args.below + 2 * pair_weight c.args.pair.now = sym c.decreases in
     let d = ap stmts_weight c.deref-2.ensures.value in
-    let k : weight_before (map function c.args.context.now.functions.now) c.args.below + 2 * stmts_weight c.deref-2.result.now + 1 < t = omega (arith, m, d) in
+    let k : weight_before (map function c.args.context.now.functions.now) c.args.below + 2 * stmts_weight c.deref-2.result.now < t = omega (arith, m, d) in
     let part = ap (λ ss. block_measure (call_slots c.args.context.now c.args.below) (block ss)) c.deref-2.ensures.value in
     λ κs h. (k, (h, (rw (c.in_ok-value.ensures.cells, c.in_ok-exec_statements.ensures.cells) c.requires.within, (c.requires.short, omega (arith, c.requires.room, part)))))
 
@@ -874,17 +913,21 @@ pub decide-eval-requires-in-Compare : goal.decide-eval-requires-in-Compare
 decide-eval-requires-in-Compare g t c =
     let m : t ≡ weight_before (map function c.args.context.now.functions.now) c.args.below + 2 * cond_weight c.args.cond.now = sym c.decreases in
     let e = ap cond_weight c.in-Compare.is in
-    let k : weight_before (map function c.args.context.now.functions.now) c.args.below + 2 * expr_weight c.in-Compare.right + 1 < t = omega (arith, m, e) in
+    let d = ap expr_weight c.deref-in-Compare.ensures in
+    let k : weight_before (map function c.args.context.now.functions.now) c.args.below + 2 * expr_weight c.deref-in-Compare.result.now + 1 < t = omega (arith, m, e, d) in
     let room = ap (λ x. condition_measure (call_slots c.args.context.now c.args.below) (condition x)) c.in-Compare.is in
-    λ κs h. (k, (h, (rw c.in_ok-x-in-Compare.ensures.cells c.requires.within, (c.requires.short, omega (arith, c.requires.room, room)))))
+    let part = ap (λ x. expression_measure (call_slots c.args.context.now c.args.below) (expression x)) c.deref-in-Compare.ensures in
+    λ κs h. (k, (h, (rw c.in_ok-x-in-Compare.ensures.cells c.requires.within, (c.requires.short, omega (arith, c.requires.room, room, part)))))
 
 pub test-eval_operand-requires-in-Compare : goal.test-eval_operand-requires-in-Compare
 test-eval_operand-requires-in-Compare g t c =
     let m : t ≡ weight_before (map function c.args.context.now.functions.now) c.args.below + 2 * cond_weight c.args.cond.now + 1 = sym c.decreases in
     let e = ap cond_weight c.in-Compare.is in
-    let k : weight_before (map function c.args.context.now.functions.now) c.args.below + 2 * expr_weight c.in-Compare.right + 1 < t = omega (arith, m, e) in
+    let d = ap expr_weight c.deref-in-Compare.ensures in
+    let k : weight_before (map function c.args.context.now.functions.now) c.args.below + 2 * expr_weight c.deref-in-Compare.result.now + 1 < t = omega (arith, m, e, d) in
     let room = ap (λ x. condition_measure (call_slots c.args.context.now c.args.below) (condition x)) c.in-Compare.is in
-    λ κs h. (k, (h, (rw c.in_ok-x-in-Compare.ensures.cells c.requires.within, (c.requires.short, omega (arith, c.requires.room, room)))))
+    let part = ap (λ x. expression_measure (call_slots c.args.context.now c.args.below) (expression x)) c.deref-in-Compare.ensures in
+    λ κs h. (k, (h, (rw c.in_ok-x-in-Compare.ensures.cells c.requires.within, (c.requires.short, omega (arith, c.requires.room, room, part)))))
 
 pub pass-eval-requires-in-len2-2 : goal.pass-eval-requires-in-len2-2
 pass-eval-requires-in-len2-2 g t c =
@@ -899,11 +942,11 @@ pass-eval-requires-in-len2-2 g t c =
 
 pub exec-returns-then-branch-clause-others : goal.exec-returns-then-branch-clause-others
 exec-returns-then-branch-clause-others g t c =
-    first-leaves (condition c.in-If.cond) (block c.in-If.first.items) (block c.in-If.second.items) (ap statement c.in-If.is ∙ statement-if c.in-If.cond c.in-If.first c.in-If.second) (rw c.deref.ensures.value at c.exec_block.ensures.others)
+    first-leaves (condition c.in-If.cond) (block c.in-If.first.items) (block c.in-If.second.items) (ap statement c.in-If.is ∙ statement-if c.in-If.cond c.in-If.first c.in-If.second) (rw c.deref.ensures.value at c.exec_statements.ensures.others)
 
 pub exec-returns-else-is_empty-clause-others : goal.exec-returns-else-is_empty-clause-others
 exec-returns-else-is_empty-clause-others g t c =
-    second-leaves (condition c.in-If.cond) (block c.in-If.first.items) (block c.in-If.second.items) (ap statement c.in-If.is ∙ statement-if c.in-If.cond c.in-If.first c.in-If.second) (rw c.deref-else-is_empty.ensures.value at c.exec_block-else-is_empty.ensures.others)
+    second-leaves (condition c.in-If.cond) (block c.in-If.first.items) (block c.in-If.second.items) (ap statement c.in-If.is ∙ statement-if c.in-If.cond c.in-If.first c.in-If.second) (rw c.deref-else-is_empty.ensures.value at c.exec_statements-else-is_empty.ensures.others)
 
 pub exec-returns-in_ok-high-in-For-clause-others : goal.exec-returns-in_ok-high-in-For-clause-others
 exec-returns-in_ok-high-in-For-clause-others g t c =
@@ -924,13 +967,13 @@ exec-returns-in-Pair-clause-others g t c =
 pub exec-returns-in_ok-value-in-Let-clause-others : goal.exec-returns-in_ok-value-in-Let-clause-others
 exec-returns-in_ok-value-in-Let-clause-others g t c =
     elim c.in-Let.is [
-      | inl e ↦ let-leaves c.in-Let.slot (expression c.in-Let.value) _ (ap statement e) c.write_slot-in-Let.ensures
-      | inr e ↦ assign-leaves c.in-Let.slot (expression c.in-Let.value) _ (ap statement e) c.write_slot-in-Let.ensures
+      | inl e ↦ let-leaves c.in-Let.slot (expression c.in-Let.value) _ (ap statement e) c.write_slot.ensures
+      | inr e ↦ assign-leaves c.in-Let.slot (expression c.in-Let.value) _ (ap statement e) c.write_slot.ensures
     ]
 
-pub exec_statements-returns-in_err-step-clause-others : goal.exec_statements-returns-in_err-step-clause-others
-exec_statements-returns-in_err-step-clause-others g t c =
-    one-leaves c.args.statements.now c.loop-statement.statement-index c.statement-item.result c.loop-statement-test.true c.statement-item.is c.loop-statement.invariant.others c.in_err-step.ensures.others
+pub exec_statements-returns-in_err-exec-clause-others : goal.exec_statements-returns-in_err-exec-clause-others
+exec_statements-returns-in_err-exec-clause-others g t c =
+    one-leaves c.args.statements.now c.loop-statement.statement-index c.statement-item.result c.loop-statement-test.true c.statement-item.is c.loop-statement.invariant.others c.in_err-exec.ensures.others
 
 pub exec_for-returns-in_err-exec_statements-clause-others : goal.exec_for-returns-in_err-exec_statements-clause-others
 exec_for-returns-in_err-exec_statements-clause-others g t c =
@@ -947,340 +990,24 @@ pub exec_blocks-returns-in_err-value-clause-others : goal.exec_blocks-returns-in
 exec_blocks-returns-in_err-value-clause-others g t c =
     sets-then c.args.carried_slot c.args.block_slot (to_z w64 c.loop-k.value-bits) (to_z w64 c.loop-k.k-bits) c.loop-k.invariant.others c.write_slot.ensures c.write_slot-in-loop-k.ensures c.in_ok-exec_statements.ensures.others
 
-pub eval-returns-in-Term-clause-performs : goal.eval-returns-in-Term-clause-performs
-eval-returns-in-Term-clause-performs g t c =
-    rw c.in-Term.is (term_performs g.met.M.Memory.laws c.args.context.now c.args.below c.args.line c.in-Term.form c.args.slots.now _ _ c.term.ensures)
-
-pub eval_operand-returns-in-Term-clause-performs : goal.eval_operand-returns-in-Term-clause-performs
-eval_operand-returns-in-Term-clause-performs g t c =
-    rw c.in-Term.is (term_performs g.met.M.Memory.laws c.args.context.now c.args.below c.args.line c.in-Term.form c.args.slots.now _ _ c.term.ensures)
-
-pub eval_value-returns-in-Term-clause-performs : goal.eval_value-returns-in-Term-clause-performs
-eval_value-returns-in-Term-clause-performs g t c =
-    rw c.in-Term.is (term_performs g.met.M.Memory.laws c.args.context.now c.args.below c.args.line c.in-Term.form c.args.slots.now _ _ c.term.ensures)
-
-pub compute-returns-in-Term-clause-performs : goal.compute-returns-in-Term-clause-performs
-compute-returns-in-Term-clause-performs g t c =
-    rw c.in-Term.is (term_performs g.met.M.Memory.laws c.args.context.now c.args.below c.args.line c.in-Term.form c.args.slots.now _ _ c.term.ensures)
-
-pub test-returns-in-Guard-clause-performs : goal.test-returns-in-Guard-clause-performs
-test-returns-in-Guard-clause-performs g t c =
-    rw c.in-Guard.is (guard_performs g.met.M.Memory.laws c.args.context.now c.args.below c.args.line c.in-Guard.guard c.args.slots.now _ _ c.holds.ensures)
-
-pub decide-returns-in-Guard-clause-performs : goal.decide-returns-in-Guard-clause-performs
-decide-returns-in-Guard-clause-performs g t c =
-    rw c.in-Guard.is (guard_performs g.met.M.Memory.laws c.args.context.now c.args.below c.args.line c.in-Guard.guard c.args.slots.now _ _ c.holds.ensures)
-
-pub exec-eval-requires-in-For-2 : goal.exec-eval-requires-in-For-2
-exec-eval-requires-in-For-2 g t c =
-    let m : t ≡ weight_before (map function c.args.context.now.functions.now) c.args.below + 2 * kind_weight c.args.kind.now + 1 = sym c.decreases in
-    let e = ap kind_weight c.in-For.is ∙ kind_weight-for c.in-For.slot c.in-For.low c.in-For.high c.in-For.body in
-    let k : weight_before (map function c.args.context.now.functions.now) c.args.below + 2 * expr_weight c.in-For.high + 1 < t = omega (arith, m, e) in
-    let room = ap (statement_measure (call_slots c.args.context.now c.args.below)) (ap statement c.in-For.is ∙ statement-for c.in-For.slot c.in-For.low c.in-For.high c.in-For.body) in
-    λ κs h. (k, (h, (rw c.in_ok-low-in-For.ensures.cells c.requires.within, (c.requires.short, omega (arith, c.requires.room, room)))))
-
--- ---- an operator or a comparison between operands
-
-pub exec-returns-in_err-value-in-LetSimple-clause-performs : goal.exec-returns-in_err-value-in-LetSimple-clause-performs
-exec-returns-in_err-value-in-LetSimple-clause-performs g t c =
-    let fx : FitsSigned w64 c.word_of-x.result = search rules in
-    let fy : FitsSigned w64 c.word_of-y.result = search rules in
-    let b = rw (to_z-of_z w64 c.word_of-x.result fx, to_z-of_z w64 c.word_of-y.result fy, c.word_of-x.ensures, c.word_of-y.ensures) at c.in_err-value-in-LetSimple.ensures in
-    let q = term_performs g.met.M.Memory.laws c.args.context.now c.args.below c.args.line (term_form.Simple c.in-LetSimple.op c.in-LetSimple.left c.in-LetSimple.right) c.args.slots.now _ _ b in
-    let p = exit_left (sets c.in-LetSimple.slot) (err_from_is_err_and c.from_residual-in_err-value-in-LetSimple.result c.from_residual-in_err-value-in-LetSimple.ensures.1).1 q in
-    elim c.in-LetSimple.is [ inl e ↦ rw e p | inr e ↦ rw e p ]
-
-pub exec-returns-in_ok-value-in-LetSimple-clause-performs : goal.exec-returns-in_ok-value-in-LetSimple-clause-performs
-exec-returns-in_ok-value-in-LetSimple-clause-performs g t c =
-    let fx : FitsSigned w64 c.word_of-x.result = search rules in
-    let fy : FitsSigned w64 c.word_of-y.result = search rules in
-    let f : FitsSigned w64 c.in_ok-value-in-LetSimple.value = search rules in
-    let b = rw (to_z-of_z w64 c.word_of-x.result fx, to_z-of_z w64 c.word_of-y.result fy, c.word_of-x.ensures, c.word_of-y.ensures) at c.in_ok-value-in-LetSimple.ensures in
-    let q = term_performs g.met.M.Memory.laws c.args.context.now c.args.below c.args.line (term_form.Simple c.in-LetSimple.op c.in-LetSimple.left c.in-LetSimple.right) c.args.slots.now _ _ b in
-    let p = then_value (sets c.in-LetSimple.slot) g.met.M.Memory.laws q (at_once g.met.M.Memory.laws _ _ _) in
-    elim c.in-LetSimple.is [
-      | inl e ↦ rw (e, c.write_slot.ensures, to_z-of_z w64 c.in_ok-value-in-LetSimple.value f) p
-      | inr e ↦ rw (e, c.write_slot.ensures, to_z-of_z w64 c.in_ok-value-in-LetSimple.value f) p
-    ]
-
-pub exec-returns-in_ok-value-in-LetSimple-clause-others : goal.exec-returns-in_ok-value-in-LetSimple-clause-others
-exec-returns-in_ok-value-in-LetSimple-clause-others g t c =
-    let value = Binary c.in-LetSimple.op (operand c.in-LetSimple.left) (operand c.in-LetSimple.right) in
-    elim c.in-LetSimple.is [
-      | inl e ↦ let-leaves c.in-LetSimple.slot value _ (ap statement e) c.write_slot.ensures
-      | inr e ↦ assign-leaves c.in-LetSimple.slot value _ (ap statement e) c.write_slot.ensures
-    ]
-
-pub exec-exec_block-requires-then-compares : goal.exec-exec_block-requires-then-compares
-exec-exec_block-requires-then-compares g t c =
-    let m : t ≡ weight_before (map function c.args.context.now.functions.now) c.args.below + 2 * kind_weight c.args.kind.now + 1 = sym c.decreases in
-    let e = ap kind_weight c.in-IfSimple.is ∙ kind_weight-if_simple c.in-IfSimple.test c.in-IfSimple.left c.in-IfSimple.right c.in-IfSimple.first c.in-IfSimple.second in
-    let d = ap stmts_weight c.deref-then-compares.ensures.value in
-    let k : weight_before (map function c.args.context.now.functions.now) c.args.below + 2 * stmts_weight c.deref-then-compares.result.now + 2 < t = omega (arith, m, e, d) in
-    let room = ap (statement_measure (call_slots c.args.context.now c.args.below)) (ap statement c.in-IfSimple.is ∙ statement-if_simple c.in-IfSimple.test c.in-IfSimple.left c.in-IfSimple.right c.in-IfSimple.first c.in-IfSimple.second) in
-    let part = ap (λ ss. block_measure (call_slots c.args.context.now c.args.below) (block ss)) c.deref-then-compares.ensures.value in
-    λ κs h. (k, (h, (c.requires.within, (c.requires.short, omega (arith, c.requires.room, room, part)))))
-
-pub exec-exec_block-requires-else-is_empty-2 : goal.exec-exec_block-requires-else-is_empty-2
-exec-exec_block-requires-else-is_empty-2 g t c =
-    let m : t ≡ weight_before (map function c.args.context.now.functions.now) c.args.below + 2 * kind_weight c.args.kind.now + 1 = sym c.decreases in
-    let e = ap kind_weight c.in-IfSimple.is ∙ kind_weight-if_simple c.in-IfSimple.test c.in-IfSimple.left c.in-IfSimple.right c.in-IfSimple.first c.in-IfSimple.second in
-    let d = ap stmts_weight c.deref-else-is_empty-2.ensures.value in
-    let k : weight_before (map function c.args.context.now.functions.now) c.args.below + 2 * stmts_weight c.deref-else-is_empty-2.result.now + 2 < t = omega (arith, m, e, d) in
-    let room = ap (statement_measure (call_slots c.args.context.now c.args.below)) (ap statement c.in-IfSimple.is ∙ statement-if_simple c.in-IfSimple.test c.in-IfSimple.left c.in-IfSimple.right c.in-IfSimple.first c.in-IfSimple.second) in
-    let part = ap (λ ss. block_measure (call_slots c.args.context.now c.args.below) (block ss)) c.deref-else-is_empty-2.ensures.value in
-    λ κs h. (k, (h, (c.requires.within, (c.requires.short, omega (arith, c.requires.room, room, part)))))
-
-pub exec-returns-then-compares-clause-performs : goal.exec-returns-then-compares-clause-performs
-exec-returns-then-compares-clause-performs g t c =
-    let fx : FitsSigned w64 c.word_of.result = search rules in
-    let fy : FitsSigned w64 c.word_of-in-IfSimple.result = search rules in
-    let b = rw (to_z-of_z w64 c.word_of.result fx, to_z-of_z w64 c.word_of-in-IfSimple.result fy, c.word_of.ensures, c.word_of-in-IfSimple.ensures) at c.compares.ensures in
-    let q = guard_performs g.met.M.Memory.laws c.args.context.now c.args.below c.args.line (guard_form.Simple c.in-IfSimple.test c.in-IfSimple.left c.in-IfSimple.right) c.args.slots.now (g.M.Memory.output c.args.memory.now) c.args.memory.now (ap Ok b) in
-    rw c.in-IfSimple.is
-    (along (kind_means-if_simple (environment c.args.context.now c.args.below) c.args.line c.in-IfSimple.test c.in-IfSimple.left c.in-IfSimple.right c.in-IfSimple.first c.in-IfSimple.second)
-    (then_value _ g.met.M.Memory.laws q (rw (c.if-compares.true, ← c.deref-then-compares.ensures.value) c.exec_block-then-compares.ensures.performs)))
-
-pub exec-returns-then-is_empty-2-clause-performs : goal.exec-returns-then-is_empty-2-clause-performs
-exec-returns-then-is_empty-2-clause-performs g t c =
-    let fx : FitsSigned w64 c.word_of.result = search rules in
-    let fy : FitsSigned w64 c.word_of-in-IfSimple.result = search rules in
-    let b = rw (to_z-of_z w64 c.word_of.result fx, to_z-of_z w64 c.word_of-in-IfSimple.result fy, c.word_of.ensures, c.word_of-in-IfSimple.ensures) at c.compares.ensures in
-    let q = guard_performs g.met.M.Memory.laws c.args.context.now c.args.below c.args.line (guard_form.Simple c.in-IfSimple.test c.in-IfSimple.left c.in-IfSimple.right) c.args.slots.now (g.M.Memory.output c.args.memory.now) c.args.memory.now (ap Ok b) in
-    let e : length c.in-IfSimple.second.items ≡ 0 = search rules in
-    rw c.in-IfSimple.is
-    (along (kind_means-if_simple (environment c.args.context.now c.args.below) c.args.line c.in-IfSimple.test c.in-IfSimple.left c.in-IfSimple.right c.in-IfSimple.first c.in-IfSimple.second)
-    (then_value _ g.met.M.Memory.laws q (rw c.if-compares.false (along (no_statements (environment c.args.context.now c.args.below) c.in-IfSimple.second.items e) (at_once g.met.M.Memory.laws _ _ _)))))
-
-pub exec-returns-else-is_empty-2-clause-performs : goal.exec-returns-else-is_empty-2-clause-performs
-exec-returns-else-is_empty-2-clause-performs g t c =
-    let fx : FitsSigned w64 c.word_of.result = search rules in
-    let fy : FitsSigned w64 c.word_of-in-IfSimple.result = search rules in
-    let b = rw (to_z-of_z w64 c.word_of.result fx, to_z-of_z w64 c.word_of-in-IfSimple.result fy, c.word_of.ensures, c.word_of-in-IfSimple.ensures) at c.compares.ensures in
-    let q = guard_performs g.met.M.Memory.laws c.args.context.now c.args.below c.args.line (guard_form.Simple c.in-IfSimple.test c.in-IfSimple.left c.in-IfSimple.right) c.args.slots.now (g.M.Memory.output c.args.memory.now) c.args.memory.now (ap Ok b) in
-    rw c.in-IfSimple.is
-    (along (kind_means-if_simple (environment c.args.context.now c.args.below) c.args.line c.in-IfSimple.test c.in-IfSimple.left c.in-IfSimple.right c.in-IfSimple.first c.in-IfSimple.second)
-    (then_value _ g.met.M.Memory.laws q (rw (c.if-compares.false, ← c.deref-else-is_empty-2.ensures.value) c.exec_block-else-is_empty-2.ensures.performs)))
-
-pub exec-returns-then-compares-clause-others : goal.exec-returns-then-compares-clause-others
-exec-returns-then-compares-clause-others g t c =
-    first-leaves (Compare c.in-IfSimple.test (operand c.in-IfSimple.left) (operand c.in-IfSimple.right)) (block c.in-IfSimple.first.items) (block c.in-IfSimple.second.items) (ap statement c.in-IfSimple.is ∙ statement-if_simple c.in-IfSimple.test c.in-IfSimple.left c.in-IfSimple.right c.in-IfSimple.first c.in-IfSimple.second) (rw c.deref-then-compares.ensures.value at c.exec_block-then-compares.ensures.others)
-
-pub exec-returns-else-is_empty-2-clause-others : goal.exec-returns-else-is_empty-2-clause-others
-exec-returns-else-is_empty-2-clause-others g t c =
-    second-leaves (Compare c.in-IfSimple.test (operand c.in-IfSimple.left) (operand c.in-IfSimple.right)) (block c.in-IfSimple.first.items) (block c.in-IfSimple.second.items) (ap statement c.in-IfSimple.is ∙ statement-if_simple c.in-IfSimple.test c.in-IfSimple.left c.in-IfSimple.right c.in-IfSimple.first c.in-IfSimple.second) (rw c.deref-else-is_empty-2.ensures.value at c.exec_block-else-is_empty-2.ensures.others)
-
 -- ---- folds and pairs
 
 pub exec_pair-returns-in_err-exec_statements-clause-others : goal.exec_pair-returns-in_err-exec_statements-clause-others
 exec_pair-returns-in_err-exec_statements-clause-others g t c =
-    producer-leaves (pair_head c.args.pair.now) (block (out-PairCode c.args.pair.now).producer.items) (block (out-PairCode c.args.pair.now).consumer.items) (rw c.deref.ensures.value at c.in_err-exec_statements.ensures.others)
+    producer-leaves (pair_head c.args.pair.now) (block (out-Pair c.args.pair.now).producer.items) (block (out-Pair c.args.pair.now).consumer.items) (rw c.deref.ensures.value at c.in_err-exec_statements.ensures.others)
 
 pub exec_pair-returns-in_err-value-clause-others : goal.exec_pair-returns-in_err-value-clause-others
 exec_pair-returns-in_err-value-clause-others g t c =
-    producer-leaves (pair_head c.args.pair.now) (block (out-PairCode c.args.pair.now).producer.items) (block (out-PairCode c.args.pair.now).consumer.items) (rw c.deref.ensures.value at c.in_ok-exec_statements.ensures.others)
+    producer-leaves (pair_head c.args.pair.now) (block (out-Pair c.args.pair.now).producer.items) (block (out-Pair c.args.pair.now).consumer.items) (rw c.deref.ensures.value at c.in_ok-exec_statements.ensures.others)
 
 pub exec_pair-returns-clause-others : goal.exec_pair-returns-clause-others
 exec_pair-returns-clause-others g t c =
-    pair-leaves (pair_head c.args.pair.now) (block (out-PairCode c.args.pair.now).producer.items) (block (out-PairCode c.args.pair.now).consumer.items) _ (rw c.deref.ensures.value at c.in_ok-exec_statements.ensures.others) c.write_slot.ensures (rw c.deref-2.ensures.value at c.exec_statements-2.ensures.others)
+    pair-leaves (pair_head c.args.pair.now) (block (out-Pair c.args.pair.now).producer.items) (block (out-Pair c.args.pair.now).consumer.items) _ (rw c.deref.ensures.value at c.in_ok-exec_statements.ensures.others) c.write_slot.ensures (rw c.deref-2.ensures.value at c.exec_statements-2.ensures.others)
 
 pub exec_fold-returns-in_err-last-clause-others : goal.exec_fold-returns-in_err-last-clause-others
 exec_fold-returns-in_err-last-clause-others g t c =
-    fold-leaves (fold_head c.args.fold.now) (block (out-FoldCode c.args.fold.now).body.items) (rw c.deref.ensures.value at c.in_err-last.ensures.others)
+    fold-leaves (fold_head c.args.fold.now) (block (out-Fold c.args.fold.now).body.items) (rw c.deref.ensures.value at c.in_err-last.ensures.others)
 
 pub exec_fold-returns-clause-others : goal.exec_fold-returns-clause-others
 exec_fold-returns-clause-others g t c =
-    fold_end-leaves (fold_head c.args.fold.now) (block (out-FoldCode c.args.fold.now).body.items) _ (rw c.deref.ensures.value at c.in_ok-last.ensures.others) c.write_slot.ensures
-
-
--- ---- what is done where it stands
-
-pub step-returns-in_err-value-in-Let-clause-performs : goal.step-returns-in_err-value-in-Let-clause-performs
-step-returns-in_err-value-in-Let-clause-performs g t c =
-    let p = exit_left (sets c.in-Let.slot) (err_from_is_err_and c.from_residual-in_err-value-in-Let.result c.from_residual-in_err-value-in-Let.ensures.1).1 c.in_err-value-in-Let.ensures.performs in
-    elim c.in-Let.is [ inl e ↦ rw e p | inr e ↦ rw e p ]
-
-pub step-returns-in_ok-value-in-Let-clause-performs : goal.step-returns-in_ok-value-in-Let-clause-performs
-step-returns-in_ok-value-in-Let-clause-performs g t c =
-    let f : FitsSigned w64 c.in_ok-value-in-Let.value = search rules in
-    let p = then_value (sets c.in-Let.slot) g.met.M.Memory.laws c.in_ok-value-in-Let.ensures.performs (at_once g.met.M.Memory.laws _ _ _) in
-    elim c.in-Let.is [
-      | inl e ↦ rw (e, c.write_slot-in-Let.ensures, to_z-of_z w64 c.in_ok-value-in-Let.value f) p
-      | inr e ↦ rw (e, c.write_slot-in-Let.ensures, to_z-of_z w64 c.in_ok-value-in-Let.value f) p
-    ]
-
-pub step-returns-in_err-i-in-Store-clause-performs : goal.step-returns-in_err-i-in-Store-clause-performs
-step-returns-in_err-i-in-Store-clause-performs g t c =
-    rw c.in-Store.is (exit_left _ (err_from_is_err_and c.from_residual.result c.from_residual.ensures.1).1 c.in_err-i-in-Store.ensures.performs)
-
-pub step-returns-in_err-value-in-Store-clause-performs : goal.step-returns-in_err-value-in-Store-clause-performs
-step-returns-in_err-value-in-Store-clause-performs g t c =
-    rw c.in-Store.is
-    (then_value _ g.met.M.Memory.laws c.in_ok-i-in-Store.ensures.performs (exit_left _ (err_from_is_err_and c.from_residual-in_err-value-in-Store.result c.from_residual-in_err-value-in-Store.ensures.1).1 c.in_err-value-in-Store.ensures.performs))
-
-pub step-returns-in_err-cell-in-Store-clause-performs : goal.step-returns-in_err-cell-in-Store-clause-performs
-step-returns-in_err-cell-in-Store-clause-performs g t c =
-    let f : FitsSigned w64 c.in_ok-i-in-Store.i = search rules in
-    let e = rw (to_z-of_z w64 c.in_ok-i-in-Store.i f) at c.cell_of.ensures.value in
-    rw c.in-Store.is
-    (then_value _ g.met.M.Memory.laws c.in_ok-i-in-Store.ensures.performs (then_value _ g.met.M.Memory.laws c.in_ok-value-in-Store.ensures.performs
-    (exit_left _ (err_from_is_err_and c.from_residual-in_err-cell-in-Store.result c.from_residual-in_err-cell-in-Store.ensures.1).1 (checked_is g.met.M.Memory.laws _ _ _ _ (ap (at_line c.args.line) (sym e) ∙ sym c.in_err-cell-in-Store.ensures)))))
-
-pub step-returns-in_err-test-in-If-clause-performs : goal.step-returns-in_err-test-in-If-clause-performs
-step-returns-in_err-test-in-If-clause-performs g t c =
-    rw c.in-If.is
-    (along (kind_means-if (environment c.args.context.now c.args.below) c.args.line c.in-If.cond c.in-If.first c.in-If.second)
-    (exit_left _ (err_from_is_err_and c.from_residual-in_err-test-in-If.result c.from_residual-in_err-test-in-If.ensures.1).1 c.in_err-test-in-If.ensures.performs))
-
-pub step-exec_block-requires : goal.step-exec_block-requires
-step-exec_block-requires g t c =
-    let m : t ≡ weight_before (map function c.args.context.now.functions.now) c.args.below + 2 * kind_weight c.args.kind.now + 2 = sym c.decreases in
-    let e = ap kind_weight c.in-If.is ∙ kind_weight-if c.in-If.cond c.in-If.first c.in-If.second in
-    let d = ap stmts_weight c.deref.ensures.value in
-    let k : weight_before (map function c.args.context.now.functions.now) c.args.below + 2 * stmts_weight c.deref.result.now + 2 < t = omega (arith, m, e, d) in
-    let room = ap (statement_measure (call_slots c.args.context.now c.args.below)) (ap statement c.in-If.is ∙ statement-if c.in-If.cond c.in-If.first c.in-If.second) in
-    let part = ap (λ ss. block_measure (call_slots c.args.context.now c.args.below) (block ss)) c.deref.ensures.value in
-    λ κs h. (k, (h, (rw c.test.ensures.cells c.requires.within, (c.requires.short, omega (arith, c.requires.room, room, part)))))
-
-pub step-exec_block-requires-else-is_empty : goal.step-exec_block-requires-else-is_empty
-step-exec_block-requires-else-is_empty g t c =
-    let m : t ≡ weight_before (map function c.args.context.now.functions.now) c.args.below + 2 * kind_weight c.args.kind.now + 2 = sym c.decreases in
-    let e = ap kind_weight c.in-If.is ∙ kind_weight-if c.in-If.cond c.in-If.first c.in-If.second in
-    let d = ap stmts_weight c.deref-else-is_empty.ensures.value in
-    let k : weight_before (map function c.args.context.now.functions.now) c.args.below + 2 * stmts_weight c.deref-else-is_empty.result.now + 2 < t = omega (arith, m, e, d) in
-    let room = ap (statement_measure (call_slots c.args.context.now c.args.below)) (ap statement c.in-If.is ∙ statement-if c.in-If.cond c.in-If.first c.in-If.second) in
-    let part = ap (λ ss. block_measure (call_slots c.args.context.now c.args.below) (block ss)) c.deref-else-is_empty.ensures.value in
-    λ κs h. (k, (h, (rw c.test.ensures.cells c.requires.within, (c.requires.short, omega (arith, c.requires.room, room, part)))))
-
-pub step-returns-in_ok-cell-in-Store-clause-performs : goal.step-returns-in_ok-cell-in-Store-clause-performs
-step-returns-in_ok-cell-in-Store-clause-performs g t c =
-    let f : FitsSigned w64 c.in_ok-i-in-Store.i = search rules in
-    let fv : FitsSigned w64 c.in_ok-value-in-Store.value = search rules in
-    let e = rw (to_z-of_z w64 c.in_ok-i-in-Store.i f) at c.cell_of.ensures.value in
-    let l = rw (to_z-of_z w64 c.in_ok-value-in-Store.value fv) at c.store.ensures.leads in
-    rw (c.in-Store.is, c.store.ensures.output)
-    (then_value _ g.met.M.Memory.laws c.in_ok-i-in-Store.ensures.performs (then_value _ g.met.M.Memory.laws c.in_ok-value-in-Store.ensures.performs
-    (then_value _ g.met.M.Memory.laws (checked_is g.met.M.Memory.laws _ _ _ _ (ap (at_line c.args.line) (sym e) ∙ sym c.in_ok-cell-in-Store.ensures)) (store_now _ _ _ _ _ l))))
-
-pub step-returns-then-branch-clause-performs : goal.step-returns-then-branch-clause-performs
-step-returns-then-branch-clause-performs g t c =
-    rw c.in-If.is
-    (along (kind_means-if (environment c.args.context.now c.args.below) c.args.line c.in-If.cond c.in-If.first c.in-If.second)
-    (then_value _ g.met.M.Memory.laws c.in_ok-test-in-If.ensures.performs (rw (c.if-branch.true, ← c.deref.ensures.value) c.exec_block.ensures.performs)))
-
-pub step-returns-then-is_empty-clause-performs : goal.step-returns-then-is_empty-clause-performs
-step-returns-then-is_empty-clause-performs g t c =
-    let e : length c.in-If.second.items ≡ 0 = search rules in
-    rw c.in-If.is
-    (along (kind_means-if (environment c.args.context.now c.args.below) c.args.line c.in-If.cond c.in-If.first c.in-If.second)
-    (then_value _ g.met.M.Memory.laws c.in_ok-test-in-If.ensures.performs (rw c.if-branch.false (along (no_statements (environment c.args.context.now c.args.below) c.in-If.second.items e) (at_once g.met.M.Memory.laws _ _ _)))))
-
-pub step-returns-else-is_empty-clause-performs : goal.step-returns-else-is_empty-clause-performs
-step-returns-else-is_empty-clause-performs g t c =
-    rw c.in-If.is
-    (along (kind_means-if (environment c.args.context.now c.args.below) c.args.line c.in-If.cond c.in-If.first c.in-If.second)
-    (then_value _ g.met.M.Memory.laws c.in_ok-test-in-If.ensures.performs (rw (c.if-branch.false, ← c.deref-else-is_empty.ensures.value) c.exec_block-else-is_empty.ensures.performs)))
-
-pub step-returns-then-branch-clause-others : goal.step-returns-then-branch-clause-others
-step-returns-then-branch-clause-others g t c =
-    first-leaves (condition c.in-If.cond) (block c.in-If.first.items) (block c.in-If.second.items) (ap statement c.in-If.is ∙ statement-if c.in-If.cond c.in-If.first c.in-If.second) (rw c.deref.ensures.value at c.exec_block.ensures.others)
-
-pub step-returns-else-is_empty-clause-others : goal.step-returns-else-is_empty-clause-others
-step-returns-else-is_empty-clause-others g t c =
-    second-leaves (condition c.in-If.cond) (block c.in-If.first.items) (block c.in-If.second.items) (ap statement c.in-If.is ∙ statement-if c.in-If.cond c.in-If.first c.in-If.second) (rw c.deref-else-is_empty.ensures.value at c.exec_block-else-is_empty.ensures.others)
-
-pub step-returns-in_ok-value-in-Let-clause-others : goal.step-returns-in_ok-value-in-Let-clause-others
-step-returns-in_ok-value-in-Let-clause-others g t c =
-    elim c.in-Let.is [
-      | inl e ↦ let-leaves c.in-Let.slot (expression c.in-Let.value) _ (ap statement e) c.write_slot-in-Let.ensures
-      | inr e ↦ assign-leaves c.in-Let.slot (expression c.in-Let.value) _ (ap statement e) c.write_slot-in-Let.ensures
-    ]
-
-pub step-returns-in_err-value-in-LetSimple-clause-performs : goal.step-returns-in_err-value-in-LetSimple-clause-performs
-step-returns-in_err-value-in-LetSimple-clause-performs g t c =
-    let fx : FitsSigned w64 c.word_of-x.result = search rules in
-    let fy : FitsSigned w64 c.word_of-y.result = search rules in
-    let b = rw (to_z-of_z w64 c.word_of-x.result fx, to_z-of_z w64 c.word_of-y.result fy, c.word_of-x.ensures, c.word_of-y.ensures) at c.in_err-value-in-LetSimple.ensures in
-    let q = term_performs g.met.M.Memory.laws c.args.context.now c.args.below c.args.line (term_form.Simple c.in-LetSimple.op c.in-LetSimple.left c.in-LetSimple.right) c.args.slots.now _ _ b in
-    let p = exit_left (sets c.in-LetSimple.slot) (err_from_is_err_and c.from_residual-in_err-value-in-LetSimple.result c.from_residual-in_err-value-in-LetSimple.ensures.1).1 q in
-    elim c.in-LetSimple.is [ inl e ↦ rw e p | inr e ↦ rw e p ]
-
-pub step-returns-in_ok-value-in-LetSimple-clause-performs : goal.step-returns-in_ok-value-in-LetSimple-clause-performs
-step-returns-in_ok-value-in-LetSimple-clause-performs g t c =
-    let fx : FitsSigned w64 c.word_of-x.result = search rules in
-    let fy : FitsSigned w64 c.word_of-y.result = search rules in
-    let f : FitsSigned w64 c.in_ok-value-in-LetSimple.value = search rules in
-    let b = rw (to_z-of_z w64 c.word_of-x.result fx, to_z-of_z w64 c.word_of-y.result fy, c.word_of-x.ensures, c.word_of-y.ensures) at c.in_ok-value-in-LetSimple.ensures in
-    let q = term_performs g.met.M.Memory.laws c.args.context.now c.args.below c.args.line (term_form.Simple c.in-LetSimple.op c.in-LetSimple.left c.in-LetSimple.right) c.args.slots.now _ _ b in
-    let p = then_value (sets c.in-LetSimple.slot) g.met.M.Memory.laws q (at_once g.met.M.Memory.laws _ _ _) in
-    elim c.in-LetSimple.is [
-      | inl e ↦ rw (e, c.write_slot.ensures, to_z-of_z w64 c.in_ok-value-in-LetSimple.value f) p
-      | inr e ↦ rw (e, c.write_slot.ensures, to_z-of_z w64 c.in_ok-value-in-LetSimple.value f) p
-    ]
-
-pub step-returns-in_ok-value-in-LetSimple-clause-others : goal.step-returns-in_ok-value-in-LetSimple-clause-others
-step-returns-in_ok-value-in-LetSimple-clause-others g t c =
-    let value = Binary c.in-LetSimple.op (operand c.in-LetSimple.left) (operand c.in-LetSimple.right) in
-    elim c.in-LetSimple.is [
-      | inl e ↦ let-leaves c.in-LetSimple.slot value _ (ap statement e) c.write_slot.ensures
-      | inr e ↦ assign-leaves c.in-LetSimple.slot value _ (ap statement e) c.write_slot.ensures
-    ]
-
-pub step-exec_block-requires-then-compares : goal.step-exec_block-requires-then-compares
-step-exec_block-requires-then-compares g t c =
-    let m : t ≡ weight_before (map function c.args.context.now.functions.now) c.args.below + 2 * kind_weight c.args.kind.now + 2 = sym c.decreases in
-    let e = ap kind_weight c.in-IfSimple.is ∙ kind_weight-if_simple c.in-IfSimple.test c.in-IfSimple.left c.in-IfSimple.right c.in-IfSimple.first c.in-IfSimple.second in
-    let d = ap stmts_weight c.deref-then-compares.ensures.value in
-    let k : weight_before (map function c.args.context.now.functions.now) c.args.below + 2 * stmts_weight c.deref-then-compares.result.now + 2 < t = omega (arith, m, e, d) in
-    let room = ap (statement_measure (call_slots c.args.context.now c.args.below)) (ap statement c.in-IfSimple.is ∙ statement-if_simple c.in-IfSimple.test c.in-IfSimple.left c.in-IfSimple.right c.in-IfSimple.first c.in-IfSimple.second) in
-    let part = ap (λ ss. block_measure (call_slots c.args.context.now c.args.below) (block ss)) c.deref-then-compares.ensures.value in
-    λ κs h. (k, (h, (c.requires.within, (c.requires.short, omega (arith, c.requires.room, room, part)))))
-
-pub step-exec_block-requires-else-is_empty-2 : goal.step-exec_block-requires-else-is_empty-2
-step-exec_block-requires-else-is_empty-2 g t c =
-    let m : t ≡ weight_before (map function c.args.context.now.functions.now) c.args.below + 2 * kind_weight c.args.kind.now + 2 = sym c.decreases in
-    let e = ap kind_weight c.in-IfSimple.is ∙ kind_weight-if_simple c.in-IfSimple.test c.in-IfSimple.left c.in-IfSimple.right c.in-IfSimple.first c.in-IfSimple.second in
-    let d = ap stmts_weight c.deref-else-is_empty-2.ensures.value in
-    let k : weight_before (map function c.args.context.now.functions.now) c.args.below + 2 * stmts_weight c.deref-else-is_empty-2.result.now + 2 < t = omega (arith, m, e, d) in
-    let room = ap (statement_measure (call_slots c.args.context.now c.args.below)) (ap statement c.in-IfSimple.is ∙ statement-if_simple c.in-IfSimple.test c.in-IfSimple.left c.in-IfSimple.right c.in-IfSimple.first c.in-IfSimple.second) in
-    let part = ap (λ ss. block_measure (call_slots c.args.context.now c.args.below) (block ss)) c.deref-else-is_empty-2.ensures.value in
-    λ κs h. (k, (h, (c.requires.within, (c.requires.short, omega (arith, c.requires.room, room, part)))))
-
-pub step-returns-then-compares-clause-performs : goal.step-returns-then-compares-clause-performs
-step-returns-then-compares-clause-performs g t c =
-    let fx : FitsSigned w64 c.word_of.result = search rules in
-    let fy : FitsSigned w64 c.word_of-in-IfSimple.result = search rules in
-    let b = rw (to_z-of_z w64 c.word_of.result fx, to_z-of_z w64 c.word_of-in-IfSimple.result fy, c.word_of.ensures, c.word_of-in-IfSimple.ensures) at c.compares.ensures in
-    let q = guard_performs g.met.M.Memory.laws c.args.context.now c.args.below c.args.line (guard_form.Simple c.in-IfSimple.test c.in-IfSimple.left c.in-IfSimple.right) c.args.slots.now (g.M.Memory.output c.args.memory.now) c.args.memory.now (ap Ok b) in
-    rw c.in-IfSimple.is
-    (along (kind_means-if_simple (environment c.args.context.now c.args.below) c.args.line c.in-IfSimple.test c.in-IfSimple.left c.in-IfSimple.right c.in-IfSimple.first c.in-IfSimple.second)
-    (then_value _ g.met.M.Memory.laws q (rw (c.if-compares.true, ← c.deref-then-compares.ensures.value) c.exec_block-then-compares.ensures.performs)))
-
-pub step-returns-then-is_empty-2-clause-performs : goal.step-returns-then-is_empty-2-clause-performs
-step-returns-then-is_empty-2-clause-performs g t c =
-    let fx : FitsSigned w64 c.word_of.result = search rules in
-    let fy : FitsSigned w64 c.word_of-in-IfSimple.result = search rules in
-    let b = rw (to_z-of_z w64 c.word_of.result fx, to_z-of_z w64 c.word_of-in-IfSimple.result fy, c.word_of.ensures, c.word_of-in-IfSimple.ensures) at c.compares.ensures in
-    let q = guard_performs g.met.M.Memory.laws c.args.context.now c.args.below c.args.line (guard_form.Simple c.in-IfSimple.test c.in-IfSimple.left c.in-IfSimple.right) c.args.slots.now (g.M.Memory.output c.args.memory.now) c.args.memory.now (ap Ok b) in
-    let e : length c.in-IfSimple.second.items ≡ 0 = search rules in
-    rw c.in-IfSimple.is
-    (along (kind_means-if_simple (environment c.args.context.now c.args.below) c.args.line c.in-IfSimple.test c.in-IfSimple.left c.in-IfSimple.right c.in-IfSimple.first c.in-IfSimple.second)
-    (then_value _ g.met.M.Memory.laws q (rw c.if-compares.false (along (no_statements (environment c.args.context.now c.args.below) c.in-IfSimple.second.items e) (at_once g.met.M.Memory.laws _ _ _)))))
-
-pub step-returns-else-is_empty-2-clause-performs : goal.step-returns-else-is_empty-2-clause-performs
-step-returns-else-is_empty-2-clause-performs g t c =
-    let fx : FitsSigned w64 c.word_of.result = search rules in
-    let fy : FitsSigned w64 c.word_of-in-IfSimple.result = search rules in
-    let b = rw (to_z-of_z w64 c.word_of.result fx, to_z-of_z w64 c.word_of-in-IfSimple.result fy, c.word_of.ensures, c.word_of-in-IfSimple.ensures) at c.compares.ensures in
-    let q = guard_performs g.met.M.Memory.laws c.args.context.now c.args.below c.args.line (guard_form.Simple c.in-IfSimple.test c.in-IfSimple.left c.in-IfSimple.right) c.args.slots.now (g.M.Memory.output c.args.memory.now) c.args.memory.now (ap Ok b) in
-    rw c.in-IfSimple.is
-    (along (kind_means-if_simple (environment c.args.context.now c.args.below) c.args.line c.in-IfSimple.test c.in-IfSimple.left c.in-IfSimple.right c.in-IfSimple.first c.in-IfSimple.second)
-    (then_value _ g.met.M.Memory.laws q (rw (c.if-compares.false, ← c.deref-else-is_empty-2.ensures.value) c.exec_block-else-is_empty-2.ensures.performs)))
-
-pub step-returns-then-compares-clause-others : goal.step-returns-then-compares-clause-others
-step-returns-then-compares-clause-others g t c =
-    first-leaves (Compare c.in-IfSimple.test (operand c.in-IfSimple.left) (operand c.in-IfSimple.right)) (block c.in-IfSimple.first.items) (block c.in-IfSimple.second.items) (ap statement c.in-IfSimple.is ∙ statement-if_simple c.in-IfSimple.test c.in-IfSimple.left c.in-IfSimple.right c.in-IfSimple.first c.in-IfSimple.second) (rw c.deref-then-compares.ensures.value at c.exec_block-then-compares.ensures.others)
-
-pub step-returns-else-is_empty-2-clause-others : goal.step-returns-else-is_empty-2-clause-others
-step-returns-else-is_empty-2-clause-others g t c =
-    second-leaves (Compare c.in-IfSimple.test (operand c.in-IfSimple.left) (operand c.in-IfSimple.right)) (block c.in-IfSimple.first.items) (block c.in-IfSimple.second.items) (ap statement c.in-IfSimple.is ∙ statement-if_simple c.in-IfSimple.test c.in-IfSimple.left c.in-IfSimple.right c.in-IfSimple.first c.in-IfSimple.second) (rw c.deref-else-is_empty-2.ensures.value at c.exec_block-else-is_empty-2.ensures.others)
+    fold_end-leaves (fold_head c.args.fold.now) (block (out-Fold c.args.fold.now).body.items) _ (rw c.deref.ensures.value at c.in_ok-last.ensures.others) c.write_slot.ensures

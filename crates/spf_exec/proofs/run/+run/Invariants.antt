@@ -1,7 +1,7 @@
 use Rattle.std.proofs.Common.{◌≡◌, ◌+◌, ◌*◌, drop}
 use Rattle.std.specs.Int.{int_gap}
 use Rattle.std.specs.Prelude.{map}
-use Rattle.spf_code.specs.View.{function, block, value as expression}
+use Rattle.spf_ast.specs.View.{function, block, expression}
 use Rattle.spf_exec.proofs.Forms.{cond_means, stmts_mean, expr_weight, exprs_weight, cond_weight, kind_weight, stmts_weight, fold_weight, pair_weight}
 use Rattle.spf_ast.specs.Meaning.{for_turns, while_turns, fold_blocks}
 use Rattle.spf_exec.proofs.Weight.{weight_before}
@@ -39,19 +39,13 @@ abbrev pub decreases-decide : goal.decreases-decide
 decreases-decide g l = weight_before (map function l.context.now.functions.now) l.below + 2 * cond_weight l.cond.now
 
 abbrev pub decreases-exec_statements : goal.decreases-exec_statements
-decreases-exec_statements g l = weight_before (map function l.context.now.functions.now) l.below + 2 * stmts_weight l.statements.now + 1
-
-abbrev pub decreases-exec_block : goal.decreases-exec_block
-decreases-exec_block g l = weight_before (map function l.context.now.functions.now) l.below + 2 * stmts_weight l.statements.now + 2
+decreases-exec_statements g l = weight_before (map function l.context.now.functions.now) l.below + 2 * stmts_weight l.statements.now
 
 abbrev pub decreases-exec : goal.decreases-exec
 decreases-exec g l = weight_before (map function l.context.now.functions.now) l.below + 2 * kind_weight l.kind.now + 1
 
-abbrev pub decreases-step : goal.decreases-step
-decreases-step g l = weight_before (map function l.context.now.functions.now) l.below + 2 * kind_weight l.kind.now + 2
-
 abbrev pub decreases-exec_for : goal.decreases-exec_for
-decreases-exec_for g l = weight_before (map function l.context.now.functions.now) l.below + 2 * stmts_weight l.body.now + 2
+decreases-exec_for g l = weight_before (map function l.context.now.functions.now) l.below + 2 * stmts_weight l.body.now + 1
 
 abbrev pub decreases-exec_while : goal.decreases-exec_while
 decreases-exec_while g l = weight_before (map function l.context.now.functions.now) l.below + 2 * (cond_weight l.cond.now + stmts_weight l.body.now) + 2

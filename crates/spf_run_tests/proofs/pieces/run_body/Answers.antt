@@ -1,4 +1,4 @@
-use Rattle.spf_code.specs.ConstructView.{construct}
+use Rattle.spf_ast.specs.ConstructView.{construct}
 use Rattle.spf_layout.specs.Instance.{program_of}
 use Rattle.spf_exec.proofs.Constructs.{first_contained}
 use Rattle.spf_run_tests.proofs.pieces.run_body.Goals as goal

@@ -1,9 +1,8 @@
 use Rattle.std.proofs.Common.{rules, ◌≡◌, ◌∙◌, arith, refl, length, ap, w64}
 use Rattle.std.proofs.lemmas.Int.{to_z-of_z}
 use Rattle.std.proofs.Math.ListN.{length-set}
-use Rattle.spf_code.specs.ConstructView.{construct}
+use Rattle.spf_ast.specs.ConstructView.{construct}
 use Rattle.spf_ast.specs.Construct.{carried_of}
-use Rattle.spf_ast.specs.Pieces.{statement_count}
 use Rattle.spf_layout.specs.Frame.{main_slots}
 use Rattle.spf_layout.specs.Instance.{program_of}
 use Rattle.spf_exec.proofs.Constructs.{within, one_less, few_constructs}
@@ -13,19 +12,19 @@ use Rattle.spf_exec.proofs.pieces.Run.settle.Goals as goal
 pub prove-unreachable-requires : goal.prove-unreachable-requires
 prove-unreachable-requires c =
     let p = program_of c.args.instance.now in
-    let xs = c.main-statements.result.now in
+    let xs = c.args.instance.now.code.main.items in
     let w = within p.main c.self.inside.place (construct c.args.construct) (rw (← c.self.view_is) at c.requires.construct) in
-    let count = ap statement_count c.main-statements.ensures in
-    omega (arith, w, count, count_is xs, c.if-prove.true)
+    let long : c.len-statements.result ≡ length xs = search rules in
+    omega (arith, w, long, count_is xs, c.if-prove.true)
 
 pub overflow_add-self-2 : goal.overflow_add-self-2
 overflow_add-self-2 c =
     let p = program_of c.args.instance.now in
-    let xs = c.main-statements.result.now in
+    let xs = c.args.instance.now.code.main.items in
     let r = rw (← c.self.view_is) at c.requires.run in
     let less = one_less p.main c.self.inside.place (construct c.args.construct) (rw (← c.self.view_is) at c.requires.construct) in
-    let count = ap statement_count c.main-statements.ensures in
-    omega (arith, r.passed, less, few_constructs p.main, count_is xs, count)
+    let long : c.len-statements.result ≡ length xs = search rules in
+    omega (arith, r.passed, less, few_constructs p.main, count_is xs, long, c.len-statements.type_inv)
 
 pub returns-clause-settled : goal.returns-clause-settled
 returns-clause-settled c =

@@ -3,7 +3,7 @@ use Rattle.std.proofs.lemmas.Int.{to_z-of_z}
 use mir.Syntax.{w64}
 use mir.Val.{to_z, of_z}
 use Rattle.spf_ast.specs.Construct.{part_of, statements_of}
-use Rattle.spf_code.specs.ConstructView.{construct}
+use Rattle.spf_ast.specs.ConstructView.{construct}
 use Rattle.spf_ast.specs.Slots.{assigns_outer}
 use Rattle.spf_laws.specs.Agreement.{AgreeOutside}
 use Rattle.spf_layout.specs.Instance.{program_of}
