@@ -100,4 +100,5 @@ def main():
     print(f"\ndemo lex 7 1000000 8: {took:.2f} seconds, {output.decode().strip()}")
 
 
-main()
+if __name__ == "__main__":
+    main()

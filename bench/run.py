@@ -1,49 +1,107 @@
 #!/usr/bin/env python3
-"""Times the loops of this folder by `spf`, CPython and Lua, and prints a table of seconds and ratios.
+"""Times three loops, three decoders and two scanners by `spf`, CPython, Lua 5.4 and C (-O2), in rounds (rounds.py).
 
-The first word may name the program that is timed in the place of crates/spf/out/spf; it is called as `spf run PROGRAM INPUT --plain`.
-Each loop is timed three times, and the least time counts. What is missing, or fails, is left out.
+Prints a table of seconds and of ratios, and for each group the geometric means. `spf` runs the loops and the scanners by `--plain`, and the
+decoders on one worker. The outputs of the languages are compared. Needs the built program (`./spf --build`), `lua5.4`, `cc`, and idle
+cores. The first word may name the program that is timed in the place of crates/spf/out/spf.
 """
 
+import math
 import os
-import resource
 import shutil
+import statistics
 import subprocess
 import sys
 import tempfile
+import time
 
-HERE = os.path.dirname(os.path.abspath(__file__))
-SPF = sys.argv[1] if len(sys.argv) > 1 else os.path.join(HERE, "..", "crates", "spf", "out", "spf")
-LOOPS = ["arithmetic", "arrays", "calls"]
+from decoders import MACHINE, coded, letters, packed
+from rounds import HERE, program
+
+SPF = program()
+EXAMPLES = os.path.join(HERE, "..", "examples")
+ROUNDS = 5
+LANGUAGES = ["spf", "CPython", "Lua", "C"]
 
 
-def seconds(words):
-    """The least user time of three runs, or None."""
-    best = None
-    for _ in range(3):
-        before = resource.getrusage(resource.RUSAGE_CHILDREN).ru_utime
-        done = subprocess.run(words, stdout=subprocess.DEVNULL, stderr=subprocess.DEVNULL)
-        if done.returncode != 0:
-            return None
-        took = resource.getrusage(resource.RUSAGE_CHILDREN).ru_utime - before
-        best = took if best is None else min(best, took)
-    return best
+def example(name, size):
+    with open(os.path.join(EXAMPLES, name), "rb") as file:
+        content = file.read()
+    return content * (size // len(content))
+
+
+def compiled(folder, *source):
+    path = os.path.join(folder, source[-1].removesuffix(".c"))
+    subprocess.run(["cc", "-O2", "-o", path, os.path.join(HERE, *source)], check=True)
+    return path
+
+
+def tasks(folder):
+    """The groups of tasks. A task has a name, an input, and a command for each language; only `spf` takes the input as a file."""
+    lua = shutil.which("lua5.4") or sys.exit("lua5.4 is not found")
+    loops, decode, scan = compiled(folder, "loops.c"), compiled(folder, "decoders", "decode.c"), compiled(folder, "scanners", "scan.c")
+
+    def commands(spf, script, words, in_c):
+        path = os.path.join(HERE, script)
+        return dict(zip(LANGUAGES, [[SPF] + spf, [sys.executable, path + ".py"] + words, [lua, path + ".lua"] + words, in_c]))
+
+    def held(name, data):
+        path = os.path.join(folder, name + ".input")
+        with open(path, "wb") as file:
+            file.write(data)
+        return path
+
+    empty = held("empty", b"")
+    groups = {"loops": [], "decoders": [], "scanners": []}
+    for name in ["arithmetic", "arrays", "calls"]:
+        groups["loops"].append((name, b"", commands(["run", os.path.join(HERE, name + ".spf"), empty, "--plain"], name, [], [loops, name])))
+    for name, data, words in [("unpack", packed(600_000), []), ("unhuff", coded(600_000), []), ("lex", letters(600_000), [MACHINE])]:
+        spf = [name] + words + [held(name, data), "--workers", "1"]
+        groups["decoders"].append((name, data, commands(spf, os.path.join("decoders", name), words, [decode, name] + words)))
+    for name, data in [("utf8", example("utf8.txt", 1_000_000)), ("csv", example("cities.csv", 1_000_000))]:
+        spf = ["run", os.path.join(EXAMPLES, name + ".spf"), held(name, data), "--plain"]
+        groups["scanners"].append((name, data, commands(spf, os.path.join("scanners", name), [], [scan, name])))
+    return groups
+
+
+def timed(command, data):
+    start = time.perf_counter()
+    done = subprocess.run(command, input=data, capture_output=True)
+    return time.perf_counter() - start, done.stdout, done.returncode
+
+
+def seconds(name, data, commands):
+    """The seconds of each language, round by round."""
+    times = {language: [] for language in LANGUAGES}
+    outputs = {}
+    for _ in range(ROUNDS):
+        for language in LANGUAGES:
+            took, output, status = timed(commands[language], data)
+            times[language].append(took)
+            outputs[language] = (output, status)
+    if not data:
+        # A loop of the language emits its last byte; the others print it as a number.
+        output, status = outputs["spf"]
+        outputs["spf"] = (f"{output[0]}\n".encode(), status)
+    for language in LANGUAGES:
+        if outputs[language] != outputs["spf"]:
+            sys.exit(f"{name}: {language} gives another output")
+    return times
 
 
 def main():
-    print(f"{'loop':<12}{'spf':>8}{'python':>8}{'lua':>8}{'python/spf':>12}{'lua/spf':>9}")
-    with tempfile.NamedTemporaryFile() as empty:
-        for loop in LOOPS:
-            path = os.path.join(HERE, loop)
-            lua = shutil.which("lua5.4")
-            times = [
-                seconds([SPF, "run", path + ".spf", empty.name, "--plain"]) if os.access(SPF, os.X_OK) else None,
-                seconds([sys.executable, path + ".py"]),
-                seconds([lua, path + ".lua"]) if lua else None,
-            ]
-            shown = [f"{t:8.2f}" if t is not None else f"{'-':>8}" for t in times]
-            ratios = [f"{t / times[0]:.2f}" if t is not None and times[0] else "-" for t in times[1:]]
-            print(f"{loop:<12}{shown[0]}{shown[1]}{shown[2]}{ratios[0]:>12}{ratios[1]:>9}")
+    print("| | " + " | ".join(LANGUAGES) + " | CPython / spf | Lua / spf | spf / C |\n|---|" + "---|" * 7)
+    with tempfile.TemporaryDirectory() as folder:
+        for group, members in tasks(folder).items():
+            ratios = []
+            for name, data, commands in members:
+                times = seconds(name, data, commands)
+                pairs = [("CPython", "spf"), ("Lua", "spf"), ("spf", "C")]
+                ratios.append([statistics.median(a / b for a, b in zip(times[one], times[other])) for one, other in pairs])
+                shown = [f"{statistics.median(times[language]):.3f}" for language in LANGUAGES] + [f"{ratio:.2f}" for ratio in ratios[-1]]
+                print(f"| {name} | " + " | ".join(shown) + " |", flush=True)
+            means = [math.exp(statistics.mean(math.log(row[i]) for row in ratios)) for i in range(3)]
+            print(f"| {group}, geometric mean | | | | | " + " | ".join(f"{mean:.2f}" for mean in means) + " |", flush=True)
 
 
 main()
