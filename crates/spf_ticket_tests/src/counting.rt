@@ -122,6 +122,7 @@ pub(crate) fn attempt(cells: &Cells, job: &Job, ticket: Ticket) -> Report
     requires program { program_of job.now.instance.now ≡ counting }
     requires input { job.now.instance.now.input ≡ [] }
     requires construct { seen_construct job.now.construct ≡ fold_of_counting }
+    requires index { job.now.index ≡ 0 }
     requires entry { job.now.entry.now ≡ [] }
     requires setting { cells.now.setting ≡ counting_setting }
     requires table { ticket.lane.table ≡ cells.now.table }
@@ -140,6 +141,7 @@ fn first_attempt(cells: &Cells, job: &Job, lane: Lane, frame: Frame) -> Report
     requires program { program_of job.now.instance.now ≡ counting }
     requires input { job.now.instance.now.input ≡ [] }
     requires construct { seen_construct job.now.construct ≡ fold_of_counting }
+    requires index { job.now.index ≡ 0 }
     requires entry { job.now.entry.now ≡ [] }
     requires setting { cells.now.setting ≡ counting_setting }
     requires lane { lane ≡ new_lane cells.now 1 }
@@ -165,6 +167,7 @@ fn both_attempts(alloc: Global, raised: bool) -> Result<Option<(Stop, Stop)>, Al
     let job = Job {
         instance: &instance,
         construct,
+        index: 0,
         entry: &[],
     };
     let frame = Frame::make(alloc, &instance)?;
