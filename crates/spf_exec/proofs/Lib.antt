@@ -1,4 +1,8 @@
-pub mod Sources
+pub mod Weight
+pub mod Forms
+pub mod Steps
+pub mod Turns
+pub mod Calls
 pub mod Rooms
 pub mod Outcome
 pub mod Within

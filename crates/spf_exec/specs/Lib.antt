@@ -1,3 +1,9 @@
-pub mod Sources
+pub mod MemoryLaws
+pub mod PlainMemory
+pub mod QuietMemory
+pub mod ReadMemory
+pub mod Rooms
+pub mod Performs
+pub mod Leaves
 pub mod BlockRuns
 pub mod Pieces

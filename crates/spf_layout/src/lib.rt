@@ -2,6 +2,7 @@
 #![tactic(auto)]
 
 pub mod arrays;
+mod frame_size;
 pub mod instance;
 pub mod layout;
 pub mod stop;

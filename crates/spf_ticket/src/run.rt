@@ -1,5 +1,6 @@
 //! Runs of tickets.
-ghost use Rattle.std.specs.Prelude.{◌≡◌, ℕ, length, false, slice_get, Some};
+ghost use Rattle.std.specs.Prelude.{◌≡◌, ℕ, length, false};
+ghost use Rattle.std.specs.List.{Contains};
 ghost use Rattle.spf_ast.specs.Carried.{Carried as CarriedValue};
 ghost use Rattle.spf_ast.specs.Construct.{constructs_in, part_of, statements_of};
 ghost use Rattle.spf_ast.specs.ConstructView.{construct as seen_construct};
@@ -31,8 +32,6 @@ use spf_speculation::block_runs_are_attempts;
 pub struct Job<'a> {
     pub instance: &'a Instance<'a>,
     pub construct: TopConstruct<'a>,
-    /// Which of the program's top constructs it is, counted from 0.
-    pub index: u32,
     pub entry: &'a [i64],
 }
 
@@ -55,7 +54,7 @@ impl Ticket {
     pub fn run<G: Gate>(self, cells: &Cells, job: &Job, gate: &G) -> Report
         requires own { self.lane.table ≡ cells.now.table }
         requires lawful { IsLawful (program_of job.now.instance.now) }
-        requires construct { slice_get (constructs_in (program_of job.now.instance.now).main) job.now.index ≡ Some (seen_construct job.now.construct) }
+        requires construct { Contains (constructs_in (program_of job.now.instance.now).main) (seen_construct job.now.construct) }
         requires entry { length job.now.entry.now ≡ cell_count_of (program_of job.now.instance.now) (length job.now.instance.now.input) }
         requires frame { length self.frame ≡ frame_size (program_of job.now.instance.now) }
         requires silent { PartIsSilent (seen_construct job.now.construct) (part_of (seen_construct job.now.construct) self.block) }
@@ -81,7 +80,6 @@ impl Ticket {
         let entry = job.entry;
         let run = Block {
             construct: job.construct,
-            index: job.index,
             part: job.construct.part_of(block),
             number,
             value: carried,

@@ -122,7 +122,6 @@ pub(crate) fn attempt(cells: &Cells, job: &Job, ticket: Ticket) -> Report
     requires program { program_of job.now.instance.now ≡ counting }
     requires input { job.now.instance.now.input ≡ [] }
     requires construct { seen_construct job.now.construct ≡ fold_of_counting }
-    requires index { job.now.index ≡ 0 }
     requires entry { job.now.entry.now ≡ [] }
     requires setting { cells.now.setting ≡ counting_setting }
     requires table { ticket.lane.table ≡ cells.now.table }
@@ -141,7 +140,6 @@ fn first_attempt(cells: &Cells, job: &Job, lane: Lane, frame: Frame) -> Report
     requires program { program_of job.now.instance.now ≡ counting }
     requires input { job.now.instance.now.input ≡ [] }
     requires construct { seen_construct job.now.construct ≡ fold_of_counting }
-    requires index { job.now.index ≡ 0 }
     requires entry { job.now.entry.now ≡ [] }
     requires setting { cells.now.setting ≡ counting_setting }
     requires lane { lane ≡ new_lane cells.now 1 }
@@ -167,7 +165,6 @@ fn both_attempts(alloc: Global, raised: bool) -> Result<Option<(Stop, Stop)>, Al
     let job = Job {
         instance: &instance,
         construct,
-        index: 0,
         entry: &[],
     };
     let frame = Frame::make(alloc, &instance)?;

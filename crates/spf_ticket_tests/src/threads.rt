@@ -27,7 +27,6 @@ fn attempt_twice(cells: &Cells, job: &Job, ticket: Ticket) -> (Stop, Stop)
     requires program { program_of job.now.instance.now ≡ counting }
     requires input { job.now.instance.now.input ≡ [] }
     requires construct { seen_construct job.now.construct ≡ fold_of_counting }
-    requires index { job.now.index ≡ 0 }
     requires entry { job.now.entry.now ≡ [] }
     requires setting { cells.now.setting ≡ counting_setting }
     requires table { ticket.lane.table ≡ cells.now.table }
@@ -51,7 +50,6 @@ fn raised_meanwhile<R: Threads + Sync>(
     requires program { program_of job.now.instance.now ≡ counting }
     requires input { job.now.instance.now.input ≡ [] }
     requires construct { seen_construct job.now.construct ≡ fold_of_counting }
-    requires index { job.now.index ≡ 0 }
     requires entry { job.now.entry.now ≡ [] }
     requires setting { cells.now.setting ≡ counting_setting }
     requires table { ticket.lane.table ≡ cells.now.table }
@@ -85,7 +83,6 @@ fn both_attempts<R: Threads + Sync>(
     let job = Job {
         instance: &instance,
         construct,
-        index: 0,
         entry: &[],
     };
     let frame = Frame::make(alloc, &instance)?;

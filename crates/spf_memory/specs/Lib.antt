@@ -1,6 +1,0 @@
-pub mod MemoryLaws
-pub mod PlainMemory
-pub mod QuietMemory
-pub mod ReadMemory
-pub mod Performs
-pub mod Leaves

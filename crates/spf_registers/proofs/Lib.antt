@@ -1,4 +1,0 @@
-pub mod Lists
-pub mod Behind
-pub mod Counted
-pub mod Tables
