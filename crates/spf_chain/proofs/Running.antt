@@ -1,8 +1,5 @@
 -- The blocks of an accepted program can be run as attempts.
-use Rattle.std.proofs.Common.{◌≡◌, ℕ, zero, suc, false, List, [], ◌∷◌, length, sym, subst, Some, slice_get}
-use Rattle.std.specs.Prelude.{slice_index_or}
-use Rattle.std.specs.List.{Contains}
-use Rattle.std.proofs.lemmas.Option.{slice_get_within}
+use Rattle.std.proofs.Common.{◌≡◌, ℕ, zero, suc, false}
 use Rattle.spf_ast.specs.Syntax.{Program}
 use Rattle.spf_ast.specs.Lawful.{IsLawful}
 use Rattle.spf_ast.specs.Silence.{PartIsSilent}
@@ -27,20 +24,12 @@ outer-of p (fold line head body) k n = k.assigns_no_outer Body tt
 outer-of p (pair line head producer consumer) k zero = k.assigns_no_outer Producer tt
 outer-of p (pair line head producer consumer) k (suc n) = k.assigns_no_outer Consumer tt
 
-is-among : (cs : List Construct) (n : ℕ) (c : Construct) → slice_get cs n ≡ Some c → Contains cs c
-is-among cs n c at = (n, slice_get_within cs n c at, read cs n c at)
-  where
-    read : (xs : List Construct) (i : ℕ) (x : Construct) → slice_get xs i ≡ Some x → slice_index_or xs i x ≡ x
-    read [] i x e = cc
-    read (y ∷ xs) zero x e = cc
-    read (y ∷ xs) (suc i) x e = read xs i x e
-
 pub can-run : AcceptedConstructsCanRun
-can-run job number lawful accepted at cells =
-    let keeps = accepted number (construct job.construct) at in
+can-run job lawful accepted at cells =
+    let keeps = accepted job.index (construct job.construct) at in
     record {
       lawful = lawful;
-      top = is-among (constructs_in (program_of job.instance.now).main) number (construct job.construct) at;
+      top = at;
       silent = silent-of (program_of job.instance.now) (construct job.construct) keeps;
       outer = outer-of (program_of job.instance.now) (construct job.construct) keeps;
       cells = cells;

@@ -1,6 +1,5 @@
 -- What the blocks of a chain are run with.
 use Rattle.std.specs.Prelude.{◌≡◌, ℕ, false, length, Some, slice_get}
-use Rattle.std.specs.List.{Contains}
 use Rattle.spf_ast.specs.Construct.{constructs_in, part_of, statements_of}
 use Rattle.spf_ast.specs.ConstructView.{construct}
 use Rattle.spf_ast.specs.Lawful.{IsLawful}
@@ -11,11 +10,11 @@ use Rattle.spf_layout.specs.Instance.{program_of}
 use Rattle.spf_check.specs.Accepting.{IsAccepted}
 use Rattle.spf_ticket.specs.declared.run.Job.{Job}
 
--- the blocks of the job's construct can be run as attempts: the program is lawful, the construct is one of its top
--- constructs, no block of it emits or assigns a slot from outside, and the job has a word for each cell
+-- the blocks of the job's construct can be run as attempts: the program is lawful, the construct is the one at the job's index among
+-- its top constructs, no block of it emits or assigns a slot from outside, and the job has a word for each cell
 pub record CanRun (job : Job) : Type 0 where
   pub lawful : IsLawful (program_of job.instance.now)
-  pub top : Contains (constructs_in (program_of job.instance.now).main) (construct job.construct)
+  pub top : slice_get (constructs_in (program_of job.instance.now).main) job.index ≡ Some (construct job.construct)
   pub silent : (n : ℕ) → PartIsSilent (construct job.construct) (part_of (construct job.construct) n)
   pub outer : (n : ℕ) → assigns_outer (statements_of (construct job.construct) (part_of (construct job.construct) n)) ≡ false
   pub cells : length job.entry.now ≡ cell_count_of (program_of job.instance.now) (length job.instance.now.input)
@@ -23,6 +22,6 @@ pub record CanRun (job : Job) : Type 0 where
 -- the blocks of each top construct of an accepted program can be run as attempts
 abbrev pub AcceptedConstructsCanRun : Type 0
 AcceptedConstructsCanRun =
-    (job : Job) (number : ℕ) → IsLawful (program_of job.instance.now) → IsAccepted (program_of job.instance.now)
-    → slice_get (constructs_in (program_of job.instance.now).main) number ≡ Some (construct job.construct)
+    (job : Job) → IsLawful (program_of job.instance.now) → IsAccepted (program_of job.instance.now)
+    → slice_get (constructs_in (program_of job.instance.now).main) job.index ≡ Some (construct job.construct)
     → length job.entry.now ≡ cell_count_of (program_of job.instance.now) (length job.instance.now.input) → CanRun job

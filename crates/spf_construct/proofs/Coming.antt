@@ -32,9 +32,9 @@ use Rattle.spf_construct.specs.Coming.{IsAtConstruct, entry_of, ComesTo}
 use Rattle.spf_construct.proofs.Counting.{counts-are, guess-at}
 
 -- the entry of the chain's site is the construct's
-pub entry-is : (at : Stand) (number : ℕ) (h : Header) (guesses : List code_guess.Guess) → slice_get (constructs_in (program_of at.instance.now).main) number ≡ Some (seen_construct at.construct)
-    → entry_at (site_of at.instance.now number h at.frame.now at.cells.now guesses) ≡ entry_of at h
-entry-is at number h guesses is = λ i. record {
+pub entry-is : (at : Stand) (h : Header) (guesses : List code_guess.Guess) → slice_get (constructs_in (program_of at.instance.now).main) at.index ≡ Some (seen_construct at.construct)
+    → entry_at (site_of at.instance.now at.index h at.frame.now at.cells.now guesses) ≡ entry_of at h
+entry-is at h guesses is = λ i. record {
   program = program_of at.instance.now;
   construct = construct_or_none (is i);
   input = at.instance.now.input;
@@ -44,22 +44,22 @@ entry-is at number h guesses is = λ i. record {
 }
 
 -- the guesses of the site are those that were taken
-same-guesses : (guess : ℕ → Guess) (at : Stand) (number : ℕ) (h : Header) (guesses : List code_guess.Guess) → map seen_guess guesses ≡ guesses_from guess 1 (h.blocks - 1)
-    → (n : ℕ) → 0 < n → n < h.blocks → guess_at (site_of at.instance.now number h at.frame.now at.cells.now guesses) n ≡ (guess n).value
-same-guesses guess at number h guesses taken zero above below = absurd (omega (arith, above))
-same-guesses guess at number h guesses taken (suc n) above below =
+same-guesses : (guess : ℕ → Guess) (at : Stand) (h : Header) (guesses : List code_guess.Guess) → map seen_guess guesses ≡ guesses_from guess 1 (h.blocks - 1)
+    → (n : ℕ) → 0 < n → n < h.blocks → guess_at (site_of at.instance.now at.index h at.frame.now at.cells.now guesses) n ≡ (guess n).value
+same-guesses guess at h guesses taken zero above below = absurd (omega (arith, above))
+same-guesses guess at h guesses taken (suc n) above below =
     let one_more : 1 + n ≡ suc n = omega arith in
     guess-at guesses guess 1 (h.blocks - 1) n taken (omega (arith, below)) ∙ ap (λ k. (guess k).value) one_more
 
-pub comes : (guess : ℕ → Guess) (p : Program) (at : Stand) (number : ℕ) (h : Header) (guesses : List code_guess.Guess) → IsAtConstruct p at number h
-    → (c : ChainValue) → c.site ≡ site_of at.instance.now number h at.frame.now at.cells.now guesses
+pub comes : (guess : ℕ → Guess) (p : Program) (at : Stand) (h : Header) (guesses : List code_guess.Guess) → IsAtConstruct p at h
+    → (c : ChainValue) → c.site ≡ site_of at.instance.now at.index h at.frame.now at.cells.now guesses
     → map seen_guess guesses ≡ guesses_from guess 1 (h.blocks - 1) → RunsSeeTheGuessesOfTheirBlocks
     → (settled : Settled) (trace : List (List LogEntry)) (before after : List ℤ) → IsFinished c settled trace before after → before ≡ at.cells.now
     → (stats : Stats) → stats ≡ counts_of (length c.history) (paired (map seen_guess guesses) (drop 1 (real_values c.history))) → length c.history ≤ h.blocks
     → ComesTo (entry_of at h) guess (record { settled = settled; stats = stats; trace = trace }) after
-comes guess p at number h guesses there c same taken law settled trace before after f entry stats counted few =
-    let s = site_of at.instance.now number h at.frame.now at.cells.now guesses in
-    let site : entry_at c.site ≡ entry_of at h = ap entry_at same ∙ entry-is at number h guesses there.construct in
+comes guess p at h guesses there c same taken law settled trace before after f entry stats counted few =
+    let s = site_of at.instance.now at.index h at.frame.now at.cells.now guesses in
+    let site : entry_at c.site ≡ entry_of at h = ap entry_at same ∙ entry-is at h guesses there.construct in
     let size = length-map c.history (λ (b : Validated). b.real) in
     let some = there.some in
     let values : real_values c.history ≡ (plain_blocks (entry_of at h)).values = f.values ∙ ap (λ x. (plain_blocks x).values) site in
@@ -72,7 +72,7 @@ comes guess p at number h guesses there c same taken law settled trace before af
           ∙ ap (statistics_with guess) values;
       merging = λ steps merges.
           law (entry_of at h) (guess_at s) (λ n. (guess n).value) steps (plain_blocks (entry_of at h)).values (result_as settled)
-          (same-guesses guess at number h guesses taken)
+          (same-guesses guess at h guesses taken)
           (subst (λ vs. IsSpeculativeRun (entry_of at h) (guess_at s) steps vs (result_as settled)) values
           (subst (λ x. IsSpeculativeRun x (guess_at s) steps (real_values c.history) (result_as settled)) site
           (subst (λ (x : Site). IsSpeculativeRun (entry_at c.site) (guess_at x) steps (real_values c.history) (result_as settled)) same

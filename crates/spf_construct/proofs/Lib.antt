@@ -2,3 +2,4 @@ pub mod Counting
 pub mod PieceSizes
 pub mod Coming
 pub mod Hosts
+pub mod Given

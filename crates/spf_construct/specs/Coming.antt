@@ -25,10 +25,10 @@ use Rattle.spf_construct.specs.declared.guesses.Stand.{Stand}
 use Rattle.spf_construct.specs.declared.construct.Blocks.{Blocks}
 use Rattle.spf_construct.specs.declared.construct.ConstructReport.{ConstructReport}
 
--- a run of this program stands at one of its top constructs, with this number, whose header is done: frame and cells are the program's
-pub record IsAtConstruct (p : Program) (at : Stand) (number : ℕ) (header : Header) : Type 0 where
+-- a run of this program stands at one of its top constructs, the one at its index, whose header is done: frame and cells are the program's
+pub record IsAtConstruct (p : Program) (at : Stand) (header : Header) : Type 0 where
   pub program : program_of at.instance.now ≡ p
-  pub construct : slice_get (constructs_in (program_of at.instance.now).main) number ≡ Some (seen_construct at.construct)
+  pub construct : slice_get (constructs_in (program_of at.instance.now).main) at.index ≡ Some (seen_construct at.construct)
   pub blocks : AreBlocksOf (seen_construct at.construct) header.blocks
   pub some : 1 ≤ header.blocks
   pub few : header.blocks ≤ 4096

@@ -63,17 +63,16 @@ fn run_from<R: Threads + Wait + Sync, G: Gate + Sync>(
     alloc: Global,
     checked: &Checked,
     at: Stand,
-    number: u32,
     header: Header,
     guesses: &[Guess],
     workers: u64,
     gate: &G,
 ) -> Result<(Chain, Cells), AllocError>
     requires workers { (0 < workers) × (workers ≤ 64) }
-    requires there { IsAtConstruct (seen_program checked.now) at number header }
+    requires there { IsAtConstruct (seen_program checked.now) at header }
     requires fits { (header.low +ℤ pos header.blocks) ≤ℤ i64.MAX }
     requires guesses { length guesses.now + 1 ≡ header.blocks }
-    ensures site { IfOk result (λ r. r.0.site ≡ site_of at.entry.instance.now number header at.entry.frame.now at.entry.cells.now guesses.now) }
+    ensures site { IfOk result (λ r. r.0.site ≡ site_of at.entry.instance.now at.entry.index header at.entry.frame.now at.entry.cells.now guesses.now) }
     ensures ended { IfOk result (λ r. HasEnded r.0) }
     ensures own { IfOk result (λ r. r.1 ≡ cells_of r.0) }
 {
@@ -83,7 +82,7 @@ fn run_from<R: Threads + Wait + Sync, G: Gate + Sync>(
         alloc,
         checked,
         at.instance,
-        number,
+        at.index,
         header,
         at.frame,
         at.cells,
@@ -92,14 +91,14 @@ fn run_from<R: Threads + Wait + Sync, G: Gate + Sync>(
     let job = Job {
         instance: at.instance,
         construct: at.construct,
+        index: at.index,
         entry: at.cells,
     };
     let mates = workers.min(header.blocks);
     run_crew(rt, alloc, chain, cells, tickets, mates, job, gate)
 }
 
-/// Runs the blocks of a top construct whose header is done. `at` is where the run stands, and `number` is the construct's number
-/// among the top constructs. There are 1 to 64 workers, each in a thread of its own, but not more than blocks. Before the first attempt
+/// Runs the blocks of a top construct whose header is done. `at` is where the run stands. There are 1 to 64 workers, each in a thread of its own, but not more than blocks. Before the first attempt
 /// a host is asked for each block but the first, in order, or the workers compute what an expression guesses for them. A host is told
 /// their real values, in order, when all is run.
 ///
@@ -111,14 +110,13 @@ pub fn run_blocks<R: Threads + Wait + Sync, G: Gate + Sync>(
     alloc: Global,
     checked: &Checked,
     at: Stand,
-    number: u32,
     header: Header,
     workers: u64,
     hosts: &mut Vec<Box<dyn Predictor>>,
     gate: &G,
 ) -> Result<Blocks, AllocError>
     requires workers { (0 < workers) × (workers ≤ 64) }
-    requires there { IsAtConstruct (seen_program checked.now) at number header }
+    requires there { IsAtConstruct (seen_program checked.now) at header }
     requires fits { (header.low +ℤ pos header.blocks) ≤ℤ i64.MAX }
     requires host { IsHandedIn (length hosts.old.items) (seen_construct at.construct) }
     ensures ready { IfOk result IsReady }
@@ -140,9 +138,7 @@ pub fn run_blocks<R: Threads + Wait + Sync, G: Gate + Sync>(
     lawful_programs_are_quiet_and_small();
     let _program = checked.program();
     let guesses = take_guesses(rt, alloc, at, header, workers, hosts)?;
-    let (chain, cells) = run_from(
-        rt, alloc, checked, at, number, header, &guesses, workers, gate,
-    )?;
+    let (chain, cells) = run_from(rt, alloc, checked, at, header, &guesses, workers, gate)?;
     chain.merged_logs_are_speculative_runs();
     let history = chain.history();
     let stats = count_blocks(history, &guesses);

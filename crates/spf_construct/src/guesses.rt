@@ -1,6 +1,5 @@
 //! The guesses for a construct's blocks.
-ghost use Rattle.std.specs.Prelude.{◌≡◌, ◌<◌, ◌≤◌, ◌-◌, ◌+◌, ◌+ℤ◌, ◌≤ℤ◌, List, length, map, pos, IfOk};
-ghost use Rattle.std.specs.List.{Contains};
+ghost use Rattle.std.specs.Prelude.{◌≡◌, ◌<◌, ◌≤◌, ◌-◌, ◌+◌, ◌+ℤ◌, ◌≤ℤ◌, List, length, map, pos, slice_get, Some, IfOk};
 ghost use Rattle.spf_ast.specs.Construct.{constructs_in};
 ghost use Rattle.spf_ast.specs.ConstructView.{construct as seen_construct};
 ghost use Rattle.spf_ast.specs.Program.{cell_count_of};
@@ -31,6 +30,8 @@ pub struct Stand<'a> {
     pub instance: &'a Instance<'a>,
     /// The construct.
     pub construct: TopConstruct<'a>,
+    /// Which of the program's top constructs it is, counted from 0.
+    pub index: u32,
     /// The slots of `main`, with room for calls.
     pub frame: &'a Frame,
     /// The word of each cell.
@@ -39,7 +40,7 @@ pub struct Stand<'a> {
 
 /// What the construct's predictor comes to, an expression, for a block number; `frame` is a frame to run it in.
 pub(crate) fn predict(at: Stand, number: i64, frame: &mut Frame) -> Guess
-    requires construct { Contains (constructs_in (program_of at.instance.now).main) (seen_construct at.construct) }
+    requires construct { slice_get (constructs_in (program_of at.instance.now).main) at.index ≡ Some (seen_construct at.construct) }
     requires functions { FunctionsAreSilent (program_of at.instance.now).functions }
     requires own_frame { length at.frame.now ≡ frame_size (program_of at.instance.now) }
     requires own_cells { length at.cells.now ≡ cell_count_of (program_of at.instance.now) (length at.instance.now.input) }
@@ -48,7 +49,7 @@ pub(crate) fn predict(at: Stand, number: i64, frame: &mut Frame) -> Guess
     ensures size { length frame.new ≡ length frame.old }
 {
     frame.restore(at.frame);
-    match exec_predictor(at.instance, at.construct, number, frame, at.cells) {
+    match exec_predictor(at.instance, at.construct, at.index, number, frame, at.cells) {
         Ok(value) => Guess {
             value,
             blind: false,
@@ -129,7 +130,7 @@ pub(crate) fn take_guesses<R: Threads + Sync>(
     hosts: &mut Vec<Box<dyn Predictor>>,
 ) -> Result<Vec<Guess>, AllocError>
     requires workers { 0 < workers }
-    requires construct { Contains (constructs_in (program_of at.instance.now).main) (seen_construct at.construct) }
+    requires construct { slice_get (constructs_in (program_of at.instance.now).main) at.index ≡ Some (seen_construct at.construct) }
     requires functions { FunctionsAreSilent (program_of at.instance.now).functions }
     requires own_frame { length at.frame.now ≡ frame_size (program_of at.instance.now) }
     requires own_cells { length at.cells.now ≡ cell_count_of (program_of at.instance.now) (length at.instance.now.input) }

@@ -1,6 +1,5 @@
 //! The guesses of a predictor that is an expression, in pieces that the workers compute.
-ghost use Rattle.std.specs.Prelude.{◌≡◌, ◌<◌, ◌≤◌, ◌-◌, ◌+◌, ◌*◌, ◌+ℤ◌, ◌≤ℤ◌, ℕ, length, map, min, pos, slice_get, IfOk, IfSome};
-ghost use Rattle.std.specs.List.{Contains};
+ghost use Rattle.std.specs.Prelude.{◌≡◌, ◌<◌, ◌≤◌, ◌-◌, ◌+◌, ◌*◌, ◌+ℤ◌, ◌≤ℤ◌, ℕ, length, map, min, pos, slice_get, Some, IfOk, IfSome};
 ghost use Rattle.spf_ast.specs.Construct.{constructs_in};
 ghost use Rattle.spf_ast.specs.ConstructView.{construct as seen_construct};
 ghost use Rattle.spf_ast.specs.Program.{cell_count_of};
@@ -44,7 +43,7 @@ fn predict_piece(
     from: u64,
     count: u64,
 ) -> Result<Vec<Guess>, AllocError>
-    requires construct { Contains (constructs_in (program_of at.instance.now).main) (seen_construct at.construct) }
+    requires construct { slice_get (constructs_in (program_of at.instance.now).main) at.index ≡ Some (seen_construct at.construct) }
     requires functions { FunctionsAreSilent (program_of at.instance.now).functions }
     requires own_frame { length at.frame.now ≡ frame_size (program_of at.instance.now) }
     requires own_cells { length at.cells.now ≡ cell_count_of (program_of at.instance.now) (length at.instance.now.input) }
@@ -70,7 +69,7 @@ fn predict_pieces<R: Threads + Sync>(
     header: Header,
     size: u64,
 ) -> Result<Vec<Result<Vec<Guess>, AllocError>>, AllocError>
-    requires construct { Contains (constructs_in (program_of at.instance.now).main) (seen_construct at.construct) }
+    requires construct { slice_get (constructs_in (program_of at.instance.now).main) at.index ≡ Some (seen_construct at.construct) }
     requires functions { FunctionsAreSilent (program_of at.instance.now).functions }
     requires own_frame { length at.frame.now ≡ frame_size (program_of at.instance.now) }
     requires own_cells { length at.cells.now ≡ cell_count_of (program_of at.instance.now) (length at.instance.now.input) }
@@ -88,7 +87,7 @@ fn predict_pieces<R: Threads + Sync>(
         alloc,
         piece_count(count, size) as usize,
         &|i: usize| -> Result<Vec<Guess>, AllocError>
-            requires construct { Contains (constructs_in (program_of at.instance.now).main) (seen_construct at.construct) }
+            requires construct { slice_get (constructs_in (program_of at.instance.now).main) at.index ≡ Some (seen_construct at.construct) }
             requires functions { FunctionsAreSilent (program_of at.instance.now).functions }
             requires own_frame { length at.frame.now ≡ frame_size (program_of at.instance.now) }
             requires own_cells { length at.cells.now ≡ cell_count_of (program_of at.instance.now) (length at.instance.now.input) }
@@ -140,7 +139,7 @@ pub(crate) fn predict_all<R: Threads + Sync>(
     workers: u64,
 ) -> Result<Vec<Guess>, AllocError>
     requires workers { 0 < workers }
-    requires construct { Contains (constructs_in (program_of at.instance.now).main) (seen_construct at.construct) }
+    requires construct { slice_get (constructs_in (program_of at.instance.now).main) at.index ≡ Some (seen_construct at.construct) }
     requires functions { FunctionsAreSilent (program_of at.instance.now).functions }
     requires own_frame { length at.frame.now ≡ frame_size (program_of at.instance.now) }
     requires own_cells { length at.cells.now ≡ cell_count_of (program_of at.instance.now) (length at.instance.now.input) }

@@ -70,6 +70,8 @@ pub struct GatedJob<'a, I, C, G> {
     pub instance: &'a I,
     /// What has the construct.
     pub construct: &'a C,
+    /// Which of the program's top constructs it is, counted from 0.
+    pub index: u32,
     /// The word of each cell at the construct's entry.
     pub entry: &'a [i64],
     /// The gate.
@@ -82,6 +84,7 @@ impl<'a, I: HasInstance, C: HasConstruct, G: Gate> Attempter for GatedJob<'a, I,
     ghost serves = { λ k gated. ServesCrew k (record {
       instance = I.instance gated.instance.now;
       construct = C.construct gated.construct.now;
+      index = gated.index;
       entry = gated.entry;
     }) };
 
@@ -89,6 +92,7 @@ impl<'a, I: HasInstance, C: HasConstruct, G: Gate> Attempter for GatedJob<'a, I,
         let job = Job {
             instance: self.instance.instance(),
             construct: self.construct.construct(),
+            index: self.index,
             entry: self.entry,
         };
         crew.attempt(&job, self.gate, ticket)

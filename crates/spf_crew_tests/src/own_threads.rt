@@ -68,17 +68,19 @@ fn attempt_blocks<R: Threads + Wait + Sync, I: HasInstance + Sync, C: HasConstru
     crew: &Crew,
     instance: &I,
     construct: &C,
+    index: u32,
     entry: &[i64],
     mates: &mut [Mate],
 )
     requires own { All (IsMateOf crew.now) mates.old }
-    requires serves { MakesAttempts crew.now.setting (record { instance = I.instance instance.now; construct = C.construct construct.now; entry = entry }) }
+    requires serves { MakesAttempts crew.now.setting (record { instance = I.instance instance.now; construct = C.construct construct.now; index = index; entry = entry }) }
     ensures count { length mates.new ≡ length mates.old }
     ensures each { (i : ℕ) (d : MateValue) → i < length mates.old → HasReadAt crew.now (slice_index_or mates.old i d) (slice_index_or mates.new i d) }
 {
     let attempter = GatedJob {
         instance,
         construct,
+        index,
         entry,
         gate: &Open,
     };
@@ -92,7 +94,15 @@ fn attempt_all<R: Threads + Wait + Sync>(rt: &R, crew: &Crew, job: Job, mates: &
     ensures count { length mates.new ≡ length mates.old }
     ensures each { (i : ℕ) (d : MateValue) → i < length mates.old → HasReadAt crew.now (slice_index_or mates.old i d) (slice_index_or mates.new i d) }
 {
-    attempt_blocks(rt, crew, &job.instance, &job.construct, job.entry, mates);
+    attempt_blocks(
+        rt,
+        crew,
+        &job.instance,
+        &job.construct,
+        job.index,
+        job.entry,
+        mates,
+    );
 }
 
 /// Runs the blocks of a construct whose chain has just started by so many mates.

@@ -79,8 +79,7 @@ fn guesses_of(alloc: Global, values: &[i64]) -> Result<Vec<Guess>, AllocError>
     Ok(guesses)
 }
 
-/// Starts the chain of the job's construct: a fold, the program's first construct, which begins at this value and has one block more
-/// than guesses.
+/// Starts the chain of the job's construct: a fold, which begins at this value and has one block more than guesses.
 pub(crate) fn start(
     alloc: Global,
     checked: &Checked,
@@ -89,7 +88,7 @@ pub(crate) fn start(
     values: &[i64],
 ) -> Result<Started, Fail>
     requires program { program_of job.now.instance.now ≡ seen_program checked.now }
-    requires construct { slice_get (constructs_in (program_of job.now.instance.now).main) 0 ≡ Some (seen_construct job.now.construct) }
+    requires construct { slice_get (constructs_in (program_of job.now.instance.now).main) job.now.index ≡ Some (seen_construct job.now.construct) }
     requires entry { length job.now.entry.now ≡ cell_count_of (program_of job.now.instance.now) (length job.now.instance.now.input) }
     ensures started { IfOk result (λ r. IsStarted r.0.site r.0 r.1 r.2.items) }
     ensures entry { IfOk result (λ r. IsJobOf (entry_at r.0.site) job.now) }
@@ -112,7 +111,7 @@ pub(crate) fn start(
         alloc,
         checked,
         job.instance,
-        0,
+        job.index,
         header,
         &frame,
         job.entry,

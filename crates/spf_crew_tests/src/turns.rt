@@ -78,7 +78,7 @@ fn turns_over(
     order: &[usize],
 ) -> Result<Vec<u64>, Fail>
     requires program { program_of job.instance.now ≡ seen_program checked.now }
-    requires construct { slice_get (constructs_in (program_of job.instance.now).main) 0 ≡ Some (seen_construct job.construct) }
+    requires construct { slice_get (constructs_in (program_of job.instance.now).main) job.index ≡ Some (seen_construct job.construct) }
     requires entry { length job.entry.now ≡ cell_count_of (program_of job.instance.now) (length job.instance.now.input) }
 {
     let (chain, cells, tickets) = start(alloc, checked, &job, 1, guesses)?;
@@ -86,6 +86,7 @@ fn turns_over(
     let attempter = GatedJob {
         instance: &job.instance,
         construct: &job.construct,
+        index: job.index,
         entry: job.entry,
         gate: &Open,
     };
@@ -107,6 +108,7 @@ fn turns(alloc: Global, guesses: &[i64], order: &[usize]) -> Result<Vec<u64>, Fa
     let job = Job {
         instance: &instance,
         construct,
+        index: 0,
         entry: entry.as_slice(),
     };
     turns_over(alloc, &checked, job, guesses, order)

@@ -127,7 +127,7 @@ fn run_over<R: Threads + Wait + Sync>(
     by: By,
 ) -> Result<Came, Fail>
     requires program { program_of job.instance.now ≡ seen_program checked.now }
-    requires construct { slice_get (constructs_in (program_of job.instance.now).main) 0 ≡ Some (seen_construct job.construct) }
+    requires construct { slice_get (constructs_in (program_of job.instance.now).main) job.index ≡ Some (seen_construct job.construct) }
     requires entry { length job.entry.now ≡ cell_count_of (program_of job.instance.now) (length job.instance.now.input) }
     requires workers { (0 < workers) × (workers ≤ 64) }
 {
@@ -159,6 +159,7 @@ fn run<R: Threads + Wait + Sync>(
     let job = Job {
         instance: &instance,
         construct,
+        index: 0,
         entry: entry.as_slice(),
     };
     run_over(rt, alloc, &checked, job, row, workers, by)

@@ -76,15 +76,25 @@ fn drive_blocks<
     I: HasInstance + Sync,
     C: HasConstruct + Sync,
     G: Gate + Sync,
->(rt: &R, crew: &Crew, instance: &I, construct: &C, entry: &[i64], gate: &G, mates: &mut [Mate])
+>(
+    rt: &R,
+    crew: &Crew,
+    instance: &I,
+    construct: &C,
+    index: u32,
+    entry: &[i64],
+    gate: &G,
+    mates: &mut [Mate],
+)
     requires own { All (IsMateOf crew.now) mates.old }
-    requires serves { MakesAttempts crew.now.setting (record { instance = I.instance instance.now; construct = C.construct construct.now; entry = entry }) }
+    requires serves { MakesAttempts crew.now.setting (record { instance = I.instance instance.now; construct = C.construct construct.now; index = index; entry = entry }) }
     ensures count { length mates.new ≡ length mates.old }
     ensures each { HaveAllReadAt crew.now mates.old mates.new }
 {
     let attempter = GatedJob {
         instance,
         construct,
+        index,
         entry,
         gate,
     };
@@ -109,6 +119,7 @@ fn drive_all<R: Threads + Wait + Sync, G: Gate + Sync>(
         crew,
         &job.instance,
         &job.construct,
+        job.index,
         job.entry,
         gate,
         mates,

@@ -99,10 +99,11 @@ fn run_at<R: Threads + Wait + Sync, G: Gate + Sync>(
     let at = Stand {
         instance,
         construct,
+        index: number,
         frame: run.frame(),
         cells: run.cells(),
     };
-    let blocks = run_blocks(rt, alloc, checked, at, number, header, workers, hosts, gate)?;
+    let blocks = run_blocks(rt, alloc, checked, at, header, workers, hosts, gate)?;
     Ok(blocks.write_back(run.cells_mut()))
 }
 

@@ -1,7 +1,6 @@
 -- The top constructs among statements.
-use Rattle.std.proofs.Common.{◌≡◌, ℕ, zero, suc, ◌+◌, ◌<◌, ◌≤◌, Bool, true, false, List, ◌∷◌, Some, length, refl, sym, ap, ◌∙◌, arith}
-use Rattle.std.specs.List.{Contains}
-use Rattle.std.specs.Prelude.{if◌then◌else◌}
+use Rattle.std.proofs.Common.{◌≡◌, ℕ, zero, suc, ◌+◌, ◌-◌, ◌<◌, ◌≤◌, Bool, true, false, Some, length, refl, sym, ap, ◌∙◌, arith}
+use Rattle.std.specs.Prelude.{if◌then◌else◌, slice_get}
 use Rattle.spf_ast.specs.Syntax.{Statement, Let, Assign, Store, Fill, Emit, Fail, If, For, While, Do, Fold, Pair, Block, end, on_line}
 use Rattle.spf_ast.specs.Construct.{Construct, construct_of, constructs_in, is_construct}
 use Rattle.spf_ast.specs.Pieces.{construct_first, rest_from, from_construct, statement_count}
@@ -42,28 +41,7 @@ constructs-count line (Pair head producer consumer) rest = omega arith
 
 -- ---- the construct that stands first
 
-here : {A : Type 0} (x : A) (xs : List A) (y : A) → Some x ≡ Some y → Contains (x ∷ xs) y
-here x xs y e = (0, omega arith, cc)
-
-there : {A : Type 0} (x : A) (xs : List A) (y : A) → Contains xs y → Contains (x ∷ xs) y
-there x xs y c = (suc c.0, omega (arith, c.1), c.2)
-
--- what stands among the statements after one stands among all
-after_one : (line : ℕ) (s : Statement) (rest : Block) (k : Construct) → Contains (constructs_in rest) k → Contains (constructs_in (on_line line s rest)) k
-after_one line (Let slot value) rest k c = c
-after_one line (Assign slot value) rest k c = c
-after_one line (Store array index value) rest k c = c
-after_one line (Fill array low high value) rest k c = c
-after_one line (Emit value) rest k c = c
-after_one line (Fail number) rest k c = c
-after_one line (If test a b) rest k c = c
-after_one line (For slot low high body) rest k c = c
-after_one line (While test most body) rest k c = c
-after_one line (Do f given) rest k c = c
-after_one line (Fold head body) rest k c = there _ (constructs_in rest) k c
-after_one line (Pair head producer consumer) rest k c = there _ (constructs_in rest) k c
-
-at_first : (line : ℕ) (s : Statement) (rest : Block) (k : Construct) → construct_of line s ≡ Some k → Contains (constructs_in (on_line line s rest)) k
+at_first : (line : ℕ) (s : Statement) (rest : Block) (k : Construct) → construct_of line s ≡ Some k → slice_get (constructs_in (on_line line s rest)) 0 ≡ Some k
 at_first line (Let slot value) rest k e = cc
 at_first line (Assign slot value) rest k e = cc
 at_first line (Store array index value) rest k e = cc
@@ -74,15 +52,43 @@ at_first line (If test a b) rest k e = cc
 at_first line (For slot low high body) rest k e = cc
 at_first line (While test most body) rest k e = cc
 at_first line (Do f given) rest k e = cc
-at_first line (Fold head body) rest k e = here _ (constructs_in rest) k e
-at_first line (Pair head producer consumer) rest k e = here _ (constructs_in rest) k e
+at_first line (Fold head body) rest k e = e
+at_first line (Pair head producer consumer) rest k e = e
 
--- a construct that stands first from some index on is a top construct
-pub first_contained : (b : Block) (n : ℕ) (k : Construct) → construct_first (rest_from n b) ≡ Some k → Contains (constructs_in b) k
-first_contained end zero k e = cc
-first_contained end (suc n) k e = cc
-first_contained (on_line line s rest) zero k e = at_first line s rest k e
-first_contained (on_line line s rest) (suc n) k e = after_one line s rest k (first_contained rest n k e)
+-- a statement is passed over with its construct, if it is one
+after_one : (line : ℕ) (s : Statement) (rest : Block) (n : ℕ) → slice_get (constructs_in (on_line line s rest)) (one_if (is_construct s) + n) ≡ slice_get (constructs_in rest) n
+after_one line (Let slot value) rest n = ap (slice_get (constructs_in rest)) (let e : 0 + n ≡ n = omega arith in e)
+after_one line (Assign slot value) rest n = ap (slice_get (constructs_in rest)) (let e : 0 + n ≡ n = omega arith in e)
+after_one line (Store array index value) rest n = ap (slice_get (constructs_in rest)) (let e : 0 + n ≡ n = omega arith in e)
+after_one line (Fill array low high value) rest n = ap (slice_get (constructs_in rest)) (let e : 0 + n ≡ n = omega arith in e)
+after_one line (Emit value) rest n = ap (slice_get (constructs_in rest)) (let e : 0 + n ≡ n = omega arith in e)
+after_one line (Fail number) rest n = ap (slice_get (constructs_in rest)) (let e : 0 + n ≡ n = omega arith in e)
+after_one line (If test a b) rest n = ap (slice_get (constructs_in rest)) (let e : 0 + n ≡ n = omega arith in e)
+after_one line (For slot low high body) rest n = ap (slice_get (constructs_in rest)) (let e : 0 + n ≡ n = omega arith in e)
+after_one line (While test most body) rest n = ap (slice_get (constructs_in rest)) (let e : 0 + n ≡ n = omega arith in e)
+after_one line (Do f given) rest n = ap (slice_get (constructs_in rest)) (let e : 0 + n ≡ n = omega arith in e)
+after_one line (Fold head body) rest n = ap (slice_get (constructs_in (on_line line (Fold head body) rest))) (let e : 1 + n ≡ suc n = omega arith in e)
+after_one line (Pair head producer consumer) rest n = ap (slice_get (constructs_in (on_line line (Pair head producer consumer) rest))) (let e : 1 + n ≡ suc n = omega arith in e)
+
+-- a construct that stands first from some index on has the index of so many constructs that were passed
+pub index_of_first : (b : Block) (n passed : ℕ) (k : Construct) → construct_first (rest_from n b) ≡ Some k → passed + length (constructs_in (rest_from n b)) ≡ length (constructs_in b) → slice_get (constructs_in b) passed ≡ Some k
+index_of_first end zero passed k e count = cc
+index_of_first end (suc n) passed k e count = cc
+index_of_first (on_line line s rest) zero passed k e count =
+    let none : passed ≡ 0 = omega (arith, count) in
+    ap (slice_get (constructs_in (on_line line s rest))) none ∙ at_first line s rest k e
+index_of_first (on_line line s rest) (suc n) passed k e count =
+    let whole = constructs-count line s rest in
+    let few = fewer_left rest n in
+    let before : passed ≡ one_if (is_construct s) + (passed - one_if (is_construct s)) = omega (arith, count, whole, few) in
+    ap (slice_get (constructs_in (on_line line s rest))) before ∙ after_one line s rest (passed - one_if (is_construct s))
+    ∙ index_of_first rest n (passed - one_if (is_construct s)) k e (omega (arith, count, whole, few))
+  where
+    fewer_left : (b : Block) (n : ℕ) → length (constructs_in (rest_from n b)) ≤ length (constructs_in b)
+    fewer_left end zero = omega arith
+    fewer_left end (suc n) = omega arith
+    fewer_left (on_line line s rest) zero = omega arith
+    fewer_left (on_line line s rest) (suc n) = let count = constructs-count line s rest in let less = fewer_left rest n in omega (arith, count, less)
 
 is_one : (line : ℕ) (s : Statement) (k : Construct) → construct_of line s ≡ Some k → one_if (is_construct s) ≡ 1
 is_one line (Let slot value) k e = cc

@@ -1,8 +1,4 @@
-pub mod Weight
-pub mod Forms
-pub mod Steps
-pub mod Turns
-pub mod Calls
+pub mod Sources
 pub mod Rooms
 pub mod Outcome
 pub mod Within

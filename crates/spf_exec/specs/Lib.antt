@@ -1,9 +1,3 @@
-pub mod MemoryLaws
-pub mod PlainMemory
-pub mod QuietMemory
-pub mod ReadMemory
-pub mod Rooms
-pub mod Performs
-pub mod Leaves
+pub mod Sources
 pub mod BlockRuns
 pub mod Pieces

@@ -11,8 +11,8 @@ use Rattle.spf_ast.specs.Construct.{Construct, Moment, Header, plainly, header_m
 use Rattle.spf_ast.specs.ConstructView.{construct as seen_construct}
 use Rattle.spf_ast.specs.Pieces.{statement_count, rest_from, before_construct, from_construct, construct_first}
 use Rattle.spf_layout.specs.Frame.{frame_size, main_slots}
-use Rattle.spf_exec.specs.declared.memory.Halt.{Halt}
-use Rattle.spf_exec.specs.declared.plain.Plain.{Plain}
+use Rattle.spf_memory.specs.declared.memory.Halt.{Halt}
+use Rattle.spf_memory.specs.declared.plain.Plain.{Plain}
 use Rattle.spf_exec.specs.declared.pieces.Header as code_header
 use Rattle.spf_exec.specs.declared.pieces.Pause.{Pause}
 use Rattle.spf_exec.specs.declared.pieces.Pause.TheVariants as pause

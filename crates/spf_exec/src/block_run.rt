@@ -1,11 +1,10 @@
 // Runs of single blocks of a program's top constructs.
 
-ghost use Rattle.std.specs.Prelude.{◌≡◌, ◌≤◌, ◌<◌, ◌^◌, [], length};
-ghost use Rattle.std.specs.List.{Contains};
+ghost use Rattle.std.specs.Prelude.{◌≡◌, ◌≤◌, ◌+◌, ℤ, [], length, slice_get, Some};
 ghost use Rattle.spf_ast.specs.declared.syntax.Fold.{out-Fold};
 ghost use Rattle.spf_ast.specs.declared.syntax.Pair.{out-Pair};
 ghost use Rattle.spf_ast.specs.declared.syntax.Part.TheVariants.{Predictor};
-ghost use Rattle.spf_ast.specs.View.{expression, block as seen_block, fold_head, pair_head, predictor};
+ghost use Rattle.spf_ast.specs.View.{block as seen_block, fold_head, pair_head, predictor};
 ghost use Rattle.spf_ast.specs.Syntax.{Fold as fold_form, Pair as pair_form};
 ghost use Rattle.spf_ast.specs.ConstructView.{construct as seen_construct};
 ghost use Rattle.spf_ast.specs.Construct.{constructs_in, part_means, guess_means, fold as fold_construct, pair as pair_construct};
@@ -15,27 +14,28 @@ ghost use Rattle.spf_ast.specs.Interaction.{result_of};
 ghost use Rattle.spf_ast.specs.Plain.{unshared_answer};
 ghost use Rattle.spf_ast.specs.Program.{cell_count_of, environment_of};
 ghost use Rattle.spf_ast.specs.Silence.{FunctionsAreSilent, PartIsSilent};
-ghost use Rattle.spf_ast.specs.Size.{expression_measure, predictor_measure, statement_measure, block_measure};
 ghost use Rattle.spf_ast.specs.Slots.{LeavesOtherSlots};
+ghost use Rattle.spf_registers.specs.Registers.{rooms, predictor_needs, statement_needs};
+ghost use Rattle.spf_code.specs.NodeView.{code as seen_code};
+ghost use Rattle.spf_lowering.specs.Lowering.{IsGuessCode, SetsNoSlot, IsFoldCode, IsPairCode, IsConstructCode};
 ghost use Rattle.spf_layout.specs.Frame.{frame_size, main_slots};
 ghost use Rattle.spf_layout.specs.Instance.{program_of};
-ghost use Rattle.spf_exec.specs.Rooms.{construct_measure};
-ghost use Rattle.spf_exec.specs.Leaves.{Leaves, block_changes};
-ghost use Rattle.spf_exec.specs.Performs.{Performs, AreWithin, block_value, call_slots, environment, state};
+ghost use Rattle.spf_memory.specs.Performs.{Performs, state};
+ghost use Rattle.spf_exec.specs.Sources.{callable_of, construct_needs};
 ghost use Rattle.spf_exec.specs.BlockRuns.{PerformsOver, stop_result};
 
-use crate::context::Context;
 use crate::entry;
 use crate::frame::Frame;
-use crate::memory::{Halt, Memory};
-use crate::primitives::write_slot;
-use crate::quiet::{Quiet, ReadOnly};
 use spf_ast::carried::{Carried, set_carried};
 use spf_ast::construct::{ConstructKind, TopConstruct};
 use spf_ast::outcome::Trap;
-use spf_ast::syntax::{Expr, Fold, Pair, Part, Predict, Stmt};
+use spf_ast::syntax::{Fold, Pair, Part, Predict};
+use spf_code::program::{ConstructCode, ValueCode};
 use spf_layout::instance::Instance;
 use spf_layout::stop::Stop;
+use spf_memory::memory::{Halt, Memory};
+use spf_memory::primitives::write;
+use spf_memory::quiet::{Quiet, ReadOnly};
 
 /// What a guess that is handed in gives here, and what stands for the carried value where a part has none.
 const NO_VALUE: Carried = 0;
@@ -44,106 +44,86 @@ const NO_VALUE: Carried = 0;
 #[derive(Clone, Copy)]
 pub struct Block<'a> {
     pub construct: TopConstruct<'a>,
+    /// Which of the program's top constructs it is, counted from 0.
+    pub index: u32,
     pub part: Part,
     pub number: i64,
     pub value: Carried,
 }
 
-/// Performs statements, and then the expression that gives their value.
-fn perform_value<M: Memory>(
-    context: &Context,
-    below: usize,
-    statements: &[Stmt],
-    line: u32,
-    answer: &Expr,
-    slots: &mut [i64],
-    scratch: &mut [i64],
-    memory: &mut M,
-) -> Result<Carried, Halt>
-    requires within { AreWithin context.now.extents.now (M.cell_count memory.old) }
-    requires short { length context.now.input.now < 2 ^ 63 }
-    requires room { block_measure (call_slots context.now below) (seen_block statements.now) ≤ length scratch.old }
-    requires answer_room { expression_measure (call_slots context.now below) (expression answer.now) ≤ length scratch.old }
-    ensures performs { Performs M.leads M.stop M.may_lack_memory
-        (block_value (environment context.now below) (seen_block statements.now) line (expression answer.now)
-        (state slots.old (M.output memory.old)))
-        memory.old memory.new result (state slots.new (M.output memory.new)) }
-    ensures others { Leaves (block_changes (seen_block statements.now)) slots.old slots.new }
-{
-    entry::perform_statements(context, below, statements, slots, scratch, memory)?;
-    entry::eval(context, below, line, answer, slots, scratch, memory)
-}
-
 /// Performs a guess. One that is handed in gives no value here.
 fn perform_guess<M: Memory>(
-    context: &Context,
-    below: usize,
+    instance: &Instance,
+    code: &ValueCode,
     line: u32,
     predict: &Predict,
-    slots: &[i64],
-    scratch: &mut [i64],
+    registers: &mut [i64],
     memory: &mut M,
 ) -> Result<Carried, Halt>
-    requires within { AreWithin context.now.extents.now (M.cell_count memory.old) }
-    requires short { length context.now.input.now < 2 ^ 63 }
-    requires room { predictor_measure (call_slots context.now below) (predictor predict.now) ≤ length scratch.old }
+    requires cells { M.cell_count memory.old ≡ cell_count_of (program_of instance.now) (length instance.now.input) }
+    requires code { IsGuessCode (callable_of (program_of instance.now)) (rooms (program_of instance.now)) (length (program_of instance.now).slots)
+        line (predictor predict.now) code.now }
+    requires sets { SetsNoSlot (length (program_of instance.now).slots) (seen_code code.now.nodes.items) }
+    requires room { length (program_of instance.now).slots + predictor_needs (rooms (program_of instance.now)) (predictor predict.now)
+        ≤ length registers.old }
     ensures performs { Performs M.leads M.stop M.may_lack_memory
-        (guess_means (environment context.now below) line (predictor predict.now)
-        (state slots.now (M.output memory.old)))
-        memory.old memory.new result (state slots.now (M.output memory.new)) }
+        (guess_means (environment_of (program_of instance.now) instance.now.input) line (predictor predict.now)
+        (state (main_slots (program_of instance.now) registers.old) (M.output memory.old)))
+        memory.old memory.new result (state (main_slots (program_of instance.now) registers.new) (M.output memory.new)) }
+    ensures kept { main_slots (program_of instance.now) registers.new ≡ main_slots (program_of instance.now) registers.old }
 {
     match predict {
-        Predict::Expr(guess) => entry::eval(context, below, line, guess, slots, scratch, memory),
+        Predict::Expr(guess) => {
+            entry::expression(instance, code, line, guess, registers, memory)
+        }
         Predict::Host(_) => Ok(NO_VALUE),
     }
 }
 
 /// Performs a part of a fold. A part that it doesn't have gives no value.
 fn perform_fold<M: Memory>(
-    context: &Context,
-    below: usize,
+    instance: &Instance,
+    code: &ConstructCode,
     line: u32,
     fold: &Fold,
     part: Part,
     number: i64,
     value: Carried,
-    slots: &mut [i64],
-    scratch: &mut [i64],
+    registers: &mut [i64],
     memory: &mut M,
 ) -> Result<Carried, Halt>
-    requires within { AreWithin context.now.extents.now (M.cell_count memory.old) }
-    requires short { length context.now.input.now < 2 ^ 63 }
-    requires room { statement_measure (call_slots context.now below)
+    requires cells { M.cell_count memory.old ≡ cell_count_of (program_of instance.now) (length instance.now.input) }
+    requires code { IsFoldCode (callable_of (program_of instance.now)) (rooms (program_of instance.now)) (length (program_of instance.now).slots)
+        line (fold_head fold.now) (seen_block (out-Fold fold.now).body.items) code.now }
+    requires room { length (program_of instance.now).slots + statement_needs (rooms (program_of instance.now))
         (fold_form (fold_head fold.now) (seen_block (out-Fold fold.now).body.items))
-        ≤ length scratch.old }
+        ≤ length registers.old }
     ensures performs { Performs M.leads M.stop M.may_lack_memory
-        (part_means (environment context.now below)
+        (part_means (environment_of (program_of instance.now) instance.now.input)
         (fold_construct line (fold_head fold.now) (seen_block (out-Fold fold.now).body.items))
         part number value
-        (state slots.old (M.output memory.old)))
-        memory.old memory.new result (state slots.new (M.output memory.new)) }
+        (state (main_slots (program_of instance.now) registers.old) (M.output memory.old)))
+        memory.old memory.new result (state (main_slots (program_of instance.now) registers.new) (M.output memory.new)) }
     ensures kept { LeavesOtherSlots
         (fold_construct line (fold_head fold.now) (seen_block (out-Fold fold.now).body.items))
-        part slots.old slots.new }
+        part (main_slots (program_of instance.now) registers.old) (main_slots (program_of instance.now) registers.new) }
 {
     match part {
         Part::Body => {
-            write_slot(slots, fold.block, number);
-            set_carried(slots, fold.carried, value);
-            perform_value(
-                context,
-                below,
-                &fold.body,
-                fold.next_line,
-                &fold.next,
-                slots,
-                scratch,
-                memory,
-            )
+            write(registers, fold.block, number);
+            set_carried(registers, fold.carried, value);
+            entry::value_of(instance, &code.first, registers, memory)
         }
         Part::Predictor => {
-            write_slot(slots, fold.block, number);
-            perform_guess(context, below, line, &fold.predict, slots, scratch, memory)
+            write(registers, fold.block, number);
+            perform_guess(
+                instance,
+                &code.guess,
+                line,
+                &fold.predict,
+                registers,
+                memory,
+            )
         }
         Part::Producer => Ok(NO_VALUE),
         Part::Consumer => Ok(NO_VALUE),
@@ -152,104 +132,98 @@ fn perform_fold<M: Memory>(
 
 /// Performs a part of a pair. A part that it doesn't have gives no value.
 fn perform_pair<M: Memory>(
-    context: &Context,
-    below: usize,
+    instance: &Instance,
+    code: &ConstructCode,
     line: u32,
     pair: &Pair,
     part: Part,
-    number: i64,
     value: Carried,
-    slots: &mut [i64],
-    scratch: &mut [i64],
+    registers: &mut [i64],
     memory: &mut M,
 ) -> Result<Carried, Halt>
-    requires within { AreWithin context.now.extents.now (M.cell_count memory.old) }
-    requires short { length context.now.input.now < 2 ^ 63 }
-    requires room { statement_measure (call_slots context.now below)
+    requires cells { M.cell_count memory.old ≡ cell_count_of (program_of instance.now) (length instance.now.input) }
+    requires code { IsPairCode (callable_of (program_of instance.now)) (rooms (program_of instance.now)) (length (program_of instance.now).slots)
+        line (pair_head pair.now) (seen_block (out-Pair pair.now).producer.items) (seen_block (out-Pair pair.now).consumer.items) code.now }
+    requires room { length (program_of instance.now).slots + statement_needs (rooms (program_of instance.now))
         (pair_form (pair_head pair.now)
         (seen_block (out-Pair pair.now).producer.items)
         (seen_block (out-Pair pair.now).consumer.items))
-        ≤ length scratch.old }
-    ensures performs { Performs M.leads M.stop M.may_lack_memory
-        (part_means (environment context.now below)
+        ≤ length registers.old }
+    ensures performs { (number : ℤ) → Performs M.leads M.stop M.may_lack_memory
+        (part_means (environment_of (program_of instance.now) instance.now.input)
         (pair_construct line (pair_head pair.now)
         (seen_block (out-Pair pair.now).producer.items)
         (seen_block (out-Pair pair.now).consumer.items))
         part number value
-        (state slots.old (M.output memory.old)))
-        memory.old memory.new result (state slots.new (M.output memory.new)) }
+        (state (main_slots (program_of instance.now) registers.old) (M.output memory.old)))
+        memory.old memory.new result (state (main_slots (program_of instance.now) registers.new) (M.output memory.new)) }
     ensures kept { LeavesOtherSlots
         (pair_construct line (pair_head pair.now)
         (seen_block (out-Pair pair.now).producer.items)
         (seen_block (out-Pair pair.now).consumer.items))
-        part slots.old slots.new }
+        part (main_slots (program_of instance.now) registers.old) (main_slots (program_of instance.now) registers.new) }
 {
     match part {
-        Part::Producer => perform_value(
-            context,
-            below,
-            &pair.producer,
-            pair.give_line,
-            &pair.give,
-            slots,
-            scratch,
-            memory,
-        ),
+        Part::Producer => entry::value_of(instance, &code.first, registers, memory),
         Part::Consumer => {
-            set_carried(slots, pair.carried, value);
-            entry::perform_statements(context, below, &pair.consumer, slots, scratch, memory)?;
+            set_carried(registers, pair.carried, value);
+            entry::run(instance, &code.consumer, registers, memory)?;
             Ok(value)
         }
-        Part::Predictor => {
-            perform_guess(context, below, line, &pair.predict, slots, scratch, memory)
-        }
+        Part::Predictor => perform_guess(
+            instance,
+            &code.guess,
+            line,
+            &pair.predict,
+            registers,
+            memory,
+        ),
         Part::Body => Ok(NO_VALUE),
     }
 }
 
-/// Performs a part of a top construct.
+/// Performs a part of a top construct by its code.
 fn perform_part<M: Memory>(
-    context: &Context,
-    below: usize,
+    instance: &Instance,
+    code: &ConstructCode,
     block: Block,
-    slots: &mut [i64],
-    scratch: &mut [i64],
+    registers: &mut [i64],
     memory: &mut M,
 ) -> Result<Carried, Halt>
-    requires within { AreWithin context.now.extents.now (M.cell_count memory.old) }
-    requires short { length context.now.input.now < 2 ^ 63 }
-    requires room { construct_measure (call_slots context.now below) (seen_construct block.construct) ≤ length scratch.old }
+    requires cells { M.cell_count memory.old ≡ cell_count_of (program_of instance.now) (length instance.now.input) }
+    requires code { IsConstructCode (callable_of (program_of instance.now)) (rooms (program_of instance.now)) (length (program_of instance.now).slots)
+        (seen_construct block.construct) code.now }
+    requires room { length (program_of instance.now).slots + construct_needs (rooms (program_of instance.now)) (seen_construct block.construct)
+        ≤ length registers.old }
     ensures performs { Performs M.leads M.stop M.may_lack_memory
-        (part_means (environment context.now below) (seen_construct block.entry.construct)
+        (part_means (environment_of (program_of instance.now) instance.now.input) (seen_construct block.entry.construct)
         block.entry.part block.entry.number block.entry.value
-        (state slots.old (M.output memory.old)))
-        memory.old memory.new result (state slots.new (M.output memory.new)) }
-    ensures kept { LeavesOtherSlots (seen_construct block.entry.construct) block.entry.part slots.old slots.new }
+        (state (main_slots (program_of instance.now) registers.old) (M.output memory.old)))
+        memory.old memory.new result (state (main_slots (program_of instance.now) registers.new) (M.output memory.new)) }
+    ensures kept { LeavesOtherSlots (seen_construct block.entry.construct) block.entry.part
+        (main_slots (program_of instance.now) registers.old) (main_slots (program_of instance.now) registers.new) }
 {
     let line = block.construct.line;
     match block.construct.kind {
         ConstructKind::Fold(fold) => perform_fold(
-            context,
-            below,
+            instance,
+            code,
             line,
             fold,
             block.part,
             block.number,
             block.value,
-            slots,
-            scratch,
+            registers,
             memory,
         ),
         ConstructKind::Pair(pair) => perform_pair(
-            context,
-            below,
+            instance,
+            code,
             line,
             pair,
             block.part,
-            block.number,
             block.value,
-            slots,
-            scratch,
+            registers,
             memory,
         ),
     }
@@ -262,7 +236,7 @@ fn run_part<M: Memory>(
     frame: &mut Frame,
     memory: &mut M,
 ) -> Result<Carried, Halt>
-    requires construct { Contains (constructs_in (program_of instance.now).main) (seen_construct block.construct) }
+    requires construct { slice_get (constructs_in (program_of instance.now).main) block.index ≡ Some (seen_construct block.construct) }
     requires cells { M.cell_count memory.old ≡ cell_count_of (program_of instance.now) (length instance.now.input) }
     requires frame { length frame.old ≡ frame_size (program_of instance.now) }
     ensures performs { Performs M.leads M.stop M.may_lack_memory
@@ -275,16 +249,8 @@ fn run_part<M: Memory>(
         (main_slots (program_of instance.now) frame.old) (main_slots (program_of instance.now) frame.new) }
     ensures size { length frame.new ≡ length frame.old }
 {
-    let context = Context::of(instance);
-    let (slots, scratch) = frame.slots.split_at_mut(instance.program().slots.len());
-    perform_part(
-        &context,
-        context.functions.len(),
-        block,
-        slots,
-        scratch,
-        memory,
-    )
+    let code = &instance.code().constructs[block.index as usize];
+    perform_part(instance, code, block, &mut frame.registers, memory)
 }
 
 /// Performs a part of a top construct that holds no `emit`.
@@ -294,7 +260,7 @@ fn run_quietly<M: Memory>(
     frame: &mut Frame,
     quiet: &mut Quiet<M>,
 ) -> Result<Carried, Halt>
-    requires construct { Contains (constructs_in (program_of instance.now).main) (seen_construct block.construct) }
+    requires construct { slice_get (constructs_in (program_of instance.now).main) block.index ≡ Some (seen_construct block.construct) }
     requires cells { M.cell_count quiet.old.memory.now ≡ cell_count_of (program_of instance.now) (length instance.now.input) }
     requires frame { length frame.old ≡ frame_size (program_of instance.now) }
     requires silent { PartIsSilent (seen_construct block.construct) block.part }
@@ -322,7 +288,7 @@ pub fn exec_block<M: Memory>(
     frame: &mut Frame,
     memory: &mut M,
 ) -> Stop
-    requires construct { Contains (constructs_in (program_of instance.now).main) (seen_construct block.construct) }
+    requires construct { slice_get (constructs_in (program_of instance.now).main) block.index ≡ Some (seen_construct block.construct) }
     requires cells { M.cell_count memory.old ≡ cell_count_of (program_of instance.now) (length instance.now.input) }
     requires frame { length frame.old ≡ frame_size (program_of instance.now) }
     requires silent { PartIsSilent (seen_construct block.construct) block.part }
@@ -356,11 +322,12 @@ pub fn exec_block<M: Memory>(
 pub fn exec_predictor(
     instance: &Instance,
     construct: TopConstruct,
+    index: u32,
     number: i64,
     frame: &mut Frame,
     cells: &[i64],
 ) -> Result<Carried, Trap>
-    requires construct { Contains (constructs_in (program_of instance.now).main) (seen_construct construct) }
+    requires construct { slice_get (constructs_in (program_of instance.now).main) index ≡ Some (seen_construct construct) }
     requires cells { length cells.now ≡ cell_count_of (program_of instance.now) (length instance.now.input) }
     requires frame { length frame.old ≡ frame_size (program_of instance.now) }
     requires functions_silent { FunctionsAreSilent (program_of instance.now).functions }
@@ -374,6 +341,7 @@ pub fn exec_predictor(
 {
     let block = Block {
         construct,
+        index,
         part: Part::Predictor,
         number,
         value: NO_VALUE,

@@ -1,69 +1,97 @@
-// Where a performance begins: its halt is handed back in its result.
+// Performances of a program's code, in terms of the source.
 
-ghost use Rattle.std.specs.Prelude.{◌≡◌, ◌<◌, ◌≤◌, ◌^◌, length};
-ghost use Rattle.spf_ast.specs.View.{expression, block as seen_block};
-ghost use Rattle.spf_ast.specs.Meaning.{expression_means, block_means};
-ghost use Rattle.spf_ast.specs.Size.{expression_measure, block_measure};
-ghost use Rattle.spf_exec.specs.Leaves.{Leaves, block_changes};
-ghost use Rattle.spf_exec.specs.Performs.{Performs, AreWithin, call_slots, environment, state};
+ghost use Rattle.std.specs.Prelude.{◌≡◌, ◌≤◌, ◌+◌, ℕ, ℤ, length};
+ghost use Rattle.spf_ast.specs.Interaction.{Meaning};
+ghost use Rattle.spf_ast.specs.Meaning.{expression_means};
+ghost use Rattle.spf_ast.specs.Program.{cell_count_of, environment_of};
+ghost use Rattle.spf_ast.specs.View.{expression as seen_expression};
+ghost use Rattle.spf_registers.specs.Registers.{needs, rooms};
+ghost use Rattle.spf_layout.specs.Frame.{main_slots};
+ghost use Rattle.spf_layout.specs.Instance.{program_of};
+ghost use Rattle.spf_code.specs.Code.{code_sets};
+ghost use Rattle.spf_code.specs.NodeView.{code as seen_code};
+ghost use Rattle.spf_lowering.specs.Lowering.{IsExpressionCode, SetsNoSlot};
+ghost use Rattle.spf_memory.specs.Leaves.{Leaves};
+ghost use Rattle.spf_memory.specs.Performs.{Performs, state};
+ghost use Rattle.spf_exec.specs.Sources.{callable_of, RunsAs, GivesAs};
 
-use crate::context::Context;
-use crate::memory::{Halt, Halted, Memory};
-use crate::run;
-use spf_ast::syntax::{Expr, Stmt};
+use crate::context::context_of;
+use spf_ast::syntax::Expr;
+use spf_code::node::Node;
+use spf_code::program::ValueCode;
+use spf_layout::instance::Instance;
+use spf_machine::machine::perform;
+use spf_memory::memory::{Halt, Memory};
+use spf_memory::primitives::read;
 
-/// Performs an expression.
-pub(crate) fn eval<M: Memory>(
-    context: &Context,
-    below: usize,
-    line: u32,
-    expr: &Expr,
-    slots: &[i64],
-    scratch: &mut [i64],
-    memory: &mut M,
-) -> Result<i64, Halt>
-    requires within { AreWithin context.now.extents.now (M.cell_count memory.old) }
-    requires short { length context.now.input.now < 2 ^ 63 }
-    requires room { expression_measure (call_slots context.now below) (expression expr.now) ≤ length scratch.old }
-    ensures performs { Performs M.leads M.stop M.may_lack_memory
-        (expression_means (environment context.now below) line (expression expr.now)
-        (state slots.now (M.output memory.old)))
-        memory.old memory.new result (state slots.now (M.output memory.new)) }
-    ensures cells { M.cell_count memory.new ≡ M.cell_count memory.old }
-{
-    let mut halt = Halt::NoMemory;
-    match run::eval(
-        context, below, line, expr, slots, scratch, memory, &mut halt,
-    ) {
-        Ok(value) => Ok(value),
-        Err(Halted) => Err(halt),
-    }
-}
-
-/// Performs statements, one after another.
-pub(crate) fn perform_statements<M: Memory>(
-    context: &Context,
-    below: usize,
-    statements: &[Stmt],
-    slots: &mut [i64],
-    scratch: &mut [i64],
+/// Performs code that does what a form does.
+pub(crate) fn run<M: Memory>(
+    instance: &Instance,
+    code: &[Node],
+    registers: &mut [i64],
     memory: &mut M,
 ) -> Result<(), Halt>
-    requires within { AreWithin context.now.extents.now (M.cell_count memory.old) }
-    requires short { length context.now.input.now < 2 ^ 63 }
-    requires room { block_measure (call_slots context.now below) (seen_block statements.now) ≤ length scratch.old }
-    ensures performs { Performs M.leads M.stop M.may_lack_memory
-        (block_means (environment context.now below) (seen_block statements.now)
-        (state slots.old (M.output memory.old)))
-        memory.old memory.new result (state slots.new (M.output memory.new)) }
+    requires cells { M.cell_count memory.old ≡ cell_count_of (program_of instance.now) (length instance.now.input) }
+    ensures performs { (room : ℕ) (form : Meaning (Unit {0})) → RunsAs (program_of instance.now) instance.now.input room (seen_code code.now) form
+        → room ≤ length registers.old
+        → Performs M.leads M.stop M.may_lack_memory
+        (form (state (main_slots (program_of instance.now) registers.old) (M.output memory.old)))
+        memory.old memory.new result (state (main_slots (program_of instance.now) registers.new) (M.output memory.new)) }
     ensures cells { M.cell_count memory.new ≡ M.cell_count memory.old }
-    ensures others { Leaves (block_changes (seen_block statements.now)) slots.old slots.new }
+    ensures others { Leaves (λ r. code_sets r (seen_code code.now)) registers.old registers.new }
 {
-    let mut halt = Halt::NoMemory;
-    match run::exec_statements(
-        context, below, statements, slots, scratch, memory, &mut halt,
-    ) {
-        Ok(()) => Ok(()),
-        Err(Halted) => Err(halt),
-    }
+    let context = context_of(instance);
+    perform(&context, context.functions.len(), code, registers, memory)
+}
+
+/// Performs code that gives a value as a form does.
+pub(crate) fn value_of<M: Memory>(
+    instance: &Instance,
+    code: &ValueCode,
+    registers: &mut [i64],
+    memory: &mut M,
+) -> Result<i64, Halt>
+    requires cells { M.cell_count memory.old ≡ cell_count_of (program_of instance.now) (length instance.now.input) }
+    ensures performs { (room : ℕ) (form : Meaning ℤ) → GivesAs (program_of instance.now) instance.now.input room (seen_code code.now.nodes.items) code.now.register form
+        → room ≤ length registers.old
+        → Performs M.leads M.stop M.may_lack_memory
+        (form (state (main_slots (program_of instance.now) registers.old) (M.output memory.old)))
+        memory.old memory.new result (state (main_slots (program_of instance.now) registers.new) (M.output memory.new)) }
+    ensures cells { M.cell_count memory.new ≡ M.cell_count memory.old }
+    ensures others { Leaves (λ r. code_sets r (seen_code code.now.nodes.items)) registers.old registers.new }
+{
+    let context = context_of(instance);
+    perform(
+        &context,
+        context.functions.len(),
+        &code.nodes,
+        registers,
+        memory,
+    )?;
+    Ok(read(registers, code.register))
+}
+
+/// Performs an expression, whose code sets no slot.
+pub(crate) fn expression<M: Memory>(
+    instance: &Instance,
+    code: &ValueCode,
+    line: u32,
+    value: &Expr,
+    registers: &mut [i64],
+    memory: &mut M,
+) -> Result<i64, Halt>
+    requires cells { M.cell_count memory.old ≡ cell_count_of (program_of instance.now) (length instance.now.input) }
+    requires code { IsExpressionCode (callable_of (program_of instance.now)) (rooms (program_of instance.now)) (length (program_of instance.now).slots)
+        line (seen_expression value.now) code.now }
+    requires sets { SetsNoSlot (length (program_of instance.now).slots) (seen_code code.now.nodes.items) }
+    requires room { length (program_of instance.now).slots + (1 + needs (rooms (program_of instance.now)) (seen_expression value.now))
+        ≤ length registers.old }
+    ensures performs { Performs M.leads M.stop M.may_lack_memory
+        (expression_means (environment_of (program_of instance.now) instance.now.input) line (seen_expression value.now)
+        (state (main_slots (program_of instance.now) registers.old) (M.output memory.old)))
+        memory.old memory.new result (state (main_slots (program_of instance.now) registers.old) (M.output memory.new)) }
+    ensures cells { M.cell_count memory.new ≡ M.cell_count memory.old }
+    ensures kept { main_slots (program_of instance.now) registers.new ≡ main_slots (program_of instance.now) registers.old }
+{
+    value_of(instance, code, registers, memory)
 }

@@ -1,4 +1,4 @@
-// The slots of a program's `main`, with room for calls.
+// The registers of a program's `main`, with room for calls.
 
 ghost use Rattle.std.specs.Prelude.{◌≡◌, ℤ, List, [], length, pos, replicate, IfOk};
 ghost use Rattle.spf_ast.specs.Carried.{with_carried};
@@ -10,31 +10,31 @@ use spf_layout::instance::Instance;
 use std::alloc::{AllocError, Global};
 use std::marker::Model;
 
-/// Words that stay free after the slots of a frame: two cache lines. Blocks run at the same time on frames that were
-/// made one after another; without the gap their slots would share a line, and each store would slow the others down.
+/// Words that stay free after the registers of a frame: two cache lines. Blocks run at the same time on frames that were
+/// made one after another; without the gap their registers would share a line, and each store would slow the others down.
 const GAP: usize = 16;
 
-/// Room for so many slots, with the gap after them.
-fn room_for(alloc: Global, slots: usize) -> Result<Vec<i64>, AllocError>
+/// Room for so many registers, with the gap after them.
+fn room_for(alloc: Global, count: usize) -> Result<Vec<i64>, AllocError>
     ensures empty { IfOk result (λ room. room.items ≡ []) }
 {
-    Vec::with_capacity(alloc, slots.saturating_add(GAP))
+    Vec::with_capacity(alloc, count.saturating_add(GAP))
 }
 
-/// The slots of a program's `main`, with room for its deepest chain of calls.
+/// The registers of a program's `main`, with room for its deepest chain of calls. The first of them are the slots of `main`.
 #[derive(Drop)]
 pub struct Frame {
-    pub(crate) slots: Vec<i64>,
+    pub(crate) registers: Vec<i64>,
 }
 
 impl Model for Frame {
     ghost Value = { List ℤ };
 
-    ghost view = { λ f. f.slots.items };
+    ghost view = { λ f. f.registers.items };
 }
 
 impl Frame {
-    /// Makes the frame of a program: all its slots are 0.
+    /// Makes the frame of a program: all its registers are 0.
     ///
     /// # Errors
     ///
@@ -43,16 +43,16 @@ impl Frame {
         ensures zeros { IfOk result (λ f. f ≡ replicate (frame_size (program_of instance.now)) (pos 0)) }
     {
         let size = instance.frame_size();
-        let mut slots = room_for(alloc, size)?;
-        slots.resize(size, 0)?;
-        Ok(Frame { slots })
+        let mut registers = room_for(alloc, size)?;
+        registers.resize(size, 0)?;
+        Ok(Frame { registers })
     }
 
     /// Puts a carried value into its slot.
     pub(crate) fn set_carried(&mut self, slot: u32, value: Carried)
         ensures { self.new ≡ with_carried slot value self.old }
     {
-        set_carried(&mut self.slots, slot, value);
+        set_carried(&mut self.registers, slot, value);
     }
 
     /// Makes an equal frame.
@@ -63,9 +63,9 @@ impl Frame {
     pub fn copy(&self, alloc: Global) -> Result<Frame, AllocError>
         ensures equal { IfOk result (λ f. f ≡ self.now) }
     {
-        let mut slots = room_for(alloc, self.slots.len())?;
-        slots.extend_from_slice(&self.slots)?;
-        Ok(Frame { slots })
+        let mut registers = room_for(alloc, self.registers.len())?;
+        registers.extend_from_slice(&self.registers)?;
+        Ok(Frame { registers })
     }
 
     /// Makes this frame equal to another one of the same size. It takes no memory.
@@ -73,6 +73,6 @@ impl Frame {
         requires size { length from.now ≡ length self.old }
         ensures equal { self.new ≡ from.now }
     {
-        self.slots.copy_from_slice(&from.slots);
+        self.registers.copy_from_slice(&from.registers);
     }
 }

@@ -1,6 +1,6 @@
 //! The interpreter.
 //!
-//! A program is performed on a `memory::Memory`: cells, an output, and a poll at each turn. What the program asks of it, in which
+//! The code of a program is performed on a memory (`spf_memory::memory::Memory`): cells, an output, and a poll at each turn. What the program asks of it, in which
 //! order, and how it ends is what the program means. `plain_run::run_plain` runs a whole program on a memory of its own,
 //! `block_run::exec_block` one block of a top construct on any memory, and `pieces::Run` a program in pieces.
 #![tactic(auto)]
@@ -9,10 +9,5 @@ pub mod block_run;
 mod context;
 mod entry;
 pub mod frame;
-pub mod memory;
 pub mod pieces;
-pub mod plain;
 pub mod plain_run;
-mod primitives;
-mod quiet;
-mod run;

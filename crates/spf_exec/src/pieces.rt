@@ -1,6 +1,6 @@
 // Plain runs in pieces: `main` is run from one top construct to the next, and each construct is settled by who runs it.
 
-ghost use Rattle.std.specs.Prelude.{◌≡◌, ◌+◌, ◌-◌, ◌<◌, ◌≤◌, ◌^◌, ◌+ℤ◌, ◌≤ℤ◌, ℕ, length, pos, drop, take, Some, IfOk, MatchOption};
+ghost use Rattle.std.specs.Prelude.{◌≡◌, ◌+◌, ◌-◌, ◌<◌, ◌≤◌, ◌^◌, ◌+ℤ◌, ◌≤ℤ◌, ℕ, length, pos, drop, take, slice_get, Some, IfOk, MatchOption};
 ghost use Rattle.spf_ast.specs.declared.syntax.Fold.{out-Fold};
 ghost use Rattle.std.specs.Borrow.{Lends, Array, sem, i64 as word};
 ghost use Rattle.spf_exec.specs.contracts.pieces.Run.{the_row};
@@ -14,12 +14,13 @@ ghost use Rattle.spf_ast.specs.Plain.{plain_memory};
 ghost use Rattle.spf_ast.specs.Pieces.{before_construct, from_construct, construct_first, rest_from};
 ghost use Rattle.spf_ast.specs.Program.{cell_count_of, environment_of};
 ghost use Rattle.spf_ast.specs.Silence.{FunctionsAreSilent};
-ghost use Rattle.spf_ast.specs.Size.{by_slots, statement_measure, function_slots};
-ghost use Rattle.spf_layout.specs.Frame.{call_room, frame_size, main_slots};
+ghost use Rattle.spf_registers.specs.Registers.{rooms, statement_needs};
+ghost use Rattle.spf_lowering.specs.Lowering.{IsFoldCode};
+ghost use Rattle.spf_layout.specs.Frame.{frame_size, main_slots};
 ghost use Rattle.spf_layout.specs.Instance.{program_of};
-ghost use Rattle.spf_exec.specs.Rooms.{construct_measure};
-ghost use Rattle.spf_exec.specs.Performs.{Performs, AreWithin, IsDecided, call_slots, environment, state};
-ghost use Rattle.spf_exec.specs.PlainMemory.{IsPlainOutcome};
+ghost use Rattle.spf_exec.specs.Sources.{callable_of};
+ghost use Rattle.spf_memory.specs.Performs.{Performs, IsDecided, state};
+ghost use Rattle.spf_memory.specs.PlainMemory.{IsPlainOutcome};
 ghost use Rattle.spf_exec.specs.Pieces.{
   Stand,
   IsRunOf,
@@ -35,19 +36,19 @@ ghost use Rattle.spf_exec.specs.Pieces.{
   moment_of,
 };
 
-use crate::context::Context;
 use crate::entry;
 use crate::frame::Frame;
-use crate::memory::{Halt, Memory};
-use crate::plain::Plain;
 use crate::plain_run::run_main;
-use crate::primitives::{are_too_many, block_count};
-use crate::quiet::Quiet;
 use spf_ast::carried::Carried;
 use spf_ast::construct::{ConstructKind, TopConstruct, as_construct};
 use spf_ast::outcome::{Trap, TrapKind};
 use spf_ast::syntax::{Fold, Stmt};
+use spf_code::program::ConstructCode;
 use spf_layout::instance::Instance;
+use spf_memory::memory::{Halt, Memory};
+use spf_memory::plain::Plain;
+use spf_memory::primitives::{are_too_many, block_count};
+use spf_memory::quiet::Quiet;
 use std::alloc::{AllocError, Global};
 use std::marker::Model;
 
@@ -167,10 +168,7 @@ fn perform_between(
     ensures cells { length memory.new.cells.items ≡ length memory.old.cells.items }
     ensures size { length frame.new ≡ length frame.old }
 {
-    let context = Context::of(instance);
-    let program = instance.program();
-    let (slots, scratch) = frame.slots.split_at_mut(program.slots.len());
-    run_main(&context, &program.main[from..to], slots, scratch, memory)
+    run_main(instance, from, to, &mut frame.registers, memory)
 }
 
 /// Performs the statements of `main` up to the next top construct, and gives the index that was reached.
@@ -207,31 +205,40 @@ fn advance_from<'a>(
 
 /// Performs the header of a fold.
 fn perform_header<M: Memory>(
-    context: &Context,
-    below: usize,
+    instance: &Instance,
+    code: &ConstructCode,
     line: u32,
     fold: &Fold,
-    slots: &[i64],
-    scratch: &mut [i64],
+    registers: &mut [i64],
     memory: &mut M,
 ) -> Result<Header, Halt>
-    requires within { AreWithin context.now.extents.now (M.cell_count memory.old) }
-    requires short { length context.now.input.now < 2 ^ 63 }
-    requires room { statement_measure (call_slots context.now below)
+    requires cells { M.cell_count memory.old ≡ cell_count_of (program_of instance.now) (length instance.now.input) }
+    requires code { IsFoldCode (callable_of (program_of instance.now)) (rooms (program_of instance.now)) (length (program_of instance.now).slots)
+        line (fold_head fold.now) (seen_block (out-Fold fold.now).body.items) code.now }
+    requires room { length (program_of instance.now).slots + statement_needs (rooms (program_of instance.now))
         (fold_form (fold_head fold.now) (seen_block (out-Fold fold.now).body.items))
-        ≤ length scratch.old }
+        ≤ length registers.old }
     ensures performs { Performs M.leads M.stop M.may_lack_memory
-        (header_means (environment context.now below)
+        (header_means (environment_of (program_of instance.now) instance.now.input)
         (fold_construct line (fold_head fold.now) (seen_block (out-Fold fold.now).body.items))
-        (state slots.now (M.output memory.old)))
-        memory.old memory.new (header_result result) (state slots.now (M.output memory.new)) }
+        (state (main_slots (program_of instance.now) registers.old) (M.output memory.old)))
+        memory.old memory.new (header_result result) (state (main_slots (program_of instance.now) registers.old) (M.output memory.new)) }
     ensures cells { M.cell_count memory.new ≡ M.cell_count memory.old }
+    ensures kept { main_slots (program_of instance.now) registers.new ≡ main_slots (program_of instance.now) registers.old }
     ensures few { IfOk result (λ h. h.blocks ≤ max_blocks) }
     ensures numbers { IfOk result (λ h. (h.low +ℤ pos h.blocks) ≤ℤ i64.MAX) }
 {
-    let start = entry::eval(context, below, line, &fold.start, slots, scratch, memory)?;
-    let low = entry::eval(context, below, line, &fold.low, slots, scratch, memory)?;
-    let high = entry::eval(context, below, line, &fold.high, slots, scratch, memory)?;
+    let header = &code.header;
+    let start = entry::expression(
+        instance,
+        &header.start,
+        line,
+        &fold.start,
+        registers,
+        memory,
+    )?;
+    let low = entry::expression(instance, &header.low, line, &fold.low, registers, memory)?;
+    let high = entry::expression(instance, &header.high, line, &fold.high, registers, memory)?;
     if are_too_many(low, high) {
         return Err(Halt::Trapped(Trap {
             kind: TrapKind::Blocks,
@@ -248,6 +255,7 @@ fn perform_header<M: Memory>(
 /// Performs the header of a fold on a memory that emits nothing.
 fn header_quietly(
     instance: &Instance,
+    code: &ConstructCode,
     line: u32,
     fold: &Fold,
     frame: &mut Frame,
@@ -255,9 +263,11 @@ fn header_quietly(
 ) -> Result<Header, Halt>
     requires cells { length quiet.old.memory.now.cells.items ≡ cell_count_of (program_of instance.now) (length instance.now.input) }
     requires frame { length frame.old ≡ frame_size (program_of instance.now) }
-    requires room { statement_measure (by_slots (function_slots (program_of instance.now)))
+    requires code { IsFoldCode (callable_of (program_of instance.now)) (rooms (program_of instance.now)) (length (program_of instance.now).slots)
+        line (fold_head fold.now) (seen_block (out-Fold fold.now).body.items) code.now }
+    requires room { length (program_of instance.now).slots + statement_needs (rooms (program_of instance.now))
         (fold_form (fold_head fold.now) (seen_block (out-Fold fold.now).body.items))
-        ≤ call_room (program_of instance.now) }
+        ≤ frame_size (program_of instance.now) }
     requires silent { FunctionsAreSilent (program_of instance.now).functions }
     ensures outcome { IsPlainOutcome (header_result result)
         (header_means (environment_of (program_of instance.now) instance.now.input)
@@ -279,22 +289,13 @@ fn header_quietly(
     ensures few { IfOk result (λ h. h.blocks ≤ max_blocks) }
     ensures numbers { IfOk result (λ h. (h.low +ℤ pos h.blocks) ≤ℤ i64.MAX) }
 {
-    let context = Context::of(instance);
-    let (slots, scratch) = frame.slots.split_at_mut(instance.program().slots.len());
-    perform_header(
-        &context,
-        context.functions.len(),
-        line,
-        fold,
-        slots,
-        scratch,
-        quiet,
-    )
+    perform_header(instance, code, line, fold, &mut frame.registers, quiet)
 }
 
 /// Performs the header of a fold.
 fn fold_header(
     instance: &Instance,
+    code: &ConstructCode,
     line: u32,
     fold: &Fold,
     frame: &mut Frame,
@@ -302,9 +303,11 @@ fn fold_header(
 ) -> Result<Header, Trap>
     requires cells { length memory.old.cells.items ≡ cell_count_of (program_of instance.now) (length instance.now.input) }
     requires frame { length frame.old ≡ frame_size (program_of instance.now) }
-    requires room { statement_measure (by_slots (function_slots (program_of instance.now)))
+    requires code { IsFoldCode (callable_of (program_of instance.now)) (rooms (program_of instance.now)) (length (program_of instance.now).slots)
+        line (fold_head fold.now) (seen_block (out-Fold fold.now).body.items) code.now }
+    requires room { length (program_of instance.now).slots + statement_needs (rooms (program_of instance.now))
         (fold_form (fold_head fold.now) (seen_block (out-Fold fold.now).body.items))
-        ≤ call_room (program_of instance.now) }
+        ≤ frame_size (program_of instance.now) }
     requires silent { FunctionsAreSilent (program_of instance.now).functions }
     ensures answer { IsHeaderAnswer (header_means (environment_of (program_of instance.now) instance.now.input)
         (fold_construct line (fold_head fold.now) (seen_block (out-Fold fold.now).body.items))
@@ -323,7 +326,7 @@ fn fold_header(
     ensures numbers { IfOk result (λ h. (h.low +ℤ pos h.blocks) ≤ℤ i64.MAX) }
 {
     let mut quiet = Quiet { memory };
-    match header_quietly(instance, line, fold, frame, &mut quiet) {
+    match header_quietly(instance, code, line, fold, frame, &mut quiet) {
         Ok(header) => Ok(header),
         Err(Halt::Trapped(trap)) => Err(trap),
         Err(Halt::Cancelled { .. }) => unreachable!(),
@@ -335,13 +338,13 @@ fn fold_header(
 fn header_of(
     instance: &Instance,
     construct: TopConstruct,
+    index: usize,
     frame: &mut Frame,
     memory: &mut Plain,
 ) -> Result<Header, Trap>
     requires cells { length memory.old.cells.items ≡ cell_count_of (program_of instance.now) (length instance.now.input) }
     requires frame { length frame.old ≡ frame_size (program_of instance.now) }
-    requires room { construct_measure (by_slots (function_slots (program_of instance.now))) (seen_construct construct)
-        ≤ call_room (program_of instance.now) }
+    requires construct { slice_get (constructs_in (program_of instance.now).main) index ≡ Some (seen_construct construct) }
     requires silent { FunctionsAreSilent (program_of instance.now).functions }
     ensures header { (place passed : ℕ) → HeaderDone (program_of instance.now) instance.now.input (seen_construct construct.entry)
         (stand frame.old memory.old place passed) (stand frame.new memory.new place passed) result }
@@ -352,9 +355,10 @@ fn header_of(
     ensures few { IfOk result (λ h. h.blocks ≤ max_blocks) }
     ensures numbers { IfOk result (λ h. (h.low +ℤ pos h.blocks) ≤ℤ i64.MAX) }
 {
+    let code = &instance.code().constructs[index];
     let line = construct.line;
     match construct.kind {
-        ConstructKind::Fold(fold) => fold_header(instance, line, fold, frame, memory),
+        ConstructKind::Fold(fold) => fold_header(instance, code, line, fold, frame, memory),
         ConstructKind::Pair(_) => Ok(Header {
             low: 0,
             blocks: 2,
@@ -425,7 +429,13 @@ impl Run {
         ensures few { IfOk result (λ h. h.blocks ≤ max_blocks) }
         ensures numbers { IfOk result (λ h. (h.low +ℤ pos h.blocks) ≤ℤ i64.MAX) }
     {
-        header_of(instance, construct, &mut self.frame, &mut self.memory)
+        header_of(
+            instance,
+            construct,
+            self.passed,
+            &mut self.frame,
+            &mut self.memory,
+        )
     }
 
     /// Settles the top construct that stands next: puts its value into its carried slot and goes past it.

@@ -1,55 +1,74 @@
 // Whole programs on a memory of their own.
 
-ghost use Rattle.std.specs.Prelude.{◌≡◌, ◌<◌, ◌≤◌, ◌^◌, length, IfOk, IfErr, IsErrAnd};
+ghost use Rattle.std.specs.Prelude.{◌≡◌, ◌<◌, ◌≤◌, ◌-◌, ◌^◌, length, take, drop, IfOk, IfErr, IsErrAnd};
 ghost use Rattle.spf_ast.specs.View.{block as seen_block, program as seen_program};
 ghost use Rattle.spf_ast.specs.Meaning.{block_means};
-ghost use Rattle.spf_ast.specs.Program.{cell_count_of, max_cells, outcome, seen_outcome};
+ghost use Rattle.spf_ast.specs.Program.{cell_count_of, environment_of, max_cells, outcome, seen_outcome};
 ghost use Rattle.spf_layout.specs.declared.layout.RunError.TheVariants.{OutOfMemory};
-ghost use Rattle.spf_ast.specs.Size.{block_measure};
-ghost use Rattle.spf_exec.specs.Performs.{AreWithin, call_slots, environment, state};
-ghost use Rattle.spf_exec.specs.PlainMemory.{IsPlainOutcome};
+ghost use Rattle.spf_layout.specs.Frame.{frame_size, main_slots};
 ghost use Rattle.spf_layout.specs.Instance.{program_of};
 ghost use Rattle.spf_layout.specs.RunErrors.{IsTooMany};
+ghost use Rattle.spf_memory.specs.Performs.{Performs, state};
+ghost use Rattle.spf_memory.specs.PlainMemory.{IsPlainOutcome};
 
-use crate::context::Context;
-use crate::entry::perform_statements;
+use crate::entry;
 use crate::frame::Frame;
-use crate::memory::Halt;
-use crate::plain::Plain;
 use spf_ast::outcome::Outcome;
-use spf_ast::syntax::{Program, Stmt};
+use spf_ast::syntax::Program;
 use spf_layout::instance::Instance;
 use spf_layout::layout::RunError;
+use spf_memory::memory::{Halt, Memory};
+use spf_memory::plain::Plain;
 use std::alloc::{AllocError, Global};
 
-/// Performs the statements of `main` on a memory of its own.
+/// Performs the statements of `main` from one index up to another one.
+fn perform_statements<M: Memory>(
+    instance: &Instance,
+    from: usize,
+    to: usize,
+    registers: &mut [i64],
+    memory: &mut M,
+) -> Result<(), Halt>
+    requires cells { M.cell_count memory.old ≡ cell_count_of (program_of instance.now) (length instance.now.input) }
+    requires frame { length registers.old ≡ frame_size (program_of instance.now) }
+    requires order { from ≤ to }
+    requires within { to ≤ length instance.now.code.main.items }
+    ensures performs { Performs M.leads M.stop M.may_lack_memory
+        (block_means (environment_of (program_of instance.now) instance.now.input)
+        (seen_block (take (to - from) (drop from instance.now.code.main.items)))
+        (state (main_slots (program_of instance.now) registers.old) (M.output memory.old)))
+        memory.old memory.new result
+        (state (main_slots (program_of instance.now) registers.new) (M.output memory.new)) }
+    ensures cells { M.cell_count memory.new ≡ M.cell_count memory.old }
+{
+    let code = instance.code();
+    for index in from..to {
+        entry::run(instance, &code.main[index], registers, memory)?;
+    }
+    Ok(())
+}
+
+/// Performs the statements of `main` from one index up to another one, on a memory of its own.
 pub(crate) fn run_main(
-    context: &Context,
-    main: &[Stmt],
-    slots: &mut [i64],
-    scratch: &mut [i64],
+    instance: &Instance,
+    from: usize,
+    to: usize,
+    registers: &mut [i64],
     memory: &mut Plain,
 ) -> Result<(), Halt>
-    requires within { AreWithin context.now.extents.now (length memory.old.cells.items) }
-    requires short { length context.now.input.now < 2 ^ 63 }
-    requires room { block_measure (call_slots context.now (length context.now.functions.now)) (seen_block main.now)
-        ≤ length scratch.old }
+    requires cells { length memory.old.cells.items ≡ cell_count_of (program_of instance.now) (length instance.now.input) }
+    requires frame { length registers.old ≡ frame_size (program_of instance.now) }
+    requires order { from ≤ to }
+    requires within { to ≤ length instance.now.code.main.items }
     ensures outcome { IsPlainOutcome result
-        (block_means (environment context.now (length context.now.functions.now))
-        (seen_block main.now)
-        (state slots.old memory.old.output.items))
+        (block_means (environment_of (program_of instance.now) instance.now.input)
+        (seen_block (take (to - from) (drop from instance.now.code.main.items)))
+        (state (main_slots (program_of instance.now) registers.old) memory.old.output.items))
         memory.old.cells.items memory.new.cells.items
-        (state slots.new memory.new.output.items) }
+        (state (main_slots (program_of instance.now) registers.new) memory.new.output.items) }
     ensures cells { length memory.new.cells.items ≡ length memory.old.cells.items }
 {
-    perform_statements(
-        context,
-        context.functions.len(),
-        main,
-        slots,
-        scratch,
-        memory,
-    )
+    perform_statements(instance, from, to, registers, memory)
 }
 
 /// Runs an instance: the plain meaning of its program on its input, in which predictors don't occur.
@@ -66,10 +85,8 @@ pub fn run_instance(alloc: Global, instance: &Instance) -> Result<Outcome, Alloc
         cells,
         output: Vec::new(alloc),
     };
-    let context = Context::of(instance);
-    let program = instance.program();
-    let (slots, scratch) = frame.slots.split_at_mut(program.slots.len());
-    match run_main(&context, &program.main, slots, scratch, &mut memory) {
+    let count = instance.program().main.len();
+    match run_main(instance, 0, count, &mut frame.registers, &mut memory) {
         Ok(()) => Ok(Outcome::Done {
             cells: memory.cells,
             output: memory.output,

@@ -3,6 +3,8 @@ use Rattle.std.specs.Prelude.{◌≡◌, ◌<◌, ◌^◌, ℕ, List, length}
 use Rattle.spf_ast.specs.declared.syntax.Program as code
 use Rattle.spf_ast.specs.Syntax.{Program}
 use Rattle.spf_ast.specs.View.{program}
+use Rattle.spf_code.specs.declared.program.ProgramCode.{ProgramCode}
+use Rattle.spf_lowering.specs.Lowering.{IsCodeOfProgram}
 use Rattle.spf_layout.specs.Layout.{LayoutValue, IsLayoutOf}
 use Rattle.spf_layout.specs.Frame.{frame_size}
 
@@ -15,8 +17,9 @@ pub record InstanceValue : Type 0 where
 abbrev pub program_of : InstanceValue → Program
 program_of i = program i.code
 
--- the layout is that of the program for the input's length, so is the frame's size, and the input's length is a word
-pub record IsInstance (p : Program) (input : List ℕ) (l : LayoutValue) (slots : ℕ) : Type 0 where
+-- the layout is that of the program for the input's length, the lowered code and the frame's size are the program's, and the input's length is a word
+pub record IsInstance (p : Program) (input : List ℕ) (l : LayoutValue) (lowered : ProgramCode) (registers : ℕ) : Type 0 where
   pub layout : IsLayoutOf p (length input) l
-  pub size : slots ≡ frame_size p
+  pub code : IsCodeOfProgram p lowered
+  pub size : registers ≡ frame_size p
   pub short : length input < 2 ^ 63

@@ -4,24 +4,29 @@ ghost use Rattle.std.specs.Prelude.{◌≡◌, ◌<◌, ◌≤◌, ◌^◌, leng
 ghost use Rattle.spf_ast.specs.View.{program as seen_program};
 ghost use Rattle.spf_ast.specs.Program.{cell_count_of, max_cells};
 ghost use Rattle.spf_layout.specs.declared.layout.RunError.TheVariants.{OutOfMemory};
+ghost use Rattle.spf_lowering.specs.Lowering.{IsCodeOfProgram};
 ghost use Rattle.spf_layout.specs.Frame.{frame_size as size_of_frame};
 ghost use Rattle.spf_layout.specs.Layout.{IsLayoutOf};
 ghost use Rattle.spf_layout.specs.Instance.{program_of};
 ghost use Rattle.spf_layout.specs.RunErrors.{IsTooMany};
 
 use crate::arrays::layout;
-use crate::frame_size::slot_count;
 use crate::layout::{Layout, RunError};
 use spf_ast::syntax::Program;
+use spf_code::program::ProgramCode;
+use spf_lowering::program::lower;
+use spf_registers::program::program_needs;
 use std::alloc::Global;
 use std::marker::Model;
 
-/// A program with an input that it runs on, and what follows from both once: where its arrays lie, and how many slots a frame has.
+/// A program with an input that it runs on, and what follows from both once: where its arrays lie, its code, and how many registers
+/// a frame has.
 #[derive(Drop)]
 pub struct Instance<'a> {
     program: &'a Program,
     input: &'a [u8],
     layout: Layout,
+    code: ProgramCode,
     frame_size: usize,
 }
 
@@ -37,11 +42,11 @@ impl<'a> Model for Instance<'a> {
 
     ghost view = { λ i. record { code = i.program.now; input = i.input.now } };
 
-    ghost invariant = { λ i. IsInstance (seen_program i.program.now) i.input.now i.layout i.frame_size };
+    ghost invariant = { λ i. IsInstance (seen_program i.program.now) i.input.now i.layout i.code i.frame_size };
 }
 
 impl<'a> Instance<'a> {
-    /// Lays out the arrays of a program for an input, and counts the slots of a frame.
+    /// Lays out the arrays of a program for an input, lowers the program, and counts the registers of a frame.
     ///
     /// # Errors
     ///
@@ -59,11 +64,13 @@ impl<'a> Instance<'a> {
             → IfErr result (λ why. why ≡ OutOfMemory) }
     {
         let layout = layout(alloc, program, input.len() as u64)?;
-        let frame_size = slot_count(alloc, program)?;
+        let code = lower(alloc, program)?;
+        let frame_size = program_needs(alloc, program)?;
         Ok(Instance {
             program,
             input,
             layout,
+            code,
             frame_size,
         })
     }
@@ -90,7 +97,14 @@ impl<'a> Instance<'a> {
         &self.layout
     }
 
-    /// How many slots a frame has: those of `main`, and those of its deepest chain of calls.
+    /// The program's code.
+    pub fn code(&self) -> &ProgramCode
+        ensures { IsCodeOfProgram (program_of self.now) result.now }
+    {
+        &self.code
+    }
+
+    /// How many registers a frame has: those of `main`, and those of its deepest chain of calls.
     pub fn frame_size(&self) -> usize
         ensures { result ≡ size_of_frame (program_of self.now) }
     {

@@ -2,7 +2,6 @@
 #![tactic(auto)]
 
 pub mod arrays;
-mod frame_size;
 pub mod instance;
 pub mod layout;
 pub mod stop;

@@ -79,7 +79,7 @@ fn guess(
     };
     let mut frame = Frame::make(alloc, &instance)?;
     let cells = vec![in alloc; 0i64; instance.layout().cells() as usize]?;
-    Ok(Some(exec_predictor(&instance, construct, number, &mut frame, &cells)))
+    Ok(Some(exec_predictor(&instance, construct, 0, number, &mut frame, &cells)))
 }
 
 #[test]

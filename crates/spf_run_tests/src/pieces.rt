@@ -1,6 +1,6 @@
 // Runs in pieces, whose folds are settled by block runs.
 
-ghost use Rattle.std.specs.Prelude.{◌≡◌, [], pos, Some, IfOk};
+ghost use Rattle.std.specs.Prelude.{◌≡◌, [], pos, slice_get, Some, IfOk};
 ghost use Rattle.spf_ast.specs.Syntax.{
   Binary as binary_form,
   Emit as emit_form,
@@ -14,11 +14,11 @@ ghost use Rattle.spf_ast.specs.Syntax.{
 ghost use Rattle.spf_ast.specs.declared.syntax.Op.TheVariants.{Mul};
 ghost use Rattle.spf_ast.specs.declared.syntax.Part.TheVariants.{Body};
 ghost use Rattle.spf_ast.specs.View.{program as seen_program};
+ghost use Rattle.spf_ast.specs.Construct.{constructs_in};
 ghost use Rattle.spf_ast.specs.ConstructView.{construct as seen_construct};
-ghost use Rattle.spf_ast.specs.Pieces.{construct_first};
 ghost use Rattle.spf_ast.specs.Silence.{FunctionsAreSilent, PartIsSilent};
 ghost use Rattle.spf_layout.specs.Instance.{program_of};
-ghost use Rattle.spf_exec.specs.Pieces.{IsRunOf, ahead};
+ghost use Rattle.spf_exec.specs.Pieces.{IsRunOf};
 
 use crate::programs::{names, on_line};
 use spf_ast::carried::Carried;
@@ -27,9 +27,9 @@ use spf_ast::syntax::{Expr, Fold, Op, Part, Predict, Program, Stmt, StmtKind};
 use spf_exec::block_run::{Block, exec_block};
 use spf_exec::frame::Frame;
 use spf_exec::pieces::{Header, Pause, Run};
-use spf_exec::plain::Plain;
 use spf_layout::instance::Instance;
 use spf_layout::stop::Stop;
+use spf_memory::plain::Plain;
 use std::alloc::{AllocError, Global};
 use std::test::Fail;
 
@@ -109,18 +109,19 @@ pub(crate) fn doubled(alloc: Global) -> Result<Program, AllocError>
     })
 }
 
-// Runs the body of the construct that stands next over a frame and cells of its own.
+// Runs the body of the program's top construct at an index over a frame and cells of its own.
 fn run_body(
     alloc: Global,
     instance: &Instance,
     run: &Run,
     construct: TopConstruct,
+    index: u32,
     number: i64,
     value: Carried,
 ) -> Result<Stop, AllocError>
     requires run { IsRunOf (program_of instance.now) 0 run.now }
     requires empty { instance.now.input ≡ [] }
-    requires construct { construct_first (ahead (program_of instance.now) run.now) ≡ Some (seen_construct construct) }
+    requires construct { slice_get (constructs_in (program_of instance.now).main) index ≡ Some (seen_construct construct) }
     requires silent { PartIsSilent (seen_construct construct) Body }
     requires functions_silent { FunctionsAreSilent (program_of instance.now).functions }
 {
@@ -131,6 +132,7 @@ fn run_body(
     };
     let block = Block {
         construct,
+        index,
         part: Part::Body,
         number,
         value,
@@ -163,8 +165,9 @@ fn a_fold_is_settled_with_the_value_of_its_last_block(rt: HostRuntime) -> Result
     };
     assert_eq!(rt; header, wanted);
     let mut value = header.start;
-    for number in 0..5 {
-        let Stop::Ended(next) = run_body(alloc, &instance, &run, construct, number, value)? else {
+    for k in 0..5 {
+        let Stop::Ended(next) = run_body(alloc, &instance, &run, construct, number, k, value)?
+        else {
             assert!(rt; false);
             return Ok(());
         };

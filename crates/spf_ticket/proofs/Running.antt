@@ -2,7 +2,7 @@
 use Rattle.std.proofs.Common.{◌≡◌, ℕ, ◌<◌, Bool, true, false, List, [], ◌∷◌, ◌++◌, length, ℤ, refl, sym, ap, ◌∙◌, subst, Some, arith, Contains, min}
 use Rattle.std.specs.Prelude.{if◌then◌else◌, slice_get, slice_index_or}
 use Rattle.std.proofs.lemmas.List.{append-nil, length-take}
-use Rattle.std.proofs.lemmas.Option.{slice_get_read, slice_get-get_or}
+use Rattle.std.proofs.lemmas.Option.{slice_get-get_or}
 use Rattle.spf_lemmas.proofs.Members.{first-in, later-in}
 use Rattle.spf_ast.specs.declared.syntax.Part.{Part}
 use Rattle.spf_ast.specs.Carried.{Carried}
@@ -19,7 +19,7 @@ use Rattle.spf_layout.specs.declared.stop.Stop.{Stop}
 use Rattle.spf_layout.specs.declared.stop.Stop.TheVariants as stop
 use Rattle.spf_layout.specs.Frame.{main_slots}
 use Rattle.spf_exec.specs.BlockRuns.{stop_result}
-use Rattle.spf_exec.specs.Performs.{performed_as, IsDecided, state}
+use Rattle.spf_memory.specs.Performs.{performed_as, IsDecided, state}
 use Rattle.spf_region.specs.declared.span.Span.{Span}
 use Rattle.spf_region.specs.Cells.{in_spans}
 use Rattle.spf_cells.specs.Log.{events}
@@ -120,18 +120,13 @@ made-attempt law e n v a s old to es h mine ends led =
       stopped = subst (λ x. EndsAs x s) (sym whole) ends;
     }
 
--- the place of a construct among those of its program
-pub place-of : (p : Program) (construct : Construct) → Contains (constructs_in p.main) construct → (i : ℕ) × (slice_get (constructs_in p.main) i ≡ Some construct)
-place-of p construct i = (i.0, slice_get_read (constructs_in p.main) (length (constructs_in p.main)) i.0 construct refl i.1 (sym i.2))
-
 -- a performance of the block's part from slots that agree with the entry's where the part declares none ends as the block does
-ends-alike : PartsDeclareAnew → (e : Entry) (n : ℕ) (v : Carried) (a : ℕ) (s : Stop) (slots : List ℤ) (es : List Event)
-    → IsLawful e.program → Contains (constructs_in e.program.main) e.construct → AgreeOutside e.construct (part_of e.construct n) slots e.slots
+ends-alike : PartsDeclareAnew → (e : Entry) (index n : ℕ) (v : Carried) (a : ℕ) (s : Stop) (slots : List ℤ) (es : List Event)
+    → IsLawful e.program → slice_get (constructs_in e.program.main) index ≡ Some e.construct → AgreeOutside e.construct (part_of e.construct n) slots e.slots
     → EndsAs (perform every_cell [] (Some a) (part_asks e.program e.construct (part_of e.construct n) (block_setup e.input slots (number_of e n) v)) es) s
     → EndsAs (perform every_cell [] (Some a) (asks_at e n v) es) s
-ends-alike law e n v a s slots es lawful there agree h =
-    let i = place-of e.program e.construct there in
-    alike-ends s _ _ h (law e.program i.0 e.construct lawful i.1 (part_of e.construct n) e.input (number_of e n) v slots e.slots agree every_cell [] (Some a) es)
+ends-alike law e index n v a s slots es lawful there agree h =
+    alike-ends s _ _ h (law e.program index e.construct lawful there (part_of e.construct n) e.input (number_of e n) v slots e.slots agree every_cell [] (Some a) es)
 
 -- the list of a performance, with nothing after it
 ends-here : (a : ℕ) (tree : Interaction (Ending Carried)) (s : Stop) (es : List Event) (slots : List ℤ)
@@ -150,18 +145,18 @@ pub record Runs (e : Entry) (n : ℕ) (v : Carried) (p : Program) (construct : C
   pub its_value : carried ≡ v
 
 pub made-run : BlockRunsAreAttempts → PartsDeclareAnew → (e : Entry) (n : ℕ) (v : Carried) (a : ℕ) (s : Stop) (old : LaneValue) (to : InLane) (es : List Event)
-    (p : Program) (construct : Construct) (part : Part) (input : List ℕ) (number : ℤ) (carried : Carried) (slots after memory : List ℤ)
+    (p : Program) (construct : Construct) (index : ℕ) (part : Part) (input : List ℕ) (number : ℤ) (carried : Carried) (slots after memory : List ℤ)
     → Runs e n v p construct part input number carried
-    → IsEntry e → IsLawful p → Contains (constructs_in p.main) construct → is_in old ≡ own e n → memory ≡ e.memory
+    → IsEntry e → IsLawful p → slice_get (constructs_in p.main) index ≡ Some construct → is_in old ≡ own e n → memory ≡ e.memory
     → AgreeOutside e.construct (part_of e.construct n) slots e.slots
     → (IsDecided (stop_result s) → (rest : List Event) → perform every_cell [] (Some a) (part_asks p construct part (block_setup input slots number carried)) (es ++ rest) ≡ performed_as (stop_result s) (state after []) rest)
     → LeadsInLane es (in_lane old memory a) to → Made e n v a s old to.lane
-made-run law forgets e n v a s old to es p construct part input number carried slots after memory r h lawful there mine memory-is agree performed led =
+made-run law forgets e n v a s old to es p construct index part input number carried slots after memory r h lawful there mine memory-is agree performed led =
     let tree : part_asks p construct part (block_setup input slots number carried) ≡ part_asks e.program e.construct (part_of e.construct n) (block_setup e.input slots (number_of e n) v)
     = λ t. part_asks (r.program t) (r.same_construct t) (r.its_part t) (block_setup (r.same_input t) slots (r.its_number t) (r.its_value t)) in
     made-attempt law e n v a s old to es h mine
-    (ends-alike forgets e n v a s slots es (subst IsLawful r.program lawful)
-    (subst (λ (x : Program × Construct). Contains (constructs_in x.0.main) x.1) (λ t. (r.program t, r.same_construct t)) there)
+    (ends-alike forgets e index n v a s slots es (subst IsLawful r.program lawful)
+    (subst (λ (x : Program × Construct). slice_get (constructs_in x.0.main) index ≡ Some x.1) (λ t. (r.program t, r.same_construct t)) there)
     agree
     (subst (λ (x : Interaction (Ending Carried)). EndsAs (perform every_cell [] (Some a) x es) s) tree (ends-here a (part_asks p construct part (block_setup input slots number carried)) s es after performed)))
     (subst (λ m. LeadsInLane es (in_lane old m a) to) memory-is led)

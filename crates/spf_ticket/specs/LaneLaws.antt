@@ -7,7 +7,7 @@ use Rattle.spf_region.specs.Cells.{in_spans}
 use Rattle.spf_cells.specs.Log.{events}
 use Rattle.spf_cells.specs.Values.{LaneValue, IsSameLane, spans_of}
 use Rattle.spf_entry.specs.Attempts.{OthersAreOf}
-use Rattle.spf_exec.specs.MemoryLaws.{Laws}
+use Rattle.spf_memory.specs.MemoryLaws.{Laws}
 use Rattle.spf_ticket.specs.InLane.{own_events, is_in, InLane, LeadsInLane}
 
 own-choice : (c : Bool) (x : Event) (es fs : List Event) → (if c then x ∷ (es ++ fs) else (es ++ fs)) ≡ (if c then x ∷ es else es) ++ fs

@@ -4,7 +4,7 @@ ghost use Rattle.std.specs.Prelude.{◌≡◌};
 
 use spf_cells::cells::Cells;
 use spf_cells::lane::Lane;
-use spf_exec::memory::{Emitted, Memory};
+use spf_memory::memory::{Emitted, Memory};
 
 /// A cell of the lane's spans goes through the lane; any other cell has its word of the entry, and a store to it changes nothing.
 /// Each turn polls the block's flag once; a number that reaches the attempt's stops the attempt.
@@ -20,7 +20,7 @@ pub(crate) struct LaneMemory<'a> {
 impl<'a> Memory for LaneMemory<'a> {
     ghost use Rattle.std.specs.Prelude.{◌≡◌, length, Some, refl};
     ghost use Rattle.std.proofs.Common.{ap};
-    ghost use Rattle.spf_exec.specs.QuietMemory.{full_output};
+    ghost use Rattle.spf_memory.specs.QuietMemory.{full_output};
     ghost use Rattle.spf_ticket.specs.InLane.{in_lane, LeadsInLane};
     ghost use Rattle.spf_ticket.specs.LaneLaws.{lane_laws};
 

@@ -1,6 +1,5 @@
 //! Runs of tickets.
-ghost use Rattle.std.specs.Prelude.{◌≡◌, ℕ, length, false};
-ghost use Rattle.std.specs.List.{Contains};
+ghost use Rattle.std.specs.Prelude.{◌≡◌, ℕ, length, false, slice_get, Some};
 ghost use Rattle.spf_ast.specs.Carried.{Carried as CarriedValue};
 ghost use Rattle.spf_ast.specs.Construct.{constructs_in, part_of, statements_of};
 ghost use Rattle.spf_ast.specs.ConstructView.{construct as seen_construct};
@@ -26,12 +25,14 @@ use spf_laws::{each_part_assigns_what_it_declares, each_part_declares_its_slots_
 use spf_layout::instance::Instance;
 use spf_speculation::block_runs_are_attempts;
 
-/// What all attempts of a construct's blocks have in common: the program with its input, the construct, and the memory at the
-/// construct's entry.
+/// What all attempts of a construct's blocks have in common: the program with its input, the construct and its index, and the memory
+/// at the construct's entry.
 #[derive(Clone, Copy)]
 pub struct Job<'a> {
     pub instance: &'a Instance<'a>,
     pub construct: TopConstruct<'a>,
+    /// Which of the program's top constructs it is, counted from 0.
+    pub index: u32,
     pub entry: &'a [i64],
 }
 
@@ -54,7 +55,7 @@ impl Ticket {
     pub fn run<G: Gate>(self, cells: &Cells, job: &Job, gate: &G) -> Report
         requires own { self.lane.table ≡ cells.now.table }
         requires lawful { IsLawful (program_of job.now.instance.now) }
-        requires construct { Contains (constructs_in (program_of job.now.instance.now).main) (seen_construct job.now.construct) }
+        requires construct { slice_get (constructs_in (program_of job.now.instance.now).main) job.now.index ≡ Some (seen_construct job.now.construct) }
         requires entry { length job.now.entry.now ≡ cell_count_of (program_of job.now.instance.now) (length job.now.instance.now.input) }
         requires frame { length self.frame ≡ frame_size (program_of job.now.instance.now) }
         requires silent { PartIsSilent (seen_construct job.now.construct) (part_of (seen_construct job.now.construct) self.block) }
@@ -80,6 +81,7 @@ impl Ticket {
         let entry = job.entry;
         let run = Block {
             construct: job.construct,
+            index: job.index,
             part: job.construct.part_of(block),
             number,
             value: carried,

@@ -4,6 +4,7 @@ ghost use Rattle.spf_ast.specs.Carried.{Carried as CarriedValue};
 ghost use Rattle.spf_ast.specs.Syntax.{Fold as fold_form};
 ghost use Rattle.spf_ast.specs.View.{program as seen_program, block as seen_block, statement as seen_statement};
 ghost use Rattle.spf_ast.specs.ConstructView.{construct as seen_construct};
+ghost use Rattle.spf_layout.specs.Frame.{frame_size};
 ghost use Rattle.spf_layout.specs.Instance.{program_of};
 ghost use Rattle.spf_layout.specs.declared.stop.Stop.TheVariants as stop;
 ghost use Rattle.spf_cells.specs.Log.{events};
@@ -122,11 +123,12 @@ pub(crate) fn attempt(cells: &Cells, job: &Job, ticket: Ticket) -> Report
     requires program { program_of job.now.instance.now ≡ counting }
     requires input { job.now.instance.now.input ≡ [] }
     requires construct { seen_construct job.now.construct ≡ fold_of_counting }
+    requires index { job.now.index ≡ 0 }
     requires entry { job.now.entry.now ≡ [] }
     requires setting { cells.now.setting ≡ counting_setting }
     requires table { ticket.lane.table ≡ cells.now.table }
     requires block { ticket.block ≡ 1 }
-    requires frame { length ticket.frame ≡ 3 }
+    requires frame { length ticket.frame ≡ frame_size counting }
     ensures same { IsSameTicket counting fold_of_counting ticket result.ticket }
     ensures turns { (value : CarriedValue) → IsTicketAt counting_entry cells.now ticket → ticket.attempt ≡ 1 → ticket.carried ≡ pos 5
         → result.stop ≡ stop.Ended value → events result.ticket.lane.log ≡ events ticket.lane.log ++ five_turns }
@@ -140,15 +142,16 @@ fn first_attempt(cells: &Cells, job: &Job, lane: Lane, frame: Frame) -> Report
     requires program { program_of job.now.instance.now ≡ counting }
     requires input { job.now.instance.now.input ≡ [] }
     requires construct { seen_construct job.now.construct ≡ fold_of_counting }
+    requires index { job.now.index ≡ 0 }
     requires entry { job.now.entry.now ≡ [] }
     requires setting { cells.now.setting ≡ counting_setting }
     requires lane { lane ≡ new_lane cells.now 1 }
-    requires frame { frame ≡ replicate 3 (pos 0) }
+    requires frame { frame ≡ replicate (frame_size counting) (pos 0) }
     ensures turns { (value : CarriedValue) → result.stop ≡ stop.Ended value → events result.ticket.lane.log ≡ five_turns }
     ensures attempt { result.ticket.attempt ≡ 1 }
     ensures block { result.ticket.block ≡ 1 }
     ensures table { result.ticket.lane.table ≡ cells.now.table }
-    ensures frame { length result.ticket.frame ≡ 3 }
+    ensures frame { length result.ticket.frame ≡ frame_size counting }
 {
     attempt(cells, job, Ticket::make(1, 1, 5, lane, frame))
 }
@@ -165,6 +168,7 @@ fn both_attempts(alloc: Global, raised: bool) -> Result<Option<(Stop, Stop)>, Al
     let job = Job {
         instance: &instance,
         construct,
+        index: 0,
         entry: &[],
     };
     let frame = Frame::make(alloc, &instance)?;

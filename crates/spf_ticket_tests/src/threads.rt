@@ -2,6 +2,7 @@
 ghost use Rattle.std.specs.Prelude.{◌≡◌, [], ◌<◌, length};
 ghost use Rattle.std.specs.List.{Contains};
 ghost use Rattle.spf_ast.specs.ConstructView.{construct as seen_construct};
+ghost use Rattle.spf_layout.specs.Frame.{frame_size};
 ghost use Rattle.spf_layout.specs.Instance.{program_of};
 ghost use Rattle.spf_cells.specs.Values.{IsWardenOf};
 ghost use Rattle.spf_ticket_tests.specs.Turns.{counting, counting_fold as fold_of_counting, counting_setting};
@@ -27,12 +28,13 @@ fn attempt_twice(cells: &Cells, job: &Job, ticket: Ticket) -> (Stop, Stop)
     requires program { program_of job.now.instance.now ≡ counting }
     requires input { job.now.instance.now.input ≡ [] }
     requires construct { seen_construct job.now.construct ≡ fold_of_counting }
+    requires index { job.now.index ≡ 0 }
     requires entry { job.now.entry.now ≡ [] }
     requires setting { cells.now.setting ≡ counting_setting }
     requires table { ticket.lane.table ≡ cells.now.table }
     requires block { ticket.block ≡ 1 }
     requires attempt { ticket.attempt ≡ 1 }
-    requires frame { length ticket.frame ≡ 3 }
+    requires frame { length ticket.frame ≡ frame_size counting }
 {
     let first = attempt(cells, job, ticket);
     let second = attempt(cells, job, first.ticket.again(1));
@@ -50,12 +52,13 @@ fn raised_meanwhile<R: Threads + Sync>(
     requires program { program_of job.now.instance.now ≡ counting }
     requires input { job.now.instance.now.input ≡ [] }
     requires construct { seen_construct job.now.construct ≡ fold_of_counting }
+    requires index { job.now.index ≡ 0 }
     requires entry { job.now.entry.now ≡ [] }
     requires setting { cells.now.setting ≡ counting_setting }
     requires table { ticket.lane.table ≡ cells.now.table }
     requires block { ticket.block ≡ 1 }
     requires attempt { ticket.attempt ≡ 1 }
-    requires frame { length ticket.frame ≡ 3 }
+    requires frame { length ticket.frame ≡ frame_size counting }
     requires own { IsWardenOf cells.now warden.old }
     requires inside { 1 < length warden.old.setting.plan }
     requires raisable { Contains warden.old.setting.raisable 1 }
@@ -83,6 +86,7 @@ fn both_attempts<R: Threads + Sync>(
     let job = Job {
         instance: &instance,
         construct,
+        index: 0,
         entry: &[],
     };
     let frame = Frame::make(alloc, &instance)?;

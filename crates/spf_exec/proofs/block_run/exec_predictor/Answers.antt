@@ -3,9 +3,9 @@ use Rattle.std.proofs.lemmas.Int.{to_z-of_z}
 use Rattle.spf_ast.specs.ConstructView.{construct}
 use Rattle.spf_layout.specs.Frame.{main_slots}
 use Rattle.spf_layout.specs.Instance.{program_of}
-use Rattle.spf_exec.specs.declared.memory.Halt.TheVariants as h
-use Rattle.spf_exec.specs.declared.quiet.ReadOnly.{ReadOnly}
-use Rattle.spf_exec.specs.QuietMemory.{full_output}
+use Rattle.spf_memory.specs.declared.memory.Halt.TheVariants as h
+use Rattle.spf_memory.specs.declared.quiet.ReadOnly.{ReadOnly}
+use Rattle.spf_memory.specs.QuietMemory.{full_output}
 use Rattle.spf_exec.proofs.BlockRuns.{guess_answer}
 use Rattle.spf_exec.proofs.block_run.exec_predictor.Goals as goal
 

@@ -1,28 +1,103 @@
-use Rattle.std.proofs.Common.{w64}
+use Rattle.std.proofs.Common.{◌+◌, max, length, w64, arith, ap, ◌∙◌}
 use Rattle.std.proofs.lemmas.Int.{to_z-of_z}
 use Rattle.spf_ast.specs.declared.syntax.Pair.{out-Pair}
 use Rattle.spf_ast.specs.View.{pair_head, block}
-use Rattle.spf_exec.proofs.Leaving.{consumer-leaves}
-use Rattle.spf_exec.proofs.Steps.{at_once, then_value, exit_halt}
+use Rattle.spf_ast.specs.Meaning.{block_means}
+use Rattle.spf_ast.specs.Program.{environment_of}
+use Rattle.spf_registers.specs.Registers.{rooms, needs, block_needs}
+use Rattle.spf_code.specs.Code.{code_sets}
+use Rattle.spf_code.specs.NodeView.{code}
+use Rattle.spf_lowering.specs.Lowering.{block_changes}
+use Rattle.spf_layout.specs.Frame.{main_slots}
+use Rattle.spf_layout.specs.Instance.{program_of}
+use Rattle.spf_memory.proofs.Steps.{at_once, then_value, exit_halt}
+use Rattle.spf_exec.specs.Sources.{block_value}
+use Rattle.spf_exec.proofs.Leaving.{producer-leaves, consumer-leaves}
+use Rattle.spf_exec.proofs.Prefixes.{take_set}
+use Rattle.spf_exec.proofs.Sources.{runs_block, gives_block, leaves_slots, from_slots}
 use Rattle.spf_exec.proofs.block_run.perform_pair.Goals as goal
 
-pub returns-in_err-perform_statements-in-Consumer-clause-performs : goal.returns-in_err-perform_statements-in-Consumer-clause-performs
-returns-in_err-perform_statements-in-Consumer-clause-performs g c =
-    rw c.in-Consumer.is (exit_halt _ c.from_residual.ensures.1 (rw (c.deref-in-Consumer.ensures.value, c.set_carried.ensures, to_z-of_z w64 c.args.value c.ranges.value) at c.in_err-perform_statements-in-Consumer.ensures.performs))
+pub returns-in-Producer-clause-performs : goal.returns-in-Producer-clause-performs
+returns-in-Producer-clause-performs g c =
+    let p = program_of c.args.instance.now in
+    let head = pair_head c.args.pair.now in
+    let a = block (out-Pair c.args.pair.now).producer.items in
+    let b = block (out-Pair c.args.pair.now).consumer.items in
+    let own = length p.slots in
+    let env = environment_of p c.args.instance.now.input in
+    let room = own + max (block_needs (rooms p) a) (1 + needs (rooms p) head.give) in
+    rw c.in-Producer.is (λ number.
+    c.value_of.ensures.performs room (block_value env a head.give_line head.give) (gives_block p c.args.instance.now.input a head.give_line head.give c.args.code.now.first c.requires.code.gives)
+    (omega (arith, c.requires.room)))
 
-pub returns-in_ok-perform_statements-in-Consumer-clause-performs : goal.returns-in_ok-perform_statements-in-Consumer-clause-performs
-returns-in_ok-perform_statements-in-Consumer-clause-performs g c =
-    rw (c.in-Consumer.is, to_z-of_z w64 c.args.value c.ranges.value)
-    (then_value _ g.met.M.Memory.laws (rw (c.deref-in-Consumer.ensures.value, c.set_carried.ensures, to_z-of_z w64 c.args.value c.ranges.value) at c.in_ok-perform_statements-in-Consumer.ensures.performs) (at_once g.met.M.Memory.laws _ _ _))
+pub returns-in-Producer-clause-kept : goal.returns-in-Producer-clause-kept
+returns-in-Producer-clause-kept g c =
+    let p = program_of c.args.instance.now in
+    let head = pair_head c.args.pair.now in
+    let a = block (out-Pair c.args.pair.now).producer.items in
+    let b = block (out-Pair c.args.pair.now).consumer.items in
+    let own = length p.slots in
+    let env = environment_of p c.args.instance.now.input in
+    let made = code c.args.code.now.first.nodes.items in
+    rw c.in-Producer.is
+    (producer-leaves c.args.line head a b (leaves_slots own (λ r. code_sets r made) (block_changes a) c.args.registers.now c.value_of.new.registers c.value_of.ensures.others (λ r l e. c.requires.code.gives_sets r (l, e))))
 
-pub returns-in_err-perform_statements-in-Consumer-clause-kept : goal.returns-in_err-perform_statements-in-Consumer-clause-kept
-returns-in_err-perform_statements-in-Consumer-clause-kept g c =
+pub returns-in_err-run-in-Consumer-clause-performs : goal.returns-in_err-run-in-Consumer-clause-performs
+returns-in_err-run-in-Consumer-clause-performs g c =
+    let p = program_of c.args.instance.now in
+    let head = pair_head c.args.pair.now in
+    let a = block (out-Pair c.args.pair.now).producer.items in
+    let b = block (out-Pair c.args.pair.now).consumer.items in
+    let own = length p.slots in
+    let env = environment_of p c.args.instance.now.input in
+    let carried = rw (to_z-of_z w64 c.args.value c.ranges.value) at c.set_carried.ensures in
+    let slots = ap (main_slots p) carried ∙ take_set own c.args.registers.now head.carried c.args.value in
+    rw c.in-Consumer.is (λ number. exit_halt _ c.from_residual.ensures.1 (from_slots (block_means env b) slots
+    (rw c.deref.ensures.value at c.in_err-run-in-Consumer.ensures.performs (own + block_needs (rooms p) b) (block_means env b)
+    (runs_block p c.args.instance.now.input b (code c.args.code.now.consumer.items) c.requires.code.takes) (omega (arith, c.requires.room, c.set_carried.auto.slots)))))
+
+pub returns-in_ok-run-in-Consumer-clause-performs : goal.returns-in_ok-run-in-Consumer-clause-performs
+returns-in_ok-run-in-Consumer-clause-performs g c =
+    let p = program_of c.args.instance.now in
+    let head = pair_head c.args.pair.now in
+    let a = block (out-Pair c.args.pair.now).producer.items in
+    let b = block (out-Pair c.args.pair.now).consumer.items in
+    let own = length p.slots in
+    let env = environment_of p c.args.instance.now.input in
+    let carried = rw (to_z-of_z w64 c.args.value c.ranges.value) at c.set_carried.ensures in
+    let slots = ap (main_slots p) carried ∙ take_set own c.args.registers.now head.carried c.args.value in
+    rw (c.in-Consumer.is, to_z-of_z w64 c.args.value c.ranges.value) (λ number.
+    then_value _ g.met.M.Memory.laws (from_slots (block_means env b) slots
+    (rw c.deref.ensures.value at c.in_ok-run-in-Consumer.ensures.performs (own + block_needs (rooms p) b) (block_means env b)
+    (runs_block p c.args.instance.now.input b (code c.args.code.now.consumer.items) c.requires.code.takes) (omega (arith, c.requires.room, c.set_carried.auto.slots))))
+    (at_once g.met.M.Memory.laws _ _ _))
+
+pub returns-in_err-run-in-Consumer-clause-kept : goal.returns-in_err-run-in-Consumer-clause-kept
+returns-in_err-run-in-Consumer-clause-kept g c =
+    let p = program_of c.args.instance.now in
+    let head = pair_head c.args.pair.now in
+    let a = block (out-Pair c.args.pair.now).producer.items in
+    let b = block (out-Pair c.args.pair.now).consumer.items in
+    let own = length p.slots in
+    let env = environment_of p c.args.instance.now.input in
+    let carried = rw (to_z-of_z w64 c.args.value c.ranges.value) at c.set_carried.ensures in
+    let slots = ap (main_slots p) carried ∙ take_set own c.args.registers.now head.carried c.args.value in
+    let made = code c.args.code.now.consumer.items in
     rw c.in-Consumer.is
-    (consumer-leaves c.args.line (pair_head c.args.pair.now) (block (out-Pair c.args.pair.now).producer.items) (block (out-Pair c.args.pair.now).consumer.items) c.args.slots.now c.args.value
-    (rw (to_z-of_z w64 c.args.value c.ranges.value) at c.set_carried.ensures) (rw c.deref-in-Consumer.ensures.value at c.perform_statements.ensures.others))
+    (consumer-leaves c.args.line head a b (main_slots p c.args.registers.now) c.args.value slots
+    (leaves_slots own (λ r. code_sets r made) (block_changes b) c.set_carried.new.slots c.run.new.registers (rw c.deref.ensures.value at c.run.ensures.others) (λ r l e. c.requires.code.takes_sets r (l, e))))
 
-pub returns-in_ok-perform_statements-in-Consumer-clause-kept : goal.returns-in_ok-perform_statements-in-Consumer-clause-kept
-returns-in_ok-perform_statements-in-Consumer-clause-kept g c =
+pub returns-in_ok-run-in-Consumer-clause-kept : goal.returns-in_ok-run-in-Consumer-clause-kept
+returns-in_ok-run-in-Consumer-clause-kept g c =
+    let p = program_of c.args.instance.now in
+    let head = pair_head c.args.pair.now in
+    let a = block (out-Pair c.args.pair.now).producer.items in
+    let b = block (out-Pair c.args.pair.now).consumer.items in
+    let own = length p.slots in
+    let env = environment_of p c.args.instance.now.input in
+    let carried = rw (to_z-of_z w64 c.args.value c.ranges.value) at c.set_carried.ensures in
+    let slots = ap (main_slots p) carried ∙ take_set own c.args.registers.now head.carried c.args.value in
+    let made = code c.args.code.now.consumer.items in
     rw c.in-Consumer.is
-    (consumer-leaves c.args.line (pair_head c.args.pair.now) (block (out-Pair c.args.pair.now).producer.items) (block (out-Pair c.args.pair.now).consumer.items) c.args.slots.now c.args.value
-    (rw (to_z-of_z w64 c.args.value c.ranges.value) at c.set_carried.ensures) (rw c.deref-in-Consumer.ensures.value at c.perform_statements.ensures.others))
+    (consumer-leaves c.args.line head a b (main_slots p c.args.registers.now) c.args.value slots
+    (leaves_slots own (λ r. code_sets r made) (block_changes b) c.set_carried.new.slots c.run.new.registers (rw c.deref.ensures.value at c.run.ensures.others) (λ r l e. c.requires.code.takes_sets r (l, e))))

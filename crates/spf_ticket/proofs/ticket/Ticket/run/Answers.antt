@@ -55,7 +55,7 @@ returns-clause-ran g c e entry made of at =
     let h : Made e t.block t.carried t.attempt c.exec_block-stop.result t.lane m.lane =
     made-run c.block_runs_are_attempts.ensures.runs c.each_part_declares_its_slots_anew.ensures.parts
     e t.block t.carried t.attempt c.exec_block-stop.result t.lane (in_lane m.lane m.entry.now m.attempt) done.events
-    p k c.part_of.result c.args.job.now.instance.now.input (to_z w64 (of_z w64 t.number)) (to_z w64 (of_z w64 t.carried)) (main_slots p t.frame) c.exec_block-stop.ensures.performs.slots c.args.job.now.entry.now
+    p k c.args.job.now.index c.part_of.result c.args.job.now.instance.now.input (to_z w64 (of_z w64 t.number)) (to_z w64 (of_z w64 t.carried)) (main_slots p t.frame) c.exec_block-stop.ensures.performs.slots c.args.job.now.entry.now
     runs entry c.requires.lawful c.requires.construct (lane-cells e c.args.cells.now t.lane t.block made at.lane t.own at.low) of.memory agree done.performed done.led in
     record { log = h.log; grown = h.grown; stopped = h.stopped }
 

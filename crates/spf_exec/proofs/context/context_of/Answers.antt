@@ -1,0 +1,20 @@
+use Rattle.std.proofs.Common.{ℕ, List, length, sym, ◌∙◌, subst}
+use Rattle.spf_code.specs.declared.function.FunctionCode.{FunctionCode}
+use Rattle.spf_code.specs.Settings.{setting_before}
+use Rattle.spf_layout.specs.Instance.{program_of}
+use Rattle.spf_exec.specs.Sources.{FitsProgram}
+use Rattle.spf_exec.proofs.Sources.{fits_main}
+use Rattle.spf_exec.proofs.Within.{layout_within}
+use Rattle.spf_exec.proofs.context.context_of.Goals as goal
+
+pub returns-clause-fits : goal.returns-clause-fits
+returns-clause-fits c =
+    let p = program_of c.args.instance.now in
+    let input = c.args.instance.now.input in
+    subst (λ (x : List ℕ × List FunctionCode). FitsProgram p input (setting_before x.0 c.extents.result.now x.1 (length x.1)))
+    (λ t. (sym c.input.ensures.same t, sym c.deref.ensures.value t))
+    (fits_main p input c.extents.result.now c.code.result.now c.code.ensures (c.extents.ensures ∙ c.layout.ensures.extents))
+
+pub returns-clause-within : goal.returns-clause-within
+returns-clause-within c =
+    layout_within (program_of c.args.instance.now) (length c.args.instance.now.input) c.layout.result.now c.extents.result.now c.layout.ensures c.extents.ensures

@@ -1,0 +1,15 @@
+pub mod Trees
+pub mod Registers
+pub mod Expressions
+pub mod Conditions
+pub mod Statements
+pub mod Calls
+pub mod Functions
+pub mod Weight
+pub mod Lowering
+pub mod Telling
+pub mod Spared
+pub mod Running
+pub mod Programs
+pub mod Parts
+pub mod Settings

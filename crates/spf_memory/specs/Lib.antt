@@ -1,0 +1,6 @@
+pub mod MemoryLaws
+pub mod PlainMemory
+pub mod QuietMemory
+pub mod ReadMemory
+pub mod Performs
+pub mod Leaves

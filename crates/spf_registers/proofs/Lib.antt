@@ -1,0 +1,4 @@
+pub mod Lists
+pub mod Behind
+pub mod Counted
+pub mod Tables

@@ -1,0 +1,2 @@
+//! What may cross threads: a program, its code, and an instance of it.
+#![tactic(auto)]
