@@ -10,6 +10,7 @@ pub mod Lowering
 pub mod Telling
 pub mod Spared
 pub mod Running
+pub mod Choices
 pub mod Programs
 pub mod Parts
 pub mod Settings

@@ -5,6 +5,7 @@
 //! by form, and `specs/Lowering.antt` what the functions of this crate promise.
 #![tactic(auto)]
 
+mod choice;
 mod condition;
 mod expression;
 pub mod function;

@@ -12,9 +12,9 @@ use Rattle.spf_code.specs.Code.{Code, stop, only, ◌then◌, Blocks, node_sets,
 use Rattle.spf_code.specs.NodeView.{node, code}
 use Rattle.spf_lowering.specs.Lowering.{IsLeft, AreLeft}
 use Rattle.spf_lowering.proofs.Lowering.{code-append, then-then, more, mapped, as_well, finish, alone, HeldIn}
-use Rattle.spf_code.proofs.NodeViews.{node-branch, node-repeat, node-turning, node-blocks}
-use Rattle.spf_lowering.proofs.Telling.{ToldIn, whole}
-use Rattle.spf_lowering.proofs.Running.{RunIn, BlockIn, then-stop, no_block, block_run, branch_run, loop_run, while_run, fold_run, pair_run}
+use Rattle.spf_code.proofs.NodeViews.{node-repeat, node-turning, node-blocks}
+use Rattle.spf_lowering.proofs.Telling.{whole}
+use Rattle.spf_lowering.proofs.Running.{RunIn, BlockIn, then-stop, no_block, block_run, loop_run, while_run, fold_run, pair_run}
 use Rattle.spf_lowering.proofs.Weight.{statement_weight, stmts_weight, weight_at}
 use Rattle.spf_lowering.proofs.Spared.{fewer, both-spared, finished, alone-spared, none-set, either, let-changes, assign-changes, if-changes, for-changes, fold-changes, pair-changes, in-statement}
 use Rattle.spf_lowering.proofs.statement.+statement.Goals as goal
@@ -48,22 +48,9 @@ pub block-returns-clause-runs : goal.block-returns-clause-runs
 block-returns-clause-runs t c = λ calls.
     whole c.append.new.out.items (BlockIn c.args.scope.now calls (block c.args.statements.now)) (rw c.new-made.ensures.items at c.in_ok-append.ensures.wrote calls)
 
-pub choose-returns-in-Compare-clause-wrote : goal.choose-returns-in-Compare-clause-wrote
-choose-returns-in-Compare-clause-wrote t c = λ calls.
-    rw (c.in-Compare.is, ← c.deref.ensures, ← c.deref-in-Compare.ensures)
-    (c.choose_by.ensures.wrote calls (block c.args.first.now) (block c.args.second.now) (c.in_ok-one.ensures.runs calls) (c.in_ok-other.ensures.runs calls))
-
 pub choose-returns-clause-wrote : goal.choose-returns-clause-wrote
 choose-returns-clause-wrote t c = λ calls.
-    let s = c.args.scope.now in
-    let test = condition c.args.test.now in
-    let one = c.in_ok-one.one in
-    let other = c.in_ok-other.other in
-    let first = block c.args.first.now in
-    let second = block c.args.second.now in
-    let R = RunIn s calls c.args.line (If test first second) in
-    finish c.add.result _ _ _ (v.Branch s.own one other) (ToldIn s calls c.args.line s.own test) R (c.in_ok-tell.ensures.wrote calls) c.add.ensures.appended
-    (λ made p. subst (λ y. R (made then only y)) (sym (node-branch s.own one other)) (branch_run s calls c.args.line test first second made (code one.items) (code other.items) p (c.in_ok-one.ensures.runs calls) (c.in_ok-other.ensures.runs calls)))
+    c.choose_where.ensures.wrote calls (block c.args.first.now) (block c.args.second.now) (c.in_ok-one.ensures.runs calls) (c.in_ok-other.ensures.runs calls)
 
 pub fold-returns-clause-wrote : goal.fold-returns-clause-wrote
 fold-returns-clause-wrote t c = λ calls.
@@ -215,24 +202,13 @@ append-returns-clause-spares t c = c.loop-stmt.invariant.spares
 pub block-returns-clause-spares : goal.block-returns-clause-spares
 block-returns-clause-spares t c = λ r p. none-set (rw c.new-made.ensures.items at c.in_ok-append.ensures.spares) r p
 
-pub choose-returns-in-Compare-clause-spares : goal.choose-returns-in-Compare-clause-spares
-choose-returns-in-Compare-clause-spares t c =
-    let test = condition c.args.test.now in
-    let first = block c.args.first.now in
-    let second = block c.args.second.now in
-    mapped c.choose_by.result c.choose_by.ensures.spares (λ u w. fewer (IsLeft c.args.scope.now.own (If test first second)) w
-    (λ r p. let parts = if-changes test first second r p.1 in (p.0, c.in_ok-one.ensures.spares r (p.0, parts.0), c.in_ok-other.ensures.spares r (p.0, parts.1))))
-
 pub choose-returns-clause-spares : goal.choose-returns-clause-spares
 choose-returns-clause-spares t c =
-    let s = c.args.scope.now in
     let test = condition c.args.test.now in
-    let one = c.in_ok-one.one in
-    let other = c.in_ok-other.other in
     let first = block c.args.first.now in
     let second = block c.args.second.now in
-    finished c.add.result _ _ _ (v.Branch s.own one other) (fewer (IsLeft s.own (If test first second)) c.in_ok-tell.ensures.spares (λ r p. p.0)) c.add.ensures.appended
-    (λ r p. let parts = if-changes test first second r p.1 in ap (node_sets r) (node-branch s.own one other) ∙ either (code_sets r (code one.items)) _ (c.in_ok-one.ensures.spares r (p.0, parts.0)) (c.in_ok-other.ensures.spares r (p.0, parts.1)))
+    mapped c.choose_where.result c.choose_where.ensures.spares (λ u w. fewer (IsLeft c.args.scope.now.own (If test first second)) w
+    (λ r p. let parts = if-changes test first second r p.1 in (p.0, c.in_ok-one.ensures.spares r (p.0, parts.0), c.in_ok-other.ensures.spares r (p.0, parts.1))))
 
 pub repeat-returns-clause-spares : goal.repeat-returns-clause-spares
 repeat-returns-clause-spares t c =
