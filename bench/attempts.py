@@ -1,14 +1,17 @@
 #!/usr/bin/env python3
-"""Times folds by blocks on one worker, from right guesses, beside their plain runs, and prints a table of nanoseconds an iteration.
+"""Times folds by blocks on one worker, from right guesses, beside their plain runs, and prints two tables.
 
-Each program has two blocks, which are loops; the time of an empty program is taken off. In rounds (rounds.py). The first word may name
-the program that is timed in the place of crates/spf/out/spf. Needs the built program (`./spf --build`) and idle cores.
+The first has nanoseconds an iteration of programs with two blocks, which are loops. The second has seconds of decoders of examples/ that
+guess a constant, which is right on their inputs, so that guesses cost nothing. The time of an empty program is taken off. In rounds
+(rounds.py). The first word may name the program that is timed in the place of crates/spf/out/spf. Needs the built program
+(`./spf --build`) and idle cores.
 """
 
 import os
+import re
 import tempfile
 
-from rounds import Rounds, program
+from rounds import HERE, Rounds, program
 
 SPF = program()
 ROUNDS = 5
@@ -16,7 +19,6 @@ BLOCKS = 2
 
 # what an iteration does, how many a block makes, its first store, and its body
 LOOPS = [
-    ("does nothing", 10_000_000, 0, ""),
     ("loads a cell", 10_000_000, 1, "let x = a[k];"),
     ("stores a cell", 10_000_000, 0, "a[k] = i;"),
     ("loads a cell, adds and stores it", 10_000_000, 0, "a[k] = a[k] + i;"),
@@ -28,14 +30,19 @@ LOOPS = [
     ),
 ]
 
+# a decoder, and an input at each of whose blocks it begins as at the start
+DECODERS = [("utf8", b"Plain words, one after another. "), ("csv", b"one,two,three,four\n"), ("strings", b"12.5, true, false, null, "), ("pcx", b"plain bytes below 192")]
+SIZE = 1_000_000
 
-def command(folder, name, text, words):
-    """Runs a program on no input."""
-    path, data = os.path.join(folder, name), os.path.join(folder, "empty")
+
+def command(folder, name, text, words, data=b""):
+    """Runs a program on an input."""
+    path, input = os.path.join(folder, name), os.path.join(folder, name + ".input")
     with open(path, "w") as file:
         file.write(text)
-    open(data, "w").close()
-    return [SPF, "run", path, data] + words
+    with open(input, "wb") as file:
+        file.write(data)
+    return [SPF, "run", path, input] + words
 
 
 def fold(iterations, first, body):
@@ -44,16 +51,32 @@ def fold(iterations, first, body):
     return f"array a[{BLOCKS}]; main {{ specfold s = 0 for k in 0..{BLOCKS} predict 0 {{ a[k] = {first}; {loop} next 0; }} }}"
 
 
+def both(folder, text, data=b""):
+    """A program run plainly and by blocks."""
+    ways = (("plain", ["--plain"]), ("blocks", ["--workers", "1"]))
+    return Rounds({way: command(folder, "program.spf", text, words, data) for way, words in ways}, ROUNDS)
+
+
+def constant(name):
+    """The text of a decoder, which guesses what it starts with."""
+    with open(os.path.join(HERE, "..", "examples", name + ".spf")) as file:
+        return re.sub(r"(specfold \w+ = (\d+) .*) predict look\([^{]*\) \{", r"\1 predict \2 {", file.read())
+
+
 def main():
-    print("| An iteration | Plain run | By blocks | Ratio |\n|---|---|---|---|")
     with tempfile.TemporaryDirectory() as folder:
         empty = Rounds({"empty": command(folder, "empty.spf", "main { }", ["--plain"])}, ROUNDS).seconds("empty")
+        print("| An iteration | Plain run | By blocks | Ratio |\n|---|---|---|---|")
         for name, iterations, first, body in LOOPS:
-            text = fold(iterations, first, body)
-            rounds = Rounds({way: command(folder, "loop.spf", text, words) for way, words in (("plain", ["--plain"]), ("blocks", ["--workers", "1"]))}, ROUNDS)
+            rounds = both(folder, fold(iterations, first, body))
             unit = 1e9 / (iterations * BLOCKS)
             plain, blocks = ((rounds.seconds(way) - empty) * unit for way in ("plain", "blocks"))
             print(f"| {name} | {plain:.1f} | {blocks:.1f} | {rounds.ratio('blocks', 'plain', empty):.2f} |", flush=True)
+        print("\n| Decoder | Plain run, seconds | By blocks | Ratio |\n|---|---|---|---|")
+        for name, line in DECODERS:
+            rounds = both(folder, constant(name), line * (SIZE // len(line)))
+            plain, blocks = (rounds.seconds(way) - empty for way in ("plain", "blocks"))
+            print(f"| {name} | {plain:.3f} | {blocks:.3f} | {rounds.ratio('blocks', 'plain', empty):.2f} |", flush=True)
 
 
 main()

@@ -1,0 +1,57 @@
+#!/usr/bin/env python3
+"""Counts the instructions of block runs in the decoders of examples/: in order, and as attempts over lanes; prints a table.
+
+Counts are those of valgrind's callgrind. They don't vary from run to run, and say nothing of what an instruction costs: a store of a lane
+takes longer than a plain one. The first word may name the program that is measured in the place of crates/spf/out/spf. Needs valgrind
+and the built program (`./spf --build`).
+"""
+
+import os
+import re
+import subprocess
+import tempfile
+
+from rounds import HERE, program
+
+EXAMPLES = os.path.join(HERE, "..", "examples")
+SPF = program()
+DECODERS = [("utf8", "utf8.txt"), ("csv", "cities.csv"), ("strings", "orders.json"), ("pcx", "glider.pcx"), ("hpack", "hpack.bin")]
+SIZE = 20_000
+
+# the functions whose calls perform blocks: in order, and over lanes
+IN_ORDER = "spf_machine::machine::blocks::"
+ATTEMPTS = "spf_crew::mate::Mate::run::"
+
+
+def repeated(name):
+    with open(os.path.join(EXAMPLES, name), "rb") as file:
+        content = file.read()
+    return content * max(1, SIZE // len(content))
+
+
+def counted(folder, words, function):
+    """The instructions of a run's calls of a function, with all that they call; and what the run wrote on standard error."""
+    counts = os.path.join(folder, "counts")
+    command = ["valgrind", "--tool=callgrind", f"--callgrind-out-file={counts}", SPF, *words]
+    done = subprocess.run(command, capture_output=True, text=True, errors="replace")
+    listed = subprocess.run(["callgrind_annotate", "--inclusive=yes", "--threshold=100", counts], capture_output=True, text=True, errors="replace").stdout
+    lines = [line for line in listed.splitlines() if re.search(rf"[ :]{function}", line)]
+    return sum(int(line.split()[0].replace(",", "")) for line in lines), done.stderr
+
+
+def main():
+    print("| Decoder | Blocks | Runs as attempts, and once more | In order, a block | Over lanes, a run | Ratio |\n|---|---|---|---|---|---|")
+    with tempfile.TemporaryDirectory() as folder:
+        data = os.path.join(folder, "data")
+        for name, source in DECODERS:
+            with open(data, "wb") as file:
+                file.write(repeated(source))
+            path = os.path.join(EXAMPLES, name + ".spf")
+            plain, _ = counted(folder, ["run", path, data, "--plain"], IN_ORDER)
+            lanes, told = counted(folder, ["run", path, data, "--workers", "1", "--stats"], ATTEMPTS)
+            blocks, hits, misses, blind = map(int, re.search(r"blocks (\d+) hits (\d+) misses (\d+) blind (\d+)", told).groups())
+            runs = blocks + misses + blind
+            print(f"| {name} | {blocks} | {runs} | {plain / blocks:,.0f} | {lanes / runs:,.0f} | {lanes / runs / (plain / blocks):.2f} |", flush=True)
+
+
+main()
