@@ -1,4 +1,5 @@
 pub mod Sources
+pub mod Fitting
 pub mod Rooms
 pub mod Outcome
 pub mod Within

@@ -9,6 +9,7 @@ ghost use Rattle.spf_registers.specs.Registers.{needs, rooms};
 ghost use Rattle.spf_layout.specs.Frame.{main_slots};
 ghost use Rattle.spf_layout.specs.Instance.{program_of};
 ghost use Rattle.spf_code.specs.Code.{code_sets};
+ghost use Rattle.spf_code.specs.Fits.{CodeFits};
 ghost use Rattle.spf_code.specs.NodeView.{code as seen_code};
 ghost use Rattle.spf_lowering.specs.Lowering.{IsExpressionCode, SetsNoSlot};
 ghost use Rattle.spf_memory.specs.Leaves.{Leaves};
@@ -32,6 +33,7 @@ pub(crate) fn run<M: Memory>(
     memory: &mut M,
 ) -> Result<(), Halt>
     requires cells { M.cell_count memory.old ≡ cell_count_of (program_of instance.now) (length instance.now.input) }
+    requires fits { CodeFits (rooms (program_of instance.now)) (length registers.old) (seen_code code.now) }
     ensures performs { (room : ℕ) (form : Meaning (Unit {0})) → RunsAs (program_of instance.now) instance.now.input room (seen_code code.now) form
         → room ≤ length registers.old
         → Performs M.leads M.stop M.may_lack_memory
@@ -52,6 +54,7 @@ pub(crate) fn value_of<M: Memory>(
     memory: &mut M,
 ) -> Result<i64, Halt>
     requires cells { M.cell_count memory.old ≡ cell_count_of (program_of instance.now) (length instance.now.input) }
+    requires fits { CodeFits (rooms (program_of instance.now)) (length registers.old) (seen_code code.now.nodes.items) }
     ensures performs { (room : ℕ) (form : Meaning ℤ) → GivesAs (program_of instance.now) instance.now.input room (seen_code code.now.nodes.items) code.now.register form
         → room ≤ length registers.old
         → Performs M.leads M.stop M.may_lack_memory

@@ -49,11 +49,17 @@ pub single_run : (s : code_scope.Scope) (calls : ℕ → ℕ) (line : ℕ) (only
 single_run s calls line only_one made p = subst (BlockIn s calls (on_line line only_one end)) (then-stop made) (block_run s calls line only_one end made stop p (no_block s calls))
 
 pub both_run : (s : code_scope.Scope) (calls : ℕ → ℕ) (line : ℕ) (a b : Condition) (held missed : Block) (made : Code) → RunIn s calls line (If a (on_line line (If b held missed) end) missed) made → RunIn s calls line (If (Both a b) held missed) made
-both_run s calls line a b held missed made p = λ c g room fits room_is.
-    runs-same c s.own room made (statement_means g line (If a (on_line line (If b held missed) end) missed)) (statement_means g line (If (Both a b) held missed))
-    (both-is (condition_means g line a) (condition_means g line b) (block_means g held) (block_means g missed)) (p c g room fits (omega (arith, room_is)))
+both_run s calls line a b held missed made p = record {
+  asks = λ c g room fits room_is.
+      runs-same c s.own room made (statement_means g line (If a (on_line line (If b held missed) end) missed)) (statement_means g line (If (Both a b) held missed))
+      (both-is (condition_means g line a) (condition_means g line b) (block_means g held) (block_means g missed)) (p.asks c g room fits (omega (arith, room_is)));
+  fits = λ inner room enough room_is. p.fits inner room enough (omega (arith, room_is));
+}
 
 pub negation_run : (s : code_scope.Scope) (calls : ℕ → ℕ) (line : ℕ) (a : Condition) (held missed : Block) (made : Code) → RunIn s calls line (If a missed held) made → RunIn s calls line (If (Not a) held missed) made
-negation_run s calls line a held missed made p = λ c g room fits room_is.
-    runs-same c s.own room made (statement_means g line (If a missed held)) (statement_means g line (If (Not a) held missed))
-    (negation-is (condition_means g line a) (block_means g held) (block_means g missed)) (p c g room fits (omega (arith, room_is)))
+negation_run s calls line a held missed made p = record {
+  asks = λ c g room fits room_is.
+      runs-same c s.own room made (statement_means g line (If a missed held)) (statement_means g line (If (Not a) held missed))
+      (negation-is (condition_means g line a) (block_means g held) (block_means g missed)) (p.asks c g room fits (omega (arith, room_is)));
+  fits = λ inner room enough room_is. p.fits inner room enough (omega (arith, room_is));
+}

@@ -6,6 +6,7 @@ pub mod Statements
 pub mod Calls
 pub mod Functions
 pub mod Weight
+pub mod Fitting
 pub mod Lowering
 pub mod Telling
 pub mod Spared
@@ -14,3 +15,4 @@ pub mod Choices
 pub mod Programs
 pub mod Parts
 pub mod Settings
+pub mod Fitted

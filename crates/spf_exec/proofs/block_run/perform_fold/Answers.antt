@@ -11,6 +11,7 @@ use Rattle.spf_lowering.specs.Lowering.{block_changes}
 use Rattle.spf_layout.specs.Frame.{main_slots}
 use Rattle.spf_layout.specs.Instance.{program_of}
 use Rattle.spf_exec.specs.Sources.{block_value}
+use Rattle.spf_exec.proofs.Fitting.{value_fits}
 use Rattle.spf_exec.proofs.Leaving.{body-leaves, number-leaves}
 use Rattle.spf_exec.proofs.Prefixes.{take_set}
 use Rattle.spf_exec.proofs.Sources.{gives_block, leaves_slots, from_slots}
@@ -66,3 +67,10 @@ returns-in-Predictor-clause-kept g c =
     rw c.in-Predictor.is
     (number-leaves c.args.line head body (main_slots p c.args.registers.now) c.args.number
     (c.perform_guess.ensures.kept ∙ ap (main_slots p) written ∙ take_set (length p.slots) c.args.registers.now head.block c.args.number))
+
+pub value_of-requires-clause-fits : goal.value_of-requires-clause-fits
+value_of-requires-clause-fits g c =
+    let head = fold_head c.args.fold.now in
+    let body = block (out-Fold c.args.fold.now).body.items in
+    value_fits (program_of c.args.instance.now) body head.next_line (length c.set_carried.new.slots) head.next c.args.code.now.first c.requires.code.blocks
+    (omega (arith, c.requires.room, c.write.auto.registers, c.set_carried.auto.slots))

@@ -8,10 +8,12 @@ use Rattle.spf_registers.specs.Registers.{rooms, needs, block_needs}
 use Rattle.spf_code.specs.Code.{code_sets}
 use Rattle.spf_code.specs.NodeView.{code}
 use Rattle.spf_lowering.specs.Lowering.{block_changes}
+use Rattle.spf_lowering.proofs.Fitted.{block_fits}
 use Rattle.spf_layout.specs.Frame.{main_slots}
 use Rattle.spf_layout.specs.Instance.{program_of}
 use Rattle.spf_memory.proofs.Steps.{at_once, then_value, exit_halt}
-use Rattle.spf_exec.specs.Sources.{block_value}
+use Rattle.spf_exec.specs.Sources.{callable_of, block_value}
+use Rattle.spf_exec.proofs.Fitting.{value_fits}
 use Rattle.spf_exec.proofs.Leaving.{producer-leaves, consumer-leaves}
 use Rattle.spf_exec.proofs.Prefixes.{take_set}
 use Rattle.spf_exec.proofs.Sources.{runs_block, gives_block, leaves_slots, from_slots}
@@ -101,3 +103,16 @@ returns-in_ok-run-in-Consumer-clause-kept g c =
     rw c.in-Consumer.is
     (consumer-leaves c.args.line head a b (main_slots p c.args.registers.now) c.args.value slots
     (leaves_slots own (λ r. code_sets r made) (block_changes b) c.set_carried.new.slots c.run.new.registers (rw c.deref.ensures.value at c.run.ensures.others) (λ r l e. c.requires.code.takes_sets r (l, e))))
+
+pub value_of-requires-clause-fits : goal.value_of-requires-clause-fits
+value_of-requires-clause-fits g c =
+    let head = pair_head c.args.pair.now in
+    let a = block (out-Pair c.args.pair.now).producer.items in
+    value_fits (program_of c.args.instance.now) a head.give_line (length c.args.registers.now) head.give c.args.code.now.first c.requires.code.gives (omega (arith, c.requires.room))
+
+pub run-requires-clause-fits : goal.run-requires-clause-fits
+run-requires-clause-fits g c =
+    let p = program_of c.args.instance.now in
+    let b = block (out-Pair c.args.pair.now).consumer.items in
+    rw c.deref.ensures.value
+    (block_fits (callable_of p) (rooms p) (length p.slots) (length c.set_carried.new.slots) b (code c.args.code.now.consumer.items) c.requires.code.takes (omega (arith, c.requires.room, c.set_carried.auto.slots)))

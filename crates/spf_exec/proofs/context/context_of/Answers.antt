@@ -1,6 +1,9 @@
 use Rattle.std.proofs.Common.{ℕ, List, length, sym, ◌∙◌, subst}
+use Rattle.spf_registers.specs.Registers.{rooms}
 use Rattle.spf_code.specs.declared.function.FunctionCode.{FunctionCode}
+use Rattle.spf_code.specs.Fits.{FunctionsFit}
 use Rattle.spf_code.specs.Settings.{setting_before}
+use Rattle.spf_lowering.proofs.Fitted.{functions_fit}
 use Rattle.spf_layout.specs.Instance.{program_of}
 use Rattle.spf_exec.specs.Sources.{FitsProgram}
 use Rattle.spf_exec.proofs.Sources.{fits_main}
@@ -18,3 +21,8 @@ returns-clause-fits c =
 pub returns-clause-within : goal.returns-clause-within
 returns-clause-within c =
     layout_within (program_of c.args.instance.now) (length c.args.instance.now.input) c.layout.result.now c.extents.result.now c.layout.ensures c.extents.ensures
+
+pub returns-clause-functions : goal.returns-clause-functions
+returns-clause-functions c =
+    let p = program_of c.args.instance.now in
+    subst (FunctionsFit (rooms p)) (sym c.deref.ensures.value) (functions_fit p.functions c.code.result.now.functions.items c.code.ensures.count c.code.ensures.functions)

@@ -1,4 +1,5 @@
 use Rattle.std.proofs.Common.{length, refl}
+use Rattle.spf_registers.specs.Registers.{rooms}
 use Rattle.spf_layout.specs.Instance.{program_of}
 use Rattle.spf_layout.specs.Frame.{main_slots}
 use Rattle.spf_memory.specs.Performs.{state}
@@ -17,3 +18,10 @@ returns-clause-performs g c = λ room form runs wide.
     source-performed (length p.slots) (length c.args.registers.now) (code_means (setting context (length context.functions.now)) (code c.args.code.now) registers) (form slots)
     ((runs (setting context (length context.functions.now)) c.context_of-context.ensures.fits).ends registers slots (record { slots = refl; output = refl }) wide)
     c.perform.ensures.performs
+
+pub perform-requires-clause-fits : goal.perform-requires-clause-fits
+perform-requires-clause-fits g c = record {
+  calls = rooms (program_of c.args.instance.now);
+  functions = c.context_of-context.ensures.functions;
+  fits = c.requires.fits;
+}

@@ -2,6 +2,7 @@ use Rattle.std.proofs.Common.{rules, w64, FitsSigned, length, refl}
 use Rattle.std.proofs.lemmas.Int.{to_z-of_z}
 use Rattle.spf_ast.specs.Interaction.{◌>>◌}
 use Rattle.spf_ast.specs.Meaning.{reads}
+use Rattle.spf_registers.specs.Registers.{rooms}
 use Rattle.spf_layout.specs.Instance.{program_of}
 use Rattle.spf_layout.specs.Frame.{main_slots}
 use Rattle.spf_memory.specs.Performs.{state}
@@ -34,3 +35,10 @@ returns-clause-performs g c = λ room form gives wide.
     value-performed (length p.slots) (length c.args.registers.now) ((code_means here (code c.args.code.now.nodes.items) >> reads c.args.code.now.register) registers) (form slots)
     (gives here c.context_of-context.ensures.fits registers slots (record { slots = refl; output = refl }) wide)
     (then_value (λ _. reads c.args.code.now.register) g.met.M.Memory.laws (rw c.deref.ensures.value at c.in_ok-perform.ensures.performs) (rw (to_z-of_z w64 c.read.result fits, c.read.ensures) (at_once g.met.M.Memory.laws _ _ _)))
+
+pub perform-requires-clause-fits : goal.perform-requires-clause-fits
+perform-requires-clause-fits g c = record {
+  calls = rooms (program_of c.args.instance.now);
+  functions = c.context_of-context.ensures.functions;
+  fits = rw c.deref.ensures.value c.requires.fits;
+}

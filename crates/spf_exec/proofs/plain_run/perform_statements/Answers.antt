@@ -4,6 +4,7 @@ use Rattle.spf_ast.specs.Program.{environment_of}
 use Rattle.spf_ast.specs.View.{statement}
 use Rattle.spf_registers.specs.Registers.{rooms, statement_needs}
 use Rattle.spf_code.specs.NodeView.{code}
+use Rattle.spf_lowering.proofs.Fitted.{run_fits}
 use Rattle.spf_layout.specs.Instance.{program_of}
 use Rattle.spf_memory.proofs.Steps.{along, exit_halt, steps}
 use Rattle.spf_memory.proofs.Turns.{still}
@@ -68,3 +69,16 @@ loop-index-preserved g c =
       cells = c.in_ok-run.ensures.cells ∙ c.loop-index.invariant.cells;
       count = c.run.auto.registers ∙ c.loop-index.invariant.count;
     }
+
+pub run-requires-clause-fits : goal.run-requires-clause-fits
+run-requires-clause-fits g c =
+    let p = program_of c.args.instance.now in
+    let own = length p.slots in
+    let xs = c.args.instance.now.code.main.items in
+    let i = c.loop-index.index in
+    let less : i < length xs = omega (arith, c.loop-index-test.true, c.requires.within) in
+    let here = statement_at (callable_of p) (rooms p) own xs c.code-code.result.now.main.items i (c.code-code.ensures.main (rooms p)) less in
+    let x = here.statement_is in
+    let room = statement_room (rooms p) xs i x here.there in
+    let wide : own + statement_needs (rooms p) (statement x.kind) ≤ length c.loop-index.registers = omega (arith, room, c.requires.frame, c.loop-index.invariant.count) in
+    rw c.deref.ensures.value (run_fits (callable_of p) (rooms p) x.line own (length c.loop-index.registers) (statement x.kind) (code c.index.result.now.items) (here.coded c.index.result.now c.index.ensures) wide)

@@ -14,9 +14,9 @@ use Rattle.spf_lowering.specs.Lowering.{IsLeft, AreLeft}
 use Rattle.spf_lowering.proofs.Lowering.{code-append, then-then, more, mapped, as_well, finish, alone, HeldIn}
 use Rattle.spf_code.proofs.NodeViews.{node-repeat, node-turning, node-blocks}
 use Rattle.spf_lowering.proofs.Telling.{whole}
-use Rattle.spf_lowering.proofs.Running.{RunIn, BlockIn, then-stop, no_block, block_run, loop_run, while_run, fold_run, pair_run}
+use Rattle.spf_lowering.proofs.Running.{RunIn, BlockIn, then-stop, no_block, block_run, assign_run, loop_run, while_run, fold_run, pair_run}
 use Rattle.spf_lowering.proofs.Weight.{statement_weight, stmts_weight, weight_at}
-use Rattle.spf_lowering.proofs.Spared.{fewer, both-spared, finished, alone-spared, none-set, either, let-changes, assign-changes, if-changes, for-changes, fold-changes, pair-changes, in-statement}
+use Rattle.spf_lowering.proofs.Spared.{fewer, both-spared, finished, alone-spared, none-set, either, let-changes, assign-changes, if-changes, written-elsewhere, for-changes, fold-changes, pair-changes, in-statement}
 use Rattle.spf_lowering.proofs.statement.+statement.Goals as goal
 
 pub append-loop-stmt-preserved : goal.append-loop-stmt-preserved
@@ -67,16 +67,19 @@ fold-returns-clause-wrote t c = λ calls.
     let held = c.in_ok-next.next.register in
     let after = c.in_ok-next.next.next in
     let whole_block = c.hold.new.out in
-    let x = v.Blocks head.carried head.block r q u whole_block held line in
+    let carried = c.register_of-carried.result in
+    let counter = c.register_of-counter.result in
+    let x = v.Blocks carried counter r q u whole_block held line in
     let body : BlockIn s calls all (code c.in_ok-one_block.one_block.items) = rw c.deref.ensures.value at c.in_ok-one_block.ensures.runs calls in
     let value = c.in_ok-next.ensures.wrote calls in
     let split = ap code value.appended ∙ code-append c.in_ok-one_block.one_block.items value.made in
-    let seen = node-blocks head.carried head.block r q u whole_block held line ∙ ap (λ k. Blocks head.carried head.block r q u k held line) split in
+    let seen = node-blocks carried counter r q u whole_block held line ∙ ap (λ k. Blocks carried counter r q u k held line) split in
     let R = RunIn s calls line (Fold head all) in
     let two = more (λ made. (k : Code) → HeldIn s calls line further last u head.high k → R (made then (k then only (node x))))
     (c.in_ok-start.ensures.wrote calls) (c.in_ok-low.ensures.wrote calls)
     (λ m k p w. λ l z. subst R (sym (then-then m k (l then only (node x)))) (subst (λ y. R (m then (k then (l then only y)))) (sym seen)
-    (fold_run s calls line between further last after r q u held head all m k l (code c.in_ok-one_block.one_block.items) (code value.made) c.in_ok-start.ensures.next.1 c.in_ok-low.ensures.next.1 p w z body value.asked))) in
+    (fold_run s calls line between further last after r q u held carried counter head all m k l (code c.in_ok-one_block.one_block.items) (code value.made) c.in_ok-start.ensures.next.1 c.in_ok-low.ensures.next.1
+    c.register_of-carried.ensures.written c.register_of-carried.ensures.there c.register_of-counter.ensures.written c.register_of-counter.ensures.there p w z body value.asked))) in
     let three = more (λ made. R (made then only (node x))) two (c.in_ok-high.ensures.wrote calls) (λ m k p w. subst R (sym (then-then m k (only (node x)))) (p k w)) in
     finish c.add.result _ _ _ x (λ made. R (made then only (node x))) R three c.add.ensures.appended (λ made p. p)
 
@@ -101,12 +104,13 @@ repeat-returns-clause-wrote t c = λ calls.
     let q = c.in_ok-last.last.register in
     let next = c.in_ok-last.last.next in
     let turns = c.in_ok-turns.turns in
-    let x = v.Repeat c.args.slot r q turns in
+    let counter = c.register_of-counter.result in
+    let x = v.Repeat counter r q turns in
     let body = block c.args.body.now in
     let R = RunIn s calls c.args.line (For c.args.slot a b body) in
     let made_so_far = more (λ made. R (made then only (node x))) (c.in_ok-first.ensures.wrote calls) (c.in_ok-last.ensures.wrote calls)
-    (λ m k p w. subst R (sym (then-then m k (only (node x)))) (subst (λ y. R (m then (k then only y))) (sym (node-repeat c.args.slot r q turns))
-    (loop_run s calls c.args.line between next r q c.args.slot a b body m k (code turns.items) c.in_ok-first.ensures.next.1 p w (c.in_ok-turns.ensures.runs calls)))) in
+    (λ m k p w. subst R (sym (then-then m k (only (node x)))) (subst (λ y. R (m then (k then only y))) (sym (node-repeat counter r q turns))
+    (loop_run s calls c.args.line between next r q c.args.slot counter a b body m k (code turns.items) c.in_ok-first.ensures.next.1 c.register_of-counter.ensures.written c.register_of-counter.ensures.there p w (c.in_ok-turns.ensures.runs calls)))) in
     finish c.add.result _ _ _ x (λ made. R (made then only (node x))) R made_so_far c.add.ensures.appended (λ made p. p)
 
 pub turn-returns-clause-wrote : goal.turn-returns-clause-wrote
@@ -122,7 +126,12 @@ turn-returns-clause-wrote t c = λ calls.
     (while_run s calls c.args.line c.args.most test body (code asked.items) (code turns.items) (c.in_ok-asked.ensures.told calls) (c.in_ok-turns.ensures.runs calls)))
 
 pub statement-returns-in-Assign-clause-wrote : goal.statement-returns-in-Assign-clause-wrote
-statement-returns-in-Assign-clause-wrote t c = λ calls. rw c.in-Assign.is (c.assign-in-Assign.ensures.wrote calls)
+statement-returns-in-Assign-clause-wrote t c = λ calls.
+    let s = c.args.scope.now in
+    let e = expression c.in-Assign.value in
+    rw c.in-Assign.is
+    (mapped c.assign-in-Assign.result (c.assign-in-Assign.ensures.wrote calls)
+    (λ u w. as_well (RunIn s calls c.args.line (Assign c.in-Assign.slot e)) w (λ made p. assign_run s calls c.args.line c.in-Assign.slot e made p)))
 
 pub statement-returns-in-If-clause-wrote : goal.statement-returns-in-If-clause-wrote
 statement-returns-in-If-clause-wrote t c = λ calls.
@@ -219,9 +228,10 @@ repeat-returns-clause-spares t c =
     let turns = c.in_ok-turns.turns in
     let left = IsLeft s.own (For c.args.slot a b body) in
     let wider = c.in_ok-first.ensures.next.0 in
-    let x = v.Repeat c.args.slot c.in_ok-first.first.register c.in_ok-last.last.register turns in
+    let counter = c.register_of-counter.result in
+    let x = v.Repeat counter c.in_ok-first.first.register c.in_ok-last.last.register turns in
     finished c.add.result _ _ _ x (both-spared (fewer left c.in_ok-first.ensures.spares (λ r p. p.0)) (fewer left c.in_ok-last.ensures.spares (λ r p. let l = p.0 in omega (arith, l, wider)))) c.add.ensures.appended
-    (λ r p. let parts = for-changes c.args.slot a b body r p.1 in ap (node_sets r) (node-repeat c.args.slot c.in_ok-first.first.register c.in_ok-last.last.register turns) ∙ either (r == c.args.slot) _ parts.0 (c.in_ok-turns.ensures.spares r (p.0, parts.1)))
+    (λ r p. let parts = for-changes c.args.slot a b body r p.1 in ap (node_sets r) (node-repeat counter c.in_ok-first.first.register c.in_ok-last.last.register turns) ∙ either (r == counter) _ (written-elsewhere s.own c.args.slot counter r c.register_of-counter.ensures.written p.0 parts.0) (c.in_ok-turns.ensures.spares r (p.0, parts.1)))
 
 pub turn-returns-clause-spares : goal.turn-returns-clause-spares
 turn-returns-clause-spares t c =
@@ -244,15 +254,18 @@ fold-returns-clause-spares t c =
     let u = c.in_ok-high.high.register in
     let held = c.in_ok-next.next.register in
     let whole_block = c.hold.new.out in
-    let x = v.Blocks head.carried head.block r q u whole_block held c.args.line in
+    let carried = c.register_of-carried.result in
+    let counter = c.register_of-counter.result in
+    let x = v.Blocks carried counter r q u whole_block held c.args.line in
     let body : (k : ℕ) → AreLeft s.own all k → code_sets k (code c.in_ok-one_block.one_block.items) ≡ false = rw c.deref.ensures.value at c.in_ok-one_block.ensures.spares in
     let wider = c.in_ok-start.ensures.next.0 in
     let wider_still = c.in_ok-low.ensures.next.0 in
     finished c.add.result _ _ _ x
     (both-spared (fewer left c.in_ok-start.ensures.spares (λ k p. p.0)) (both-spared (fewer left c.in_ok-low.ensures.spares (λ k p. let l = p.0 in omega (arith, l, wider))) (fewer left c.in_ok-high.ensures.spares (λ k p. let l = p.0 in omega (arith, l, wider, wider_still))))) c.add.ensures.appended
     (λ k p. let parts = fold-changes head all k p.1 in
-    ap (node_sets k) (node-blocks head.carried head.block r q u whole_block held c.args.line)
-    ∙ either (k == head.carried) _ parts.0 (either (k == head.block) _ parts.1 (c.in_ok-next.ensures.spares.each k p.0 (body k (p.0, parts.2)))))
+    ap (node_sets k) (node-blocks carried counter r q u whole_block held c.args.line)
+    ∙ either (k == carried) _ (written-elsewhere s.own head.carried carried k c.register_of-carried.ensures.written p.0 parts.0)
+    (either (k == counter) _ (written-elsewhere s.own head.block counter k c.register_of-counter.ensures.written p.0 parts.1) (c.in_ok-next.ensures.spares.each k p.0 (body k (p.0, parts.2)))))
 
 pub pair-returns-clause-spares : goal.pair-returns-clause-spares
 pair-returns-clause-spares t c =
