@@ -1,5 +1,8 @@
 -- Text that was added for a form that holds a vector.
-use Rattle.std.proofs.Common.{length, map, ◌≡◌, ◌++◌, ◌∷◌, [], codes, ℕ, List, refl, sym, ap, ◌∙◌, append_assoc}
+use Rattle.std.proofs.Common.{length, map, ◌≡◌, ◌++◌, ◌∷◌, [], codes, ℕ, List, refl, sym, ap, ◌∙◌, append_assoc, ◌<◌, ◌≤◌, false, arith}
+use Rattle.std.specs.Prelude.{nat_lt}
+use Rattle.std.proofs.lemmas.Bool.{lt-ltb}
+use Rattle.std.proofs.lemmas.Bool.Decides.{nat_tests}
 use Rattle.std.specs.declared.vec.Vec.{Vec}
 use Rattle.std.specs.declared.alloc.Global.{Global}
 use Rattle.spf_ast.specs.declared.syntax.Expr.{Expr}
@@ -11,7 +14,7 @@ use Rattle.spf_ast.specs.Syntax.{Call, Statement, Array, Function}
 use Rattle.spf_ast.specs.declared.syntax.Stmt.{Stmt}
 use Rattle.spf_ast.specs.View.{name, expression, arguments, statement, block, array, function}
 use Rattle.spf_ast.specs.Spelling.{Vocabulary, name_at, spelled_expression, spelled_arguments, spelled_statement, spelled_block}
-use Rattle.spf_ast.specs.Canonical.{joined, line, deeper, expression_text, arguments_text, statement_text, block_text, otherwise_text}
+use Rattle.spf_ast.specs.Canonical.{joined, enclosed, line, deeper, expression_text, arguments_text, statement_text, block_text, otherwise_text}
 use Rattle.spf_ast.proofs.Views.{expression-call}
 
 -- a call: its name, and then its arguments
@@ -27,6 +30,13 @@ and_then before piece now more e = rw e (append_assoc before piece more)
 -- two pieces that were added
 pub both : (before piece now more after : List ℕ) → now ≡ before ++ piece → after ≡ now ++ more → after ≡ before ++ (piece ++ more)
 both before piece now more after e f = f ∙ and_then before piece now more e
+
+-- an operand that is in parentheses, since its level is below the least, and one that is not
+pub in_parentheses : (found level least : ℕ) (text : List ℕ) → found ≡ level → found < least → enclosed (nat_lt level least) text ≡ joined (codes "(" ∷ text ∷ codes ")" ∷ [])
+in_parentheses found level least text is low = rw (sym is, lt-ltb found least low) refl
+
+pub with_no_parentheses : (found level least : ℕ) (text : List ℕ) → found ≡ level → least ≤ found → enclosed (nat_lt level least) text ≡ text
+with_no_parentheses found level least text is high = let no : nat_lt found least ≡ false = grind (arith, nat_tests, high) in rw (sym is, no) refl
 
 -- a block that has a statement is written after `else`
 pub otherwise_is : (v : Vocabulary) (indent : List ℕ) (statements : List Stmt) → (length statements ≡ 0 → ⊥) → line indent (codes "} else {" ∷ []) ++ block_text (deeper indent) (spelled_block v (block statements)) ++ line indent (codes "}" ∷ []) ≡ otherwise_text indent (spelled_block v (block statements))

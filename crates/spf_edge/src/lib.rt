@@ -12,6 +12,3 @@ pub use gate::{Barrier, Gate, Open, Place};
 pub use memory::{MemFiles, MemSink};
 pub use real::{RealFiles, RealSink, StandardStream};
 pub use sink::{PutError, Sink};
-
-#[cfg(test)]
-mod tests;

@@ -8,7 +8,5 @@ pub mod huf1;
 pub mod laws;
 pub mod lex1;
 mod signature;
-#[cfg(test)]
-mod tests;
 pub mod toy;
 mod writer;

@@ -9,7 +9,3 @@ mod merge;
 mod query;
 pub mod range;
 pub mod span;
-#[cfg(test)]
-mod spans_tests;
-#[cfg(test)]
-mod tests;

@@ -1,11 +1,8 @@
-//! Tests of runs: of whole programs, in pieces, of single blocks, and of guesses.
+//! Tests of plain runs of whole programs, and of a run in pieces. Single blocks and guesses are run by the tests of attempts and of whole
+//! runs by blocks.
 #![tactic(auto)]
 
-#[cfg(test)]
-mod guesses;
 #[cfg(test)]
 mod pieces;
 #[cfg(test)]
 mod plain;
-#[cfg(test)]
-mod programs;

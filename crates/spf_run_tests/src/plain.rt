@@ -1,111 +1,143 @@
 // How plain runs of whole programs end.
 
-use crate::programs::{calling, counting, dividing, doubling, filling, nesting, program};
 use spf_ast::outcome::{Outcome, Trap, TrapKind};
-use spf_ast::syntax::Program;
 use spf_exec::plain_run::run_plain;
 use spf_layout::layout::RunError;
+use spf_parse::parse;
+use spf_types::resolve;
 use std::alloc::Global;
 use std::test::Fail;
 
-// Whether a program ends so on an empty input: with these cells and this output, or by this trap with this output.
-fn ends_so(
-    alloc: Global,
-    program: Program,
-    cells: &[i64],
-    output: &[u8],
-    trap: Option<Trap>,
-) -> bool {
-    match run_plain(alloc, &program, &[]) {
-        Ok(
-            Outcome::Done {
-                cells: got_cells,
-                output: got,
-            },
-        ) => trap.is_none() && got_cells.as_slice() == cells && got.as_slice() == output,
-        Ok(
-            Outcome::Trapped {
-                trap: why,
-                output: got,
-            },
-        ) => { trap == Some(why) && got.as_slice() == output }
-        Err(_) => false,
+/// What the program of a text comes to on an empty input. None where the text is no program, or there is no memory.
+fn run(alloc: Global, text: &[u8]) -> Option<Result<Outcome, RunError>> {
+    let raw = parse(alloc, text).ok()?;
+    let program = resolve(alloc, raw).ok()?;
+    Some(run_plain(alloc, &program, &[]))
+}
+
+/// Whether a program ends with this output.
+fn writes(alloc: Global, text: &[u8], wanted: &[u8]) -> bool {
+    match run(alloc, text) {
+        Some(Ok(Outcome::Done { cells: _, output })) => output.as_slice() == wanted,
+        _ => false,
+    }
+}
+
+/// Whether a program ends with these cells.
+fn leaves(alloc: Global, text: &[u8], wanted: &[i64]) -> bool {
+    match run(alloc, text) {
+        Some(Ok(Outcome::Done { cells, output: _ })) => cells.as_slice() == wanted,
+        _ => false,
+    }
+}
+
+/// Whether a program traps so, after this output.
+fn traps(alloc: Global, text: &[u8], kind: TrapKind, line: u32, wanted: &[u8]) -> bool {
+    match run(alloc, text) {
+        Some(Ok(Outcome::Trapped { trap, output })) => {
+            trap == Trap { kind, line } && output.as_slice() == wanted
+        }
+        _ => false,
     }
 }
 
 #[test]
-fn programs_end_as_they_mean(rt: HostRuntime) -> Result<(), Fail> {
+fn programs_end_as_they_mean(rt: HostRuntime) {
     let alloc = rt.alloc();
-    assert!(rt; ends_so(alloc, doubling(alloc, 5)?, &[], &[65, 32], None));
-    assert!(rt; ends_so(alloc, counting(alloc, 3)?, &[], &[1, 2, 3], None));
-    assert!(rt; ends_so(alloc, filling(alloc, 3)?, &[0, 7, 7, 0], &[], None));
-    assert!(rt; ends_so(alloc, calling(alloc)?, &[], &[3, 4, 5], None));
-    assert!(rt; ends_so(alloc, nesting(alloc)?, &[], &[4, 2], None));
-    Ok(())
+    assert!(rt;
+        writes(
+            alloc,
+            b"main { emit 65; specfold s = 1 for k in 0..5 predict 0 { next s * 2; } emit s; }",
+            &[65, 32]
+        )
+    );
+    assert!(rt;
+        writes(
+            alloc,
+            b"main { let i = 0; while i < 3 max 3 { i = i + 1; emit i; } }",
+            &[1, 2, 3]
+        )
+    );
+    assert!(rt;
+        leaves(
+            alloc,
+            b"array a[4]; main { fill a[1..3] = 7; }",
+            &[0, 7, 7, 0]
+        )
+    );
+    assert!(rt;
+        writes(
+            alloc,
+            b"fn f(x) { let y = x; y = y + 1; return y; } main { let a = 5; emit f(3); emit f(4); emit a; }",
+            &[4, 5, 5]
+        )
+    );
+    assert!(rt;
+        writes(
+            alloc,
+            b"main { spec p = { let s = 1; for k in 0..3 { s = s + 1; } give s; } predict 0 { emit p; emit p / 2; } }",
+            &[4, 2]
+        )
+    );
 }
 
 #[test]
-fn programs_trap_on_the_line_of_the_fault(rt: HostRuntime) -> Result<(), Fail> {
+fn programs_trap_on_the_line_of_the_fault(rt: HostRuntime) {
     let alloc = rt.alloc();
-    let trap = |kind, line| Some(Trap { kind, line });
     assert!(rt;
-        ends_so(
+        traps(
             alloc,
-            doubling(alloc, 8)?,
-            &[],
-            &[65],
-            trap(TrapKind::Emit, 3)
+            b"main { emit 65;\nspecfold s = 1 for k in 0..8 predict 0 { next s * 2; }\nemit s; }",
+            TrapKind::Emit,
+            3,
+            &[65]
         )
     );
     assert!(rt;
-        ends_so(
+        traps(
             alloc,
-            doubling(alloc, 4097)?,
-            &[],
-            &[65],
-            trap(TrapKind::Blocks, 2)
+            b"main {\nspecfold s = 1 for k in 0..4097 predict 0 { next s * 2; } }",
+            TrapKind::Blocks,
+            2,
+            &[]
         )
     );
     assert!(rt;
-        ends_so(
+        traps(
             alloc,
-            dividing(alloc)?,
-            &[],
-            &[],
-            trap(TrapKind::DivZero, 9)
+            b"main { specfold s = 1 for k in 0..5 predict 0 {\n\nnext 10 / (3 - k); } }",
+            TrapKind::DivZero,
+            3,
+            &[]
         )
     );
     assert!(rt;
-        ends_so(
+        traps(
             alloc,
-            counting(alloc, 2)?,
-            &[],
-            &[1, 2],
-            trap(TrapKind::Turns, 5)
+            b"main { let i = 0;\nwhile i < 3 max 2 { i = i + 1; emit i; } }",
+            TrapKind::Turns,
+            2,
+            &[1, 2]
         )
     );
     assert!(rt;
-        ends_so(
+        traps(
             alloc,
-            filling(alloc, 5)?,
-            &[],
-            &[],
-            trap(TrapKind::Range, 6)
+            b"array a[4]; main {\n\n\nfill a[1..5] = 7; }",
+            TrapKind::Range,
+            4,
+            &[]
         )
     );
-    Ok(())
 }
 
 #[test]
-fn a_run_has_so_many_cells_at_most(rt: HostRuntime) -> Result<(), Fail> {
+fn a_run_has_so_many_cells_at_most(rt: HostRuntime) {
     let alloc = rt.alloc();
-    let rows = [
-        (4194304, None),
-        (4194305, Some(RunError::TooManyCells { count: 4194305 })),
-    ];
-    for (size, error) in rows {
-        let program = program(alloc, size, Vec::new(alloc), Vec::new(alloc))?;
-        assert_eq!(rt; run_plain(alloc, &program, &[]).err(), error, "at {size}");
-    }
-    Ok(())
+    assert!(rt; writes(alloc, b"array a[4194304]; main { }", &[]));
+    let Some(Err(error)) = run(alloc, b"array a[4194305]; main { }") else {
+        assert!(rt; false);
+        return;
+    };
+    assert_eq!(rt; error, RunError::TooManyCells { count: 4194305 });
 }

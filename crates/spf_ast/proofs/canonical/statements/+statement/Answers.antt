@@ -1,9 +1,23 @@
-use Rattle.std.proofs.Common.{rules, refl, length, ◌≡◌, ◌++◌, ap, ◌∙◌}
+use Rattle.std.proofs.Common.{rules, refl, List, length, ◌≡◌, ◌++◌, ap, ◌∙◌}
 use Rattle.std.proofs.lemmas.Result.{IfOk-equal}
+use Rattle.spf_ast.specs.declared.syntax.Stmt.{Stmt}
+use Rattle.spf_ast.specs.View.{statement, block}
+use Rattle.spf_ast.specs.Spelling.{spelled_statement, spelled_block}
+use Rattle.spf_ast.specs.Canonical.{deeper, statement_text, block_text}
 use Rattle.spf_ast.specs.Printing.{vocabulary_of}
+use Rattle.spf_ast.proofs.Repeating.{one_more, none_left}
 use Rattle.spf_ast.proofs.Views.{statement-if, statement-for, statement-while, statement-fold, statement-pair}
 use Rattle.spf_ast.proofs.Printing.{and_then, both, otherwise_is, statement_is}
 use Rattle.spf_ast.proofs.canonical.statements.+statement.Goals as goal
+
+pub push_nested-returns : goal.push_nested-returns
+push_nested-returns t c =
+    none_left (λ (l : List Stmt). block_text (deeper c.args.indent.now) (spelled_block (vocabulary_of c.args.names.now) (block l))) refl _ _ c.args.statements.now c.loop-statement.statement-index c.loop-statement-test.false c.loop-statement.invariant
+
+pub push_nested-loop-statement-preserved : goal.push_nested-loop-statement-preserved
+push_nested-loop-statement-preserved t c =
+    let added = rw (c.deref.ensures.value, c.in_ok-inner.ensures {u = tt}) at (c.in_ok-push_statement.ensures {u = tt}) in
+    one_more (λ (l : List Stmt). block_text (deeper c.args.indent.now) (spelled_block (vocabulary_of c.args.names.now) (block l))) (λ (s : Stmt). statement_text (deeper c.args.indent.now) (spelled_statement (vocabulary_of c.args.names.now) (statement s.kind))) (λ x xs. refl) _ _ _ c.args.statements.now c.loop-statement.statement-index c.statement-item.result c.statement-item.is c.loop-statement-test.true added c.loop-statement.invariant
 
 pub push_fold-returns : goal.push_fold-returns
 push_fold-returns t c =
