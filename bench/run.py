@@ -1,5 +1,5 @@
 #!/usr/bin/env python3
-"""Times three loops, three decoders and two scanners by `spf`, CPython, Lua 5.4 and C (-O2), in rounds (rounds.py).
+"""Times three loops, three decoders and two scanners by `spf`, CPython, Lua 5.4 and C (-O2), in rounds (rounds.py), by processor time.
 
 Prints a table of seconds and of ratios, and for each group the geometric means. `spf` runs the loops and the scanners by `--plain`, and the
 decoders on one worker. The outputs of the languages are compared. Needs the built program (`./spf --build`), `lua5.4`, `cc`, and idle
@@ -8,12 +8,12 @@ cores. The first word may name the program that is timed in the place of crates/
 
 import math
 import os
+import resource
 import shutil
 import statistics
 import subprocess
 import sys
 import tempfile
-import time
 
 from decoders import MACHINE, coded, letters, packed
 from rounds import HERE, program
@@ -64,10 +64,16 @@ def tasks(folder):
     return groups
 
 
+def processor_time():
+    used = resource.getrusage(resource.RUSAGE_CHILDREN)
+    return used.ru_utime + used.ru_stime
+
+
 def timed(command, data):
-    start = time.perf_counter()
+    """The processor time of a run, its output and its status. All runs compute on one thread."""
+    start = processor_time()
     done = subprocess.run(command, input=data, capture_output=True)
-    return time.perf_counter() - start, done.stdout, done.returncode
+    return processor_time() - start, done.stdout, done.returncode
 
 
 def seconds(name, data, commands):
