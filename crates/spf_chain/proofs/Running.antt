@@ -1,16 +1,12 @@
 -- The blocks of an accepted program can be run as attempts.
 use Rattle.std.proofs.Common.{◌≡◌, ℕ, zero, suc, false}
 use Rattle.spf_ast.specs.Syntax.{Program}
-use Rattle.spf_ast.specs.Lawful.{IsLawful}
 use Rattle.spf_ast.specs.Silence.{PartIsSilent}
 use Rattle.spf_ast.specs.Slots.{assigns_outer}
-use Rattle.spf_ast.specs.Construct.{Construct, fold, pair, constructs_in, part_of, statements_of}
+use Rattle.spf_ast.specs.Construct.{Construct, fold, pair, part_of, statements_of}
 use Rattle.spf_ast.specs.ConstructView.{construct}
-use Rattle.spf_ast.specs.Program.{cell_count_of}
 use Rattle.spf_layout.specs.Instance.{program_of}
 use Rattle.spf_rollback.specs.Rules.{KeepsTheRules}
-use Rattle.spf_check.specs.Accepting.{IsAccepted}
-use Rattle.spf_ticket.specs.declared.run.Job.{Job}
 use Rattle.spf_chain.specs.Jobs.{AcceptedConstructsCanRun}
 use Rattle.spf_ast.specs.declared.syntax.Part.TheVariants.{Body, Producer, Consumer}
 
