@@ -213,8 +213,8 @@ fold_last h e = give (Fold (record { carried = h.0; start = h.1; block = h.2; lo
 abbrev pub fold_rest : ℕ → Head → Rule RawStatement
 fold_rest n h = bind (ended_statements n word.Next) (fold_last h)
 
-abbrev pub pair_last : ℕ → List ℕ → Ending → Rule RawStatement
-pair_last n x e = part (token (kind.Keyword word.Predict)) (λ l. part (guess n) (λ g. part (block n) (λ c. give (Pair (record { carried = x; give = e.2; give_line = e.1; predict = g }) (block_of e.0) c))))
+abbrev pub pair_rest : ℕ → List ℕ → Ending → Rule RawStatement
+pair_rest n x e = part (guess n) (λ g. part (block n) (λ c. give (Pair (record { carried = x; give = e.2; give_line = e.1; predict = g }) (block_of e.0) c)))
 
 abbrev pub function_last : ℕ → List ℕ → List (List ℕ) → Ending → Rule RawFunction
 function_last l f xs e = give (record { name = f; params = xs; body = block_of e.0; answer = e.2; answer_line = e.1; line = l })

@@ -1,18 +1,21 @@
 -- Single tokens.
-use Rattle.std.proofs.Common.{◌≡◌, ℕ, suc, ◌<◌, ◌≤◌, Bool, true, false, List, [], ◌∷◌, ◌++◌, length, length-append, refl, sym, ◌∙◌, ap, subst, arith, Some, None, ℤ, pos}
-use Rattle.std.specs.Prelude.{IsTrue}
+use Rattle.std.proofs.Common.{◌≡◌, ℕ, suc, ◌<◌, ◌≤◌, Bool, true, false, List, [], ◌∷◌, ◌++◌, length, length-append, refl, sym, ◌∙◌, ap, subst, arith, Some, None, ℤ, pos, Result, Ok, Err}
+use Rattle.std.specs.Prelude.{IsTrue, IfOk, IfErr}
 use Rattle.std.proofs.lemmas.List.{length-map}
 use Rattle.spf_text.specs.declared.token.Sign.{Sign}
 use Rattle.spf_text.specs.declared.token.TokenKind.{TokenKind}
 use Rattle.spf_text.specs.declared.token.TokenKind.TheVariants as kind
 use Rattle.spf_grammar.specs.declared.Lexeme as code
 use Rattle.spf_grammar.specs.Lexemes.{Lexeme, lexeme, lexemes}
-use Rattle.spf_grammar.specs.Parts.{Part, token, opens, operator, name, number, count, Value, Rule}
+use Rattle.spf_grammar.specs.Parts.{Part, token, opens, operator, name, number, count, Value, Rule, give, part}
 use Rattle.spf_grammar.specs.Rules.{all, rank_of}
 use Rattle.spf_grammar.specs.Reading.{line_of}
 use Rattle.spf_grammar.specs.Derivations.{Says, Reading}
-use Rattle.spf_parse.specs.Answers.{ahead, stop, Leads, Faults, IsRead}
-use Rattle.spf_parse.proofs.Steps.{start, nothing}
+use Rattle.spf_parse.specs.Answers.{ahead, stop, Leads, Faults, IsRead, Answers, Answered}
+use Rattle.spf_grammar.proofs.Derivations.{bind}
+use Rattle.spf_parse.specs.declared.fault.Fault.{Fault}
+use Rattle.spf_parse.proofs.Follows.{Follows, anything}
+use Rattle.spf_parse.proofs.Steps.{start, nothing, go_rule, go0, halt0, halt_rule}
 use Rattle.spf_parse.proofs.Completions.{whole}
 
 pub along : {A : Type 0} {n : ℕ} {F G : Rule A} {ts ts' us : List Lexeme} → ts ≡ ts' → Leads n F ts' G us → Leads n F ts G us
@@ -235,3 +238,26 @@ ahead_none (t ∷ us) h = let f : Some t.kind ≡ None = h in absurd cc
 
 pub none_fails : {A : Type 0} {d : Bool} {n : ℕ} {F : Rule A} (us : List code.Lexeme) → ahead (lexemes us) ≡ None → Faults d n F (lexemes us) (length (lexemes us)) → Faults d n F (lexemes us) 0
 none_fails {d = d} {n} {F} us h f = subst (λ l. Faults d n F (lexemes us) l) (seen_length us ∙ ahead_none us h) f
+
+-- ---- what was read, and one token
+
+-- the rule, and this token after it
+abbrev pub then_token : {A : Type 0} → Rule A → TokenKind → Rule A
+then_token R w = bind R (λ a. part (token w) (λ l. give a))
+
+pub followed_by : {X T A : Type 0} {m : ℕ} (R : Rule A) (ts : List Lexeme) (read result : Result X Fault) (w : TokenKind) (key : X → T) (value : T → A) (rest : X → List Lexeme) →
+    ((x : A) → Follows m 0 (part (token w) (λ l. give x))) → IfErr read (λ why. result ≡ Err why) → IfOk read (λ x. IfOk result (λ y. key y ≡ key x)) →
+    IfOk read (λ x. Answers (token w) (rest x) (λ y. line_of (rest x)) rest result) → Answered m R ts (λ x. value (key x)) rest read → Answered 0 (then_token R w) ts (λ x. value (key x)) rest result
+followed_by R ts (Ok x) (Ok y) w key value rest f e k t a =
+    subst (λ b. Leads 0 (then_token R w) ts (give b) (rest y)) (sym (ap value k)) (go0 refl (go_rule (λ a. part (token w) (λ l. give a)) f (start {n = 0} {F = then_token R w}) a) t)
+followed_by R ts (Ok x) (Err why) w key value rest f e k t a =
+    halt0 why refl (λ x. refl) (go_rule (λ a. part (token w) (λ l. give a)) f (start {n = 0} {F = then_token R w}) a) t
+followed_by {m = m} R ts (Err why) result w key value rest f e k t a =
+    subst (Answered 0 (then_token R w) ts (λ x. value (key x)) rest) (sym e) (halt_rule m R (λ a. part (token w) (λ l. give a)) why f (λ x. refl) (start {n = 0} {F = then_token R w}) a)
+
+-- where it is read up to level 0
+pub followed_by0 : {X T A : Type 0} (R : Rule A) (ts : List Lexeme) (read result : Result X Fault) (w : TokenKind) (key : X → T) (value : T → A) (rest : X → List Lexeme) →
+    IfErr read (λ why. result ≡ Err why) → IfOk read (λ x. IfOk result (λ y. key y ≡ key x)) →
+    IfOk read (λ x. Answers (token w) (rest x) (λ y. line_of (rest x)) rest result) → Answered 0 R ts (λ x. value (key x)) rest read → Answered 0 (then_token R w) ts (λ x. value (key x)) rest result
+followed_by0 R ts read result w key value rest e k t a =
+    followed_by {m = 0} R ts read result w key value rest (λ x. anything 0 (part (token w) (λ l. give x))) e k t a

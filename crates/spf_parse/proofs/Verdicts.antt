@@ -33,6 +33,10 @@ pub data Verdict (text : List ℕ) (result : Result code.RawProgram ParseError) 
   wrong : (at : ℕ) (tokens : List Token) → result ≡ Err (parse.Unexpected at) → HasTokens text tokens → IsUnexpected (lexemes_of text tokens) (length text) at → Verdict text result
   deep : (at : ℕ) (tokens : List Token) → result ≡ Err (parse.TooDeep at) → HasTokens text tokens → IsTooDeep (lexemes_of text tokens) at → Verdict text result
 
+-- what follows from each verdict follows from this one
+pub by_verdict : {text : List ℕ} {result : Result code.RawProgram ParseError} {P : Type 0} → Verdict text result → (Verdict text result → P) → P
+by_verdict v f = f v
+
 by_result : (P : Result code.RawProgram ParseError → Type 0) (r s : Result code.RawProgram ParseError) → r ≡ s → P s → P r
 by_result P r s is p = subst P (sym is) p
 

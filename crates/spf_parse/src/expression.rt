@@ -9,7 +9,7 @@ ghost use Rattle.spf_grammar.specs.Rules.{joined};
 ghost use Rattle.spf_parse.specs.Answers.{ahead, Answers, Answered, reach, named_operand, value_before};
 
 use crate::fault::Fault;
-use crate::step::{after, expect, is_next, name, next, number, open, operator};
+use crate::step::{after, expect, followed, is_next, name, next, number, open, operator};
 use spf_ast::raw::RawExpr;
 use spf_ast::syntax::{Op, Test};
 use spf_grammar::Lexeme;
@@ -25,33 +25,43 @@ const COMPARISONS: u32 = 7;
 /// The rank of the operators that bind loosest.
 const LOOSEST: u32 = 9;
 
+/// An operator between its two sides.
+fn between(operator: Sign, left: Box<RawExpr>, right: Box<RawExpr>) -> RawExpr
+    ensures { raw_expression result ≡ joined operator (raw_expression left.value) (raw_expression right.value) }
+{
+    match operator {
+        Sign::Star => RawExpr::Binary(Op::Mul, left, right),
+        Sign::Slash => RawExpr::Binary(Op::Div, left, right),
+        Sign::Percent => RawExpr::Binary(Op::Rem, left, right),
+        Sign::Plus => RawExpr::Binary(Op::Add, left, right),
+        Sign::Minus => RawExpr::Binary(Op::Sub, left, right),
+        Sign::ShiftLeft => RawExpr::Binary(Op::Shl, left, right),
+        Sign::ShiftRight => RawExpr::Binary(Op::Shr, left, right),
+        Sign::And => RawExpr::Binary(Op::And, left, right),
+        Sign::Xor => RawExpr::Binary(Op::Xor, left, right),
+        Sign::Or => RawExpr::Binary(Op::Or, left, right),
+        Sign::Equal => RawExpr::Compare(Test::Eq, left, right),
+        Sign::NotEqual => RawExpr::Compare(Test::Ne, left, right),
+        Sign::Less => RawExpr::Compare(Test::Lt, left, right),
+        Sign::LessEqual => RawExpr::Compare(Test::Le, left, right),
+        Sign::Greater => RawExpr::Compare(Test::Gt, left, right),
+        Sign::GreaterEqual => RawExpr::Compare(Test::Ge, left, right),
+        Sign::AndAnd => RawExpr::Both(left, right),
+        _ => RawExpr::Either(left, right),
+    }
+}
+
 /// The two sides of an operator, joined.
-fn join(alloc: Global, operator: Sign, left: RawExpr, right: RawExpr) -> Result<RawExpr, Fault>
-    ensures value { IfOk result (λ x. raw_expression x ≡ joined operator (raw_expression left) (raw_expression right)) }
+fn join(
+    alloc: Global,
+    operator: Sign,
+    left: Box<RawExpr>,
+    right: Box<RawExpr>,
+) -> Result<Box<RawExpr>, Fault>
+    ensures value { IfOk result (λ x. raw_expression x.value ≡ joined operator (raw_expression left.value) (raw_expression right.value)) }
     ensures memory { IfErr result (λ e. e ≡ Fault.OutOfMemory) }
 {
-    let a = Box::new(alloc, left)?;
-    let b = Box::new(alloc, right)?;
-    Ok(match operator {
-        Sign::Star => RawExpr::Binary(Op::Mul, a, b),
-        Sign::Slash => RawExpr::Binary(Op::Div, a, b),
-        Sign::Percent => RawExpr::Binary(Op::Rem, a, b),
-        Sign::Plus => RawExpr::Binary(Op::Add, a, b),
-        Sign::Minus => RawExpr::Binary(Op::Sub, a, b),
-        Sign::ShiftLeft => RawExpr::Binary(Op::Shl, a, b),
-        Sign::ShiftRight => RawExpr::Binary(Op::Shr, a, b),
-        Sign::And => RawExpr::Binary(Op::And, a, b),
-        Sign::Xor => RawExpr::Binary(Op::Xor, a, b),
-        Sign::Or => RawExpr::Binary(Op::Or, a, b),
-        Sign::Equal => RawExpr::Compare(Test::Eq, a, b),
-        Sign::NotEqual => RawExpr::Compare(Test::Ne, a, b),
-        Sign::Less => RawExpr::Compare(Test::Lt, a, b),
-        Sign::LessEqual => RawExpr::Compare(Test::Le, a, b),
-        Sign::Greater => RawExpr::Compare(Test::Gt, a, b),
-        Sign::GreaterEqual => RawExpr::Compare(Test::Ge, a, b),
-        Sign::AndAnd => RawExpr::Both(a, b),
-        _ => RawExpr::Either(a, b),
-    })
+    Ok(Box::new(alloc, between(operator, left, right))?)
 }
 
 /// A name alone, indexed or called.
@@ -60,9 +70,9 @@ fn named<'b, 'a>(
     alloc: Global,
     tokens: &'b [Lexeme<'a>],
     nesting: u32,
-) -> Result<(RawExpr, &'b [Lexeme<'a>]), Fault>
+) -> Result<(Box<RawExpr>, &'b [Lexeme<'a>]), Fault>
     requires { nesting ≤ 64 }
-    ensures { Answered 1 (named_operand nesting) (lexemes tokens.now) (λ x. raw_expression x.0) (λ x. lexemes x.1.now) result }
+    ensures { Answered 1 (named_operand nesting) (lexemes tokens.now) (λ x. raw_expression x.0.value) (λ x. lexemes x.1.now) result }
 {
     let (x, rest) = name(alloc, tokens)?;
     if is_next(rest, TokenKind::Sign(Sign::OpenBracket)) {
@@ -73,14 +83,14 @@ fn named<'b, 'a>(
             nesting + 1,
             TokenKind::Sign(Sign::CloseBracket),
         )?;
-        return Ok((RawExpr::Load(x, Box::new(alloc, index)?), end));
+        return Ok((Box::new(alloc, RawExpr::Load(x, index))?, end));
     }
     if is_next(rest, TokenKind::Sign(Sign::OpenParen)) {
         let inner = open(rest, Sign::OpenParen, nesting)?;
         let (given, end) = arguments(alloc, inner, nesting + 1)?;
-        return Ok((RawExpr::Call(x, given), end));
+        return Ok((Box::new(alloc, RawExpr::Call(x, given))?, end));
     }
-    Ok((RawExpr::Local(x), rest))
+    Ok((Box::new(alloc, RawExpr::Local(x))?, rest))
 }
 
 /// An operand that begins with a sign: one with a unary sign, or an expression in parentheses.
@@ -90,21 +100,21 @@ fn signed<'b, 'a>(
     tokens: &'b [Lexeme<'a>],
     sign: Sign,
     nesting: u32,
-) -> Result<(RawExpr, &'b [Lexeme<'a>]), Fault>
+) -> Result<(Box<RawExpr>, &'b [Lexeme<'a>]), Fault>
     requires nesting_in { nesting ≤ 64 }
     requires is_next { ahead (lexemes tokens.now) ≡ Some (kind_sign sign) }
-    ensures { Answers (operand_part nesting) (lexemes tokens.now) (λ x. raw_expression x.0) (λ x. lexemes x.1.now) result }
+    ensures { Answers (operand_part nesting) (lexemes tokens.now) (λ x. raw_expression x.0.value) (λ x. lexemes x.1.now) result }
 {
     match sign {
         Sign::Minus => {
             let inner = open(tokens, Sign::Minus, nesting)?;
             let (a, end) = operand(alloc, inner, nesting + 1)?;
-            Ok((RawExpr::Neg(Box::new(alloc, a)?), end))
+            Ok((Box::new(alloc, RawExpr::Neg(a))?, end))
         }
         Sign::Not => {
             let inner = open(tokens, Sign::Not, nesting)?;
             let (a, end) = operand(alloc, inner, nesting + 1)?;
-            Ok((RawExpr::Not(Box::new(alloc, a)?), end))
+            Ok((Box::new(alloc, RawExpr::Not(a))?, end))
         }
         Sign::OpenParen => {
             let inner = open(tokens, Sign::OpenParen, nesting)?;
@@ -120,9 +130,9 @@ fn operand<'b, 'a>(
     alloc: Global,
     tokens: &'b [Lexeme<'a>],
     nesting: u32,
-) -> Result<(RawExpr, &'b [Lexeme<'a>]), Fault>
+) -> Result<(Box<RawExpr>, &'b [Lexeme<'a>]), Fault>
     requires { nesting ≤ 64 }
-    ensures { Answers (operand_part nesting) (lexemes tokens.now) (λ x. raw_expression x.0) (λ x. lexemes x.1.now) result }
+    ensures { Answers (operand_part nesting) (lexemes tokens.now) (λ x. raw_expression x.0.value) (λ x. lexemes x.1.now) result }
 {
     let Some(kind) = next(tokens) else {
         return Err(Fault::Unexpected(0));
@@ -130,13 +140,13 @@ fn operand<'b, 'a>(
     match kind {
         TokenKind::Number(_) => {
             let (value, rest) = number(tokens)?;
-            Ok((RawExpr::Number(value), rest))
+            Ok((Box::new(alloc, RawExpr::Number(value))?, rest))
         }
         TokenKind::Name => named(alloc, tokens, nesting),
         TokenKind::Keyword(word) => match word {
             Keyword::Len => {
                 let rest = expect(tokens, TokenKind::Keyword(Keyword::Len))?;
-                Ok((RawExpr::Len, rest))
+                Ok((Box::new(alloc, RawExpr::Len)?, rest))
             }
             Keyword::Input => {
                 let rest = expect(tokens, TokenKind::Keyword(Keyword::Input))?;
@@ -147,7 +157,7 @@ fn operand<'b, 'a>(
                     nesting + 1,
                     TokenKind::Sign(Sign::CloseBracket),
                 )?;
-                Ok((RawExpr::Input(Box::new(alloc, index)?), end))
+                Ok((Box::new(alloc, RawExpr::Input(index))?, end))
             }
             _ => Err(Fault::Unexpected(tokens.len())),
         },
@@ -170,10 +180,10 @@ pub(crate) fn arguments<'b, 'a>(
         return Ok((inside, end));
     }
     let (first, mut rest) = expr(alloc, tokens, nesting)?;
-    inside.push(first)?;
+    inside.push(Box::into_inner(first))?;
     'inside: while let Some(behind) = after(rest, TokenKind::Sign(Sign::Comma)) {
         let (a, end) = expr(alloc, behind, nesting)?;
-        inside.push(a)?;
+        inside.push(Box::into_inner(a))?;
         rest = end;
     }
     let end = expect(rest, TokenKind::Sign(Sign::CloseParen))?;
@@ -188,11 +198,11 @@ fn level<'b, 'a>(
     rank: u32,
     nesting: u32,
     used: u32,
-) -> Result<(RawExpr, u32, &'b [Lexeme<'a>]), Fault>
+) -> Result<(Box<RawExpr>, u32, &'b [Lexeme<'a>]), Fault>
     requires rank_in { rank ≤ 9 }
     requires nesting_in { nesting ≤ 64 }
     requires used_in { used ≤ 32 }
-    ensures answers { Answers (level_part nesting rank used) (lexemes tokens.now) (λ x. (raw_expression x.0, x.1)) (λ x. lexemes x.2.now) result }
+    ensures answers { Answers (level_part nesting rank used) (lexemes tokens.now) (λ x. (raw_expression x.0.value, x.1)) (λ x. lexemes x.2.now) result }
     ensures used_in { IfOk result (λ x. x.1 ≤ 32) }
 {
     if rank == 0 {
@@ -213,12 +223,12 @@ fn chain<'b, 'a>(
     rank: u32,
     nesting: u32,
     used: u32,
-) -> Result<(RawExpr, u32, &'b [Lexeme<'a>]), Fault>
+) -> Result<(Box<RawExpr>, u32, &'b [Lexeme<'a>]), Fault>
     requires rank_in { rank ≤ 8 }
     requires no_comparison { rank ≡ 6 → ⊥ }
     requires nesting_in { nesting ≤ 64 }
     requires used_in { used ≤ 32 }
-    ensures answers { Answers (level_part nesting (suc rank) used) (lexemes tokens.now) (λ x. (raw_expression x.0, x.1)) (λ x. lexemes x.2.now) result }
+    ensures answers { Answers (level_part nesting (suc rank) used) (lexemes tokens.now) (λ x. (raw_expression x.0.value, x.1)) (λ x. lexemes x.2.now) result }
     ensures used_in { IfOk result (λ x. x.1 ≤ 32) }
 {
     let (mut left, mut so_far, mut rest) = level(alloc, tokens, rank, nesting, used)?;
@@ -241,10 +251,10 @@ fn comparison<'b, 'a>(
     tokens: &'b [Lexeme<'a>],
     nesting: u32,
     used: u32,
-) -> Result<(RawExpr, u32, &'b [Lexeme<'a>]), Fault>
+) -> Result<(Box<RawExpr>, u32, &'b [Lexeme<'a>]), Fault>
     requires nesting_in { nesting ≤ 64 }
     requires used_in { used ≤ 32 }
-    ensures answers { Answers (level_part nesting 7 used) (lexemes tokens.now) (λ x. (raw_expression x.0, x.1)) (λ x. lexemes x.2.now) result }
+    ensures answers { Answers (level_part nesting 7 used) (lexemes tokens.now) (λ x. (raw_expression x.0.value, x.1)) (λ x. lexemes x.2.now) result }
     ensures used_in { IfOk result (λ x. x.1 ≤ 32) }
 {
     let (left, so_far, rest) = level(alloc, tokens, COMPARISONS - 1, nesting, used)?;
@@ -264,9 +274,9 @@ pub(crate) fn expr<'b, 'a>(
     alloc: Global,
     tokens: &'b [Lexeme<'a>],
     nesting: u32,
-) -> Result<(RawExpr, &'b [Lexeme<'a>]), Fault>
+) -> Result<(Box<RawExpr>, &'b [Lexeme<'a>]), Fault>
     requires { nesting ≤ 64 }
-    ensures { Answers (expression nesting) (lexemes tokens.now) (λ x. raw_expression x.0) (λ x. lexemes x.1.now) result }
+    ensures { Answers (expression nesting) (lexemes tokens.now) (λ x. raw_expression x.0.value) (λ x. lexemes x.1.now) result }
 {
     let (a, _, rest) = level(alloc, tokens, LOOSEST, nesting, 0)?;
     Ok((a, rest))
@@ -279,12 +289,10 @@ pub(crate) fn value<'b, 'a>(
     tokens: &'b [Lexeme<'a>],
     nesting: u32,
     end: TokenKind,
-) -> Result<(RawExpr, &'b [Lexeme<'a>]), Fault>
+) -> Result<(Box<RawExpr>, &'b [Lexeme<'a>]), Fault>
     requires nesting_in { nesting ≤ 64 }
     requires ends { 10 < reach end }
-    ensures { Answered 0 (value_before nesting end) (lexemes tokens.now) (λ x. raw_expression x.0) (λ x. lexemes x.1.now) result }
+    ensures { Answered 0 (value_before nesting end) (lexemes tokens.now) (λ x. raw_expression x.0.value) (λ x. lexemes x.1.now) result }
 {
-    let (a, rest) = expr(alloc, tokens, nesting)?;
-    let after = expect(rest, end)?;
-    Ok((a, after))
+    followed(expr(alloc, tokens, nesting), end)
 }

@@ -96,7 +96,7 @@ pub(crate) fn function<'b, 'a>(
         name,
         params,
         body,
-        answer,
+        answer: Box::into_inner(answer),
         answer_line,
         line,
     };

@@ -12,7 +12,7 @@ ghost use Rattle.spf_parse.specs.Answers.{Answers, Answered, reach, stated, open
 use crate::expression::{arguments, expr, value};
 use crate::fault::Fault;
 use crate::step::{
-    after, begins_statement, count, expect, is_next, line_of, name, next, number, open,
+    after, begins_statement, count, expect, followed, is_next, line_of, name, next, number, open,
 };
 use spf_ast::raw::{RawExpr, RawFold, RawPair, RawPredict, RawStmt, RawStmtKind};
 use spf_ast::syntax::Name;
@@ -45,7 +45,7 @@ fn assign_form<'b, 'a>(
 {
     let rest = expect(tokens, ASSIGN)?;
     let (a, end) = value(alloc, rest, nesting, SEMICOLON)?;
-    Ok((RawStmtKind::Assign(target, a), end))
+    Ok((RawStmtKind::Assign(target, Box::into_inner(a)), end))
 }
 
 /// A store, after its name.
@@ -59,10 +59,10 @@ fn store_form<'b, 'a>(
     ensures { Answered 11 (grammar.store_form nesting (seen_name target)) (lexemes tokens.now) (λ x. raw_statement x.0) (λ x. lexemes x.1.now) result }
 {
     let inner = open(tokens, Sign::OpenBracket, nesting)?;
-    let (index, after_index) = value(alloc, inner, nesting + 1, CLOSE_BRACKET)?;
-    let rest = expect(after_index, ASSIGN)?;
+    let (index, rest) = followed(value(alloc, inner, nesting + 1, CLOSE_BRACKET), ASSIGN)?;
     let (a, end) = value(alloc, rest, nesting, SEMICOLON)?;
-    Ok((RawStmtKind::Store(target, index, a), end))
+    let store = RawStmtKind::Store(target, Box::into_inner(index), Box::into_inner(a));
+    Ok((store, end))
 }
 
 /// A call, after its name.
@@ -76,8 +76,7 @@ fn call_form<'b, 'a>(
     ensures { Answered 11 (grammar.call_form nesting (seen_name function)) (lexemes tokens.now) (λ x. raw_statement x.0) (λ x. lexemes x.1.now) result }
 {
     let inner = open(tokens, Sign::OpenParen, nesting)?;
-    let (given, rest) = arguments(alloc, inner, nesting + 1)?;
-    let end = expect(rest, SEMICOLON)?;
+    let (given, end) = followed(arguments(alloc, inner, nesting + 1), SEMICOLON)?;
     Ok((RawStmtKind::Call(function, given), end))
 }
 
@@ -110,10 +109,9 @@ fn let_form<'b, 'a>(
     ensures { Answered 11 (grammar.let_form nesting) (lexemes tokens.now) (λ x. raw_statement x.0) (λ x. lexemes x.1.now) result }
 {
     let rest = expect(tokens, TokenKind::Keyword(Keyword::Let))?;
-    let (x, after_name) = name(alloc, rest)?;
-    let start = expect(after_name, ASSIGN)?;
+    let (x, start) = followed(name(alloc, rest), ASSIGN)?;
     let (a, end) = value(alloc, start, nesting, SEMICOLON)?;
-    Ok((RawStmtKind::Let(x, a), end))
+    Ok((RawStmtKind::Let(x, Box::into_inner(a)), end))
 }
 
 /// `fill`.
@@ -129,10 +127,15 @@ fn fill_form<'b, 'a>(
     let (x, after_name) = name(alloc, rest)?;
     let inner = open(after_name, Sign::OpenBracket, nesting)?;
     let (low, after_low) = value(alloc, inner, nesting + 1, DOTS)?;
-    let (high, after_high) = value(alloc, after_low, nesting + 1, CLOSE_BRACKET)?;
-    let start = expect(after_high, ASSIGN)?;
+    let (high, start) = followed(value(alloc, after_low, nesting + 1, CLOSE_BRACKET), ASSIGN)?;
     let (a, end) = value(alloc, start, nesting, SEMICOLON)?;
-    Ok((RawStmtKind::Fill(x, low, high, a), end))
+    let fill = RawStmtKind::Fill(
+        x,
+        Box::into_inner(low),
+        Box::into_inner(high),
+        Box::into_inner(a),
+    );
+    Ok((fill, end))
 }
 
 /// `emit`.
@@ -146,7 +149,7 @@ fn emit_form<'b, 'a>(
 {
     let rest = expect(tokens, TokenKind::Keyword(Keyword::Emit))?;
     let (a, end) = value(alloc, rest, nesting, SEMICOLON)?;
-    Ok((RawStmtKind::Emit(a), end))
+    Ok((RawStmtKind::Emit(Box::into_inner(a)), end))
 }
 
 /// `fail`.
@@ -169,7 +172,7 @@ fn guess<'b, 'a>(alloc: Global, tokens: &'b [Lexeme<'a>], nesting: u32) -> Read<
         return Ok((RawPredict::Host(n), end));
     }
     let (g, end) = expr(alloc, tokens, nesting)?;
-    Ok((RawPredict::Expr(g), end))
+    Ok((RawPredict::Expr(Box::into_inner(g)), end))
 }
 
 /// `if`.
@@ -186,7 +189,7 @@ fn if_form<'b, 'a>(
     let (test, after_test) = expr(alloc, rest, nesting)?;
     let (yes, after_yes) = block(alloc, after_test, nesting)?;
     let (no, end) = otherwise(alloc, after_yes, nesting)?;
-    Ok((RawStmtKind::If(test, yes, no), end))
+    Ok((RawStmtKind::If(Box::into_inner(test), yes, no), end))
 }
 
 /// `else` with its block, or nothing.
@@ -216,12 +219,12 @@ fn for_form<'b, 'a>(
     ensures { Answered 11 (grammar.for_form nesting) (lexemes tokens.now) (λ x. raw_statement x.0) (λ x. lexemes x.1.now) result }
 {
     let rest = expect(tokens, TokenKind::Keyword(Keyword::For))?;
-    let (x, after_name) = name(alloc, rest)?;
-    let range = expect(after_name, TokenKind::Keyword(Keyword::In))?;
+    let (x, range) = followed(name(alloc, rest), TokenKind::Keyword(Keyword::In))?;
     let (low, after_low) = value(alloc, range, nesting, DOTS)?;
     let (high, after_high) = expr(alloc, after_low, nesting)?;
     let (body, end) = block(alloc, after_high, nesting)?;
-    Ok((RawStmtKind::For(x, low, high, body), end))
+    let repeat = RawStmtKind::For(x, Box::into_inner(low), Box::into_inner(high), body);
+    Ok((repeat, end))
 }
 
 /// `while`.
@@ -238,7 +241,7 @@ fn while_form<'b, 'a>(
     let (test, after_test) = value(alloc, rest, nesting, TokenKind::Keyword(Keyword::Max))?;
     let (most, after_most) = count(after_test)?;
     let (body, end) = block(alloc, after_most, nesting)?;
-    Ok((RawStmtKind::While(test, most, body), end))
+    Ok((RawStmtKind::While(Box::into_inner(test), most, body), end))
 }
 
 /// What a fold says before its body.
@@ -257,16 +260,14 @@ fn fold_head<'b, 'a>(
     alloc: Global,
     tokens: &'b [Lexeme<'a>],
     nesting: u32,
-) -> Read<'b, 'a, FoldHead>
+) -> Read<'b, 'a, Box<FoldHead>>
     requires { nesting ≤ 64 }
-    ensures { Answered 10 (fold_opening nesting) (lexemes tokens.now) (λ x. seen_head x.0) (λ x. lexemes x.1.now) result }
+    ensures { Answered 10 (fold_opening nesting) (lexemes tokens.now) (λ x. seen_head x.0.value) (λ x. lexemes x.1.now) result }
 {
     let rest = expect(tokens, TokenKind::Keyword(Keyword::Specfold))?;
-    let (carried, after_carried) = name(alloc, rest)?;
-    let value_at = expect(after_carried, ASSIGN)?;
+    let (carried, value_at) = followed(name(alloc, rest), ASSIGN)?;
     let (start, after_start) = value(alloc, value_at, nesting, TokenKind::Keyword(Keyword::For))?;
-    let (block, after_block) = name(alloc, after_start)?;
-    let range = expect(after_block, TokenKind::Keyword(Keyword::In))?;
+    let (block, range) = followed(name(alloc, after_start), TokenKind::Keyword(Keyword::In))?;
     let (low, after_low) = value(alloc, range, nesting, DOTS)?;
     let (high, after_high) = value(
         alloc,
@@ -277,13 +278,13 @@ fn fold_head<'b, 'a>(
     let (predict, end) = guess(alloc, after_high, nesting)?;
     let head = FoldHead {
         carried,
-        start,
+        start: Box::into_inner(start),
         block,
-        low,
-        high,
+        low: Box::into_inner(low),
+        high: Box::into_inner(high),
         predict,
     };
-    Ok((head, end))
+    Ok((Box::new(alloc, head)?, end))
 }
 
 /// `specfold`.
@@ -298,6 +299,7 @@ fn fold_form<'b, 'a>(
 {
     let (head, rest) = fold_head(alloc, tokens, nesting)?;
     let ((body, next_line, next), end) = ended(alloc, rest, nesting, Keyword::Next)?;
+    let head = Box::into_inner(head);
     let fold = RawFold {
         carried: head.carried,
         start: head.start,
@@ -306,7 +308,7 @@ fn fold_form<'b, 'a>(
         high: head.high,
         predict: head.predict,
         body,
-        next,
+        next: Box::into_inner(next),
         next_line,
     };
     Ok((RawStmtKind::Fold(Box::new(alloc, fold)?), end))
@@ -319,17 +321,16 @@ pub(crate) fn ended<'b, 'a>(
     tokens: &'b [Lexeme<'a>],
     nesting: u32,
     word: Keyword,
-) -> Read<'b, 'a, (Vec<RawStmt>, u32, RawExpr)>
+) -> Read<'b, 'a, (Vec<RawStmt>, u32, Box<RawExpr>)>
     requires nesting_in { nesting ≤ 64 }
     requires ends { 12 < reach (keyword_kind word) }
     ensures { Answered 0 (ended_statements nesting word) (lexemes tokens.now)
-        (λ x. (map stated x.0.0.items, x.0.1, raw_expression x.0.2)) (λ x. lexemes x.1.now) result }
+        (λ x. (map stated x.0.0.items, x.0.1, raw_expression x.0.2.value)) (λ x. lexemes x.1.now) result }
 {
     let (body, rest) = opened(alloc, tokens, nesting)?;
     let line = line_of(rest);
     let last = expect(rest, TokenKind::Keyword(word))?;
-    let (a, after_value) = value(alloc, last, nesting + 1, SEMICOLON)?;
-    let end = expect(after_value, CLOSE_BRACE)?;
+    let (a, end) = followed(value(alloc, last, nesting + 1, SEMICOLON), CLOSE_BRACE)?;
     Ok(((body, line, a), end))
 }
 
@@ -344,18 +345,20 @@ fn pair_form<'b, 'a>(
     ensures { Answered 11 (grammar.pair_form nesting) (lexemes tokens.now) (λ x. raw_statement x.0) (λ x. lexemes x.1.now) result }
 {
     let rest = expect(tokens, TokenKind::Keyword(Keyword::Spec))?;
-    let (carried, after_carried) = name(alloc, rest)?;
-    let open_at = expect(after_carried, ASSIGN)?;
-    let ((producer, give_line, give), closed) = ended(alloc, open_at, nesting, Keyword::Give)?;
-    let guess_at = expect(closed, TokenKind::Keyword(Keyword::Predict))?;
+    let (carried, open_at) = followed(name(alloc, rest), ASSIGN)?;
+    let ((producer, give_line, give), guess_at) = followed(
+        ended(alloc, open_at, nesting, Keyword::Give),
+        TokenKind::Keyword(Keyword::Predict),
+    )?;
     let (predict, after_guess) = guess(alloc, guess_at, nesting)?;
+    let predict = Box::new(alloc, predict)?;
     let (consumer, end) = block(alloc, after_guess, nesting)?;
     let pair = RawPair {
         carried,
         producer,
-        give,
+        give: Box::into_inner(give),
         give_line,
-        predict,
+        predict: Box::into_inner(predict),
         consumer,
     };
     Ok((RawStmtKind::Pair(Box::new(alloc, pair)?), end))
@@ -371,8 +374,7 @@ pub(crate) fn block<'b, 'a>(
     requires { nesting ≤ 64 }
     ensures { Answers (block_part nesting) (lexemes tokens.now) (λ x. raw_block x.0.items) (λ x. lexemes x.1.now) result }
 {
-    let (inside, rest) = opened(alloc, tokens, nesting)?;
-    let end = expect(rest, CLOSE_BRACE)?;
+    let (inside, end) = followed(opened(alloc, tokens, nesting), CLOSE_BRACE)?;
     Ok((inside, end))
 }
 

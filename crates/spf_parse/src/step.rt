@@ -1,6 +1,6 @@
 // Single tokens.
 
-ghost use Rattle.std.specs.Prelude.{◌≡◌, ◌↔◌, ◌<◌, IsTrue, Some, ◌∷◌, MatchOption, IfOk};
+ghost use Rattle.std.specs.Prelude.{◌≡◌, ◌↔◌, ◌<◌, IsTrue, Some, ◌∷◌, MatchOption, IfOk, IfErr, Err};
 ghost use Rattle.spf_text.specs.declared.token.Sign.{Sign as AnySign};
 ghost use Rattle.spf_text.specs.declared.token.TokenKind.TheVariants.{Sign as sign_kind};
 ghost use Rattle.spf_ast.specs.View.{name as seen_name};
@@ -70,6 +70,20 @@ pub(crate) fn expect<'b, 'a>(
         Some(rest) => Ok(rest),
         None => Err(Fault::Unexpected(tokens.len())),
     }
+}
+
+/// What was read, with the tokens after the next one, where that is of this kind.
+pub(crate) fn followed<'b, 'a, T: Drop>(
+    read: Result<(T, &'b [Lexeme<'a>]), Fault>,
+    end: TokenKind,
+) -> Result<(T, &'b [Lexeme<'a>]), Fault>
+    ensures refused { IfErr read.entry (λ why. result ≡ Err why) }
+    ensures kept { IfOk read.entry (λ x. IfOk result (λ y. y.0 ≡ x.0)) }
+    ensures token { IfOk read.entry (λ x. Answers (token end) (lexemes x.1.now) (λ y. first_line (lexemes x.1.now)) (λ y. lexemes y.1.now) result) }
+{
+    let (x, rest) = read?;
+    let after = expect(rest, end)?;
+    Ok((x, after))
 }
 
 /// The tokens after a sign that opens a level of nesting.

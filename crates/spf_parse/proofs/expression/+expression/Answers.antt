@@ -10,13 +10,14 @@ use Rattle.spf_ast.specs.View.{name as seen_name}
 use Rattle.spf_ast.specs.RawView.{raw_expression}
 use Rattle.spf_ast.proofs.RawViews.{raw_expression-call}
 use Rattle.spf_grammar.specs.Parts.{token, give, part, next_argument, level, expression}
-use Rattle.spf_grammar.specs.Rules.{named}
+use Rattle.spf_grammar.specs.Rules.{all, named}
 use Rattle.spf_parse.specs.declared.fault.Fault.TheVariants as fault
 use Rattle.spf_parse.specs.Answers.{value_before}
 use Rattle.spf_parse.proofs.Follows.{anything}
 use Rattle.spf_parse.proofs.Steps.{start, go, halt, go0, halt0, go_rule0, halt_rule0, unfold_part, decide, through, through_rule}
-use Rattle.spf_parse.proofs.Tokens.{next_token, seen_ahead, operator_next, operator_over, shorter, not_longer, none_fails, length_fails}
+use Rattle.spf_parse.proofs.Tokens.{next_token, seen_ahead, operator_next, operator_over, shorter, not_longer, none_fails, length_fails, followed_by}
 use Rattle.spf_parse.proofs.Expressions.{regroup, chain_start, comparison_start, further_next, further_done, compared_next, compared_done, no_argument, some_argument, next_argument_is, no_next_argument, last_done, name_alone, operand_start, word_operand, sign_operand, end_operand}
+use Rattle.spf_grammar.specs.Lexemes.{lexemes}
 use Rattle.spf_parse.proofs.expression.+expression.Goals as goal
 
 pub arguments-returns-in-Some : goal.arguments-returns-in-Some
@@ -34,7 +35,7 @@ arguments-returns-in_err-first t c =
 
 pub arguments-inside-init : goal.arguments-inside-init
 arguments-inside-init t c =
-    rw (c.in_ok-push.ensures.items, c.new-inside.ensures.items) (go (λ x. (omega arith, λ y. omega arith)) (some_argument c.args.nesting c.in_default.ensures) c.in_ok-first.ensures)
+    rw (c.in_ok-push.ensures.items, c.new-inside.ensures.items, c.into_inner.ensures) (go (λ x. (omega arith, λ y. omega arith)) (some_argument c.args.nesting c.in_default.ensures) c.in_ok-first.ensures)
 
 pub arguments-returns-in_err-a : goal.arguments-returns-in_err-a
 arguments-returns-in_err-a t c =
@@ -56,8 +57,8 @@ arguments-inside-preserved t c =
     let x = c.in-Some-after.ensures in
     let y = next_token c.inside.rest.now x.0 c.in-Some-after.behind.now x.2 (kind.Sign sign.Comma) x.1 in
     let l = go (λ x. omega arith) (next_argument_is c.args.nesting (map raw_expression c.inside.inside.items) y.0 c.inside.invariant) y.1 in
-    rw (c.in_ok-push-2.ensures.items, map-append)
-    (regroup (next_argument c.args.nesting) (λ zs. part (token (kind.Sign sign.CloseParen)) (λ l. give zs)) (map raw_expression c.inside.inside.items) (raw_expression c.in_ok-a.a) (go (λ x. (omega arith, λ y. omega arith)) l c.in_ok-a.ensures))
+    rw (c.in_ok-push-2.ensures.items, map-append, c.into_inner-in-Some-after.ensures)
+    (regroup (next_argument c.args.nesting) (λ zs. part (token (kind.Sign sign.CloseParen)) (λ l. give zs)) (map raw_expression c.inside.inside.items) (raw_expression c.in_ok-a.a.value) (go (λ x. (omega arith, λ y. omega arith)) l c.in_ok-a.ensures))
 
 pub arguments-returns-in_err-end : goal.arguments-returns-in_err-end
 arguments-returns-in_err-end t c =
@@ -86,7 +87,7 @@ chain-returns-then-so_far-ge-MAX_OPERATORS-clause-answers t c =
     let x = c.in-Some.ensures in
     let r = x.3 ∙ add-one c.args.rank in
     let a = seen_ahead c.further.rest.now x.0 c.in-Some.behind.now x.2 ∙ ap Some x.1 in
-    let l = further_next c.args.nesting c.args.rank (raw_expression c.further.left) c.further.so_far c.in-Some.sign a r c.further.invariant.leads in
+    let l = further_next c.args.nesting c.args.rank (raw_expression c.further.left.value) c.further.so_far c.in-Some.sign a r c.further.invariant.leads in
     halt (fault.TooDeep _) (λ x. omega arith) (λ x. refl) l (operator_over c.further.rest.now x.0 c.in-Some.behind.now x.2 (suc c.args.rank) c.further.so_far c.in-Some.sign x.1 r (omega (arith, c.if-so_far-ge-MAX_OPERATORS.true)))
 
 pub chain-returns-in_err-right-clause-answers : goal.chain-returns-in_err-right-clause-answers
@@ -94,7 +95,7 @@ chain-returns-in_err-right-clause-answers t c =
     let x = c.in-Some.ensures in
     let r = x.3 ∙ add-one c.args.rank in
     let a = seen_ahead c.further.rest.now x.0 c.in-Some.behind.now x.2 ∙ ap Some x.1 in
-    let l = further_next c.args.nesting c.args.rank (raw_expression c.further.left) c.further.so_far c.in-Some.sign a r c.further.invariant.leads in
+    let l = further_next c.args.nesting c.args.rank (raw_expression c.further.left.value) c.further.so_far c.in-Some.sign a r c.further.invariant.leads in
     let m = go (λ x. omega arith) l (operator_next c.further.rest.now x.0 c.in-Some.behind.now x.2 (suc c.args.rank) c.further.so_far c.in-Some.sign x.1 r (omega (arith, c.if-so_far-ge-MAX_OPERATORS.false))) in
     let p = err_from_is_err_and c.from_residual-in_err-right.result c.from_residual-in_err-right.ensures.1 in
     rw (p.1, p.2) (halt c.in_err-right.field-0.0 (λ x. (omega arith, λ y. omega arith)) (λ x. refl)
@@ -111,13 +112,13 @@ chain-further-preserved t c =
     let x = c.in-Some.ensures in
     let r = x.3 ∙ add-one c.args.rank in
     let a = seen_ahead c.further.rest.now x.0 c.in-Some.behind.now x.2 ∙ ap Some x.1 in
-    let l = further_next c.args.nesting c.args.rank (raw_expression c.further.left) c.further.so_far c.in-Some.sign a r c.further.invariant.leads in
+    let l = further_next c.args.nesting c.args.rank (raw_expression c.further.left.value) c.further.so_far c.in-Some.sign a r c.further.invariant.leads in
     let m = go (λ x. omega arith) l (operator_next c.further.rest.now x.0 c.in-Some.behind.now x.2 (suc c.args.rank) c.further.so_far c.in-Some.sign x.1 r (omega (arith, c.if-so_far-ge-MAX_OPERATORS.false))) in
     record { leads = rw c.in_ok-left-2.ensures.value (go (λ x. (omega arith, λ y. omega arith)) m c.in_ok-right.ensures.answers); used_in = search rules }
 
 pub chain-returns-clause-answers : goal.chain-returns-clause-answers
 chain-returns-clause-answers t c =
-    further_done c.args.nesting c.args.rank (raw_expression c.further.left) c.further.so_far (λ s is r. c.in_default.ensures s is (r ∙ sym (add-one c.args.rank))) c.further.invariant.leads
+    further_done c.args.nesting c.args.rank (raw_expression c.further.left.value) c.further.so_far (λ s is r. c.in_default.ensures s is (r ∙ sym (add-one c.args.rank))) c.further.invariant.leads
 
 pub comparison-returns-in_err-left-clause-answers : goal.comparison-returns-in_err-left-clause-answers
 comparison-returns-in_err-left-clause-answers t c =
@@ -129,14 +130,14 @@ comparison-returns-in_err-left-clause-answers t c =
 pub comparison-returns-in_default-clause-answers : goal.comparison-returns-in_default-clause-answers
 comparison-returns-in_default-clause-answers t c =
     let b = go (λ x. (omega arith, λ y. omega arith)) (comparison_start c.args.nesting c.args.used) c.in_ok-left.ensures.answers in
-    compared_done c.args.nesting 6 (raw_expression c.in_ok-left.left) c.in_ok-left.so_far c.in_default.ensures b
+    compared_done c.args.nesting 6 (raw_expression c.in_ok-left.left.value) c.in_ok-left.so_far c.in_default.ensures b
 
 pub comparison-returns-then-so_far-ge-MAX_OPERATORS-clause-answers : goal.comparison-returns-then-so_far-ge-MAX_OPERATORS-clause-answers
 comparison-returns-then-so_far-ge-MAX_OPERATORS-clause-answers t c =
     let b = go (λ x. (omega arith, λ y. omega arith)) (comparison_start c.args.nesting c.args.used) c.in_ok-left.ensures.answers in
     let x = c.in-Some.ensures in
     let a = seen_ahead c.in_ok-left.rest.now x.0 c.in-Some.behind.now x.2 ∙ ap Some x.1 in
-    let l = compared_next c.args.nesting 6 (raw_expression c.in_ok-left.left) c.in_ok-left.so_far c.in-Some.sign a x.3 b in
+    let l = compared_next c.args.nesting 6 (raw_expression c.in_ok-left.left.value) c.in_ok-left.so_far c.in-Some.sign a x.3 b in
     halt (fault.TooDeep _) (λ x. omega arith) (λ x. refl) l (operator_over c.in_ok-left.rest.now x.0 c.in-Some.behind.now x.2 7 c.in_ok-left.so_far c.in-Some.sign x.1 x.3 (omega (arith, c.if-so_far-ge-MAX_OPERATORS.true)))
 
 pub comparison-returns-in_err-right-clause-answers : goal.comparison-returns-in_err-right-clause-answers
@@ -144,7 +145,7 @@ comparison-returns-in_err-right-clause-answers t c =
     let b = go (λ x. (omega arith, λ y. omega arith)) (comparison_start c.args.nesting c.args.used) c.in_ok-left.ensures.answers in
     let x = c.in-Some.ensures in
     let a = seen_ahead c.in_ok-left.rest.now x.0 c.in-Some.behind.now x.2 ∙ ap Some x.1 in
-    let l = compared_next c.args.nesting 6 (raw_expression c.in_ok-left.left) c.in_ok-left.so_far c.in-Some.sign a x.3 b in
+    let l = compared_next c.args.nesting 6 (raw_expression c.in_ok-left.left.value) c.in_ok-left.so_far c.in-Some.sign a x.3 b in
     let m = go (λ x. omega arith) l (operator_next c.in_ok-left.rest.now x.0 c.in-Some.behind.now x.2 7 c.in_ok-left.so_far c.in-Some.sign x.1 x.3 (omega (arith, c.if-so_far-ge-MAX_OPERATORS.false))) in
     let p = err_from_is_err_and c.from_residual-in_err-right.result c.from_residual-in_err-right.ensures.1 in
     rw (p.1, p.2) (halt c.in_err-right.field-0.0 (λ x. omega arith) (λ x. refl)
@@ -156,7 +157,7 @@ comparison-returns-clause-answers t c =
     let b = go (λ x. (omega arith, λ y. omega arith)) (comparison_start c.args.nesting c.args.used) c.in_ok-left.ensures.answers in
     let x = c.in-Some.ensures in
     let a = seen_ahead c.in_ok-left.rest.now x.0 c.in-Some.behind.now x.2 ∙ ap Some x.1 in
-    let l = compared_next c.args.nesting 6 (raw_expression c.in_ok-left.left) c.in_ok-left.so_far c.in-Some.sign a x.3 b in
+    let l = compared_next c.args.nesting 6 (raw_expression c.in_ok-left.left.value) c.in_ok-left.so_far c.in-Some.sign a x.3 b in
     let m = go (λ x. omega arith) l (operator_next c.in_ok-left.rest.now x.0 c.in-Some.behind.now x.2 7 c.in_ok-left.so_far c.in-Some.sign x.1 x.3 (omega (arith, c.if-so_far-ge-MAX_OPERATORS.false))) in
     rw c.in_ok-join.ensures.value (go (λ x. omega arith) m c.in_ok-right.ensures.answers)
 
@@ -240,11 +241,11 @@ pub named-returns-then-is_next-2 : goal.named-returns-then-is_next-2
 named-returns-then-is_next-2 t c =
     let b = decide (Some (kind.Sign sign.OpenParen)) (c.is_next-2.ensures.0 c.if-is_next-2.true) _ (go (λ x. anything 1 (named c.args.nesting x)) start c.in_ok-x.ensures) in
     let l = go0 refl b c.in_ok-inner-2.ensures.answers in
-    rw (raw_expression-call c.in_ok-x.x c.in_ok-given.given) (go0 refl l c.in_ok-given.ensures)
+    rw (c.in_ok-new-2.ensures.ok, raw_expression-call c.in_ok-x.x c.in_ok-given.given) (go0 refl l c.in_ok-given.ensures)
 
 pub named-returns : goal.named-returns
 named-returns t c =
-    name_alone c.args.nesting (seen_name c.in_ok-x.x) (λ h. absurd (search (rules, c.is_next.ensures.1 h))) (λ h. absurd (search (rules, c.is_next-2.ensures.1 h))) (go (λ x. anything 1 (named c.args.nesting x)) start c.in_ok-x.ensures)
+    rw c.in_ok-new-3.ensures.ok (name_alone c.args.nesting (seen_name c.in_ok-x.x) (λ h. absurd (search (rules, c.is_next.ensures.1 h))) (λ h. absurd (search (rules, c.is_next-2.ensures.1 h))) (go (λ x. anything 1 (named c.args.nesting x)) start c.in_ok-x.ensures))
 
 pub operand-returns-in_default : goal.operand-returns-in_default
 operand-returns-in_default t c =
@@ -258,11 +259,11 @@ operand-returns-in_err-value-in-Number t c =
     b
     c.in_err-value-in-Number.ensures)
 
-pub operand-returns-in_ok-value-in-Number : goal.operand-returns-in_ok-value-in-Number
-operand-returns-in_ok-value-in-Number t c =
+pub operand-returns-in_ok-new-in-Number : goal.operand-returns-in_ok-new-in-Number
+operand-returns-in_ok-new-in-Number t c =
     let b = operand_start c.args.nesting (Some (kind.Number c.in-Number.field-0)) (sym c.next.ensures ∙ c.in-Some.is ∙ ap Some c.in-Number.is) in
     let f : FitsSigned w64 c.in_ok-value-in-Number.value = search rules in
-    rw (to_z-of_z w64 c.in_ok-value-in-Number.value f) (go0 refl b c.in_ok-value-in-Number.ensures)
+    rw (c.in_ok-new-in-Number.ensures.ok, to_z-of_z w64 c.in_ok-value-in-Number.value f) (go0 refl b c.in_ok-value-in-Number.ensures)
 
 pub operand-returns-in_err-rest-in-Len : goal.operand-returns-in_err-rest-in-Len
 operand-returns-in_err-rest-in-Len t c =
@@ -272,10 +273,10 @@ operand-returns-in_err-rest-in-Len t c =
     b
     c.in_err-rest-in-Len.ensures)
 
-pub operand-returns-in_ok-rest-in-Len : goal.operand-returns-in_ok-rest-in-Len
-operand-returns-in_ok-rest-in-Len t c =
+pub operand-returns-in_ok-new-in-Len : goal.operand-returns-in_ok-new-in-Len
+operand-returns-in_ok-new-in-Len t c =
     let b = operand_start c.args.nesting (Some (kind.Keyword word.Len)) (sym c.next.ensures ∙ c.in-Some.is ∙ ap Some (c.in-Keyword.is ∙ ap kind.Keyword c.in-Len.is)) in
-    go (λ x. omega arith) b c.in_ok-rest-in-Len.ensures
+    rw c.in_ok-new-in-Len.ensures.ok (go (λ x. omega arith) b c.in_ok-rest-in-Len.ensures)
 
 pub operand-returns-in_err-rest-in-Input : goal.operand-returns-in_err-rest-in-Input
 operand-returns-in_err-rest-in-Input t c =
@@ -384,22 +385,6 @@ pub signed-returns-in_default : goal.signed-returns-in_default
 signed-returns-in_default t c =
     length_fails c.args.tokens.now c.args.tokens.now (sign_operand c.args.nesting _ c.args.sign c.requires.is_next c.in_default.not-Minus c.in_default.not-Not c.in_default.not-OpenParen)
 
-pub value-returns-in_err-a : goal.value-returns-in_err-a
-value-returns-in_err-a t c =
-    let p = err_from_is_err_and c.from_residual.result c.from_residual.ensures.1 in
-    rw (p.1, p.2) (halt c.in_err-a.field-0.0 (λ x. c.requires.ends) (λ x. refl)
-    start
-    c.in_err-a.ensures)
-
-pub value-returns-in_err-after : goal.value-returns-in_err-after
-value-returns-in_err-after t c =
-    let l = go (λ x. c.requires.ends) start c.in_ok-a.ensures in
-    let p = err_from_is_err_and c.from_residual-in_err-after.result c.from_residual-in_err-after.ensures.1 in
-    rw (p.1, p.2) (halt c.in_err-after.field-0.0 (λ x. omega arith) (λ x. refl)
-    l
-    c.in_err-after.ensures)
-
 pub value-returns : goal.value-returns
 value-returns t c =
-    let l = go (λ x. c.requires.ends) start c.in_ok-a.ensures in
-    go (λ x. omega arith) l c.in_ok-after.ensures
+    followed_by (all (expression c.args.nesting)) (lexemes c.args.tokens.now) c.expr.result c.followed.result c.args.end (λ x. x.0) (λ e. raw_expression e.value) (λ x. lexemes x.1.now) (λ x. c.requires.ends) c.followed.ensures.refused c.followed.ensures.kept c.followed.ensures.token c.expr.ensures

@@ -46,7 +46,7 @@ decreases-arguments-inside l = length l.rest
 -- what is left of the operators, after these
 abbrev pub invariant-chain-further : goal.invariant-chain-further
 invariant-chain-further l = record {
-  leads : Leads (suc (suc l.rank)) (all (level l.nesting (suc l.rank) l.used)) (lexemes l.tokens) (all (further l.nesting l.rank (raw_expression l.left) l.so_far)) (lexemes l.rest);
+  leads : Leads (suc (suc l.rank)) (all (level l.nesting (suc l.rank) l.used)) (lexemes l.tokens) (all (further l.nesting l.rank (raw_expression l.left.value) l.so_far)) (lexemes l.rest);
   used_in : l.so_far ≤ 32;
 }
 

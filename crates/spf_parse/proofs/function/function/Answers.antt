@@ -61,4 +61,4 @@ returns c =
     let l1 = go0 refl l0 c.in_ok-name.ensures in
     let l2 = go0 refl l1 c.in_ok-inner.ensures.answers in
     let l3 = go0 refl l2 c.in_ok-params.ensures in
-    rw (block_is, c.line_of-line.ensures) (go_rule0 (ended_statements 0 word.Return) (function_last (line_of (lexemes c.args.tokens.now)) (seen_name c.in_ok-name.name) (map seen_name c.in_ok-params.params.items)) l3 c.in_ok-body.ensures)
+    rw (block_is, c.line_of-line.ensures, c.into_inner.ensures) (go_rule0 (ended_statements 0 word.Return) (function_last (line_of (lexemes c.args.tokens.now)) (seen_name c.in_ok-name.name) (map seen_name c.in_ok-params.params.items)) l3 c.in_ok-body.ensures)

@@ -5,20 +5,20 @@ use Rattle.spf_text.specs.declared.token.TokenKind.TheVariants as kind
 use Rattle.spf_text.specs.declared.token.Sign.TheVariants as sign
 use Rattle.spf_text.specs.declared.token.Keyword.TheVariants as word
 use Rattle.spf_ast.specs.View.{name as seen_name}
-use Rattle.spf_ast.specs.RawView.{raw_statement}
+use Rattle.spf_ast.specs.RawView.{raw_statement, raw_expression}
 use Rattle.spf_ast.specs.declared.raw.RawFold.{out-RawFold, out-roll-RawFold}
 use Rattle.spf_ast.specs.declared.raw.RawPair.{out-RawPair, out-roll-RawPair}
 use Rattle.spf_ast.proofs.RawViews.{raw_statement-if, raw_statement-for, raw_statement-while, raw_statement-fold, raw_statement-pair}
 use Rattle.spf_grammar.specs.Lexemes.{lexemes}
-use Rattle.spf_grammar.specs.Parts.{give, form, block, otherwise, statement}
+use Rattle.spf_grammar.specs.Parts.{give, form, block, otherwise, statement, name}
 use Rattle.spf_grammar.specs.Rules as rules
 use Rattle.spf_grammar.specs.Rules.{all}
 use Rattle.spf_grammar.specs.Reading.{line_of}
 use Rattle.spf_parse.specs.Answers.{value_before, opened_statements, ended_statements, fold_opening, seen_head, stated}
 use Rattle.spf_parse.proofs.Steps.{start, go, halt, go0, halt0, go_rule, halt_rule, go_rule0, halt_rule0, ten_fourteen, twelve_fourteen, eleven_eleven, eleven_twelve, below_twelve, unfold_part, decide, through, through_rule}
-use Rattle.spf_parse.proofs.Tokens.{next_token, takes, none_fails, length_fails}
+use Rattle.spf_parse.proofs.Tokens.{next_token, takes, none_fails, length_fails, then_token, followed_by, followed_by0}
 use Rattle.spf_parse.proofs.Expressions.{regroup}
-use Rattle.spf_parse.proofs.Statements.{form_some, lined_read, lined_refuses, next_statement, statements_done, block_is, form_start, form_none, other_word, no_else, opened_below, fold_rest, fold_last, pair_last}
+use Rattle.spf_parse.proofs.Statements.{form_some, lined_read, lined_refuses, next_statement, statements_done, block_is, form_start, form_none, other_word, no_else, opened_below, fold_rest, fold_last, pair_rest}
 use Rattle.spf_parse.proofs.statement.+statement.Goals as goal
 
 pub if_form-returns-in_err-rest : goal.if_form-returns-in_err-rest
@@ -61,7 +61,7 @@ if_form-returns t c =
     let l1 = go (λ x. ten_fourteen) l0 c.in_ok-test.ensures in
     let l2 = go0 refl l1 c.in_ok-yes.ensures in
     let l3 = go (λ x. eleven_eleven) l2 c.in_ok-no.ensures in
-    rw (raw_statement-if c.in_ok-test.test c.in_ok-yes.yes c.in_ok-no.no) l3
+    rw (raw_statement-if c.into_inner.result c.in_ok-yes.yes c.in_ok-no.no, c.into_inner.ensures) l3
 
 pub for_form-returns-in_err-rest : goal.for_form-returns-in_err-rest
 for_form-returns-in_err-rest t c =
@@ -74,24 +74,14 @@ pub for_form-returns-in_err-x : goal.for_form-returns-in_err-x
 for_form-returns-in_err-x t c =
     let l0 = go0 refl (start {n = 11} {F = rules.for_form c.args.nesting}) c.in_ok-rest.ensures in
     let p = err_from_is_err_and c.from_residual-in_err-x.result c.from_residual-in_err-x.ensures.1 in
-    rw (p.1, p.2) (halt0 c.in_err-x.field-0.0 refl (λ x. refl)
+    rw (p.1, p.2) (halt_rule0 (then_token (all name) (kind.Keyword word.In)) _ c.in_err-x.field-0.0 (λ x. refl)
     l0
-    c.in_err-x.ensures)
-
-pub for_form-returns-in_err-range : goal.for_form-returns-in_err-range
-for_form-returns-in_err-range t c =
-    let l0 = go0 refl (start {n = 11} {F = rules.for_form c.args.nesting}) c.in_ok-rest.ensures in
-    let l1 = go0 refl l0 c.in_ok-x.ensures in
-    let p = err_from_is_err_and c.from_residual-in_err-range.result c.from_residual-in_err-range.ensures.1 in
-    rw (p.1, p.2) (halt0 c.in_err-range.field-0.0 refl (λ x. refl)
-    l1
-    c.in_err-range.ensures)
+    (followed_by0 (all name) (lexemes c.in_ok-rest.rest.now) c.name.result _ (kind.Keyword word.In) (λ x. x.0) seen_name (λ x. lexemes x.1.now) c.in_err-x.ensures.refused c.in_err-x.ensures.kept c.in_err-x.ensures.token c.name.ensures))
 
 pub for_form-returns-in_err-low : goal.for_form-returns-in_err-low
 for_form-returns-in_err-low t c =
     let l0 = go0 refl (start {n = 11} {F = rules.for_form c.args.nesting}) c.in_ok-rest.ensures in
-    let l1 = go0 refl l0 c.in_ok-x.ensures in
-    let l2 = go0 refl l1 c.in_ok-range.ensures in
+    let l2 = go_rule0 (then_token (all name) (kind.Keyword word.In)) _ l0 (followed_by0 (all name) (lexemes c.in_ok-rest.rest.now) c.name.result _ (kind.Keyword word.In) (λ x. x.0) seen_name (λ x. lexemes x.1.now) c.in_ok-x.ensures.refused c.in_ok-x.ensures.kept c.in_ok-x.ensures.token c.name.ensures) in
     let p = err_from_is_err_and c.from_residual-in_err-low.result c.from_residual-in_err-low.ensures.1 in
     rw (p.1, p.2) (halt_rule0 (value_before c.args.nesting (kind.Sign sign.DotDot)) _ c.in_err-low.field-0.0 (λ x. refl)
     l2
@@ -100,8 +90,7 @@ for_form-returns-in_err-low t c =
 pub for_form-returns-in_err-high : goal.for_form-returns-in_err-high
 for_form-returns-in_err-high t c =
     let l0 = go0 refl (start {n = 11} {F = rules.for_form c.args.nesting}) c.in_ok-rest.ensures in
-    let l1 = go0 refl l0 c.in_ok-x.ensures in
-    let l2 = go0 refl l1 c.in_ok-range.ensures in
+    let l2 = go_rule0 (then_token (all name) (kind.Keyword word.In)) _ l0 (followed_by0 (all name) (lexemes c.in_ok-rest.rest.now) c.name.result _ (kind.Keyword word.In) (λ x. x.0) seen_name (λ x. lexemes x.1.now) c.in_ok-x.ensures.refused c.in_ok-x.ensures.kept c.in_ok-x.ensures.token c.name.ensures) in
     let l3 = go_rule0 (value_before c.args.nesting (kind.Sign sign.DotDot)) _ l2 c.in_ok-low.ensures in
     let p = err_from_is_err_and c.from_residual-in_err-high.result c.from_residual-in_err-high.ensures.1 in
     rw (p.1, p.2) (halt c.in_err-high.field-0.0 (λ x. ten_fourteen) (λ x. refl)
@@ -111,8 +100,7 @@ for_form-returns-in_err-high t c =
 pub for_form-returns-in_err-body : goal.for_form-returns-in_err-body
 for_form-returns-in_err-body t c =
     let l0 = go0 refl (start {n = 11} {F = rules.for_form c.args.nesting}) c.in_ok-rest.ensures in
-    let l1 = go0 refl l0 c.in_ok-x.ensures in
-    let l2 = go0 refl l1 c.in_ok-range.ensures in
+    let l2 = go_rule0 (then_token (all name) (kind.Keyword word.In)) _ l0 (followed_by0 (all name) (lexemes c.in_ok-rest.rest.now) c.name.result _ (kind.Keyword word.In) (λ x. x.0) seen_name (λ x. lexemes x.1.now) c.in_ok-x.ensures.refused c.in_ok-x.ensures.kept c.in_ok-x.ensures.token c.name.ensures) in
     let l3 = go_rule0 (value_before c.args.nesting (kind.Sign sign.DotDot)) _ l2 c.in_ok-low.ensures in
     let l4 = go (λ x. ten_fourteen) l3 c.in_ok-high.ensures in
     let p = err_from_is_err_and c.from_residual-in_err-body.result c.from_residual-in_err-body.ensures.1 in
@@ -123,12 +111,11 @@ for_form-returns-in_err-body t c =
 pub for_form-returns : goal.for_form-returns
 for_form-returns t c =
     let l0 = go0 refl (start {n = 11} {F = rules.for_form c.args.nesting}) c.in_ok-rest.ensures in
-    let l1 = go0 refl l0 c.in_ok-x.ensures in
-    let l2 = go0 refl l1 c.in_ok-range.ensures in
+    let l2 = go_rule0 (then_token (all name) (kind.Keyword word.In)) _ l0 (followed_by0 (all name) (lexemes c.in_ok-rest.rest.now) c.name.result _ (kind.Keyword word.In) (λ x. x.0) seen_name (λ x. lexemes x.1.now) c.in_ok-x.ensures.refused c.in_ok-x.ensures.kept c.in_ok-x.ensures.token c.name.ensures) in
     let l3 = go_rule0 (value_before c.args.nesting (kind.Sign sign.DotDot)) _ l2 c.in_ok-low.ensures in
     let l4 = go (λ x. ten_fourteen) l3 c.in_ok-high.ensures in
     let l5 = go0 refl l4 c.in_ok-body.ensures in
-    rw (raw_statement-for c.in_ok-x.x c.in_ok-low.low c.in_ok-high.high c.in_ok-body.body) l5
+    rw (raw_statement-for c.in_ok-x.x c.into_inner.result c.into_inner-2.result c.in_ok-body.body, c.into_inner.ensures, c.into_inner-2.ensures) l5
 
 pub while_form-returns-in_err-rest : goal.while_form-returns-in_err-rest
 while_form-returns-in_err-rest t c =
@@ -170,7 +157,7 @@ while_form-returns t c =
     let l1 = go_rule0 (value_before c.args.nesting (kind.Keyword word.Max)) _ l0 c.in_ok-test.ensures in
     let l2 = go0 refl l1 c.in_ok-most.ensures in
     let l3 = go0 refl l2 c.in_ok-body.ensures in
-    rw (raw_statement-while c.in_ok-test.test c.in_ok-most.most c.in_ok-body.body) l3
+    rw (raw_statement-while c.into_inner.result c.in_ok-most.most c.in_ok-body.body, c.into_inner.ensures) l3
 
 pub fold_form-returns-in_err-head : goal.fold_form-returns-in_err-head
 fold_form-returns-in_err-head t c =
@@ -183,7 +170,7 @@ pub fold_form-returns-in_err-body : goal.fold_form-returns-in_err-body
 fold_form-returns-in_err-body t c =
     let l = go_rule {R = fold_opening c.args.nesting} (fold_rest c.args.nesting) (λ x. ten_fourteen) (start {n = 11} {F = rules.fold_form c.args.nesting}) c.in_ok-head.ensures in
     let p = err_from_is_err_and c.from_residual-in_err-body.result c.from_residual-in_err-body.ensures.1 in
-    rw (p.1, p.2) (halt_rule0 (ended_statements c.args.nesting word.Next) (fold_last (seen_head c.in_ok-head.head)) c.in_err-body.field-0.0 (λ x. refl)
+    rw (p.1, p.2) (halt_rule0 (ended_statements c.args.nesting word.Next) (fold_last (seen_head c.in_ok-head.head.value)) c.in_err-body.field-0.0 (λ x. refl)
     l
     c.in_err-body.ensures)
 
@@ -191,7 +178,7 @@ pub fold_form-returns : goal.fold_form-returns
 fold_form-returns t c =
     let l = go_rule {R = fold_opening c.args.nesting} (fold_rest c.args.nesting) (λ x. ten_fourteen) (start {n = 11} {F = rules.fold_form c.args.nesting}) c.in_ok-head.ensures in
     let made = ap out-RawFold c.in_ok-new.ensures.ok ∙ out-roll-RawFold _ in
-    rw (raw_statement-fold c.in_ok-new.field-0, made, block_is) (go_rule0 (ended_statements c.args.nesting word.Next) (fold_last (seen_head c.in_ok-head.head)) l c.in_ok-body.ensures)
+    rw (raw_statement-fold c.in_ok-new.field-0, made, block_is, c.into_inner-head.ensures, c.into_inner.ensures) (go_rule0 (ended_statements c.args.nesting word.Next) (fold_last (seen_head c.in_ok-head.head.value)) l c.in_ok-body.ensures)
 
 pub pair_form-returns-in_err-rest : goal.pair_form-returns-in_err-rest
 pair_form-returns-in_err-rest t c =
@@ -204,47 +191,24 @@ pub pair_form-returns-in_err-carried : goal.pair_form-returns-in_err-carried
 pair_form-returns-in_err-carried t c =
     let l0 = go0 refl (start {n = 11} {F = rules.pair_form c.args.nesting}) c.in_ok-rest.ensures in
     let p = err_from_is_err_and c.from_residual-in_err-carried.result c.from_residual-in_err-carried.ensures.1 in
-    rw (p.1, p.2) (halt0 c.in_err-carried.field-0.0 refl (λ x. refl)
+    rw (p.1, p.2) (halt_rule0 (then_token (all name) (kind.Sign sign.Assign)) _ c.in_err-carried.field-0.0 (λ x. refl)
     l0
-    c.in_err-carried.ensures)
-
-pub pair_form-returns-in_err-open_at : goal.pair_form-returns-in_err-open_at
-pair_form-returns-in_err-open_at t c =
-    let l0 = go0 refl (start {n = 11} {F = rules.pair_form c.args.nesting}) c.in_ok-rest.ensures in
-    let l1 = go0 refl l0 c.in_ok-carried.ensures in
-    let p = err_from_is_err_and c.from_residual-in_err-open_at.result c.from_residual-in_err-open_at.ensures.1 in
-    rw (p.1, p.2) (halt0 c.in_err-open_at.field-0.0 refl (λ x. refl)
-    l1
-    c.in_err-open_at.ensures)
+    (followed_by0 (all name) (lexemes c.in_ok-rest.rest.now) c.name.result _ (kind.Sign sign.Assign) (λ x. x.0) seen_name (λ x. lexemes x.1.now) c.in_err-carried.ensures.refused c.in_err-carried.ensures.kept c.in_err-carried.ensures.token c.name.ensures))
 
 pub pair_form-returns-in_err-producer : goal.pair_form-returns-in_err-producer
 pair_form-returns-in_err-producer t c =
     let l0 = go0 refl (start {n = 11} {F = rules.pair_form c.args.nesting}) c.in_ok-rest.ensures in
-    let l1 = go0 refl l0 c.in_ok-carried.ensures in
-    let l2 = go0 refl l1 c.in_ok-open_at.ensures in
+    let l2 = go_rule0 (then_token (all name) (kind.Sign sign.Assign)) _ l0 (followed_by0 (all name) (lexemes c.in_ok-rest.rest.now) c.name.result _ (kind.Sign sign.Assign) (λ x. x.0) seen_name (λ x. lexemes x.1.now) c.in_ok-carried.ensures.refused c.in_ok-carried.ensures.kept c.in_ok-carried.ensures.token c.name.ensures) in
     let p = err_from_is_err_and c.from_residual-in_err-producer.result c.from_residual-in_err-producer.ensures.1 in
-    rw (p.1, p.2) (halt_rule0 (ended_statements c.args.nesting word.Give) (pair_last c.args.nesting (seen_name c.in_ok-carried.carried)) c.in_err-producer.field-0.0 (λ x. refl)
+    rw (p.1, p.2) (halt_rule0 (then_token (ended_statements c.args.nesting word.Give) (kind.Keyword word.Predict)) (pair_rest c.args.nesting (seen_name c.in_ok-carried.carried)) c.in_err-producer.field-0.0 (λ x. refl)
     l2
-    c.in_err-producer.ensures)
-
-pub pair_form-returns-in_err-guess_at : goal.pair_form-returns-in_err-guess_at
-pair_form-returns-in_err-guess_at t c =
-    let l0 = go0 refl (start {n = 11} {F = rules.pair_form c.args.nesting}) c.in_ok-rest.ensures in
-    let l1 = go0 refl l0 c.in_ok-carried.ensures in
-    let l2 = go0 refl l1 c.in_ok-open_at.ensures in
-    let l = go_rule0 (ended_statements c.args.nesting word.Give) (pair_last c.args.nesting (seen_name c.in_ok-carried.carried)) l2 c.in_ok-producer.ensures in
-    let p = err_from_is_err_and c.from_residual-in_err-guess_at.result c.from_residual-in_err-guess_at.ensures.1 in
-    rw (p.1, p.2) (halt0 c.in_err-guess_at.field-0.0 refl (λ x. refl)
-    l
-    c.in_err-guess_at.ensures)
+    (followed_by0 (ended_statements c.args.nesting word.Give) (lexemes c.in_ok-carried.open_at.now) c.ended.result _ (kind.Keyword word.Predict) (λ x. x.0) (λ e. (map stated e.0.items, e.1, raw_expression e.2.value)) (λ x. lexemes x.1.now) c.in_err-producer.ensures.refused c.in_err-producer.ensures.kept c.in_err-producer.ensures.token c.ended.ensures))
 
 pub pair_form-returns-in_err-predict : goal.pair_form-returns-in_err-predict
 pair_form-returns-in_err-predict t c =
     let l0 = go0 refl (start {n = 11} {F = rules.pair_form c.args.nesting}) c.in_ok-rest.ensures in
-    let l1 = go0 refl l0 c.in_ok-carried.ensures in
-    let l2 = go0 refl l1 c.in_ok-open_at.ensures in
-    let l = go_rule0 (ended_statements c.args.nesting word.Give) (pair_last c.args.nesting (seen_name c.in_ok-carried.carried)) l2 c.in_ok-producer.ensures in
-    let m = go0 refl l c.in_ok-guess_at.ensures in
+    let l2 = go_rule0 (then_token (all name) (kind.Sign sign.Assign)) _ l0 (followed_by0 (all name) (lexemes c.in_ok-rest.rest.now) c.name.result _ (kind.Sign sign.Assign) (λ x. x.0) seen_name (λ x. lexemes x.1.now) c.in_ok-carried.ensures.refused c.in_ok-carried.ensures.kept c.in_ok-carried.ensures.token c.name.ensures) in
+    let m = go_rule0 (then_token (ended_statements c.args.nesting word.Give) (kind.Keyword word.Predict)) (pair_rest c.args.nesting (seen_name c.in_ok-carried.carried)) l2 (followed_by0 (ended_statements c.args.nesting word.Give) (lexemes c.in_ok-carried.open_at.now) c.ended.result _ (kind.Keyword word.Predict) (λ x. x.0) (λ e. (map stated e.0.items, e.1, raw_expression e.2.value)) (λ x. lexemes x.1.now) c.in_ok-producer.ensures.refused c.in_ok-producer.ensures.kept c.in_ok-producer.ensures.token c.ended.ensures) in
     let p = err_from_is_err_and c.from_residual-in_err-predict.result c.from_residual-in_err-predict.ensures.1 in
     rw (p.1, p.2) (halt c.in_err-predict.field-0.0 (λ x. ten_fourteen) (λ x. refl)
     m
@@ -253,10 +217,8 @@ pair_form-returns-in_err-predict t c =
 pub pair_form-returns-in_err-consumer : goal.pair_form-returns-in_err-consumer
 pair_form-returns-in_err-consumer t c =
     let l0 = go0 refl (start {n = 11} {F = rules.pair_form c.args.nesting}) c.in_ok-rest.ensures in
-    let l1 = go0 refl l0 c.in_ok-carried.ensures in
-    let l2 = go0 refl l1 c.in_ok-open_at.ensures in
-    let l = go_rule0 (ended_statements c.args.nesting word.Give) (pair_last c.args.nesting (seen_name c.in_ok-carried.carried)) l2 c.in_ok-producer.ensures in
-    let m = go0 refl l c.in_ok-guess_at.ensures in
+    let l2 = go_rule0 (then_token (all name) (kind.Sign sign.Assign)) _ l0 (followed_by0 (all name) (lexemes c.in_ok-rest.rest.now) c.name.result _ (kind.Sign sign.Assign) (λ x. x.0) seen_name (λ x. lexemes x.1.now) c.in_ok-carried.ensures.refused c.in_ok-carried.ensures.kept c.in_ok-carried.ensures.token c.name.ensures) in
+    let m = go_rule0 (then_token (ended_statements c.args.nesting word.Give) (kind.Keyword word.Predict)) (pair_rest c.args.nesting (seen_name c.in_ok-carried.carried)) l2 (followed_by0 (ended_statements c.args.nesting word.Give) (lexemes c.in_ok-carried.open_at.now) c.ended.result _ (kind.Keyword word.Predict) (λ x. x.0) (λ e. (map stated e.0.items, e.1, raw_expression e.2.value)) (λ x. lexemes x.1.now) c.in_ok-producer.ensures.refused c.in_ok-producer.ensures.kept c.in_ok-producer.ensures.token c.ended.ensures) in
     let n = go (λ x. ten_fourteen) m c.in_ok-predict.ensures in
     let p = err_from_is_err_and c.from_residual-in_err-consumer.result c.from_residual-in_err-consumer.ensures.1 in
     rw (p.1, p.2) (halt0 c.in_err-consumer.field-0.0 refl (λ x. refl)
@@ -266,13 +228,11 @@ pair_form-returns-in_err-consumer t c =
 pub pair_form-returns : goal.pair_form-returns
 pair_form-returns t c =
     let l0 = go0 refl (start {n = 11} {F = rules.pair_form c.args.nesting}) c.in_ok-rest.ensures in
-    let l1 = go0 refl l0 c.in_ok-carried.ensures in
-    let l2 = go0 refl l1 c.in_ok-open_at.ensures in
-    let l = go_rule0 (ended_statements c.args.nesting word.Give) (pair_last c.args.nesting (seen_name c.in_ok-carried.carried)) l2 c.in_ok-producer.ensures in
-    let m = go0 refl l c.in_ok-guess_at.ensures in
+    let l2 = go_rule0 (then_token (all name) (kind.Sign sign.Assign)) _ l0 (followed_by0 (all name) (lexemes c.in_ok-rest.rest.now) c.name.result _ (kind.Sign sign.Assign) (λ x. x.0) seen_name (λ x. lexemes x.1.now) c.in_ok-carried.ensures.refused c.in_ok-carried.ensures.kept c.in_ok-carried.ensures.token c.name.ensures) in
+    let m = go_rule0 (then_token (ended_statements c.args.nesting word.Give) (kind.Keyword word.Predict)) (pair_rest c.args.nesting (seen_name c.in_ok-carried.carried)) l2 (followed_by0 (ended_statements c.args.nesting word.Give) (lexemes c.in_ok-carried.open_at.now) c.ended.result _ (kind.Keyword word.Predict) (λ x. x.0) (λ e. (map stated e.0.items, e.1, raw_expression e.2.value)) (λ x. lexemes x.1.now) c.in_ok-producer.ensures.refused c.in_ok-producer.ensures.kept c.in_ok-producer.ensures.token c.ended.ensures) in
     let n = go (λ x. ten_fourteen) m c.in_ok-predict.ensures in
     let made = ap out-RawPair c.in_ok-new.ensures.ok ∙ out-roll-RawPair _ in
-    rw (raw_statement-pair c.in_ok-new.field-0, made, block_is c.in_ok-producer.producer.items) (go0 refl n c.in_ok-consumer.ensures)
+    rw (raw_statement-pair c.in_ok-new.field-0, made, block_is c.in_ok-producer.producer.items, c.into_inner.ensures, c.into_inner-2.ensures, c.in_ok-predict-2.ensures.ok) (go0 refl n c.in_ok-consumer.ensures)
 
 pub ended-returns-in_err-body : goal.ended-returns-in_err-body
 ended-returns-in_err-body t c =
@@ -294,19 +254,9 @@ ended-returns-in_err-a t c =
     let l0 = go_rule {R = opened_statements c.args.nesting} _ (λ x. c.requires.ends) start c.in_ok-body.ensures in
     let l1 = go0 refl l0 c.in_ok-last.ensures in
     let p = err_from_is_err_and c.from_residual-in_err-a.result c.from_residual-in_err-a.ensures.1 in
-    rw (p.1, p.2) (halt_rule0 (value_before (c.args.nesting + 1) (kind.Sign sign.Semicolon)) _ c.in_err-a.field-0.0 (λ x. refl)
+    rw (p.1, p.2) (halt_rule0 (then_token (value_before (c.args.nesting + 1) (kind.Sign sign.Semicolon)) (kind.Sign sign.CloseBrace)) _ c.in_err-a.field-0.0 (λ x. refl)
     l1
-    c.in_err-a.ensures)
-
-pub ended-returns-in_err-end : goal.ended-returns-in_err-end
-ended-returns-in_err-end t c =
-    let l0 = go_rule {R = opened_statements c.args.nesting} _ (λ x. c.requires.ends) start c.in_ok-body.ensures in
-    let l1 = go0 refl l0 c.in_ok-last.ensures in
-    let l2 = go_rule0 (value_before (c.args.nesting + 1) (kind.Sign sign.Semicolon)) _ l1 c.in_ok-a.ensures in
-    let p = err_from_is_err_and c.from_residual-in_err-end.result c.from_residual-in_err-end.ensures.1 in
-    rw (p.1, p.2) (halt0 c.in_err-end.field-0.0 refl (λ x. refl)
-    l2
-    c.in_err-end.ensures)
+    (followed_by0 (value_before (c.args.nesting + 1) (kind.Sign sign.Semicolon)) (lexemes c.in_ok-last.last.now) c.value.result _ (kind.Sign sign.CloseBrace) (λ x. x.0) (λ e. raw_expression e.value) (λ x. lexemes x.1.now) c.in_err-a.ensures.refused c.in_err-a.ensures.kept c.in_err-a.ensures.token c.value.ensures))
 
 pub ended-value-requires-clause-nesting_in : goal.ended-value-requires-clause-nesting_in
 ended-value-requires-clause-nesting_in t c =
@@ -316,29 +266,19 @@ pub ended-returns : goal.ended-returns
 ended-returns t c =
     let l0 = go_rule {R = opened_statements c.args.nesting} _ (λ x. c.requires.ends) start c.in_ok-body.ensures in
     let l1 = go0 refl l0 c.in_ok-last.ensures in
-    let l2 = go_rule0 (value_before (c.args.nesting + 1) (kind.Sign sign.Semicolon)) _ l1 c.in_ok-a.ensures in
-    let l3 = go0 refl l2 c.in_ok-end.ensures in
+    let l3 = go_rule0 (then_token (value_before (c.args.nesting + 1) (kind.Sign sign.Semicolon)) (kind.Sign sign.CloseBrace)) _ l1 (followed_by0 (value_before (c.args.nesting + 1) (kind.Sign sign.Semicolon)) (lexemes c.in_ok-last.last.now) c.value.result _ (kind.Sign sign.CloseBrace) (λ x. x.0) (λ e. raw_expression e.value) (λ x. lexemes x.1.now) c.in_ok-a.ensures.refused c.in_ok-a.ensures.kept c.in_ok-a.ensures.token c.value.ensures) in
     rw c.line_of-line.ensures l3
 
 pub block-returns-in_err-inside : goal.block-returns-in_err-inside
 block-returns-in_err-inside t c =
     let p = err_from_is_err_and c.from_residual.result c.from_residual.ensures.1 in
-    rw (p.1, p.2) (halt_rule 12 (opened_statements c.args.nesting) _ c.in_err-inside.field-0.0 (λ x. twelve_fourteen) (λ x. refl)
+    rw (p.1, p.2) (halt_rule0 (then_token (opened_statements c.args.nesting) (kind.Sign sign.CloseBrace)) _ c.in_err-inside.field-0.0 (λ x. refl)
     (unfold_part (block c.args.nesting) (λ x. give x) start)
-    c.in_err-inside.ensures)
-
-pub block-returns-in_err-end : goal.block-returns-in_err-end
-block-returns-in_err-end t c =
-    let l0 = go_rule {R = opened_statements c.args.nesting} _ (λ x. twelve_fourteen) (unfold_part (block c.args.nesting) (λ x. give x) start) c.in_ok-inside.ensures in
-    let p = err_from_is_err_and c.from_residual-in_err-end.result c.from_residual-in_err-end.ensures.1 in
-    rw (p.1, p.2) (halt0 c.in_err-end.field-0.0 refl (λ x. refl)
-    l0
-    c.in_err-end.ensures)
+    (followed_by (opened_statements c.args.nesting) (lexemes c.args.tokens.now) c.opened.result _ (kind.Sign sign.CloseBrace) (λ x. x.0) (λ v. map stated v.items) (λ x. lexemes x.1.now) (λ x. twelve_fourteen) c.in_err-inside.ensures.refused c.in_err-inside.ensures.kept c.in_err-inside.ensures.token c.opened.ensures))
 
 pub block-returns : goal.block-returns
 block-returns t c =
-    let l0 = go_rule {R = opened_statements c.args.nesting} _ (λ x. twelve_fourteen) (unfold_part (block c.args.nesting) (λ x. give x) start) c.in_ok-inside.ensures in
-    let l1 = go0 refl l0 c.in_ok-end.ensures in
+    let l1 = go_rule0 (then_token (opened_statements c.args.nesting) (kind.Sign sign.CloseBrace)) _ (unfold_part (block c.args.nesting) (λ x. give x) start) (followed_by (opened_statements c.args.nesting) (lexemes c.args.tokens.now) c.opened.result _ (kind.Sign sign.CloseBrace) (λ x. x.0) (λ v. map stated v.items) (λ x. lexemes x.1.now) (λ x. twelve_fourteen) c.in_ok-inside.ensures.refused c.in_ok-inside.ensures.kept c.in_ok-inside.ensures.token c.opened.ensures) in
     rw (block_is c.in_ok-inside.inside.items) l1
 
 pub otherwise-returns-in-Some : goal.otherwise-returns-in-Some

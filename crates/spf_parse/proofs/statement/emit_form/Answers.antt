@@ -25,4 +25,4 @@ pub returns : goal.returns
 returns c =
     let l0 = go0 refl start c.in_ok-rest.ensures in
     let l1 = go_rule0 (value_before c.args.nesting (kind.Sign sign.Semicolon)) _ l0 c.in_ok-a.ensures in
-    l1
+    rw c.into_inner.ensures l1

@@ -38,4 +38,4 @@ returns-in_err-g c =
 pub returns : goal.returns
 returns c =
     let b = no_host c.args.nesting c.in_default.ensures in
-    go (λ x. omega arith) b c.in_ok-g.ensures
+    rw c.into_inner.ensures (go (λ x. omega arith) b c.in_ok-g.ensures)
