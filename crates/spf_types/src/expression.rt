@@ -78,9 +78,10 @@ pub(crate) fn number<'a>(
     }
 }
 
-/// An expression that gives a number, in a box.
+/// An expression that gives a number, in a box. What waits for a later part is held so: where that part fails, a box is dropped by one
+/// call.
 #[cycle(number)]
-fn boxed<'a>(
+pub(crate) fn boxed<'a>(
     here: &Here<'_, 'a>,
     locals: &LocalTable<'a>,
     line: u32,
@@ -115,7 +116,8 @@ pub(crate) fn numbers<'a>(
 }
 
 /// A condition.
-pub(crate) fn truth<'a>(
+#[cycle(truth)]
+fn truth<'a>(
     here: &Here<'_, 'a>,
     locals: &LocalTable<'a>,
     line: u32,
@@ -131,20 +133,18 @@ pub(crate) fn truth<'a>(
             Ok(Cond::Compare(*test, left, right))
         }
         RawExpr::Both(first, second) => {
-            let first = truth(here, locals, line, first)?;
-            let second = truth(here, locals, line, second)?;
-            let first = Box::new(here.alloc, first)?;
-            Ok(Cond::Both(first, Box::new(here.alloc, second)?))
+            let first = boxed_truth(here, locals, line, first)?;
+            let second = boxed_truth(here, locals, line, second)?;
+            Ok(Cond::Both(first, second))
         }
         RawExpr::Either(first, second) => {
-            let first = truth(here, locals, line, first)?;
-            let second = truth(here, locals, line, second)?;
-            let first = Box::new(here.alloc, first)?;
-            Ok(Cond::Either(first, Box::new(here.alloc, second)?))
+            let first = boxed_truth(here, locals, line, first)?;
+            let second = boxed_truth(here, locals, line, second)?;
+            Ok(Cond::Either(first, second))
         }
         RawExpr::Not(inner) => {
-            let inner = truth(here, locals, line, inner)?;
-            Ok(Cond::Not(Box::new(here.alloc, inner)?))
+            let inner = boxed_truth(here, locals, line, inner)?;
+            Ok(Cond::Not(inner))
         }
         RawExpr::Local(name) => {
             used(here, locals, line, name)?;
@@ -166,21 +166,37 @@ pub(crate) fn truth<'a>(
     }
 }
 
-/// A predictor.
+/// A condition, in a box.
+#[cycle(truth)]
+pub(crate) fn boxed_truth<'a>(
+    here: &Here<'_, 'a>,
+    locals: &LocalTable<'a>,
+    line: u32,
+    raw: &'a RawExpr,
+) -> Result<Box<Cond>, TypeError>
+    ensures { Answers (expression_faults (setting here.now) (scope locals.now.locals) line a_truth (raw_expression raw.now))
+        (λ b. seen_condition b.value)
+        (resolved_condition here.now.globals.now locals.now.locals (raw_expression raw.now)) result }
+{
+    let cond = truth(here, locals, line, raw)?;
+    Ok(Box::new(here.alloc, cond)?)
+}
+
+/// A predictor, in a box.
 pub(crate) fn predictor<'a>(
     here: &Here<'_, 'a>,
     locals: &LocalTable<'a>,
     line: u32,
     raw: &'a RawPredict,
-) -> Result<Predict, TypeError>
+) -> Result<Box<Predict>, TypeError>
     ensures { Answers (predictor_faults (setting here.now) (scope locals.now.locals) line (raw_predictor raw.now))
-        seen_predictor (resolved_predictor here.now.globals.now locals.now.locals (raw_predictor raw.now)) result }
+        (λ b. seen_predictor b.value) (resolved_predictor here.now.globals.now locals.now.locals (raw_predictor raw.now)) result }
 {
     match raw {
         RawPredict::Expr(guess) => {
             let guess = number(here, locals, line, guess)?;
-            Ok(Predict::Expr(guess))
+            Ok(Box::new(here.alloc, Predict::Expr(guess))?)
         }
-        RawPredict::Host(number) => Ok(Predict::Host(*number)),
+        RawPredict::Host(number) => Ok(Box::new(here.alloc, Predict::Host(*number))?),
     }
 }

@@ -12,7 +12,7 @@ ghost use Rattle.spf_types.specs.Faults.{names_faults, fold_faults, predictor_fa
 ghost use Rattle.spf_types.specs.Resolved.{scope, fixed, resolved_expression, resolved_predictor};
 ghost use Rattle.spf_types.specs.Answers.{Answers};
 
-use crate::expression::{number, predictor};
+use crate::expression::{boxed, predictor};
 use crate::fault::{TypeError, TypeFault};
 use crate::locals::LocalTable;
 use crate::names::Here;
@@ -25,10 +25,10 @@ use spf_ast::syntax::{Expr, Predict};
 pub(crate) struct Header {
     pub carried: u32,
     pub block: u32,
-    pub start: Expr,
-    pub low: Expr,
-    pub high: Expr,
-    pub predict: Predict,
+    pub start: Box<Expr>,
+    pub low: Box<Expr>,
+    pub high: Box<Expr>,
+    pub predict: Box<Predict>,
 }
 
 /// Tests the two names of a fold.
@@ -61,11 +61,11 @@ fn guess<'a>(
     line: u32,
     raw: &'a RawFold,
     block: u32,
-) -> Result<Predict, TypeError>
+) -> Result<Box<Predict>, TypeError>
     requires { binding_of locals.old.locals (seen_name (out-RawFold raw.now).block) ≡ None }
     ensures answers { Answers (predictor_faults (setting here.now)
         (showing_fixed (seen_name (out-RawFold raw.now).block) (scope locals.old.locals)) line
-        (raw_fold_head raw.now).predict) seen_predictor
+        (raw_fold_head raw.now).predict) (λ b. seen_predictor b.value)
         (resolved_predictor here.now.globals.now
         (fixed (seen_name (out-RawFold raw.now).block) block ∷ locals.old.locals) (raw_fold_head raw.now).predict)
         result }
@@ -87,7 +87,7 @@ pub(crate) fn header_of<'a>(
 ) -> Result<Header, TypeError>
     ensures answers { Answers {A = Expression × Expression × Expression × Predictor}
         (fold_faults (setting here.now) (scope locals.old.locals) line (raw_fold_head raw.now))
-        (λ h. (seen_expression h.start, seen_expression h.low, seen_expression h.high, seen_predictor h.predict)) (
+        (λ h. (seen_expression h.start.value, seen_expression h.low.value, seen_expression h.high.value, seen_predictor h.predict.value)) (
           resolved_expression here.now.globals.now locals.old.locals (raw_fold_head raw.now).start,
           resolved_expression here.now.globals.now locals.old.locals (raw_fold_head raw.now).low,
           resolved_expression here.now.globals.now locals.old.locals (raw_fold_head raw.now).high,
@@ -106,9 +106,9 @@ pub(crate) fn header_of<'a>(
     ensures apart { IfOk result (λ _. bytes_eq (seen_name (out-RawFold raw.now).carried) (seen_name (out-RawFold raw.now).block) ≡ false) }
 {
     new_names(here, locals, line, raw)?;
-    let start = number(here, locals, line, &raw.start)?;
-    let low = number(here, locals, line, &raw.low)?;
-    let high = number(here, locals, line, &raw.high)?;
+    let start = boxed(here, locals, line, &raw.start)?;
+    let low = boxed(here, locals, line, &raw.low)?;
+    let high = boxed(here, locals, line, &raw.high)?;
     let carried = locals.declare(here.alloc, &raw.carried)?;
     let block = locals.declare(here.alloc, &raw.block)?;
     let predict = guess(here, locals, line, raw, block)?;

@@ -13,14 +13,14 @@ use std::collections::BTreeMap;
 use std::marker::Model;
 
 /// The slot of a local, and whether it may not be assigned.
-#[derive(Clone, Copy, Debug)]
+#[derive(Clone, Copy)]
 pub(crate) struct Binding {
     pub slot: u32,
     pub fixed: bool,
 }
 
 /// A local that may be used.
-#[derive(Clone, Copy, Debug)]
+#[derive(Clone, Copy)]
 pub(crate) struct Visible<'a> {
     pub name: &'a [u8],
     pub binding: Binding,

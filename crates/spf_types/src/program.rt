@@ -106,7 +106,7 @@ fn function_of<'a>(here: &Here<'_, 'a>, raw: &'a RawFunction) -> Result<Function
         params,
         slots: locals.into_slots(),
         body,
-        answer,
+        answer: Box::into_inner(answer),
         answer_line: raw.answer_line,
         line: raw.line,
     })

@@ -10,7 +10,7 @@ ghost use Rattle.spf_types.specs.Faults.{declared_faults, statement_faults};
 ghost use Rattle.spf_types.specs.Resolved.{scope, resolved_statement, after_statement};
 ghost use Rattle.spf_types.specs.Answers.{Answers};
 
-use crate::expression::{number, numbers};
+use crate::expression::{boxed, number, numbers};
 use crate::fault::{TypeError, TypeFault};
 use crate::locals::LocalTable;
 use crate::names::{Here, assigned, called, indexed};
@@ -50,10 +50,10 @@ pub(crate) fn declaration<'a>(
     ensures after { IfOk result (λ _. locals.new ≡ after_statement locals.old (raw_form.Let (seen_name name.now) (raw_expression value.now))) }
 {
     declarable(here, locals, line, name)?;
-    let value = number(here, locals, line, value)?;
+    let value = boxed(here, locals, line, value)?;
     let slot = locals.declare(here.alloc, name)?;
     locals.show(name, slot, false)?;
-    Ok(StmtKind::Let(slot, value))
+    Ok(StmtKind::Let(slot, Box::into_inner(value)))
 }
 
 /// An assignment.
@@ -89,9 +89,9 @@ pub(crate) fn store<'a>(
         (raw_form.Store (seen_name name.now) (raw_expression index.now) (raw_expression value.now))) result }
 {
     let array = indexed(here, locals, line, name)?;
-    let index = number(here, locals, line, index)?;
+    let index = boxed(here, locals, line, index)?;
     let value = number(here, locals, line, value)?;
-    Ok(StmtKind::Store(array, index, value))
+    Ok(StmtKind::Store(array, Box::into_inner(index), value))
 }
 
 /// A `fill`.
@@ -112,10 +112,10 @@ pub(crate) fn fill<'a>(
         (raw_expression value.now))) result }
 {
     let array = indexed(here, locals, line, name)?;
-    let low = number(here, locals, line, low)?;
-    let high = number(here, locals, line, high)?;
+    let low = boxed(here, locals, line, low)?;
+    let high = boxed(here, locals, line, high)?;
     let value = number(here, locals, line, value)?;
-    Ok(StmtKind::Fill(array, low, high, value))
+    Ok(StmtKind::Fill(array, Box::into_inner(low), Box::into_inner(high), value))
 }
 
 /// An `emit`.

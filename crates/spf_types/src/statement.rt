@@ -34,7 +34,7 @@ ghost use Rattle.spf_types.specs.Resolved.{
 };
 ghost use Rattle.spf_types.specs.Answers.{Answers};
 
-use crate::expression::{number, predictor, truth};
+use crate::expression::{boxed, boxed_truth, predictor};
 use crate::fault::TypeError;
 use crate::header::{Header, header_of};
 use crate::locals::LocalTable;
@@ -132,10 +132,10 @@ fn choice<'a>(
     ensures after { IfOk result (λ _. locals.new ≡ after_statement locals.old
         (raw_form.If (raw_expression test.now) (raw_block first.now) (raw_block second.now))) }
 {
-    let test = truth(here, locals, line, test)?;
+    let test = boxed_truth(here, locals, line, test)?;
     let first = inner(here, locals, first)?;
     let second = inner(here, locals, second)?;
-    Ok(StmtKind::If(test, first, second))
+    Ok(StmtKind::If(Box::into_inner(test), first, second))
 }
 
 /// A `for`.
@@ -159,14 +159,14 @@ fn counted<'a>(
         (raw_block body.now))) }
 {
     declarable(here, locals, line, name)?;
-    let low = number(here, locals, line, low)?;
-    let high = number(here, locals, line, high)?;
+    let low = boxed(here, locals, line, low)?;
+    let high = boxed(here, locals, line, high)?;
     let count = locals.count();
     let slot = locals.declare(here.alloc, name)?;
     locals.show(name, slot, true)?;
     let body = block(here, locals, body)?;
     locals.close(count);
-    Ok(StmtKind::For(slot, low, high, body))
+    Ok(StmtKind::For(slot, Box::into_inner(low), Box::into_inner(high), body))
 }
 
 /// A `while`.
@@ -185,9 +185,9 @@ fn repeated<'a>(
         (raw_form.While (raw_expression test.now) most (raw_block body.now))) result }
     ensures after { IfOk result (λ _. locals.new ≡ after_statement locals.old (raw_form.While (raw_expression test.now) most (raw_block body.now))) }
 {
-    let test = truth(here, locals, line, test)?;
+    let test = boxed_truth(here, locals, line, test)?;
     let body = inner(here, locals, body)?;
-    Ok(StmtKind::While(test, most, body))
+    Ok(StmtKind::While(Box::into_inner(test), most, body))
 }
 
 /// Statements, and then a number on a line. The locals may not be used after it.
@@ -198,9 +198,9 @@ pub(crate) fn valued<'a>(
     raw: &'a [RawStmt],
     line: u32,
     value: &'a RawExpr,
-) -> Result<(Vec<Stmt>, Expr), TypeError>
+) -> Result<(Vec<Stmt>, Box<Expr>), TypeError>
     ensures answers { Answers {A = Block × Expression} (valued_faults (setting here.now) (scope locals.old.locals)
-        (raw_block raw.now) line (raw_expression value.now)) (λ p. (seen_block p.0.items, seen_expression p.1)) (
+        (raw_block raw.now) line (raw_expression value.now)) (λ p. (seen_block p.0.items, seen_expression p.1.value)) (
           resolved_block here.now.globals.now locals.old.locals (length locals.old.slots) (raw_block raw.now),
           resolved_expression here.now.globals.now
               (locals_at_end locals.old.locals (length locals.old.slots) (raw_block raw.now))
@@ -210,7 +210,7 @@ pub(crate) fn valued<'a>(
 {
     let count = locals.count();
     let statements = block(here, locals, raw)?;
-    let value = number(here, locals, line, value)?;
+    let value = boxed(here, locals, line, value)?;
     locals.close(count);
     Ok((statements, value))
 }
@@ -223,7 +223,7 @@ fn folded<'a>(
     raw: &'a RawFold,
     carried: u32,
     block: u32,
-) -> Result<(Vec<Stmt>, Expr), TypeError>
+) -> Result<(Vec<Stmt>, Box<Expr>), TypeError>
     requires carried { binding_of locals.old.locals (seen_name (out-RawFold raw.now).carried) ≡ None }
     requires block { binding_of locals.old.locals (seen_name (out-RawFold raw.now).block) ≡ None }
     requires apart { bytes_eq (seen_name (out-RawFold raw.now).carried) (seen_name (out-RawFold raw.now).block) ≡ false }
@@ -231,7 +231,7 @@ fn folded<'a>(
         ∷ fixed (seen_name (out-RawFold raw.now).carried) carried ∷ locals.old.locals in
         Answers {A = Block × Expression} (valued_faults (setting here.now) (scope inside)
         (raw_block (out-RawFold raw.now).body.items) (out-RawFold raw.now).next_line
-        (raw_expression (out-RawFold raw.now).next)) (λ p. (seen_block p.0.items, seen_expression p.1)) (
+        (raw_expression (out-RawFold raw.now).next)) (λ p. (seen_block p.0.items, seen_expression p.1.value)) (
           resolved_block here.now.globals.now inside (length locals.old.slots)
               (raw_block (out-RawFold raw.now).body.items),
           resolved_expression here.now.globals.now
@@ -321,28 +321,28 @@ fn pair<'a>(
 }
 
 /// A fold of these parts.
-fn fold_of(header: Header, body: Vec<Stmt>, next: Expr, next_line: u32) -> Fold
+fn fold_of(header: Header, body: Vec<Stmt>, next: Box<Expr>, next_line: u32) -> Fold
     ensures head { fold_head result ≡ record {
       carried = header.carried;
-      start = seen_expression header.start;
+      start = seen_expression header.start.value;
       block = header.block;
-      low = seen_expression header.low;
-      high = seen_expression header.high;
-      predict = seen_predictor header.predict;
-      next = seen_expression next;
+      low = seen_expression header.low.value;
+      high = seen_expression header.high.value;
+      predict = seen_predictor header.predict.value;
+      next = seen_expression next.value;
       next_line = next_line;
     } }
     ensures body { (out-Fold result).body ≡ body }
 {
     Fold {
         carried: header.carried,
-        start: header.start,
+        start: Box::into_inner(header.start),
         block: header.block,
-        low: header.low,
-        high: header.high,
-        predict: header.predict,
+        low: Box::into_inner(header.low),
+        high: Box::into_inner(header.high),
+        predict: Box::into_inner(header.predict),
         body,
-        next,
+        next: Box::into_inner(next),
         next_line,
     }
 }
@@ -351,21 +351,21 @@ fn fold_of(header: Header, body: Vec<Stmt>, next: Expr, next_line: u32) -> Fold
 fn pair_of(
     carried: u32,
     producer: Vec<Stmt>,
-    give: Expr,
+    give: Box<Expr>,
     give_line: u32,
-    predict: Predict,
+    predict: Box<Predict>,
     consumer: Vec<Stmt>,
 ) -> Pair
-    ensures head { pair_head result ≡ record { carried = carried; give = seen_expression give; give_line = give_line; predict = seen_predictor predict } }
+    ensures head { pair_head result ≡ record { carried = carried; give = seen_expression give.value; give_line = give_line; predict = seen_predictor predict.value } }
     ensures producer { (out-Pair result).producer ≡ producer }
     ensures consumer { (out-Pair result).consumer ≡ consumer }
 {
     Pair {
         carried,
         producer,
-        give,
+        give: Box::into_inner(give),
         give_line,
-        predict,
+        predict: Box::into_inner(predict),
         consumer,
     }
 }

@@ -3,7 +3,7 @@ use Rattle.std.proofs.lemmas.Grind.{common_steps}
 use Rattle.std.proofs.lemmas.List.{length-map}
 use Rattle.std.proofs.lemmas.Result.{err_from_is_err_and}
 use Rattle.spf_ast.specs.Syntax.{Block, Expression}
-use Rattle.spf_ast.specs.View.{name}
+use Rattle.spf_ast.specs.View.{name, expression}
 use Rattle.spf_ast.specs.RawView.{raw_expression, raw_block}
 use Rattle.spf_types.specs.HereView.{setting}
 use Rattle.spf_types.proofs.Programs.{from_none, params_none, valued_is, function_form}
@@ -29,5 +29,5 @@ returns c =
     let bytes : c.in_ok-bytes.bytes.items ≡ raw.name.bytes.items = grind (arith, common_steps) in
     let params : c.in_ok-params.params ≡ length (map name raw.params.items) = (c.in_ok-params.ensures {u = tt}).value ∙ c.len.ensures ∙ search rules ∙ sym (length-map raw.params.items name) in (
       none_in _ _ (params_none (setting c.args.here.now) c.make-locals.result raw.line _ (map name raw.params.items) c.make-locals.ensures.locals names o.answers.0) (valued_is (setting c.args.here.now) c.parameters.new.locals (map name raw.params.items) (raw_block raw.body.items) raw.answer_line (raw_expression raw.answer) now ∙ v.answers.0),
-      function_form c.args.here.now.globals.now c.parameters.new.locals raw (record { name = record { bytes = c.in_ok-bytes.bytes }; params = c.in_ok-params.params; slots = c.into_slots.result; body = c.in_ok-body.body; answer = c.in_ok-body.answer; answer_line = raw.answer_line; line = raw.line }) now bytes params (c.into_slots.ensures ∙ ap (λ z. z.slots) v.after) (ap (λ (z : Block × Expression). z.0) v.answers.1) (ap (λ (z : Block × Expression). z.1) v.answers.1) refl refl,
+      function_form c.args.here.now.globals.now c.parameters.new.locals raw (record { name = record { bytes = c.in_ok-bytes.bytes }; params = c.in_ok-params.params; slots = c.into_slots.result; body = c.in_ok-body.body; answer = c.into_inner.result; answer_line = raw.answer_line; line = raw.line }) now bytes params (c.into_slots.ensures ∙ ap (λ z. z.slots) v.after) (ap (λ (z : Block × Expression). z.0) v.answers.1) (ap expression c.into_inner.ensures ∙ ap (λ (z : Block × Expression). z.1) v.answers.1) refl refl,
     )

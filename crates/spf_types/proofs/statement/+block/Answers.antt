@@ -3,7 +3,7 @@ use Rattle.std.proofs.lemmas.Result.{err_from_is_err_and}
 use Rattle.spf_ast.specs.declared.raw.RawFold.{out-RawFold}
 use Rattle.spf_ast.specs.declared.raw.RawPair.{out-RawPair}
 use Rattle.spf_ast.specs.Syntax.{Expression, Predictor, Block}
-use Rattle.spf_ast.specs.View.{name}
+use Rattle.spf_ast.specs.View.{name, expression, condition}
 use Rattle.spf_ast.specs.RawView.{raw_expression, raw_block, raw_fold_head, raw_pair_head, raw_predictor}
 use Rattle.spf_types.specs.HereView.{setting}
 use Rattle.spf_types.specs.Locals.{Seen}
@@ -48,7 +48,7 @@ choice-returns-clause-answers t c =
     let a = c.in_ok-first.ensures {u = tt} in
     let b = rw a.after at (c.in_ok-second.ensures {u = tt}).answers in (
       none_in _ _ (c.in_ok-test.ensures {u = tt}).0 (none_in _ _ a.answers.0 b.0),
-      if_form c.args.here.now.globals.now c.args.locals.now c.inner.new.locals c.in_ok-test.test c.in_ok-first.first c.in_ok-second.second (raw_expression c.args.test.now) (raw_block c.args.first.now) (raw_block c.args.second.now) (names_in (raw_block c.args.first.now)) a.after refl (c.in_ok-test.ensures {u = tt}).1 a.answers.1 (c.in_ok-second.ensures {u = tt}).answers.1,
+      if_form c.args.here.now.globals.now c.args.locals.now c.inner.new.locals c.into_inner.result c.in_ok-first.first c.in_ok-second.second (raw_expression c.args.test.now) (raw_block c.args.first.now) (raw_block c.args.second.now) (names_in (raw_block c.args.first.now)) a.after refl (ap condition c.into_inner.ensures ∙ (c.in_ok-test.ensures {u = tt}).1) a.answers.1 (c.in_ok-second.ensures {u = tt}).answers.1,
     )
 
 pub counted-returns-clause-answers : goal.counted-returns-clause-answers
@@ -56,7 +56,7 @@ counted-returns-clause-answers t c =
     let s = shown c.args.locals.now c.declare.new.self c.show.new.self (fixed (name c.args.name.now) c.in_ok-slot.slot) (name c.args.name.now) (c.in_ok-slot.ensures {u = tt}).declared (c.in_ok-show.ensures {u = tt}).shown in
     let b = (c.in_ok-body.ensures {u = tt}).answers in (
       none_in _ _ (c.in_ok-declarable.ensures {u = tt}).answers.0 (none_in _ _ (c.in_ok-low.ensures {u = tt}).0 (none_in _ _ (c.in_ok-high.ensures {u = tt}).0 (ap (λ (z : Seen). block_faults (setting c.args.here.now) (scope z.locals) (raw_block c.args.body.now)) (sym s) ∙ b.0))),
-      for_form c.args.here.now.globals.now c.args.locals.now c.show.new.self (name c.args.name.now) c.in_ok-slot.slot c.in_ok-low.low c.in_ok-high.high c.in_ok-body.body (raw_expression c.args.low.now) (raw_expression c.args.high.now) (raw_block c.args.body.now) s (c.in_ok-slot.ensures {u = tt}).slot (c.in_ok-low.ensures {u = tt}).1 (c.in_ok-high.ensures {u = tt}).1 b.1,
+      for_form c.args.here.now.globals.now c.args.locals.now c.show.new.self (name c.args.name.now) c.in_ok-slot.slot c.into_inner.result c.into_inner-2.result c.in_ok-body.body (raw_expression c.args.low.now) (raw_expression c.args.high.now) (raw_block c.args.body.now) s (c.in_ok-slot.ensures {u = tt}).slot (ap expression c.into_inner.ensures ∙ (c.in_ok-low.ensures {u = tt}).1) (ap expression c.into_inner-2.ensures ∙ (c.in_ok-high.ensures {u = tt}).1) b.1,
     )
 
 pub counted-returns-clause-after : goal.counted-returns-clause-after
@@ -95,7 +95,7 @@ consumed-returns-clause-after t c =
 pub repeated-returns-clause-answers : goal.repeated-returns-clause-answers
 repeated-returns-clause-answers t c =
     let b = (c.in_ok-body.ensures {u = tt}).answers in
-    (none_in _ _ (c.in_ok-test.ensures {u = tt}).0 b.0, while_form c.args.here.now.globals.now c.args.locals.now c.in_ok-test.test c.args.most c.in_ok-body.body (raw_expression c.args.test.now) (raw_block c.args.body.now) (c.in_ok-test.ensures {u = tt}).1 b.1)
+    (none_in _ _ (c.in_ok-test.ensures {u = tt}).0 b.0, while_form c.args.here.now.globals.now c.args.locals.now c.into_inner.result c.args.most c.in_ok-body.body (raw_expression c.args.test.now) (raw_block c.args.body.now) (ap condition c.into_inner.ensures ∙ (c.in_ok-test.ensures {u = tt}).1) b.1)
 
 pub statement_kind-choice-requires : goal.statement_kind-choice-requires
 statement_kind-choice-requires t c =
@@ -185,7 +185,7 @@ fold-returns-clause-answers t c =
     let b = c.in_ok-body.ensures {u = tt} in
     let raw = out-RawFold c.args.raw.now in (
       none_in _ _ h.answers.0 (ap (λ (z : Seen). valued_faults (setting c.args.here.now) (in_body (scope z.locals) (name raw.carried) (name raw.block)) (raw_block raw.body.items) raw.next_line (raw_expression raw.next)) (sym h.after) ∙ b.answers.0),
-      fold_form c.args.here.now.globals.now c.args.locals.now c.header_of.new.locals (raw_fold_head c.args.raw.now) (raw_block raw.body.items) c.in_ok-new.field-0 c.fold_of-fold.result c.in_ok-header.header.carried c.in_ok-header.header.block c.args.line c.in_ok-header.header.start c.in_ok-header.header.low c.in_ok-header.header.high c.in_ok-body.next c.in_ok-header.header.predict c.in_ok-body.body (c.in_ok-new.ensures {u = tt}).ok c.fold_of-fold.ensures.head c.fold_of-fold.ensures.body h.slots.0 h.slots.1 h.after
+      fold_form c.args.here.now.globals.now c.args.locals.now c.header_of.new.locals (raw_fold_head c.args.raw.now) (raw_block raw.body.items) c.in_ok-new.field-0 c.fold_of-fold.result c.in_ok-header.header.carried c.in_ok-header.header.block c.args.line c.in_ok-header.header.start.value c.in_ok-header.header.low.value c.in_ok-header.header.high.value c.in_ok-body.next.value c.in_ok-header.header.predict.value c.in_ok-body.body (c.in_ok-new.ensures {u = tt}).ok c.fold_of-fold.ensures.head c.fold_of-fold.ensures.body h.slots.0 h.slots.1 h.after
           (ap (λ (z : Expression × Expression × Expression × Predictor). z.0) h.answers.1) (ap (λ (z : Expression × Expression × Expression × Predictor). z.1) h.answers.1) (ap (λ (z : Expression × Expression × Expression × Predictor). z.2) h.answers.1) (ap (λ (z : Expression × Expression × Expression × Predictor). z.3) h.answers.1)
           (ap (λ (z : Block × Expression). z.0) b.answers.1) (ap (λ (z : Block × Expression). z.1) b.answers.1),
     )
@@ -212,7 +212,7 @@ pair-returns-clause-answers t c =
           (none_in _ _ (ap (λ ls. valued_faults (setting c.args.here.now) (scope ls) (raw_block raw.producer.items) raw.give_line (raw_expression raw.give)) (sym e) ∙ p.answers.0)
           (none_in _ _ (ap (λ ls. predictor_faults (setting c.args.here.now) (scope ls) c.args.line (raw_predictor raw.predict)) (sym f) ∙ (c.in_ok-predict.ensures {u = tt}).0)
           (ap (λ ls. block_faults (setting c.args.here.now) (showing_fixed (name raw.carried) (scope ls)) (raw_block raw.consumer.items)) (sym f) ∙ b.answers.0))),
-      pair_form c.args.here.now.globals.now c.args.locals.now c.declare.new.self c.valued.new.locals (raw_pair_head c.args.raw.now) (raw_block raw.producer.items) (raw_block raw.consumer.items) c.in_ok-new.field-0 c.pair_of-pair.result c.in_ok-carried.carried c.in_ok-producer.give c.in_ok-predict.predict c.in_ok-producer.producer c.in_ok-consumer.consumer (c.in_ok-new.ensures {u = tt}).ok c.pair_of-pair.ensures.head c.pair_of-pair.ensures.producer c.pair_of-pair.ensures.consumer d.slot d.declared p.after
+      pair_form c.args.here.now.globals.now c.args.locals.now c.declare.new.self c.valued.new.locals (raw_pair_head c.args.raw.now) (raw_block raw.producer.items) (raw_block raw.consumer.items) c.in_ok-new.field-0 c.pair_of-pair.result c.in_ok-carried.carried c.in_ok-producer.give.value c.in_ok-predict.predict.value c.in_ok-producer.producer c.in_ok-consumer.consumer (c.in_ok-new.ensures {u = tt}).ok c.pair_of-pair.ensures.head c.pair_of-pair.ensures.producer c.pair_of-pair.ensures.consumer d.slot d.declared p.after
           (ap (λ (z : Block × Expression). z.0) p.answers.1) (ap (λ (z : Block × Expression). z.1) p.answers.1) (c.in_ok-predict.ensures {u = tt}).1 b.answers.1,
     )
 
