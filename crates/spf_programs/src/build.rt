@@ -1,5 +1,5 @@
 // Builds programs form by form. Each function says what its form is as plain data.
-ghost use Rattle.std.specs.Prelude.{◌≡◌, ◌+◌, ◌<◌, ◌≤◌, ◌^◌, List, map, IfOk};
+ghost use Rattle.std.specs.Prelude.{◌≡◌, [], ◌∷◌, ◌++◌, ◌+◌, ◌<◌, ◌≤◌, ◌^◌, List, map, IfOk};
 ghost use Rattle.spf_ast.specs.Syntax.{
   Input,
   Load,
@@ -16,9 +16,10 @@ ghost use Rattle.spf_ast.specs.Syntax.{
   Fold as fold_form,
   By,
   FoldHead,
+  end,
 };
 ghost use Rattle.spf_ast.specs.View.{expression, arguments, condition, statement, block, name as seen_name, array as seen_array};
-ghost use Rattle.spf_programs.specs.Writing.{number as number_form, blocks_for as blocks_form};
+ghost use Rattle.spf_programs.specs.Writing.{number as number_form, only as only_form, blocks_for as blocks_form};
 ghost use Rattle.spf_programs.specs.Built.{head_of, array_form};
 
 use spf_ast::syntax::{Array, Cond, Expr, Fold, Name, Op, Predict, Stmt, StmtKind, Test};
@@ -136,6 +137,34 @@ pub(crate) fn choose(line: u32, test: Cond, first: Vec<Stmt>, second: Vec<Stmt>)
         line,
         kind: StmtKind::If(test, first, second),
     }
+}
+
+/// A block of one statement.
+pub(crate) fn only(alloc: Global, first: Stmt) -> Result<Vec<Stmt>, AllocError>
+    ensures { IfOk result (λ v. v.items ≡ first ∷ []) }
+{
+    Ok(vec![in alloc; first]?)
+}
+
+/// A block with one statement more.
+pub(crate) fn then(before: Vec<Stmt>, next: Stmt) -> Result<Vec<Stmt>, AllocError>
+    ensures { IfOk result (λ v. v.items ≡ before.items ++ next ∷ []) }
+{
+    let mut block = before;
+    block.push(next)?;
+    Ok(block)
+}
+
+/// A block that is done only where the condition is true.
+pub(crate) fn when(
+    alloc: Global,
+    line: u32,
+    test: Cond,
+    body: Vec<Stmt>,
+) -> Result<Vec<Stmt>, AllocError>
+    ensures { IfOk result (λ v. block v.items ≡ only_form line (if_form (condition test) (block body.items) end)) }
+{
+    only(alloc, choose(line, test, body, Vec::new(alloc)))
 }
 
 /// A loop over numbers.

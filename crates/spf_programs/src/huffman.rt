@@ -36,7 +36,7 @@ ghost use Rattle.spf_programs.specs.Huffman.{
 
 use crate::build::{
     Blocks, assign, binary, blocks_for, call, choose, compare, count, declare, emit, fill, fold,
-    input, load, name, names, number, sized_array, store,
+    input, load, name, names, number, only, sized_array, store, then, when,
 };
 use crate::laws::programs_are_lawful;
 use spf_ast::syntax::{Cond, Expr, Function, Op, Program, Stmt, StmtKind, Test};
@@ -98,10 +98,10 @@ const OUT_PLACE: u32 = 11;
 fn with_bit(alloc: Global, state: u32, byte: u32, bit: u32) -> Result<Expr, AllocError>
     ensures { IfOk result (λ e. expression e ≡ bit_form state byte bit) }
 {
-    let moved = binary(alloc, Op::Mul, Expr::Local(state), number(2))?;
     let places = binary(alloc, Op::Sub, number(7), Expr::Local(bit))?;
     let shifted = binary(alloc, Op::Shr, Expr::Local(byte), places)?;
     let lowest = binary(alloc, Op::And, shifted, number(1))?;
+    let moved = binary(alloc, Op::Mul, Expr::Local(state), number(2))?;
     binary(alloc, Op::Add, moved, lowest)
 }
 
@@ -117,9 +117,9 @@ fn is_whole(alloc: Global, state: u32) -> Result<Cond, AllocError>
 fn bite_whole(alloc: Global) -> Result<Vec<Stmt>, AllocError>
     ensures { IfOk result (λ v. seen_block v.items ≡ bite_whole_form) }
 {
-    let again = vec![in alloc; assign(10, BITE_NEW, number(1))]?;
-    let choice = choose(10, is_whole(alloc, BITE_NEW)?, again, Vec::new(alloc));
-    Ok(vec![in alloc; choice]?)
+    let again = only(alloc, assign(10, BITE_NEW, number(1)))?;
+    let is_whole = is_whole(alloc, BITE_NEW)?;
+    when(alloc, 10, is_whole, again)
 }
 
 /// A bit in `bite`.
@@ -127,24 +127,28 @@ fn bite_bits(alloc: Global) -> Result<Vec<Stmt>, AllocError>
     ensures { IfOk result (λ v. seen_block v.items ≡ bite_bits_form) }
 {
     let bit = with_bit(alloc, BITE_NEW, BITE_BYTE, BITE_BIT)?;
+    let step = only(alloc, assign(7, BITE_NEW, bit))?;
+    let lost = only(alloc, assign(9, BITE_NEW, number(0)))?;
+    let whole = bite_whole(alloc)?;
     let is_lost = compare(alloc, Test::Gt, Expr::Local(BITE_NEW), number(65535))?;
-    let lost = vec![in alloc; assign(9, BITE_NEW, number(0))]?;
-    let end = choose(8, is_lost, lost, bite_whole(alloc)?);
+    let step = then(step, choose(8, is_lost, lost, whole))?;
     let is_found = compare(alloc, Test::Ne, Expr::Local(BITE_NEW), number(0))?;
-    let step = vec![in alloc; assign(7, BITE_NEW, bit), end]?;
-    Ok(vec![in alloc; choose(6, is_found, step, Vec::new(alloc))]?)
+    when(alloc, 6, is_found, step)
 }
 
 /// `bite`, which gives the state after a byte.
 fn bite(alloc: Global) -> Result<Function, AllocError>
     ensures { IfOk result (λ f. seen_function f ≡ bite_form) }
 {
-    let bits = count(5, BITE_BIT, number(0), number(8), bite_bits(alloc)?);
+    let bits = bite_bits(alloc)?;
     Ok(Function {
         name: name(alloc, b"bite")?,
         params: 2,
         slots: names(alloc, &[b"g", b"byte", b"h", b"j"])?,
-        body: vec![in alloc; declare(4, BITE_NEW, Expr::Local(BITE_STATE)), bits]?,
+        body: vec![in alloc;
+            declare(4, BITE_NEW, Expr::Local(BITE_STATE)),
+            count(5, BITE_BIT, number(0), number(8), bits),
+        ]?,
         answer: Expr::Local(BITE_NEW),
         answer_line: 13,
         line: 3,
@@ -157,29 +161,28 @@ fn look_byte(alloc: Global) -> Result<Vec<Stmt>, AllocError>
 {
     let place = binary(alloc, Op::Add, number(264), Expr::Local(LOOK_PLACE))?;
     let byte = input(alloc, place)?;
-    let bitten = call(BITE, vec![in alloc; Expr::Local(LOOK_STATE), byte]?);
+    let given = vec![in alloc; Expr::Local(LOOK_STATE), byte]?;
+    let step = only(alloc, assign(18, LOOK_STATE, call(BITE, given)))?;
     let is_inside = compare(alloc, Test::Ge, Expr::Local(LOOK_PLACE), number(0))?;
-    let step = vec![in alloc; assign(18, LOOK_STATE, bitten)]?;
-    Ok(vec![in alloc; choose(18, is_inside, step, Vec::new(alloc))]?)
+    when(alloc, 18, is_inside, step)
 }
 
 /// `look`, which decodes the 16 bytes before a place.
 fn look(alloc: Global) -> Result<Function, AllocError>
     ensures { IfOk result (λ f. seen_function f ≡ look_form) }
 {
+    let body = only(alloc, declare(16, LOOK_STATE, number(1)))?;
+    let byte = look_byte(alloc)?;
     let low = binary(alloc, Op::Sub, Expr::Local(LOOK_END), number(16))?;
-    let bytes = count(
-        17,
-        LOOK_PLACE,
-        low,
-        Expr::Local(LOOK_END),
-        look_byte(alloc)?,
-    );
+    let body = then(
+        body,
+        count(17, LOOK_PLACE, low, Expr::Local(LOOK_END), byte),
+    )?;
     Ok(Function {
         name: name(alloc, b"look")?,
         params: 1,
         slots: names(alloc, &[b"p", b"h", b"i"])?,
-        body: vec![in alloc; declare(16, LOOK_STATE, number(1)), bytes]?,
+        body,
         answer: Expr::Local(LOOK_STATE),
         answer_line: 20,
         line: 15,
@@ -190,15 +193,16 @@ fn look(alloc: Global) -> Result<Function, AllocError>
 fn table_entry(alloc: Global) -> Result<Vec<Stmt>, AllocError>
     ensures { IfOk result (λ v. seen_block v.items ≡ entry_form) }
 {
-    let place = binary(alloc, Op::Add, number(4), Expr::Local(SYMBOL))?;
-    let length = input(alloc, place)?;
-    let has_length = compare(alloc, Test::Eq, length, Expr::Local(LENGTH))?;
     let first = binary(alloc, Op::Shl, number(1), Expr::Local(LENGTH))?;
     let index = binary(alloc, Op::Add, first, Expr::Local(WORD))?;
     let symbol = binary(alloc, Op::Add, Expr::Local(SYMBOL), number(1))?;
+    let entry = only(alloc, store(26, CODE, index, symbol))?;
     let next = binary(alloc, Op::Add, Expr::Local(WORD), number(1))?;
-    let entry = vec![in alloc; store(26, CODE, index, symbol), assign(26, WORD, next)]?;
-    Ok(vec![in alloc; choose(26, has_length, entry, Vec::new(alloc))]?)
+    let entry = then(entry, assign(26, WORD, next))?;
+    let place = binary(alloc, Op::Add, number(4), Expr::Local(SYMBOL))?;
+    let length = input(alloc, place)?;
+    let has_length = compare(alloc, Test::Eq, length, Expr::Local(LENGTH))?;
+    when(alloc, 26, has_length, entry)
 }
 
 /// Fills the table of code words.
@@ -206,9 +210,12 @@ fn table(alloc: Global) -> Result<Stmt, AllocError>
     ensures line { IfOk result (λ s. s.line ≡ 24) }
     ensures kind { IfOk result (λ s. statement s.kind ≡ table_form) }
 {
+    let entry = table_entry(alloc)?;
     let longer = binary(alloc, Op::Mul, Expr::Local(WORD), number(2))?;
-    let symbols = count(25, SYMBOL, number(0), number(256), table_entry(alloc)?);
-    let words = vec![in alloc; symbols, assign(28, WORD, longer)]?;
+    let words = vec![in alloc;
+        count(25, SYMBOL, number(0), number(256), entry),
+        assign(28, WORD, longer),
+    ]?;
     Ok(count(24, LENGTH, number(1), number(16), words))
 }
 
@@ -248,8 +255,9 @@ fn sym_place(alloc: Global, size: u64) -> Result<Expr, AllocError>
     requires { size ≤ 65536 }
     ensures { IfOk result (λ e. expression e ≡ sym_place_form size) }
 {
+    let begin = bits_begin(alloc, size)?;
     let bytes = binary(alloc, Op::Mul, number(8), Expr::Local(PLACE))?;
-    let byte = binary(alloc, Op::Add, bits_begin(alloc, size)?, bytes)?;
+    let byte = binary(alloc, Op::Add, begin, bytes)?;
     binary(alloc, Op::Add, byte, Expr::Local(BIT))
 }
 
@@ -258,11 +266,11 @@ fn word_end(alloc: Global, size: u64) -> Result<Vec<Stmt>, AllocError>
     requires { size ≤ 65536 }
     ensures { IfOk result (λ v. seen_block v.items ≡ word_form size) }
 {
+    let place = sym_place(alloc, size)?;
     let found = load(alloc, CODE, Expr::Local(STATE))?;
-    let kept = store(40, SYM, sym_place(alloc, size)?, found);
-    let whole = vec![in alloc; kept, assign(40, STATE, number(1))]?;
-    let choice = choose(40, is_whole(alloc, STATE)?, whole, Vec::new(alloc));
-    Ok(vec![in alloc; choice]?)
+    let whole = vec![in alloc; store(40, SYM, place, found), assign(40, STATE, number(1))]?;
+    let is_whole = is_whole(alloc, STATE)?;
+    when(alloc, 40, is_whole, whole)
 }
 
 /// A bit of a block.
@@ -271,12 +279,13 @@ fn one_bit(alloc: Global, size: u64) -> Result<Vec<Stmt>, AllocError>
     ensures { IfOk result (λ v. seen_block v.items ≡ bit_block_form size) }
 {
     let bit = with_bit(alloc, STATE, BYTE, BIT)?;
+    let step = only(alloc, assign(38, STATE, bit))?;
+    let lost = only(alloc, assign(39, STATE, number(0)))?;
+    let end = word_end(alloc, size)?;
     let is_lost = compare(alloc, Test::Gt, Expr::Local(STATE), number(65535))?;
-    let lost = vec![in alloc; assign(39, STATE, number(0))]?;
-    let end = choose(39, is_lost, lost, word_end(alloc, size)?);
+    let step = then(step, choose(39, is_lost, lost, end))?;
     let is_found = compare(alloc, Test::Ne, Expr::Local(STATE), number(0))?;
-    let step = vec![in alloc; assign(38, STATE, bit), end]?;
-    Ok(vec![in alloc; choose(37, is_found, step, Vec::new(alloc))]?)
+    when(alloc, 37, is_found, step)
 }
 
 /// The bits of a byte.
@@ -284,11 +293,15 @@ fn byte_bits(alloc: Global, size: u64) -> Result<Vec<Stmt>, AllocError>
     requires { size ≤ 65536 }
     ensures { IfOk result (λ v. seen_block v.items ≡ bits_form size) }
 {
-    let behind = binary(alloc, Op::Add, number(264), block_begin(alloc, size)?)?;
+    let bit = one_bit(alloc, size)?;
+    let begin = block_begin(alloc, size)?;
+    let behind = binary(alloc, Op::Add, number(264), begin)?;
     let place = binary(alloc, Op::Add, behind, Expr::Local(PLACE))?;
     let byte = input(alloc, place)?;
-    let bits = count(36, BIT, number(0), number(8), one_bit(alloc, size)?);
-    Ok(vec![in alloc; declare(35, BYTE, byte), bits]?)
+    Ok(vec![in alloc;
+        declare(35, BYTE, byte),
+        count(36, BIT, number(0), number(8), bit),
+    ]?)
 }
 
 /// A byte of a block.
@@ -296,15 +309,11 @@ fn one_byte(alloc: Global, size: u64) -> Result<Vec<Stmt>, AllocError>
     requires { size ≤ 65536 }
     ensures { IfOk result (λ v. seen_block v.items ≡ byte_form size) }
 {
-    let place = binary(
-        alloc,
-        Op::Add,
-        block_begin(alloc, size)?,
-        Expr::Local(PLACE),
-    )?;
+    let bits = byte_bits(alloc, size)?;
+    let begin = block_begin(alloc, size)?;
+    let place = binary(alloc, Op::Add, begin, Expr::Local(PLACE))?;
     let is_inside = compare(alloc, Test::Lt, place, code_bytes(alloc)?)?;
-    let choice = choose(34, is_inside, byte_bits(alloc, size)?, Vec::new(alloc));
-    Ok(vec![in alloc; choice]?)
+    when(alloc, 34, is_inside, bits)
 }
 
 /// What a block does.
@@ -312,12 +321,13 @@ fn body(alloc: Global, size: u64) -> Result<Vec<Stmt>, AllocError>
     requires { size ≤ 65536 }
     ensures { IfOk result (λ v. seen_block v.items ≡ body_form size) }
 {
+    let byte = one_byte(alloc, size)?;
     let low = bits_begin(alloc, size)?;
     let high = bits_end(alloc, size)?;
     Ok(vec![in alloc;
         fill(31, SYM, low, high, number(0)),
         declare(32, STATE, Expr::Local(CARRIED)),
-        count(33, PLACE, number(0), number(size), one_byte(alloc, size)?),
+        count(33, PLACE, number(0), number(size), byte),
     ]?)
 }
 
@@ -328,13 +338,16 @@ fn blocks(alloc: Global, size: u64) -> Result<Stmt, AllocError>
     ensures line { IfOk result (λ s. s.line ≡ 30) }
     ensures kind { IfOk result (λ s. statement s.kind ≡ Fold (head_form size) (body_form size)) }
 {
+    let body = body(alloc, size)?;
+    let looked_from = vec![in alloc; block_begin(alloc, size)?]?;
     let bytes = code_bytes(alloc)?;
+    let count = blocks_for(alloc, bytes, size)?;
     let parts = Blocks {
         carried: CARRIED,
         start: number(1),
-        count: blocks_for(alloc, bytes, size)?,
-        guess: call(LOOK, vec![in alloc; block_begin(alloc, size)?]?),
-        body: body(alloc, size)?,
+        count,
+        guess: call(LOOK, looked_from),
+        body,
         next: Expr::Local(STATE),
         next_line: 45,
     };
@@ -367,13 +380,14 @@ fn symbol_out(alloc: Global) -> Result<Vec<Stmt>, AllocError>
 {
     let kept = load(alloc, SYM, Expr::Local(OUT_PLACE))?;
     let symbol = binary(alloc, Op::Sub, kept, number(1))?;
+    let written = only(alloc, emit(50, symbol))?;
     let more = binary(alloc, Op::Add, Expr::Local(GOT), number(1))?;
-    let written = vec![in alloc; emit(50, symbol), assign(50, GOT, more)]?;
+    let written = then(written, assign(50, GOT, more))?;
     let is_wanted = compare(alloc, Test::Lt, Expr::Local(GOT), Expr::Local(WANTED))?;
-    let choice = vec![in alloc; choose(50, is_wanted, written, Vec::new(alloc))]?;
+    let choice = when(alloc, 50, is_wanted, written)?;
     let ends = load(alloc, SYM, Expr::Local(OUT_PLACE))?;
     let is_end = compare(alloc, Test::Ne, ends, number(0))?;
-    Ok(vec![in alloc; choose(50, is_end, choice, Vec::new(alloc))]?)
+    when(alloc, 50, is_end, choice)
 }
 
 /// Writes the symbols.
@@ -381,8 +395,10 @@ fn symbols_out(alloc: Global) -> Result<Stmt, AllocError>
     ensures line { IfOk result (λ s. s.line ≡ 49) }
     ensures kind { IfOk result (λ s. statement s.kind ≡ symbols_form) }
 {
-    let bits = binary(alloc, Op::Mul, number(8), code_bytes(alloc)?)?;
-    Ok(count(49, OUT_PLACE, number(0), bits, symbol_out(alloc)?))
+    let symbol = symbol_out(alloc)?;
+    let bytes = code_bytes(alloc)?;
+    let bits = binary(alloc, Op::Mul, number(8), bytes)?;
+    Ok(count(49, OUT_PLACE, number(0), bits, symbol))
 }
 
 /// Traps where there are fewer symbols than the header wants.
@@ -390,12 +406,13 @@ fn too_few(alloc: Global) -> Result<Stmt, AllocError>
     ensures line { IfOk result (λ s. s.line ≡ 52) }
     ensures kind { IfOk result (λ s. statement s.kind ≡ too_few_form) }
 {
-    let is_short = compare(alloc, Test::Lt, Expr::Local(GOT), Expr::Local(WANTED))?;
     let fail = Stmt {
         line: 53,
         kind: StmtKind::Fail(1),
     };
-    Ok(choose(52, is_short, vec![in alloc; fail]?, Vec::new(alloc)))
+    let failed = only(alloc, fail)?;
+    let is_short = compare(alloc, Test::Lt, Expr::Local(GOT), Expr::Local(WANTED))?;
+    Ok(choose(52, is_short, failed, Vec::new(alloc)))
 }
 
 /// The statements of `main`.
@@ -404,14 +421,13 @@ fn statements(alloc: Global, size: u64) -> Result<Vec<Stmt>, AllocError>
     requires few { size ≤ 65536 }
     ensures { IfOk result (λ v. seen_block v.items ≡ main_form size) }
 {
-    let first = declare(23, WORD, number(0));
-    let table = table(alloc)?;
-    let blocks = blocks(alloc, size)?;
-    let want = declare(47, WANTED, wanted(alloc)?);
-    let got = declare(48, GOT, number(0));
-    let symbols = symbols_out(alloc)?;
-    let end = too_few(alloc)?;
-    Ok(vec![in alloc; first, table, blocks, want, got, symbols, end]?)
+    let block = only(alloc, declare(23, WORD, number(0)))?;
+    let block = then(block, table(alloc)?)?;
+    let block = then(block, blocks(alloc, size)?)?;
+    let block = then(block, declare(47, WANTED, wanted(alloc)?))?;
+    let block = then(block, declare(48, GOT, number(0)))?;
+    let block = then(block, symbols_out(alloc)?)?;
+    then(block, too_few(alloc)?)
 }
 
 /// The program's parts.
@@ -420,6 +436,8 @@ fn build(alloc: Global, size: u64) -> Result<Program, AllocError>
     requires few { size ≤ 65536 }
     ensures { IfOk result (λ p. seen_program p ≡ huffman_program size) }
 {
+    let functions = vec![in alloc; bite(alloc)?, look(alloc)?]?;
+    let main = statements(alloc, size)?;
     let code = sized_array(alloc, b"code", 0, 65536, 1)?;
     let sym = sized_array(alloc, b"sym", 8, 8 * size, 2)?;
     let slots: [&[u8]; 12] = [
@@ -427,9 +445,9 @@ fn build(alloc: Global, size: u64) -> Result<Program, AllocError>
     ];
     Ok(Program {
         arrays: vec![in alloc; code, sym]?,
-        functions: vec![in alloc; bite(alloc)?, look(alloc)?]?,
+        functions,
         slots: names(alloc, &slots)?,
-        main: statements(alloc, size)?,
+        main,
     })
 }
 

@@ -22,8 +22,8 @@ ghost use Rattle.spf_programs.specs.Lexer.{
 };
 
 use crate::build::{
-    Blocks, assign, binary, blocks_for, call, choose, compare, count, declare, emit, fill, fold,
-    input, load, name, names, number, sized_array, store,
+    Blocks, assign, binary, blocks_for, call, compare, count, declare, emit, fill, fold, input,
+    load, name, names, number, only, sized_array, store, then, when,
 };
 use crate::laws::programs_are_lawful;
 use spf_ast::syntax::{Expr, Function, Op, Program, Stmt, Test};
@@ -71,10 +71,10 @@ struct Sizes {
 fn entry_at(alloc: Global, sizes: Sizes, state: u32, place: u32) -> Result<Expr, AllocError>
     ensures { IfOk result (λ e. expression e ≡ entry_form sizes.classes sizes.machine state place) }
 {
-    let row = binary(alloc, Op::Mul, Expr::Local(state), number(sizes.classes))?;
     let behind = binary(alloc, Op::Add, number(sizes.machine), Expr::Local(place))?;
     let byte = input(alloc, behind)?;
     let class = input(alloc, binary(alloc, Op::Add, number(6), byte)?)?;
+    let row = binary(alloc, Op::Mul, Expr::Local(state), number(sizes.classes))?;
     let index = binary(alloc, Op::Add, row, class)?;
     let offset = binary(alloc, Op::Mul, number(2), index)?;
     binary(alloc, Op::Add, number(262), offset)
@@ -85,28 +85,24 @@ fn look_byte(alloc: Global, sizes: Sizes) -> Result<Vec<Stmt>, AllocError>
     ensures { IfOk result (λ v. seen_block v.items ≡ look_byte_form sizes.classes sizes.machine) }
 {
     let next = input(alloc, entry_at(alloc, sizes, LOOK_STATE, LOOK_PLACE)?)?;
+    let step = only(alloc, assign(5, LOOK_STATE, next))?;
     let is_inside = compare(alloc, Test::Ge, Expr::Local(LOOK_PLACE), number(0))?;
-    let step = vec![in alloc; assign(5, LOOK_STATE, next)]?;
-    Ok(vec![in alloc; choose(5, is_inside, step, Vec::new(alloc))]?)
+    when(alloc, 5, is_inside, step)
 }
 
 /// `look`, which runs the machine over the 32 bytes before a place.
 fn look(alloc: Global, sizes: Sizes) -> Result<Function, AllocError>
     ensures { IfOk result (λ f. seen_function f ≡ look_form sizes.classes sizes.machine) }
 {
+    let body = only(alloc, declare(3, LOOK_STATE, number(0)))?;
+    let byte = look_byte(alloc, sizes)?;
     let low = binary(alloc, Op::Sub, Expr::Local(LOOK_END), number(32))?;
-    let bytes = count(
-        4,
-        LOOK_PLACE,
-        low,
-        Expr::Local(LOOK_END),
-        look_byte(alloc, sizes)?,
-    );
+    let body = then(body, count(4, LOOK_PLACE, low, Expr::Local(LOOK_END), byte))?;
     Ok(Function {
         name: name(alloc, b"look")?,
         params: 1,
         slots: names(alloc, &[b"p", b"q", b"i"])?,
-        body: vec![in alloc; declare(3, LOOK_STATE, number(0)), bytes]?,
+        body,
         answer: Expr::Local(LOOK_STATE),
         answer_line: 7,
         line: 2,
@@ -144,25 +140,22 @@ fn step(alloc: Global, sizes: Sizes) -> Result<Vec<Stmt>, AllocError>
     ensures { IfOk result (λ v. seen_block v.items ≡ step_form sizes.classes sizes.machine) }
 {
     let entry = entry_at(alloc, sizes, STATE, PLACE)?;
-    let mark = input(
-        alloc,
-        binary(alloc, Op::Add, Expr::Local(ENTRY), number(1))?,
-    )?;
+    let block = only(alloc, declare(15, ENTRY, entry))?;
+    let behind = binary(alloc, Op::Add, Expr::Local(ENTRY), number(1))?;
+    let mark = input(alloc, behind)?;
+    let block = then(block, store(16, MARK, Expr::Local(PLACE), mark))?;
     let next = input(alloc, Expr::Local(ENTRY))?;
-    Ok(vec![in alloc;
-        declare(15, ENTRY, entry),
-        store(16, MARK, Expr::Local(PLACE), mark),
-        assign(17, STATE, next),
-    ]?)
+    then(block, assign(17, STATE, next))
 }
 
 /// A byte of a block.
 fn one_byte(alloc: Global, sizes: Sizes) -> Result<Vec<Stmt>, AllocError>
     ensures { IfOk result (λ v. seen_block v.items ≡ byte_form sizes.classes sizes.machine) }
 {
-    let is_inside = compare(alloc, Test::Lt, Expr::Local(PLACE), content(alloc, sizes)?)?;
-    let choice = choose(14, is_inside, step(alloc, sizes)?, Vec::new(alloc));
-    Ok(vec![in alloc; choice]?)
+    let step = step(alloc, sizes)?;
+    let content = content(alloc, sizes)?;
+    let is_inside = compare(alloc, Test::Lt, Expr::Local(PLACE), content)?;
+    when(alloc, 14, is_inside, step)
 }
 
 /// What a block does.
@@ -171,11 +164,12 @@ fn body(alloc: Global, sizes: Sizes) -> Result<Vec<Stmt>, AllocError>
 {
     let low = block_begin(alloc, sizes)?;
     let high = block_end(alloc, sizes)?;
-    let filled = fill(11, MARK, low, high, number(0));
+    let block = only(alloc, fill(11, MARK, low, high, number(0)))?;
+    let block = then(block, declare(12, STATE, Expr::Local(CARRIED)))?;
+    let byte = one_byte(alloc, sizes)?;
     let low = block_begin(alloc, sizes)?;
     let high = block_end(alloc, sizes)?;
-    let bytes = count(13, PLACE, low, high, one_byte(alloc, sizes)?);
-    Ok(vec![in alloc; filled, declare(12, STATE, Expr::Local(CARRIED)), bytes]?)
+    then(block, count(13, PLACE, low, high, byte))
 }
 
 /// The fold over blocks.
@@ -183,13 +177,16 @@ fn blocks(alloc: Global, sizes: Sizes) -> Result<Stmt, AllocError>
     ensures line { IfOk result (λ s. s.line ≡ 10) }
     ensures kind { IfOk result (λ s. statement s.kind ≡ Fold (head_form sizes.block sizes.machine) (body_form sizes.block sizes.classes sizes.machine)) }
 {
+    let body = body(alloc, sizes)?;
+    let looked_from = vec![in alloc; block_begin(alloc, sizes)?]?;
     let bytes = content(alloc, sizes)?;
+    let count = blocks_for(alloc, bytes, sizes.block)?;
     let parts = Blocks {
         carried: CARRIED,
         start: number(0),
-        count: blocks_for(alloc, bytes, sizes.block)?,
-        guess: call(LOOK, vec![in alloc; block_begin(alloc, sizes)?]?),
-        body: body(alloc, sizes)?,
+        count,
+        guess: call(LOOK, looked_from),
+        body,
         next: Expr::Local(STATE),
         next_line: 20,
     };
@@ -212,15 +209,13 @@ fn token(alloc: Global) -> Result<Vec<Stmt>, AllocError>
     ensures { IfOk result (λ v. seen_block v.items ≡ token_form) }
 {
     let mark = load(alloc, MARK, Expr::Local(OUT_PLACE))?;
+    let block = only(alloc, emit(24, mark))?;
     let highest = binary(alloc, Op::Shr, Expr::Local(OUT_PLACE), number(24))?;
+    let block = then(block, emit(25, highest))?;
+    let block = then(block, emit_place(alloc, 26, 16)?)?;
+    let block = then(block, emit_place(alloc, 27, 8)?)?;
     let lowest = binary(alloc, Op::And, Expr::Local(OUT_PLACE), number(255))?;
-    Ok(vec![in alloc;
-        emit(24, mark),
-        emit(25, highest),
-        emit_place(alloc, 26, 16)?,
-        emit_place(alloc, 27, 8)?,
-        emit(28, lowest),
-    ]?)
+    then(block, emit(28, lowest))
 }
 
 /// Writes the tokens.
@@ -228,22 +223,27 @@ fn output(alloc: Global, sizes: Sizes) -> Result<Stmt, AllocError>
     ensures line { IfOk result (λ s. s.line ≡ 22) }
     ensures kind { IfOk result (λ s. statement s.kind ≡ output_form sizes.machine) }
 {
+    let token = token(alloc)?;
     let mark = load(alloc, MARK, Expr::Local(OUT_PLACE))?;
     let is_token = compare(alloc, Test::Ne, mark, number(0))?;
-    let choice = vec![in alloc; choose(23, is_token, token(alloc)?, Vec::new(alloc))]?;
-    Ok(count(22, OUT_PLACE, number(0), content(alloc, sizes)?, choice))
+    let choice = when(alloc, 23, is_token, token)?;
+    let content = content(alloc, sizes)?;
+    Ok(count(22, OUT_PLACE, number(0), content, choice))
 }
 
 /// The program for these sizes.
 fn program_for(alloc: Global, sizes: Sizes) -> Result<Program, AllocError>
     ensures { IfOk result (λ p. seen_program p ≡ program_form sizes.block sizes.classes sizes.machine) }
 {
+    let functions = vec![in alloc; look(alloc, sizes)?]?;
+    let main = only(alloc, blocks(alloc, sizes)?)?;
+    let main = then(main, output(alloc, sizes)?)?;
     let marks = sized_array(alloc, b"mark", 1, sizes.block, 1)?;
     Ok(Program {
         arrays: vec![in alloc; marks]?,
-        functions: vec![in alloc; look(alloc, sizes)?]?,
+        functions,
         slots: names(alloc, &[b"s", b"k", b"q", b"i", b"e", b"i"])?,
-        main: vec![in alloc; blocks(alloc, sizes)?, output(alloc, sizes)?]?,
+        main,
     })
 }
 

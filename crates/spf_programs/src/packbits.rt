@@ -20,7 +20,7 @@ ghost use Rattle.spf_programs.specs.PackBits.{
 
 use crate::build::{
     Blocks, assign, binary, blocks_for, choose, compare, count, declare, emit, fill, fold, input,
-    load, names, number, sized_array, store,
+    load, names, number, only, sized_array, store, then, when,
 };
 use crate::laws::programs_are_lawful;
 use spf_ast::syntax::{Array, Expr, Op, Program, Stmt, Test};
@@ -65,15 +65,13 @@ fn header(alloc: Global) -> Result<Vec<Stmt>, AllocError>
     ensures { IfOk result (λ v. seen_block v.items ≡ header_form) }
 {
     let copies = binary(alloc, Op::Add, Expr::Local(BYTE), number(1))?;
-    let repeats = binary(alloc, Op::Sub, Expr::Local(BYTE), number(257))?;
+    let copy = only(alloc, assign(11, LEFT, copies))?;
     let is_copy = compare(alloc, Test::Lt, Expr::Local(BYTE), number(128))?;
+    let block = only(alloc, choose(10, is_copy, copy, Vec::new(alloc)))?;
+    let repeats = binary(alloc, Op::Sub, Expr::Local(BYTE), number(257))?;
+    let repeat = only(alloc, assign(14, LEFT, repeats))?;
     let is_repeat = compare(alloc, Test::Gt, Expr::Local(BYTE), number(128))?;
-    let copy = vec![in alloc; assign(11, LEFT, copies)]?;
-    let repeat = vec![in alloc; assign(14, LEFT, repeats)]?;
-    Ok(vec![in alloc;
-        choose(10, is_copy, copy, Vec::new(alloc)),
-        choose(13, is_repeat, repeat, Vec::new(alloc)),
-    ]?)
+    then(block, choose(13, is_repeat, repeat, Vec::new(alloc)))
 }
 
 /// A byte that is copied.
@@ -102,9 +100,10 @@ fn repeated(alloc: Global) -> Result<Vec<Stmt>, AllocError>
 fn data_byte(alloc: Global) -> Result<Vec<Stmt>, AllocError>
     ensures { IfOk result (λ v. seen_block v.items ≡ data_form) }
 {
+    let copied = copied(alloc)?;
+    let repeated = repeated(alloc)?;
     let is_copied = compare(alloc, Test::Gt, Expr::Local(LEFT), number(0))?;
-    let choice = choose(17, is_copied, copied(alloc)?, repeated(alloc)?);
-    Ok(vec![in alloc; choice]?)
+    only(alloc, choose(17, is_copied, copied, repeated))
 }
 
 /// A byte of the input.
@@ -112,9 +111,11 @@ fn one_byte(alloc: Global) -> Result<Vec<Stmt>, AllocError>
     ensures { IfOk result (λ v. seen_block v.items ≡ byte_form) }
 {
     let byte = input(alloc, Expr::Local(PLACE))?;
+    let block = only(alloc, declare(8, BYTE, byte))?;
+    let header = header(alloc)?;
+    let data = data_byte(alloc)?;
     let is_header = compare(alloc, Test::Eq, Expr::Local(LEFT), number(0))?;
-    let choice = choose(9, is_header, header(alloc)?, data_byte(alloc)?);
-    Ok(vec![in alloc; declare(8, BYTE, byte), choice]?)
+    then(block, choose(9, is_header, header, data))
 }
 
 /// The bytes of a block.
@@ -123,8 +124,9 @@ fn block_bytes(alloc: Global, size: u64) -> Result<Stmt, AllocError>
     ensures line { IfOk result (λ s. s.line ≡ 6) }
     ensures kind { IfOk result (λ s. statement s.kind ≡ bytes_form size) }
 {
+    let byte = one_byte(alloc)?;
     let is_inside = compare(alloc, Test::Lt, Expr::Local(PLACE), Expr::Len)?;
-    let byte = vec![in alloc; choose(7, is_inside, one_byte(alloc)?, Vec::new(alloc))]?;
+    let byte = when(alloc, 7, is_inside, byte)?;
     let low = block_begin(alloc, size)?;
     let high = block_end(alloc, size)?;
     Ok(count(6, PLACE, low, high, byte))
@@ -137,11 +139,9 @@ fn body(alloc: Global, size: u64) -> Result<Vec<Stmt>, AllocError>
 {
     let low = block_begin(alloc, size)?;
     let high = block_end(alloc, size)?;
-    Ok(vec![in alloc;
-        fill(4, TIMES, low, high, number(0)),
-        declare(5, LEFT, Expr::Local(CARRIED)),
-        block_bytes(alloc, size)?,
-    ]?)
+    let block = only(alloc, fill(4, TIMES, low, high, number(0)))?;
+    let block = then(block, declare(5, LEFT, Expr::Local(CARRIED)))?;
+    then(block, block_bytes(alloc, size)?)
 }
 
 /// The fold over blocks.
@@ -151,12 +151,14 @@ fn blocks(alloc: Global, size: u64) -> Result<Stmt, AllocError>
     ensures line { IfOk result (λ s. s.line ≡ 3) }
     ensures kind { IfOk result (λ s. statement s.kind ≡ Fold (head_form size) (body_form size)) }
 {
+    let body = body(alloc, size)?;
+    let count = blocks_for(alloc, Expr::Len, size)?;
     let parts = Blocks {
         carried: CARRIED,
         start: number(0),
-        count: blocks_for(alloc, Expr::Len, size)?,
+        count,
         guess: number(0),
-        body: body(alloc, size)?,
+        body,
         next: Expr::Local(LEFT),
         next_line: 27,
     };
@@ -169,9 +171,9 @@ fn output(alloc: Global) -> Result<Stmt, AllocError>
     ensures kind { IfOk result (λ s. statement s.kind ≡ output_form) }
 {
     let byte = input(alloc, Expr::Local(OUT_PLACE))?;
+    let emitted = only(alloc, emit(31, byte))?;
     let times = load(alloc, TIMES, Expr::Local(OUT_PLACE))?;
-    let emitted = vec![in alloc; emit(31, byte)]?;
-    let repeated = vec![in alloc; count(30, OUT_TURN, number(0), times, emitted)]?;
+    let repeated = only(alloc, count(30, OUT_TURN, number(0), times, emitted))?;
     Ok(count(29, OUT_PLACE, number(0), Expr::Len, repeated))
 }
 
@@ -183,11 +185,13 @@ pub fn packbits(alloc: Global, size: u64) -> Result<Program, AllocError>
     ensures lawful { IfOk result (λ p. IsLawful (seen_program p)) }
 {
     programs_are_lawful();
+    let main = only(alloc, blocks(alloc, size)?)?;
+    let main = then(main, output(alloc)?)?;
     let times = sized_array(alloc, b"rep", 1, size, 1)?;
     Ok(Program {
         arrays: vec![in alloc; times]?,
         functions: Vec::new(alloc),
         slots: names(alloc, &[b"s", b"k", b"t", b"i", b"b", b"i", b"j"])?,
-        main: vec![in alloc; blocks(alloc, size)?, output(alloc)?]?,
+        main,
     })
 }
