@@ -2,8 +2,6 @@ pub mod Performing
 pub mod PlainRuns
 pub mod Views
 pub mod RawViews
-pub mod Printing
-pub mod Repeating
 pub mod Leaving
 pub mod LawfulPrograms
 pub mod Unshared

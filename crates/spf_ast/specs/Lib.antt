@@ -19,5 +19,3 @@ pub mod Laws
 pub mod RawSyntax
 pub mod RawView
 pub mod Spelling
-pub mod Canonical
-pub mod Printing

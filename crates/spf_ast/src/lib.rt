@@ -1,7 +1,6 @@
 //! Programs, the words that they compute with, and what they mean.
 #![tactic(auto)]
 
-pub mod canonical;
 pub mod carried;
 pub mod construct;
 pub mod laws;

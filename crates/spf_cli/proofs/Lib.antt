@@ -1,7 +1,5 @@
 pub mod Decoders
 pub mod Lines
-pub mod OneAnswer
-pub mod OneVerdict
 pub mod Pieces
 pub mod Steps
 pub mod Verdicts

@@ -9,9 +9,9 @@ use Rattle.spf_grammar.specs.Texts.{IsProgramOf, IsUnexpectedAt, IsTooDeepAt}
 use Rattle.spf_parse.specs.declared.program.ParseError.{ParseError}
 use Rattle.spf_parse.specs.declared.program.ParseError.TheVariants as error
 use Rattle.spf_parse.specs.Refusals.{IsNoTokenText}
-use Rattle.spf_types.specs.declared.fault.TypeFault.{TypeFault}
-use Rattle.spf_types.specs.declared.fault.TypeError.{TypeError}
-use Rattle.spf_types.specs.declared.fault.TypeError.TheVariants as type
+use Rattle.spf_scopes.specs.declared.fault.TypeFault.{TypeFault}
+use Rattle.spf_scopes.specs.declared.fault.TypeError.{TypeError}
+use Rattle.spf_scopes.specs.declared.fault.TypeError.TheVariants as type
 use Rattle.spf_types.specs.Contract.{IsResolved, IsRefused}
 use Rattle.spf_cli.specs.Reading.{Refusal, text_too_long, bad_byte, number_too_large, unexpected, too_deep, on_line, Verdict, Says, Refuses, IsTextRefused, IsVerdict}
 use Rattle.spf_cli.specs.Unread.{refusal_of, seen_refusal, IsRefusalOf, IsUnread, IsAtByte, HasNoByteFault}

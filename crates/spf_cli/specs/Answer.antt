@@ -4,7 +4,7 @@ use Rattle.std.specs.Prelude.{ℕ, Bool, true, false, List, [], ◌∷◌, ◌++
 use Rattle.spf_ast.specs.Syntax.{Program}
 use Rattle.spf_ast.specs.Program.{Outcome, Done, Stopped}
 use Rattle.spf_ast.specs.Spelling.{spelled}
-use Rattle.spf_ast.specs.Canonical.{canonical_text}
+use Rattle.spf_canonical.specs.Canonical.{canonical_text}
 use Rattle.spf_region.specs.declared.range.Range.{Range}
 use Rattle.spf_check.specs.declared.rule.Rule.{Rule}
 use Rattle.spf_guess.specs.declared.stats.Stats.{Stats}

@@ -4,8 +4,8 @@ use Rattle.std.specs.Fmt.{decimal, signed_decimal}
 use Rattle.spf_ast.specs.declared.outcome.Trap.{Trap}
 use Rattle.spf_ast.specs.declared.outcome.TrapKind.{TrapKind}
 use Rattle.spf_ast.specs.declared.outcome.TrapKind.TheVariants as trap
-use Rattle.spf_types.specs.declared.fault.TypeFault.{TypeFault}
-use Rattle.spf_types.specs.declared.fault.TypeFault.TheVariants as fault
+use Rattle.spf_scopes.specs.declared.fault.TypeFault.{TypeFault}
+use Rattle.spf_scopes.specs.declared.fault.TypeFault.TheVariants as fault
 use Rattle.spf_ast.specs.Syntax.{Array}
 use Rattle.spf_region.specs.declared.range.Range.{Range}
 use Rattle.spf_check.specs.declared.rule.Rule.{Rule}

@@ -4,7 +4,7 @@ use Rattle.spf_text.specs.Tokens.{IsFaultyAt, BeginsNothing, BeginsTooLarge, max
 use Rattle.spf_ast.specs.Syntax.{Program}
 use Rattle.spf_ast.specs.RawSyntax.{RawProgram}
 use Rattle.spf_grammar.specs.Texts.{IsProgramOf, IsUnexpectedAt, IsTooDeepAt}
-use Rattle.spf_types.specs.declared.fault.TypeFault.{TypeFault}
+use Rattle.spf_scopes.specs.declared.fault.TypeFault.{TypeFault}
 use Rattle.spf_types.specs.Contract.{IsResolved, IsRefused}
 use Rattle.spf_cli.specs.Message.{byte_line, fault_line}
 

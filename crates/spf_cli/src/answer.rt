@@ -50,7 +50,6 @@ use crate::message::{
 };
 use crate::reading::{Unread, read_program, refusal_line};
 use crate::status::Status;
-use spf_ast::canonical::print;
 use spf_ast::outcome::Outcome;
 use spf_ast::syntax::{Array, Program};
 use spf_check::check::check;
@@ -65,6 +64,7 @@ use spf_layout::instance::Instance;
 use spf_layout::layout::RunError;
 use spf_predictors::Predictor;
 use spf_predictors::missing::first_missing;
+use spf_print::print;
 use spf_words::{Command, Options, WordsError, read_words};
 use std::alloc::{AllocError, Global};
 use std::sync::Wait;

@@ -1,43 +1,12 @@
-//! Laws about the answers of the program. Each is the contract of a function that does nothing.
-ghost use Rattle.spf_cli.specs.Laws.{RuleLaws, VerdictsAreTheSame, NoTextIsLeftUnjudged, NoneHasTwoAnswers, NoneIsLeftUnanswered};
+//! What the checker says of a program, as one law. It is the contract of a function that does nothing.
+ghost use Rattle.spf_cli.specs.Laws.{RuleLaws};
 
 use spf_check::laws::{one_explanation, one_first_refusal};
-use spf_formats::laws::{each_demo_input_is_generated_once, files_have_one_verdict};
-use spf_parse::laws::{texts_say_writable_programs, tokens_go_wrong_once};
-use spf_roundtrip::laws::tokens_are_of_one_program;
-use spf_text::laws::{each_text_has_tokens_or_one_fault, texts_determine_their_tokens};
-use spf_types::laws::each_raw_program_resolves_or_is_refused;
-use spf_words::laws::each_list_of_words_asks_for_one_command_or_none;
 
 /// One thing is said of each program: it is accepted or has one first refusal, and it has one explanation.
-pub(crate) fn rules_say_one_thing()
+pub fn rules_say_one_thing()
     ensures { RuleLaws }
 {
     one_first_refusal();
     one_explanation();
-}
-
-/// A text has at most one verdict, the program that it says or why it has none; and no text is left without one.
-pub fn each_text_has_one_verdict()
-    ensures one { VerdictsAreTheSame }
-    ensures left { NoTextIsLeftUnjudged }
-{
-    texts_determine_their_tokens();
-    each_text_has_tokens_or_one_fault();
-    tokens_are_of_one_program();
-    tokens_go_wrong_once();
-    texts_say_writable_programs();
-    each_raw_program_resolves_or_is_refused();
-}
-
-/// A list of words has at most one answer, with what is handed in and over any files, and none is left without an answer.
-pub fn each_list_of_words_has_one_answer()
-    ensures one { NoneHasTwoAnswers }
-    ensures left { NoneIsLeftUnanswered }
-{
-    rules_say_one_thing();
-    each_text_has_one_verdict();
-    files_have_one_verdict();
-    each_demo_input_is_generated_once();
-    each_list_of_words_asks_for_one_command_or_none();
 }

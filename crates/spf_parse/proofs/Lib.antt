@@ -1,12 +1,5 @@
-pub mod Beginnings
-pub mod Follows
-pub mod Completions
-pub mod Steps
-pub mod Tokens
-pub mod Expressions
-pub mod Statements
 pub mod Counting
-pub mod Functions
+pub mod Programs
 pub mod Texts
 pub mod Verdicts
 pub mod Writables

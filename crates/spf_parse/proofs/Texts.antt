@@ -8,7 +8,7 @@ use Rattle.spf_grammar.specs.Rules.{all}
 use Rattle.spf_grammar.specs.Reading.{Reads}
 use Rattle.spf_grammar.specs.Texts.{IsFront, place, CannotGoOn, IsUnexpected, IsTooDeep}
 use Rattle.spf_grammar.specs.Derivations.{Says, Reading}
-use Rattle.spf_parse.specs.Answers.{ahead, Leads, Faults}
+use Rattle.spf_rules.specs.Answers.{ahead, Leads, Faults}
 use Rattle.spf_parse.specs.Laws.{GoWrongOnce}
 use Rattle.spf_grammar.proofs.Derivations.{from_all, to_all, loosened}
 

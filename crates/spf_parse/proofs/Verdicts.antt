@@ -15,7 +15,7 @@ use Rattle.spf_grammar.specs.Reading.{Reads}
 use Rattle.spf_grammar.specs.Texts.{IsProgramOf, IsUnexpected, IsUnexpectedAt, IsTooDeep, IsTooDeepAt}
 use Rattle.spf_parse.specs.declared.program.ParseError.{ParseError}
 use Rattle.spf_parse.specs.declared.program.ParseError.TheVariants as parse
-use Rattle.spf_parse.specs.Answers.{Leads}
+use Rattle.spf_rules.specs.Answers.{Leads}
 use Rattle.spf_parse.specs.Refusals.{IsNoTokenText, as_refusal}
 use Rattle.spf_parse.proofs.Texts.{reads_is, only_is, whole_not_unexpected, whole_not_too_deep, unexpected_once, unexpected_not_deep, deep_once}
 

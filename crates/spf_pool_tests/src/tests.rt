@@ -7,7 +7,6 @@ use spf_pool::next::Next;
 use spf_pool::pool::Pool;
 use spf_pool::rule::Item;
 use std::alloc::{AllocError, Global};
-use std::test::Fail;
 use std::thread::{Threads, for_each_mut};
 
 /// A numbered item, of which nothing is asked.
@@ -30,23 +29,6 @@ struct Busy {
     sum: u64,
 }
 
-/// The number of the item that was found; 1000 stands for `Empty`, and 2000 for `Again`.
-fn number(found: Next<Numbered>) -> u64 {
-    match found {
-        Next::Got(item) => item.number,
-        Next::Empty => 1000,
-        Next::Again => 2000,
-    }
-}
-
-/// The number of the item that came back, or 0.
-fn refused(given: Result<(), Numbered>) -> u64 {
-    match given {
-        Ok(()) => 0,
-        Err(item) => item.number,
-    }
-}
-
 fn hands(alloc: Global, workers: u64, capacity: u64) -> Result<Vec<Busy>, AllocError>
     requires workers { (0 < workers) × (workers ≤ 64) }
     requires capacity { capacity ≤ 8192 }
@@ -64,6 +46,73 @@ fn hands(alloc: Global, workers: u64, capacity: u64) -> Result<Vec<Busy>, AllocE
         })?;
     }
     Ok(all)
+}
+
+/// A call of the hand with this index.
+#[derive(Clone, Copy)]
+enum Call {
+    /// It gives an item with this number.
+    Give(usize, u64),
+    /// It takes the next item.
+    Next(usize),
+}
+
+/// The number of the item that was found; 1000 stands for `Empty`, and 2000 for `Again`.
+fn number(found: Next<Numbered>) -> u64 {
+    match found {
+        Next::Got(item) => item.number,
+        Next::Empty => 1000,
+        Next::Again => 2000,
+    }
+}
+
+/// The number of the item that came back, or 0.
+fn refused(given: Result<(), Numbered>) -> u64 {
+    match given {
+        Ok(()) => 0,
+        Err(item) => item.number,
+    }
+}
+
+/// What a call answers; 3000 stands for a hand that there is not.
+fn answer(all: &mut [Busy], call: Call) -> u64 {
+    let (Call::Give(hand, _) | Call::Next(hand)) = call;
+    let Some(busy) = all.get_mut(hand) else {
+        return 3000;
+    };
+    match call {
+        Call::Give(_, number) => refused(busy.hand.give(Numbered { number })),
+        Call::Next(_) => number(busy.hand.next()),
+    }
+}
+
+/// The first of these calls that isn't answered as it is to be, and its answer, where hands of a new pool are called one after another.
+fn first_wrong(
+    alloc: Global,
+    workers: u64,
+    capacity: u64,
+    calls: &[(Call, u64)],
+) -> Result<Option<(usize, u64)>, AllocError>
+    requires workers { (0 < workers) × (workers ≤ 64) }
+    requires capacity { capacity ≤ 8192 }
+{
+    let mut all = hands(alloc, workers, capacity)?;
+    for (place, (call, wanted)) in calls.iter().enumerate() {
+        let found = answer(&mut all, *call);
+        if found != *wanted {
+            return Ok(Some((place, found)));
+        }
+    }
+    Ok(None)
+}
+
+/// Gives items with the numbers below `count`.
+fn give_below(busy: &mut Busy, count: u64) {
+    for number in 0..count {
+        if busy.hand.give(Numbered { number }).is_err() {
+            busy.refused = busy.refused.wrapping_add(1);
+        }
+    }
 }
 
 /// Gives an item, if one is to be given.
@@ -96,105 +145,116 @@ fn work(busy: &mut Busy) {
     }
 }
 
-fn in_threads<R: Threads + Sync>(rt: &R, all: &mut [Busy]) {
-    for_each_mut(rt, all, 4, &|_, busy| work(busy));
+/// How many items came back to each of four hands, and the number that it finds next.
+fn ends(all: &mut [Busy]) -> [(u64, u64); 4] {
+    let mut ends = [(0, 0); 4];
+    for (end, busy) in ends.iter_mut().zip(all) {
+        *end = (busy.refused, number(busy.hand.next()));
+    }
+    ends
 }
 
-#[test]
-fn one_hand_alone(rt: HostRuntime) -> Result<(), Fail> {
-    let mut all = hands(rt.alloc(), 1, 3)?;
-    assert!(rt; all.len() == 1);
-    let hand = &mut all[0].hand;
-    for i in 1..4u64 {
-        assert_eq!(rt; refused(hand.give(Numbered { number: i })), 0);
-    }
-    assert_eq!(rt; refused(hand.give(Numbered { number: 4 })), 4);
-    for i in 1..4u64 {
-        assert_eq!(rt; number(hand.next()), i);
-    }
-    assert_eq!(rt; number(hand.next()), 1000);
-    assert_eq!(rt; number(hand.next()), 1000);
-    assert_eq!(rt; refused(hand.give(Numbered { number: 5 })), 5);
-    Ok(())
-}
-
-#[test]
-fn a_thief_takes_the_oldest_item(rt: HostRuntime) -> Result<(), Fail> {
-    let mut all = hands(rt.alloc(), 2, 3)?;
-    assert!(rt; all.len() == 2);
-    for i in 1..4u64 {
-        assert_eq!(rt; refused(all[0].hand.give(Numbered { number: i })), 0);
-    }
-    assert_eq!(rt; refused(all[0].hand.give(Numbered { number: 4 })), 4);
-    assert_eq!(rt; number(all[1].hand.next()), 1);
-    assert_eq!(rt; number(all[0].hand.next()), 2);
-    assert_eq!(rt; number(all[0].hand.next()), 3);
-    assert_eq!(rt; number(all[0].hand.next()), 1000);
-    assert_eq!(rt; refused(all[0].hand.give(Numbered { number: 5 })), 5);
-    Ok(())
-}
-
-#[test]
-fn the_own_deque_comes_first(rt: HostRuntime) -> Result<(), Fail> {
-    let mut all = hands(rt.alloc(), 3, 8)?;
-    assert!(rt; all.len() == 3);
-    assert_eq!(rt; number(all[1].hand.next()), 1000);
-    for i in 1..3u64 {
-        assert_eq!(rt; refused(all[0].hand.give(Numbered { number: i })), 0);
-        assert_eq!(rt; refused(all[1].hand.give(Numbered { number: i + 70 })), 0);
-    }
-    assert_eq!(rt; number(all[1].hand.next()), 71);
-    assert_eq!(rt; number(all[0].hand.next()), 1);
-    assert_eq!(rt; number(all[2].hand.next()), 2);
-    assert_eq!(rt; number(all[0].hand.next()), 72);
-    assert_eq!(rt; number(all[1].hand.next()), 1000);
-    assert_eq!(rt; number(all[2].hand.next()), 1000);
-    Ok(())
-}
-
-// The items of one deque, taken by four threads: each once.
-#[test]
-fn four_threads_steal(rt: HostRuntime) -> Result<(), Fail> {
-    let mut all = hands(rt.alloc(), 4, 8192)?;
-    assert!(rt; all.len() == 4);
-    for i in 0..8192u64 {
-        assert!(rt; all[0].hand.give(Numbered { number: i }).is_ok());
-    }
-    in_threads(&rt, all.as_mut_slice());
+/// How many items were found, and the sum of their numbers.
+fn totals(all: &[Busy]) -> (u64, u64) {
     let mut count = 0u64;
     let mut sum = 0u64;
-    for busy in all.iter() {
+    for busy in all {
         count = count.wrapping_add(busy.count);
         sum = sum.wrapping_add(busy.sum);
     }
-    assert_eq!(rt; count, 8192);
-    assert_eq!(rt; sum, 8192 * 8191 / 2);
-    for busy in all.iter_mut() {
-        assert_eq!(rt; number(busy.hand.next()), 1000);
-    }
-    Ok(())
+    (count, sum)
 }
 
-// Each of four threads gives and takes; the last 8 items of each come back to it.
+/// What four threads leave: how many hands there are, how many items were found, with the sum of their numbers, and for each hand how
+/// many items came back to it and the number that it finds next.
+type Left = (usize, (u64, u64), [(u64, u64); 4]);
+
+/// What four threads leave, where the first hand gave so many items before, and each hand gives so many.
+fn in_four<R: Threads + Sync>(
+    rt: &R,
+    alloc: Global,
+    by_first: u64,
+    by_each: u64,
+) -> Result<Left, AllocError> {
+    let mut all = hands(alloc, 4, 8192)?;
+    if let Some(first) = all.first_mut() {
+        give_below(first, by_first);
+    }
+    for busy in all.iter_mut() {
+        busy.gives = by_each;
+    }
+    for_each_mut(rt, all.as_mut_slice(), 4, &|_, busy| work(busy));
+    Ok((all.len(), totals(&all), ends(&mut all)))
+}
+
 #[test]
-fn four_threads_give(rt: HostRuntime) -> Result<(), Fail> {
-    let mut all = hands(rt.alloc(), 4, 8192)?;
-    assert!(rt; all.len() == 4);
-    for busy in all.iter_mut() {
-        busy.gives = 8200;
-    }
-    in_threads(&rt, all.as_mut_slice());
-    let mut count = 0u64;
-    let mut sum = 0u64;
-    for busy in all.iter() {
-        assert_eq!(rt; busy.refused, 8);
-        count = count.wrapping_add(busy.count);
-        sum = sum.wrapping_add(busy.sum);
-    }
-    for busy in all.iter_mut() {
-        assert_eq!(rt; number(busy.hand.next()), 1000);
-    }
-    assert_eq!(rt; count, 4 * 8192);
-    assert_eq!(rt; sum, 4 * (8200 * 8199 / 2 - 28));
-    Ok(())
+fn hands_answer_in_turn(rt: HostRuntime) {
+    let alloc = rt.alloc();
+    // one hand alone
+    let alone = [
+        (Call::Give(0, 1), 0),
+        (Call::Give(0, 2), 0),
+        (Call::Give(0, 3), 0),
+        (Call::Give(0, 4), 4),
+        (Call::Next(0), 1),
+        (Call::Next(0), 2),
+        (Call::Next(0), 3),
+        (Call::Next(0), 1000),
+        (Call::Next(0), 1000),
+        (Call::Give(0, 5), 5),
+        (Call::Next(1), 3000),
+    ];
+    // a thief takes the oldest item
+    let thief = [
+        (Call::Give(0, 1), 0),
+        (Call::Give(0, 2), 0),
+        (Call::Give(0, 3), 0),
+        (Call::Give(0, 4), 4),
+        (Call::Next(1), 1),
+        (Call::Next(0), 2),
+        (Call::Next(0), 3),
+        (Call::Next(0), 1000),
+        (Call::Give(0, 5), 5),
+        (Call::Next(2), 3000),
+    ];
+    // the own deque comes first
+    let own_first = [
+        (Call::Next(1), 1000),
+        (Call::Give(0, 1), 0),
+        (Call::Give(1, 71), 0),
+        (Call::Give(0, 2), 0),
+        (Call::Give(1, 72), 0),
+        (Call::Next(1), 71),
+        (Call::Next(0), 1),
+        (Call::Next(2), 2),
+        (Call::Next(0), 72),
+        (Call::Next(1), 1000),
+        (Call::Next(2), 1000),
+        (Call::Next(3), 3000),
+    ];
+    assert_eq!(rt;
+        [
+            first_wrong(alloc, 1, 3, &alone),
+            first_wrong(alloc, 2, 3, &thief),
+            first_wrong(alloc, 3, 8, &own_first),
+        ],
+        [Ok(None), Ok(None), Ok(None)]
+    );
+}
+
+#[test]
+fn four_threads_take_each_item_once(rt: HostRuntime) {
+    let alloc = rt.alloc();
+    assert_eq!(rt;
+        [
+            // the items of one deque
+            in_four(&rt, alloc, 8192, 0),
+            // each gives and takes; the last 8 items of each come back to it
+            in_four(&rt, alloc, 0, 8200),
+        ],
+        [
+            Ok((4, (8192, 8192 * 8191 / 2), [(0, 1000); 4])),
+            Ok((4, (4 * 8192, 4 * (8200 * 8199 / 2 - 28)), [(8, 1000); 4])),
+        ]
+    );
 }

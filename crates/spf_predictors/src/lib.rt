@@ -16,6 +16,3 @@ pub use last::Last;
 pub use most::Most;
 pub use predictor::Predictor;
 pub use table::Table;
-
-#[cfg(test)]
-mod tests;

@@ -15,8 +15,8 @@ use Rattle.spf_ast.specs.RawSyntax.{RawExpression, Number, Local, Len, Input, Lo
 use Rattle.spf_ast.specs.RawSyntax.{RawPredictor, By, Host, RawFoldHead}
 use Rattle.spf_ast.specs.RawSyntax.{RawStatement, Let, Assign, Store, Fill, Emit, Fail, If, For, While, Do, Fold, Pair, RawBlock, end, on_line}
 use Rattle.spf_ast.specs.RawSyntax.{RawFunction, RawProgram}
-use Rattle.spf_ast.specs.Canonical as text
-use Rattle.spf_ast.specs.Canonical.{joined, line, deeper, level, op_level, comparison_level, unary_level, expression_text, arguments_text, further_arguments_text, predictor_text, fold_line, statement_text, otherwise_text, block_text, size_text, array_text, names_text, further_names_text, function_text, arrays_text, functions_text, main_text, canonical_text}
+use Rattle.spf_canonical.specs.Canonical as text
+use Rattle.spf_canonical.specs.Canonical.{joined, line, deeper, level, op_level, comparison_level, unary_level, expression_text, arguments_text, further_arguments_text, predictor_text, fold_line, statement_text, otherwise_text, block_text, size_text, array_text, names_text, further_names_text, function_text, arrays_text, functions_text, main_text, canonical_text}
 use Rattle.spf_roundtrip.proofs.Pieces.{fold_line as head_line}
 use Rattle.spf_roundtrip.proofs.Pieces.{w, s, count, space, newline, bytes, op_sign, test_sign, spaced, enclosed, of_expression, of_arguments, of_further, of_predictor, blanks, on_own_line, closing, close_line, range, let_line, assign_line, stored, store_line, fill_line, word_line, fail_line, opening, if_line, for_line, while_line, do_line, pair_line, consumer_line, else_line, array_line, function_line, of_statement, of_otherwise, of_block, of_size, of_array, of_names, of_further_names, of_function, of_arrays, of_functions, of_main, of_program}
 

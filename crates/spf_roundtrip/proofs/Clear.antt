@@ -12,9 +12,9 @@ use Rattle.spf_ast.specs.RawSyntax.{RawExpression}
 use Rattle.spf_grammar.specs.Lexemes.{Lexeme}
 use Rattle.spf_grammar.specs.Parts.{Part, token, many, lined, next_argument, form, array, next_parameter, function, statement, Value, Rule, give, part, either}
 use Rattle.spf_grammar.specs.Rules.{rank_of, expression_rule, level_rule, further_rule, compared_rule, operand_rule, arguments_rule, next_argument_rule, form_rule, block_rule, otherwise_rule, guess_rule, size_rule, array_rule, parameters_rule, next_parameter_rule, function_rule, program_rule, many_rule}
-use Rattle.spf_parse.specs.Answers.{reach, Stops, stop}
-use Rattle.spf_parse.proofs.Beginnings.{stops_at, ranked, may, begins}
-use Rattle.spf_parse.proofs.Follows.{Follows, operator_reach}
+use Rattle.spf_rules.specs.Answers.{reach, Stops, stop}
+use Rattle.spf_rules.proofs.Beginnings.{stops_at, ranked, may, begins}
+use Rattle.spf_rules.proofs.Follows.{Follows, operator_reach}
 
 -- ---- tests of every token
 

@@ -11,7 +11,7 @@ use Rattle.spf_grammar.specs.Parts.{program}
 use Rattle.spf_grammar.specs.Texts.{IsProgramOf}
 use Rattle.spf_grammar.proofs.Derivations.{loosened}
 use Rattle.spf_types.specs.Contract.{IsResolved}
-use Rattle.spf_types.specs.Resolved.{resolved}
+use Rattle.spf_scopes.specs.Resolved.{resolved}
 use Rattle.spf_types.specs.Laws.{SpellingsResolveToTheirPrograms}
 use Rattle.spf_roundtrip.specs.Laws.{program_without_lines, SaysButForLines, text_of}
 use Rattle.spf_roundtrip.specs.Lines as lines

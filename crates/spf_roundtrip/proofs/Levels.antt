@@ -11,8 +11,8 @@ use Rattle.spf_ast.specs.declared.syntax.Op.TheVariants as op
 use Rattle.spf_ast.specs.declared.syntax.Test.{Test}
 use Rattle.spf_ast.specs.declared.syntax.Test.TheVariants as test
 use Rattle.spf_ast.specs.RawSyntax.{RawExpression, Number, Local, Len, Input, Load, Call, Neg, Binary, Compare, Both, Either, Not, RawArguments, no_more, argument, arguments_of}
-use Rattle.spf_ast.specs.Canonical.{op_level, comparison_level, unary_level}
-use Rattle.spf_ast.specs.Canonical as text
+use Rattle.spf_canonical.specs.Canonical.{op_level, comparison_level, unary_level}
+use Rattle.spf_canonical.specs.Canonical as text
 use Rattle.spf_grammar.specs.Lexemes.{Lexeme}
 use Rattle.spf_grammar.specs.Parts.{token, opens, give, many, expression, level, further, compared, operand, arguments, next_argument, Rule}
 use Rattle.spf_grammar.specs.Rules.{rank_of, joined}

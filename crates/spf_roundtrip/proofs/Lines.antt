@@ -3,10 +3,10 @@ use Rattle.std.proofs.Common.{◌≡◌, ℕ, ◌+◌, List, [], ◌∷◌, ◌+
 use Rattle.spf_ast.specs.Syntax as s
 use Rattle.spf_ast.specs.Syntax.{Array, Function, Program}
 use Rattle.spf_ast.specs.RawSyntax.{RawStatement, Let, Assign, Store, Fill, Emit, Fail, If, For, While, Do, Fold, Pair, RawBlock, end, on_line, RawFunction, RawProgram}
-use Rattle.spf_types.specs.Globals.{Globals, globals_of}
-use Rattle.spf_types.specs.Locals.{Local}
-use Rattle.spf_types.specs.Resolved.{fixed, names_of, names_in, slots_in, locals_after, locals_at_end, body_locals, params_of, resolved_expression, resolved_condition, resolved_predictor, resolved_statement, resolved_block, resolved_function, resolved}
-use Rattle.spf_types.proofs.Tables.{map_twice}
+use Rattle.spf_scopes.specs.Globals.{Globals, globals_of}
+use Rattle.spf_scopes.specs.Locals.{Local}
+use Rattle.spf_scopes.specs.Resolved.{fixed, names_of, names_in, slots_in, locals_after, locals_at_end, body_locals, params_of, resolved_expression, resolved_condition, resolved_predictor, resolved_statement, resolved_block, resolved_function, resolved}
+use Rattle.spf_scopes.proofs.Tables.{map_twice}
 use Rattle.spf_roundtrip.specs.Laws as raw
 use Rattle.spf_roundtrip.specs.Lines as lines
 

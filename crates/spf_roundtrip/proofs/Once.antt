@@ -12,9 +12,9 @@ use Rattle.spf_grammar.specs.Rules.{expression_rule, level_rule, further_rule, c
 use Rattle.spf_grammar.specs.Reading.{reads, says, Reads}
 use Rattle.spf_grammar.specs.Derivations.{Says, Reading}
 use Rattle.spf_grammar.proofs.Derivations.{reads_map, raise}
-use Rattle.spf_parse.specs.Answers.{ahead, reach, Stops}
-use Rattle.spf_parse.proofs.Beginnings.{begins, begins_is, may_is, stops_all}
-use Rattle.spf_parse.proofs.Follows.{until}
+use Rattle.spf_rules.specs.Answers.{ahead, reach, Stops}
+use Rattle.spf_rules.proofs.Beginnings.{begins, begins_is, may_is, stops_all}
+use Rattle.spf_rules.proofs.Follows.{until}
 use Rattle.spf_roundtrip.proofs.Clear.{fuel, is_used, level_of, IsClosed, Ends, Closes, Precedes, IsClear, operand_clear, expression_clear, arguments_clear, next_argument_clear, form_clear, block_clear, otherwise_clear, guess_clear, size_clear, array_clear, parameters_clear, next_parameter_clear, function_clear, program_clear, statements_clear, arrays_clear, functions_clear, further_clear, compared_clear, level_clear}
 
 -- what a rule says by derivations of one depth, as by any

@@ -16,7 +16,7 @@ use Rattle.spf_ast.specs.RawSyntax.{RawExpression, Number, Local, Len, Input, Lo
 use Rattle.spf_ast.specs.RawSyntax.{RawPredictor, By, Host, RawFoldHead}
 use Rattle.spf_ast.specs.RawSyntax.{RawStatement, Let, Assign, Store, Fill, Emit, Fail, If, For, While, Do, Fold, Pair, RawBlock, end, on_line}
 use Rattle.spf_ast.specs.RawSyntax.{RawFunction, RawProgram}
-use Rattle.spf_ast.specs.Canonical.{level, op_level, comparison_level, unary_level, deeper}
+use Rattle.spf_canonical.specs.Canonical.{level, op_level, comparison_level, unary_level, deeper}
 
 -- ---- single pieces
 

@@ -6,7 +6,7 @@ use Rattle.spf_text.specs.declared.token.TokenKind.TheVariants as kind
 use Rattle.spf_text.specs.Tokens.{Piece, sign_spelling, word_spelling}
 use Rattle.spf_ast.specs.Syntax.{Array}
 use Rattle.spf_ast.specs.RawSyntax.{RawBlock, RawFunction, RawProgram}
-use Rattle.spf_ast.specs.Canonical.{deeper}
+use Rattle.spf_canonical.specs.Canonical.{deeper}
 use Rattle.spf_grammar.specs.Lexemes.{Lexeme}
 use Rattle.spf_grammar.specs.Parts.{token, opens, name as name_part, many, size, array, parameters, next_parameter, function, program}
 use Rattle.spf_grammar.specs.Rules.{block_of}

@@ -4,7 +4,7 @@ use Rattle.std.proofs.lemmas.List.{length-map}
 use Rattle.spf_text.specs.Tokens.{IsCut, tokens_at}
 use Rattle.spf_ast.specs.RawSyntax.{RawProgram}
 use Rattle.spf_ast.specs.Spelling.{IsWritable}
-use Rattle.spf_ast.specs.Canonical.{canonical_text}
+use Rattle.spf_canonical.specs.Canonical.{canonical_text}
 use Rattle.spf_grammar.specs.Lexemes.{lexeme_of, lexemes_of}
 use Rattle.spf_roundtrip.specs.Laws.{SaysButForLines}
 use Rattle.spf_roundtrip.proofs.Pieces.{bytes, of_program}

@@ -11,9 +11,9 @@ use Rattle.spf_grammar.specs.Rules.{rule, expression_rule, level_rule, further_r
 use Rattle.spf_grammar.specs.Reading.{reads, says, Reads}
 use Rattle.spf_grammar.specs.Texts.{IsFront, IsUnexpected, IsTooDeep}
 use Rattle.spf_grammar.proofs.Derivations.{raise}
-use Rattle.spf_parse.specs.Answers.{Stops}
-use Rattle.spf_parse.proofs.Beginnings.{begins, begins_is, may_is, stops_all}
-use Rattle.spf_parse.proofs.Completions.{sample, completes_part}
+use Rattle.spf_rules.specs.Answers.{Stops}
+use Rattle.spf_rules.proofs.Beginnings.{begins, begins_is, may_is, stops_all}
+use Rattle.spf_rules.proofs.Completions.{sample, completes_part}
 use Rattle.spf_roundtrip.proofs.Clear.{fuel, is_used, IsClosed, Ends, IsClear, operand_clear, expression_clear, arguments_clear, next_argument_clear, form_clear, block_clear, otherwise_clear, guess_clear, size_clear, array_clear, parameters_clear, next_parameter_clear, function_clear, program_clear, statements_clear, arrays_clear, functions_clear, further_clear, compared_clear, level_clear}
 use Rattle.spf_roundtrip.proofs.Once.{reading, precedes_is, sign_is, number_is, count_is, no_comma, BeginsWithComma, argument_comma, parameter_comma, list_stops}
 

@@ -6,7 +6,7 @@ use Rattle.spf_text.specs.declared.token.Sign.TheVariants as sign
 use Rattle.spf_text.specs.declared.token.TokenKind.TheVariants as kind
 use Rattle.spf_text.specs.Tokens.{Piece, sign_spelling, word_spelling}
 use Rattle.spf_ast.specs.RawSyntax.{RawExpression, RawArguments, RawPredictor, By, Host, RawFoldHead, RawPairHead, RawStatement, Let, Assign, Store, Fill, Emit, Fail, If, For, While, Do, Fold, Pair, RawBlock, end, on_line}
-use Rattle.spf_ast.specs.Canonical.{deeper}
+use Rattle.spf_canonical.specs.Canonical.{deeper}
 use Rattle.spf_grammar.specs.Lexemes.{Lexeme}
 use Rattle.spf_grammar.specs.Reading.{line_of}
 use Rattle.spf_grammar.specs.Parts.{token, opens, name as name_part, many, expression, form, block, otherwise, guess, statement, give}

@@ -17,7 +17,7 @@ use Rattle.spf_ast.specs.RawSyntax.{RawStatement, Let, Assign, Store, Fill, Emit
 use Rattle.spf_ast.specs.RawSyntax.{RawFunction, RawProgram}
 use Rattle.spf_ast.specs.Lawful.{IsName, IsNumber}
 use Rattle.spf_ast.specs.Spelling.{IsWritable, IsWritableExpression, AreWritableArguments, IsWritablePredictor, IsWritableStatement, IsWritableBlock, IsWritableArray, IsWritableFunction}
-use Rattle.spf_ast.specs.Canonical.{level, op_level, comparison_level, unary_level, deeper}
+use Rattle.spf_canonical.specs.Canonical.{level, op_level, comparison_level, unary_level, deeper}
 use Rattle.spf_roundtrip.proofs.Pieces.{fold_line}
 use Rattle.spf_roundtrip.proofs.Pieces.{w, s, name, space, newline, bytes, op_sign, test_sign, spaced, enclosed, of_expression, of_arguments, of_further, of_predictor, blanks, on_own_line, closing, close_line, range, let_line, assign_line, stored, store_line, fill_line, word_line, fail_line, opening, if_line, for_line, while_line, do_line, pair_line, consumer_line, else_line, of_statement, of_otherwise, of_block, of_size, of_array, array_line, of_names, of_further_names, function_line, of_function, of_arrays, of_functions, of_main, of_program}
 use Rattle.spf_roundtrip.proofs.Bytes.{bytes-append}

@@ -9,7 +9,7 @@ use Rattle.spf_ast.specs.Syntax.{Statement, Let, Assign, Store, Fill, Emit, Fail
 use Rattle.spf_ast.specs.Meaning.{count_of}
 use Rattle.spf_ast.specs.Lawful.{IsName, IsNumber, Names, Scope, behind, showing_fixed, scope_after, scope_at_end, in_body, in_predictor, declared, declared_in, IsCallable, IsLawfulExpression, AreLawfulArguments, IsLawfulCondition, IsLawfulPredictor, IsLawfulStatement, IsLawfulBlock, IsLawfulFunction, IsScoped, names_at, parameters}
 use Rattle.spf_ast.specs.Spelling.{Vocabulary, vocabulary, name_at, spelled_expression, spelled_arguments, spelled_condition, spelled_predictor, spelled_statement, spelled_block, spelled_function, spelled, IsWritableExpression, AreWritableArguments, IsWritablePredictor, IsWritableStatement, IsWritableBlock, IsWritableFunction, IsWritableArray, IsWritable}
-use Rattle.spf_types.proofs.Sound.{contains_cases, all_none, all_more}
+use Rattle.spf_typing.proofs.Sound.{contains_cases, all_none, all_more}
 use Rattle.spf_types.proofs.SoundPrograms.{range_in}
 
 -- ---- names

@@ -6,7 +6,7 @@ use Rattle.spf_ast.specs.Syntax.{Array, Program}
 use Rattle.spf_ast.specs.RawSyntax.{RawStatement, If, For, While, Fold, Pair, RawBlock, end, on_line, RawFunction, RawProgram}
 use Rattle.spf_ast.specs.Lawful.{IsScoped}
 use Rattle.spf_ast.specs.Spelling.{spelled, IsWritable}
-use Rattle.spf_ast.specs.Canonical.{canonical_text}
+use Rattle.spf_canonical.specs.Canonical.{canonical_text}
 use Rattle.spf_grammar.specs.Lexemes.{Lexeme, lexemes_of}
 use Rattle.spf_grammar.specs.Reading.{Reads}
 use Rattle.spf_grammar.specs.Texts.{IsProgramOf, IsUnexpected, IsTooDeep}

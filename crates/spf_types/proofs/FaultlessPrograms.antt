@@ -10,18 +10,18 @@ use Rattle.spf_ast.specs.Syntax.{Array, Function, Program}
 use Rattle.spf_ast.specs.RawSyntax.{RawFunction}
 use Rattle.spf_ast.specs.Lawful.{Names, AreDifferent, IsNew, IsLawfulFunction, IsScoped, names_at, parameters, declared_in}
 use Rattle.spf_ast.specs.Spelling.{Vocabulary, vocabulary, spelled_function, spelled}
-use Rattle.spf_types.specs.declared.fault.TypeFault.TheVariants.{Twice}
-use Rattle.spf_types.specs.declared.globals.Outer.TheVariants as outer
-use Rattle.spf_types.specs.Names.{has, place_in}
-use Rattle.spf_types.specs.Globals.{Globals, either, global_named}
-use Rattle.spf_types.specs.Faults.{Setting, Scope, showing, when, params_faults, scope_of, function_faults, arrays_faults, functions_faults, faults}
-use Rattle.spf_types.proofs.Tables.{same_bytes}
-use Rattle.spf_types.proofs.Steps.{none_in}
-use Rattle.spf_types.proofs.Sound.{contains_here, contains_there, contains_cases}
-use Rattle.spf_types.proofs.SoundStatements.{Stand, stand_left}
+use Rattle.spf_scopes.specs.declared.fault.TypeFault.TheVariants.{Twice}
+use Rattle.spf_scopes.specs.declared.globals.Outer.TheVariants as outer
+use Rattle.spf_scopes.specs.Names.{has, place_in}
+use Rattle.spf_scopes.specs.Globals.{Globals, either, global_named}
+use Rattle.spf_scopes.specs.Faults.{Setting, Scope, showing, when, params_faults, scope_of, function_faults, arrays_faults, functions_faults, faults}
+use Rattle.spf_scopes.proofs.Tables.{same_bytes}
+use Rattle.spf_typing.proofs.Steps.{none_in}
+use Rattle.spf_typing.proofs.Sound.{contains_here, contains_there, contains_cases}
+use Rattle.spf_typing.proofs.SoundStatements.{Stand, stand_left}
 use Rattle.spf_types.proofs.SoundPrograms.{stand_self, in_range, range_in}
 use Rattle.spf_types.proofs.UniquePrograms.{absent, array_named, function_named, functions_are, globals_back, contains_left, contains_right, range_step, place_inside}
-use Rattle.spf_types.proofs.Faultless.{Known, Shows, Ready, shows_free, shows_along, fresh_in, declared_none, block_none, valued_none}
+use Rattle.spf_typing.proofs.Faultless.{Known, Shows, Ready, shows_free, shows_along, fresh_in, declared_none, block_none, valued_none}
 
 -- ---- names of arrays and functions
 

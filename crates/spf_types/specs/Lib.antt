@@ -1,13 +1,3 @@
-pub mod Names
-pub mod Found
-pub mod Globals
-pub mod GlobalsView
-pub mod Locals
-pub mod LocalsView
-pub mod Faults
-pub mod Resolved
-pub mod HereView
-pub mod Answers
 pub mod TooLarge
 pub mod Contract
 pub mod Laws

@@ -2,14 +2,14 @@
 
 ghost use Rattle.std.specs.Prelude.{◌≡◌, ◌&&◌, nat_le, nat_lt, length, map, IfOk};
 ghost use Rattle.spf_ast.specs.View.{program as seen_program, array as seen_array, function as seen_function};
-ghost use Rattle.spf_types.specs.declared.fault.TypeError.TheVariants.{Refused};
-ghost use Rattle.spf_types.specs.declared.fault.TypeFault.TheVariants.{TooLarge};
+ghost use Rattle.spf_scopes.specs.declared.fault.TypeError.TheVariants.{Refused};
+ghost use Rattle.spf_scopes.specs.declared.fault.TypeFault.TheVariants.{TooLarge};
 ghost use Rattle.spf_size.specs.Sizes.{IsTable, all_counts};
 ghost use Rattle.spf_types.specs.TooLarge.{large_arrays, large_functions, limits_passed};
-ghost use Rattle.spf_types.specs.Answers.{Answers};
+ghost use Rattle.spf_scopes.specs.Answers.{Answers};
 
-use crate::fault::{TypeError, TypeFault};
 use spf_ast::syntax::{Array, Function, Program};
+use spf_scopes::fault::{TypeError, TypeFault};
 use spf_size::functions::{function_size, with_slots};
 use spf_size::measure::block;
 use spf_size::size::Size;

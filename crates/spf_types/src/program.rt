@@ -4,25 +4,24 @@ ghost use Rattle.std.specs.Prelude.{◌≡◌, ◌⊎◌, ◌++◌, [], IfOk, Is
 ghost use Rattle.spf_ast.specs.Syntax.{Block as block_form, Function as function_form, Program as Lawful};
 ghost use Rattle.spf_ast.specs.View.{program as seen_program, array as seen_array, function as seen_function, block as seen_block, name as seen_name};
 ghost use Rattle.spf_ast.specs.RawView.{raw_function, raw_program};
-ghost use Rattle.spf_types.specs.HereView.{setting};
-ghost use Rattle.spf_types.specs.Globals.{globals_of, global_named, is_array_at, is_function_at};
-ghost use Rattle.spf_types.specs.Faults.{arrays_faults, functions_faults, function_faults, params_faults, faults};
-ghost use Rattle.spf_types.specs.Resolved.{scope, after_params, resolved_function, resolved};
-ghost use Rattle.spf_types.specs.Answers.{Answers};
+ghost use Rattle.spf_scopes.specs.HereView.{setting};
+ghost use Rattle.spf_scopes.specs.Globals.{globals_of, global_named, is_array_at, is_function_at};
+ghost use Rattle.spf_scopes.specs.Faults.{arrays_faults, functions_faults, function_faults, params_faults, faults};
+ghost use Rattle.spf_scopes.specs.Resolved.{scope, after_params, resolved_function, resolved};
+ghost use Rattle.spf_scopes.specs.Answers.{Answers};
 ghost use Rattle.spf_types.specs.TooLarge.{limits_passed};
 ghost use Rattle.spf_types.specs.Contract.{IsResolved, IsRefused};
 ghost use Rattle.spf_ast.specs.Spelling.{IsWritable};
-ghost use Rattle.spf_types.specs.declared.fault.TypeFault.{TypeFault as Fault};
+ghost use Rattle.spf_scopes.specs.declared.fault.TypeFault.{TypeFault as Fault};
 
-use crate::fault::{TypeError, TypeFault};
-use crate::globals::{GlobalTable, Outer, short};
 use crate::limits::keeps_limits;
-use crate::locals::LocalTable;
-use crate::names::Here;
-use crate::simple::declarable;
-use crate::statement::{block, valued};
 use spf_ast::raw::{RawFunction, RawProgram};
 use spf_ast::syntax::{Array, Function, Name, Program, Stmt};
+use spf_scopes::fault::{TypeError, TypeFault};
+use spf_scopes::globals::{GlobalTable, Outer, short};
+use spf_scopes::locals::LocalTable;
+use spf_scopes::names::{Here, declarable};
+use spf_typing::statement::{block, valued};
 use std::alloc::Global;
 
 /// What a resolved program has besides its arrays.

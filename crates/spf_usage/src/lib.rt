@@ -5,6 +5,3 @@ pub mod help;
 mod texts;
 
 pub use help::{Page, read_page, usage};
-
-#[cfg(test)]
-mod tests;

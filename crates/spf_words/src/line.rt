@@ -1,6 +1,6 @@
 //! The command line, as `clap` reads it: a subcommand for each command.
 ghost use Rattle.std.specs.Prelude.{◌≡◌, IfOk, codes};
-ghost use Rattle.clap.specs.Words.{App, Rule, Text};
+ghost use Rattle.clap.specs.Words.{App, Rule, Text, with_rule, with_subcommand};
 ghost use Rattle.spf_words.specs.Line.{
   IsRule,
   IsLine,
@@ -43,32 +43,60 @@ fn flag<'a>(alloc: Global, name: &'a str) -> Arg<'a>
     Arg::new(alloc, name).long(name).action(ArgAction::SetTrue)
 }
 
-/// A command that has the options of a decoder beside its own arguments: `[--block B] [--workers N] [--stats]`.
-fn with_decode_options<'a>(alloc: Global, command: Command<'a>) -> Result<Command<'a>, AllocError>
-    ensures { IfOk result (λ r. (app : App) → IsLine app command.entry → IsLine (with_decode_rules app) r) }
+/// A command with one more argument, unless there was no memory before.
+fn add_argument<'a>(
+    command: Result<Command<'a>, AllocError>,
+    argument: Arg<'a>,
+) -> Result<Command<'a>, AllocError>
+    ensures { (app : App) (rule : Rule) → IfOk command.entry (IsLine app) → IsRule rule argument.entry
+        → IfOk result (IsLine (with_rule app rule)) }
 {
-    let command = command.arg(valued(alloc, "block"))?;
-    let command = command.arg(valued(alloc, "workers"))?;
-    command.arg(flag(alloc, "stats"))
+    command?.arg(argument)
+}
+
+/// A command with one more subcommand, unless there was no memory before.
+fn add_command<'a>(
+    command: Result<Command<'a>, AllocError>,
+    other: Result<Command<'a>, AllocError>,
+) -> Result<Command<'a>, AllocError>
+    ensures { (app part : App) → IfOk command.entry (IsLine app) → IfOk other.entry (IsLine part)
+        → IfOk result (IsLine (with_subcommand app part.top)) }
+{
+    let other = other?;
+    command?.subcommand(other)
+}
+
+/// A command that has the options of a decoder beside its own arguments: `[--block B] [--workers N] [--stats]`.
+fn with_decode_options<'a>(
+    alloc: Global,
+    command: Result<Command<'a>, AllocError>,
+) -> Result<Command<'a>, AllocError>
+    ensures { (app : App) → IfOk command.entry (IsLine app) → IfOk result (IsLine (with_decode_rules app)) }
+{
+    let command = add_argument(command, valued(alloc, "block"));
+    let command = add_argument(command, valued(alloc, "workers"));
+    add_argument(command, flag(alloc, "stats"))
 }
 
 /// A command that has the options of a run beside its own arguments: `[--workers N] [--stats] [--cells] [--plain]`.
-fn with_run_options<'a>(alloc: Global, command: Command<'a>) -> Result<Command<'a>, AllocError>
-    ensures { IfOk result (λ r. (app : App) → IsLine app command.entry → IsLine (with_run_rules app) r) }
+fn with_run_options<'a>(
+    alloc: Global,
+    command: Result<Command<'a>, AllocError>,
+) -> Result<Command<'a>, AllocError>
+    ensures { (app : App) → IfOk command.entry (IsLine app) → IfOk result (IsLine (with_run_rules app)) }
 {
-    let command = command.arg(valued(alloc, "workers"))?;
-    let command = command.arg(flag(alloc, "stats"))?;
-    let command = command.arg(flag(alloc, "cells"))?;
-    command.arg(flag(alloc, "plain"))
+    let command = add_argument(command, valued(alloc, "workers"));
+    let command = add_argument(command, flag(alloc, "stats"));
+    let command = add_argument(command, flag(alloc, "cells"));
+    add_argument(command, flag(alloc, "plain"))
 }
 
 /// `run PROGRAM INPUT`, and the options of a run.
 fn run_line<'a>(alloc: Global) -> Result<Command<'a>, AllocError>
     ensures { IfOk result (IsLine run_app) }
 {
-    let command = Command::new(alloc, "run");
-    let command = command.arg(positional(alloc, "program"))?;
-    let command = command.arg(positional(alloc, "input"))?;
+    let command = Command::new(alloc, "run").arg(positional(alloc, "program"));
+    let command = add_argument(command, positional(alloc, "input"));
     with_run_options(alloc, command)
 }
 
@@ -83,7 +111,7 @@ fn program_line<'a>(alloc: Global, name: &'a str) -> Result<Command<'a>, AllocEr
 fn decoder_line<'a>(alloc: Global, name: &'a str) -> Result<Command<'a>, AllocError>
     ensures { IfOk result (IsLine (decoder_app name.now)) }
 {
-    let command = Command::new(alloc, name).arg(positional(alloc, "input"))?;
+    let command = Command::new(alloc, name).arg(positional(alloc, "input"));
     with_decode_options(alloc, command)
 }
 
@@ -91,9 +119,8 @@ fn decoder_line<'a>(alloc: Global, name: &'a str) -> Result<Command<'a>, AllocEr
 fn lex_line<'a>(alloc: Global) -> Result<Command<'a>, AllocError>
     ensures { IfOk result (IsLine lex_app) }
 {
-    let command = Command::new(alloc, "lex");
-    let command = command.arg(positional(alloc, "machine"))?;
-    let command = command.arg(positional(alloc, "input"))?;
+    let command = Command::new(alloc, "lex").arg(positional(alloc, "machine"));
+    let command = add_argument(command, positional(alloc, "input"));
     with_decode_options(alloc, command)
 }
 
@@ -101,11 +128,10 @@ fn lex_line<'a>(alloc: Global) -> Result<Command<'a>, AllocError>
 fn demo_line<'a>(alloc: Global) -> Result<Command<'a>, AllocError>
     ensures { IfOk result (IsLine demo_app) }
 {
-    let command = Command::new(alloc, "demo");
-    let command = command.arg(positional(alloc, "kind"))?;
-    let command = command.arg(positional(alloc, "seed"))?;
-    let command = command.arg(positional(alloc, "size"))?;
-    command.arg(positional(alloc, "workers"))
+    let command = Command::new(alloc, "demo").arg(positional(alloc, "kind"));
+    let command = add_argument(command, positional(alloc, "seed"));
+    let command = add_argument(command, positional(alloc, "size"));
+    add_argument(command, positional(alloc, "workers"))
 }
 
 /// The line before it has subcommands. It gives no help of its own, and is called without the program's name.
@@ -122,18 +148,18 @@ fn bare_line<'a>(alloc: Global) -> Command<'a>
 fn program_lines<'a>(alloc: Global) -> Result<Command<'a>, AllocError>
     ensures { IfOk result (IsLine programs_app) }
 {
-    let line = bare_line(alloc).subcommand(run_line(alloc)?)?;
-    let line = line.subcommand(program_line(alloc, "check")?)?;
-    let line = line.subcommand(program_line(alloc, "explain")?)?;
-    line.subcommand(program_line(alloc, "print")?)
+    let line = add_command(Ok(bare_line(alloc)), run_line(alloc));
+    let line = add_command(line, program_line(alloc, "check"));
+    let line = add_command(line, program_line(alloc, "explain"));
+    add_command(line, program_line(alloc, "print"))
 }
 
 /// The whole command line: those, and the commands on decoders.
 pub(crate) fn command_line<'a>(alloc: Global) -> Result<Command<'a>, AllocError>
     ensures { IfOk result (IsLine whole_line) }
 {
-    let line = program_lines(alloc)?.subcommand(decoder_line(alloc, "unpack")?)?;
-    let line = line.subcommand(decoder_line(alloc, "unhuff")?)?;
-    let line = line.subcommand(lex_line(alloc)?)?;
-    line.subcommand(demo_line(alloc)?)
+    let line = add_command(program_lines(alloc), decoder_line(alloc, "unpack"));
+    let line = add_command(line, decoder_line(alloc, "unhuff"));
+    let line = add_command(line, lex_line(alloc));
+    add_command(line, demo_line(alloc))
 }

@@ -3,8 +3,8 @@ use Rattle.spf_ast.specs.View.{array as seen_array}
 use Rattle.spf_grammar.specs.Lexemes.{lexemes}
 use Rattle.spf_grammar.specs.Parts.{many, array, part}
 use Rattle.spf_grammar.specs.Rules.{all}
-use Rattle.spf_parse.specs.Answers.{Leads}
-use Rattle.spf_parse.proofs.Functions.{last_of}
+use Rattle.spf_rules.specs.Answers.{Leads}
+use Rattle.spf_parse.proofs.Programs.{last_of}
 use Rattle.spf_parse.proofs.program.arrays.Given as goal
 
 -- what is left of them, after these

@@ -1,5 +1,5 @@
 use Rattle.std.proofs.Common.{arith, length, ◌-◌}
-use Rattle.spf_parse.proofs.Functions.{place_at}
+use Rattle.spf_parse.proofs.Programs.{place_at}
 use Rattle.spf_parse.proofs.program.place.Goals as goal
 
 pub returns-else-left-eq0 : goal.returns-else-left-eq0

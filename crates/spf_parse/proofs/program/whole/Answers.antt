@@ -4,11 +4,11 @@ use Rattle.spf_ast.specs.RawView.{raw_program}
 use Rattle.spf_grammar.specs.Lexemes.{lexemes}
 use Rattle.spf_grammar.specs.Parts.{give, program}
 use Rattle.spf_grammar.specs.Rules.{all}
-use Rattle.spf_parse.specs.Answers.{Leads}
-use Rattle.spf_parse.proofs.Steps.{start, halt0, weaker}
-use Rattle.spf_parse.proofs.Tokens.{length_fails, seen_length, empty_is}
-use Rattle.spf_parse.proofs.Beginnings.{stops_all}
-use Rattle.spf_parse.proofs.Functions.{program_more}
+use Rattle.spf_rules.specs.Answers.{Leads}
+use Rattle.spf_rules.proofs.Steps.{start, halt0, weaker}
+use Rattle.spf_rules.proofs.Tokens.{length_fails, seen_length, empty_is}
+use Rattle.spf_rules.proofs.Beginnings.{stops_all}
+use Rattle.spf_parse.proofs.Programs.{program_more}
 use Rattle.spf_parse.proofs.program.whole.Goals as goal
 
 pub returns-in_err-found : goal.returns-in_err-found

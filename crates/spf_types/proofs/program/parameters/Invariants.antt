@@ -1,4 +1,4 @@
-use Rattle.spf_types.specs.HereView.{setting}
+use Rattle.spf_scopes.specs.HereView.{setting}
 use Rattle.spf_types.proofs.Programs.{AreDeclared}
 use Rattle.spf_types.proofs.program.parameters.Given as goal
 

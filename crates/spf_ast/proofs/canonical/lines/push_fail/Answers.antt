@@ -1,7 +1,0 @@
-use Rattle.std.proofs.Common.{append_assoc}
-use Rattle.std.proofs.lemmas.Result.{IfOk-equal}
-use Rattle.spf_ast.proofs.canonical.lines.push_fail.Goals as goal
-
-pub returns : goal.returns
-returns c =
-    IfOk-equal c.push-3.result _ _ _ c.push-3.ensures (rw (c.in_ok-push_count.ensures {u = tt}, c.from.ensures, c.in_ok-push-2.ensures {u = tt}, c.in_ok-push.ensures {u = tt}) (simp append_assoc))

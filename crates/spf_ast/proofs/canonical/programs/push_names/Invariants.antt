@@ -1,9 +1,0 @@
-use Rattle.std.proofs.Common.{◌≡◌, ◌++◌, drop, map}
-use Rattle.spf_ast.specs.View.{name}
-use Rattle.spf_ast.specs.Canonical.{further_names_text}
-use Rattle.spf_ast.proofs.canonical.programs.push_names.Given as goal
-
--- the text with what is left to add
-abbrev pub invariant-loop-other : goal.invariant-loop-other
-invariant-loop-other l =
-    l.text.items ++ further_names_text (map name (drop l.other-index l.others)) ≡ l.initial.text.items ++ further_names_text (map name l.others)

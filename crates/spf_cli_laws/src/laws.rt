@@ -1,0 +1,35 @@
+// Laws about the program's answers. Each is the contract of a function that does nothing.
+ghost use Rattle.spf_cli_laws.specs.Laws.{VerdictsAreTheSame, NoTextIsLeftUnjudged, NoneHasTwoAnswers, NoneIsLeftUnanswered};
+
+use spf_cli::laws::rules_say_one_thing;
+use spf_formats::laws::{each_demo_input_is_generated_once, files_have_one_verdict};
+use spf_parse::laws::{texts_say_writable_programs, tokens_go_wrong_once};
+use spf_roundtrip::laws::tokens_are_of_one_program;
+use spf_text::laws::{each_text_has_tokens_or_one_fault, texts_determine_their_tokens};
+use spf_types::laws::each_raw_program_resolves_or_is_refused;
+use spf_words::laws::each_list_of_words_asks_for_one_command_or_none;
+
+/// A text has at most one verdict, the program that it says or why it has none; and no text is left without one.
+pub fn each_text_has_one_verdict()
+    ensures one { VerdictsAreTheSame }
+    ensures left { NoTextIsLeftUnjudged }
+{
+    texts_determine_their_tokens();
+    each_text_has_tokens_or_one_fault();
+    tokens_are_of_one_program();
+    tokens_go_wrong_once();
+    texts_say_writable_programs();
+    each_raw_program_resolves_or_is_refused();
+}
+
+/// A list of words has at most one answer, with what is handed in and over any files, and none is left without an answer.
+pub fn each_list_of_words_has_one_answer()
+    ensures one { NoneHasTwoAnswers }
+    ensures left { NoneIsLeftUnanswered }
+{
+    rules_say_one_thing();
+    each_text_has_one_verdict();
+    files_have_one_verdict();
+    each_demo_input_is_generated_once();
+    each_list_of_words_asks_for_one_command_or_none();
+}

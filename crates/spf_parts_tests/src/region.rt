@@ -1,0 +1,401 @@
+// Tables of bounds, small lists of ranges, and cells of ranges at blocks.
+ghost use Rattle.std.specs.Prelude.{◌≡◌, ℕ, ◌+◌, ◌<◌, ◌^◌, true, length};
+ghost use Rattle.std.specs.List.{All};
+ghost use Rattle.spf_region.specs.Ranges.{array_of};
+
+use spf_region::bound::Bound;
+use spf_region::list::RangeList;
+use spf_region::range::Range;
+use spf_region::span::Span;
+use std::alloc::{AllocError, Global};
+use std::test::Fail;
+
+const EDGE: i64 = 1 << 40;
+
+fn known(factor: i64, low: i64, high: i64) -> Bound {
+    Bound::Known { factor, low, high }
+}
+
+#[test]
+fn sums_and_differences(rt: HostRuntime) {
+    let unknown = Bound::Unknown;
+    let rows = [
+        // x, y, x + y, x - y
+        (
+            known(1, 0, 0),
+            known(0, 3, 5),
+            known(1, 3, 5),
+            known(1, -5, -3),
+        ),
+        (
+            known(2, -1, 4),
+            known(-2, 1, 2),
+            known(0, 0, 6),
+            known(4, -3, 3),
+        ),
+        (known(0, 7, 7), unknown, unknown, unknown),
+        (unknown, known(0, 7, 7), unknown, unknown),
+        (
+            known(EDGE, 0, 0),
+            known(0, 0, 0),
+            known(EDGE, 0, 0),
+            known(EDGE, 0, 0),
+        ),
+        (
+            known(EDGE, 0, 0),
+            known(1, 0, 0),
+            unknown,
+            known(EDGE - 1, 0, 0),
+        ),
+        (
+            known(-EDGE, 0, 0),
+            known(1, 0, 0),
+            known(1 - EDGE, 0, 0),
+            unknown,
+        ),
+        (
+            known(0, 0, EDGE - 1),
+            known(0, 0, 1),
+            known(0, 0, EDGE),
+            known(0, -1, EDGE - 1),
+        ),
+        (
+            known(0, 0, EDGE),
+            known(0, 0, 1),
+            unknown,
+            known(0, -1, EDGE),
+        ),
+        (
+            known(0, -EDGE, 0),
+            known(0, -1, 0),
+            unknown,
+            known(0, -EDGE, 1),
+        ),
+        (
+            known(0, i64::MAX, i64::MAX),
+            known(0, 1, 1),
+            unknown,
+            unknown,
+        ),
+    ];
+    for (number, (x, y, sum, difference)) in rows.into_iter().enumerate() {
+        assert_eq!(rt; [x.plus(y), x.minus(y)], [sum, difference], "row {number}");
+    }
+}
+
+#[test]
+fn products_remainders_and_masks(rt: HostRuntime) {
+    let unknown = Bound::Unknown;
+    let five = known(0, 5, 5);
+    let rows = [
+        // x, y, x * y, x % y, x & y
+        (
+            known(1, 0, 2),
+            five,
+            known(5, 0, 10),
+            known(0, -4, 4),
+            known(0, 0, 5),
+        ),
+        (
+            five,
+            known(1, 0, 2),
+            known(5, 0, 10),
+            unknown,
+            known(0, 0, 5),
+        ),
+        (
+            known(1, 0, 2),
+            known(0, -3, -3),
+            known(-3, -6, 0),
+            unknown,
+            unknown,
+        ),
+        (
+            five,
+            known(0, 3, 3),
+            known(0, 15, 15),
+            known(0, 0, 2),
+            known(0, 0, 3),
+        ),
+        (
+            known(0, 0, 9),
+            known(0, 1, 1),
+            known(0, 0, 9),
+            known(0, 0, 0),
+            known(0, 0, 1),
+        ),
+        (
+            known(0, -1, 9),
+            five,
+            known(0, -5, 45),
+            known(0, -4, 4),
+            known(0, 0, 5),
+        ),
+        (unknown, five, unknown, known(0, -4, 4), known(0, 0, 5)),
+        (five, unknown, unknown, unknown, known(0, 0, 5)),
+        (
+            known(0, 3, 3),
+            known(0, -1, -1),
+            known(0, -3, -3),
+            unknown,
+            known(0, 0, 3),
+        ),
+        (
+            known(0, 3, 3),
+            known(0, 0, 0),
+            known(0, 0, 0),
+            unknown,
+            known(0, 0, 0),
+        ),
+        (known(1, 0, 0), known(1, 0, 0), unknown, unknown, unknown),
+        (unknown, known(0, 0, 0), unknown, unknown, known(0, 0, 0)),
+        (
+            unknown,
+            known(0, EDGE, EDGE),
+            unknown,
+            known(0, 1 - EDGE, EDGE - 1),
+            known(0, 0, EDGE),
+        ),
+        (
+            unknown,
+            known(0, EDGE + 1, EDGE + 1),
+            unknown,
+            known(0, -EDGE, EDGE),
+            unknown,
+        ),
+        (
+            unknown,
+            known(0, EDGE + 2, EDGE + 2),
+            unknown,
+            unknown,
+            unknown,
+        ),
+        (
+            known(EDGE / 2, 0, 0),
+            known(0, 2, 2),
+            known(EDGE, 0, 0),
+            known(0, -1, 1),
+            known(0, 0, 2),
+        ),
+        (
+            known(EDGE / 2 + 1, 0, 0),
+            known(0, 2, 2),
+            unknown,
+            known(0, -1, 1),
+            known(0, 0, 2),
+        ),
+        (
+            known(0, 0, EDGE),
+            known(0, -1, -1),
+            known(0, -EDGE, 0),
+            unknown,
+            unknown,
+        ),
+        (
+            known(0, 0, EDGE),
+            known(0, -2, -2),
+            unknown,
+            unknown,
+            unknown,
+        ),
+    ];
+    for (number, (x, y, product, remainder, mask)) in rows.into_iter().enumerate() {
+        assert_eq!(rt;
+            [x.times(y), x.rem(y), x.masked(y)],
+            [product, remainder, mask],
+            "row {number}"
+        );
+    }
+}
+
+#[test]
+fn numbers_and_negatives(rt: HostRuntime) {
+    let rows = [
+        (EDGE, known(0, EDGE, EDGE), known(0, -EDGE, -EDGE)),
+        (-EDGE, known(0, -EDGE, -EDGE), known(0, EDGE, EDGE)),
+        (EDGE + 1, Bound::Unknown, Bound::Unknown),
+        (-EDGE - 1, Bound::Unknown, Bound::Unknown),
+    ];
+    for (n, bound, negative) in rows {
+        let number = Bound::number(n);
+        assert_eq!(rt; [number, number.negated()], [bound, negative]);
+    }
+    assert_eq!(rt;
+        [known(3, -1, 2).negated(), known(0, i64::MIN, 0).negated()],
+        [known(-3, -2, 1), Bound::Unknown]
+    );
+}
+
+fn affine(array: u32, factor: i64, from: i64, to: i64) -> Range {
+    Range::Affine {
+        array,
+        factor,
+        from,
+        to,
+    }
+}
+
+/// The list of these ranges.
+fn list_of(alloc: Global, ranges: &[Range]) -> Result<RangeList, AllocError> {
+    let mut list = RangeList::new(alloc);
+    for range in ranges {
+        list.add(alloc, *range)?;
+    }
+    Ok(list)
+}
+
+/// The join of the lists of these ranges.
+fn join_of(alloc: Global, one: &[Range], other: &[Range]) -> Result<RangeList, AllocError> {
+    let list = list_of(alloc, one)?;
+    list.join(alloc, &list_of(alloc, other)?)
+}
+
+/// What the lists of these ranges have in common.
+fn common_part(alloc: Global, one: &[Range], other: &[Range]) -> Result<RangeList, AllocError> {
+    let list = list_of(alloc, one)?;
+    list.meet(alloc, &list_of(alloc, other)?)
+}
+
+/// The first of these ranges that isn't separated.
+fn unseparated(alloc: Global, ranges: &[Range]) -> Result<Option<Range>, AllocError> {
+    let list = list_of(alloc, ranges)?;
+    Ok(list.unseparated())
+}
+
+/// The first of these ranges that meets one of two others.
+fn meeting(
+    alloc: Global,
+    ranges: &[Range],
+    one: &[Range],
+    other: &[Range],
+) -> Result<Option<Range>, AllocError> {
+    let others = join_of(alloc, one, other)?;
+    let list = list_of(alloc, ranges)?;
+    Ok(list.meeting(&others))
+}
+
+#[test]
+fn lists_are_in_normal_form(rt: HostRuntime) -> Result<(), Fail> {
+    let alloc = rt.alloc();
+    let ranges = [
+        affine(1, 1, 0, 1),
+        affine(0, 2, 4, 4),
+        affine(0, 1, 5, 6),
+        affine(0, 1, 0, 1),
+        affine(0, 1, 9, 3),
+        Range::Whole { array: 1 },
+        affine(0, 1, 2, 3),
+        affine(0, 1, i64::MAX, i64::MAX),
+        affine(0, 1, i64::MIN, i64::MIN),
+        Range::Whole { array: 1 },
+    ];
+    let want = [
+        affine(0, 1, i64::MIN, i64::MIN),
+        affine(0, 1, 0, 3),
+        affine(0, 1, 5, 6),
+        affine(0, 1, i64::MAX, i64::MAX),
+        affine(0, 2, 4, 4),
+        Range::Whole { array: 1 },
+        affine(1, 1, 0, 1),
+    ];
+    let list = list_of(alloc, &ranges)?;
+    let joined = join_of(alloc, &ranges, &[affine(0, 1, 4, 4), affine(2, 0, 0, 0)])?;
+    assert_eq!(rt; list.ranges(), want.as_slice());
+    assert_eq!(rt; joined.ranges().get(1), Some(&affine(0, 1, 0, 6)));
+    assert_eq!(rt;
+        [
+            list.touches(1),
+            list.touches(2),
+            joined.touches(2),
+            list.covers(&affine(0, 1, 1, 3)),
+            list.covers(&affine(0, 1, 3, 5)),
+            joined.covers(&affine(0, 1, 3, 5)),
+            joined.covers(&Range::Whole { array: 1 }),
+            list.covers(&affine(7, 7, 1, 0)),
+        ],
+        [true, false, true, true, false, true, false, true]
+    );
+    Ok(())
+}
+
+#[test]
+fn common_parts_and_breaks(rt: HostRuntime) -> Result<(), Fail> {
+    let alloc = rt.alloc();
+    let both = common_part(alloc, &[affine(0, 1, 0, 3)], &[affine(0, 1, 2, 5)])?;
+    assert_eq!(rt; both.ranges(), [affine(0, 1, 2, 3)].as_slice());
+    let still = [affine(0, 0, 0, 1), affine(0, 0, 3, 4)];
+    let other = [affine(0, 0, 2, 2), affine(1, 1, 0, 0)];
+    assert_eq!(rt;
+        [
+            unseparated(alloc, &[affine(0, 1, 0, 1)]),
+            unseparated(alloc, &[affine(0, 2, 0, 1)]),
+            unseparated(alloc, &still),
+            meeting(alloc, &still, &other, &[]),
+            meeting(alloc, &other, &still, &[]),
+            meeting(alloc, &still, &other, &[affine(0, 0, 4, 9)]),
+        ],
+        [
+            Ok(Some(affine(0, 1, 0, 1))),
+            Ok(None),
+            Ok(Some(affine(0, 0, 0, 1))),
+            Ok(None),
+            Ok(None),
+            Ok(Some(affine(0, 0, 3, 4))),
+        ]
+    );
+    Ok(())
+}
+
+/// The first three spans of two ranges at block k.
+fn spans_of_two(
+    alloc: Global,
+    one: Range,
+    two: Range,
+    extents: &[(u64, u64)],
+    k: i64,
+) -> Result<[Option<Span>; 3], AllocError>
+    requires one { array_of one < length extents.now }
+    requires two { array_of two < length extents.now }
+    requires fits { All (λ e. e.0 + e.1 < 2 ^ 64) extents.now }
+{
+    let mut list = RangeList::new(alloc);
+    list.add(alloc, one)?;
+    list.add(alloc, two)?;
+    let spans = list.spans_at(alloc, extents, k)?;
+    Ok([
+        spans.get(0).copied(),
+        spans.get(1).copied(),
+        spans.get(2).copied(),
+    ])
+}
+
+const fn span(from: u64, to: u64) -> Option<Span> {
+    Some(Span { from, to })
+}
+
+#[test]
+fn spans_are_clipped_and_joined(rt: HostRuntime) {
+    let alloc = rt.alloc();
+    let pair = Range::Affine {
+        array: 0,
+        factor: 2,
+        from: 0,
+        to: 1,
+    };
+    let whole = Range::Whole { array: 1 };
+    let extents = [(10, 3), (5, 4)];
+    assert_eq!(rt;
+        [
+            spans_of_two(alloc, pair, pair, &extents, 1),
+            spans_of_two(alloc, pair, pair, &extents, -1),
+            spans_of_two(alloc, pair, whole, &extents, 0),
+            spans_of_two(alloc, pair, whole, &extents, i64::MIN),
+        ],
+        [
+            Ok([span(12, 13), None, None]),
+            Ok([None; 3]),
+            Ok([span(5, 9), span(10, 12), None]),
+            Ok([span(5, 9), None, None]),
+        ]
+    );
+}

@@ -1,0 +1,7 @@
+use Rattle.std.proofs.Common.{append_assoc}
+use Rattle.std.proofs.lemmas.Result.{IfOk-equal}
+use Rattle.spf_print.proofs.lines.push_consumer_head.Goals as goal
+
+pub returns : goal.returns
+returns c =
+    IfOk-equal c.push_predict.result _ _ _ c.push_predict.ensures (rw (c.in_ok-push-2.ensures {u = tt}, c.in_ok-push.ensures {u = tt}) (simp append_assoc))

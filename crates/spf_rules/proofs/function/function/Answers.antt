@@ -1,0 +1,64 @@
+use Rattle.std.proofs.Common.{refl, map}
+use Rattle.std.proofs.lemmas.Result.{err_from_is_err_and}
+use Rattle.spf_text.specs.declared.token.Keyword.TheVariants as word
+use Rattle.spf_ast.specs.View.{name as seen_name}
+use Rattle.spf_grammar.specs.Lexemes.{lexemes}
+use Rattle.spf_grammar.specs.Parts.{give, function}
+use Rattle.spf_grammar.specs.Reading.{line_of}
+use Rattle.spf_rules.specs.Answers.{ended_statements}
+use Rattle.spf_rules.proofs.Steps.{start, go0, halt0, go_rule0, halt_rule0, unfold_part}
+use Rattle.spf_rules.proofs.Statements.{block_is, function_last}
+use Rattle.spf_rules.proofs.function.function.Goals as goal
+
+pub returns-in_err-rest : goal.returns-in_err-rest
+returns-in_err-rest c =
+    let p = err_from_is_err_and c.from_residual.result c.from_residual.ensures.1 in
+    rw (p.1, p.2) (halt0 c.in_err-rest.field-0.0 refl (λ x. refl)
+    (unfold_part function (λ x. give x) start)
+    c.in_err-rest.ensures)
+
+pub returns-in_err-name : goal.returns-in_err-name
+returns-in_err-name c =
+    let l0 = go0 refl (unfold_part function (λ x. give x) start) c.in_ok-rest.ensures in
+    let p = err_from_is_err_and c.from_residual-in_err-name.result c.from_residual-in_err-name.ensures.1 in
+    rw (p.1, p.2) (halt0 c.in_err-name.field-0.0 refl (λ x. refl)
+    l0
+    c.in_err-name.ensures)
+
+pub returns-in_err-inner : goal.returns-in_err-inner
+returns-in_err-inner c =
+    let l0 = go0 refl (unfold_part function (λ x. give x) start) c.in_ok-rest.ensures in
+    let l1 = go0 refl l0 c.in_ok-name.ensures in
+    let p = err_from_is_err_and c.from_residual-in_err-inner.result c.from_residual-in_err-inner.ensures.1 in
+    rw (p.1, p.2) (halt0 c.in_err-inner.field-0.0 refl (λ x. refl)
+    l1
+    c.in_err-inner.ensures.answers)
+
+pub returns-in_err-params : goal.returns-in_err-params
+returns-in_err-params c =
+    let l0 = go0 refl (unfold_part function (λ x. give x) start) c.in_ok-rest.ensures in
+    let l1 = go0 refl l0 c.in_ok-name.ensures in
+    let l2 = go0 refl l1 c.in_ok-inner.ensures.answers in
+    let p = err_from_is_err_and c.from_residual-in_err-params.result c.from_residual-in_err-params.ensures.1 in
+    rw (p.1, p.2) (halt0 c.in_err-params.field-0.0 refl (λ x. refl)
+    l2
+    c.in_err-params.ensures)
+
+pub returns-in_err-body : goal.returns-in_err-body
+returns-in_err-body c =
+    let l0 = go0 refl (unfold_part function (λ x. give x) start) c.in_ok-rest.ensures in
+    let l1 = go0 refl l0 c.in_ok-name.ensures in
+    let l2 = go0 refl l1 c.in_ok-inner.ensures.answers in
+    let l3 = go0 refl l2 c.in_ok-params.ensures in
+    let p = err_from_is_err_and c.from_residual-in_err-body.result c.from_residual-in_err-body.ensures.1 in
+    rw (p.1, p.2) (halt_rule0 (ended_statements 0 word.Return) (function_last (line_of (lexemes c.args.tokens.now)) (seen_name c.in_ok-name.name) (map seen_name c.in_ok-params.params.items)) c.in_err-body.field-0.0 (λ x. refl)
+    l3
+    c.in_err-body.ensures)
+
+pub returns : goal.returns
+returns c =
+    let l0 = go0 refl (unfold_part function (λ x. give x) start) c.in_ok-rest.ensures in
+    let l1 = go0 refl l0 c.in_ok-name.ensures in
+    let l2 = go0 refl l1 c.in_ok-inner.ensures.answers in
+    let l3 = go0 refl l2 c.in_ok-params.ensures in
+    rw (block_is, c.line_of-line.ensures, c.into_inner.ensures) (go_rule0 (ended_statements 0 word.Return) (function_last (line_of (lexemes c.args.tokens.now)) (seen_name c.in_ok-name.name) (map seen_name c.in_ok-params.params.items)) l3 c.in_ok-body.ensures)

@@ -1,0 +1,10 @@
+pub mod Names
+pub mod Found
+pub mod Globals
+pub mod GlobalsView
+pub mod Locals
+pub mod LocalsView
+pub mod Faults
+pub mod Resolved
+pub mod HereView
+pub mod Answers

@@ -1,0 +1,20 @@
+-- Locals with their slots.
+use Rattle.std.specs.Prelude.{ℕ, Bool, if◌then◌else◌, List, [], ◌∷◌, Option, Some, None}
+use Rattle.std.specs.Str.{bytes_eq}
+use Rattle.spf_scopes.specs.declared.locals.Binding.{Binding}
+
+-- a local that may be used: its name, its slot, and whether it may not be assigned
+pub record Local : Type 0 where
+  pub name : List ℕ
+  pub slot : ℕ
+  pub fixed : Bool
+
+-- the locals that may be used, the last one that was declared first, and the names of all slots so far
+pub record Seen : Type 0 where
+  pub locals : List Local
+  pub slots : List (List ℕ)
+
+-- the local of a name
+abbrev pub binding_of : List Local → List ℕ → Option Binding
+binding_of [] x = None
+binding_of (l ∷ ls) x = if bytes_eq l.name x then Some (record { slot = l.slot; fixed = l.fixed }) else binding_of ls x

@@ -1,0 +1,167 @@
+// Names that are declared or used.
+
+ghost use Rattle.std.specs.Prelude.{◌≡◌, [], Some, None, IfOk};
+ghost use Rattle.spf_ast.specs.View.{name as seen_name};
+ghost use Rattle.spf_scopes.specs.HereView.{setting};
+ghost use Rattle.spf_scopes.specs.Faults.{misuse as misuse_fault, declared_faults, used_faults, assigned_faults, indexed_faults, callee_faults, called_faults};
+ghost use Rattle.spf_scopes.specs.Resolved.{scope, slot_of, place_of};
+ghost use Rattle.spf_scopes.specs.Globals.{global_named};
+ghost use Rattle.spf_scopes.specs.Locals.{binding_of};
+ghost use Rattle.spf_scopes.specs.declared.globals.Outer.TheVariants.{Function};
+ghost use Rattle.spf_scopes.specs.Answers.{Answers};
+
+use crate::fault::{TypeError, TypeFault};
+use crate::globals::{GlobalTable, Outer};
+use crate::locals::LocalTable;
+use spf_ast::syntax::Name;
+use std::alloc::Global;
+
+/// Where a form stands: what is visible in the whole program, before which place functions may be called, and whether it is in `main`.
+#[derive(Clone, Copy)]
+pub struct Here<'s, 'a> {
+    pub alloc: Global,
+    pub globals: &'s GlobalTable<'a>,
+    pub place: usize,
+    pub in_main: bool,
+}
+
+#[tactic(auto, using(crate::proofs::Scopes::scopes))]
+/// What is wrong with a name that isn't what is wanted.
+pub(crate) fn misuse<'a>(here: &Here<'_, 'a>, locals: &LocalTable<'a>, name: &'a Name) -> TypeFault
+    ensures { result ≡ misuse_fault (setting here.now) (scope locals.now.locals) (seen_name name.now) }
+{
+    if locals.find(name).is_some() || here.globals.find(name).is_some() {
+        TypeFault::Kind
+    } else {
+        TypeFault::UnknownName
+    }
+}
+
+#[tactic(auto, using(crate::proofs::Scopes::scopes))]
+/// Tests that a name may be declared.
+pub fn declarable<'a>(
+    here: &Here<'_, 'a>,
+    locals: &LocalTable<'a>,
+    line: u32,
+    name: &'a Name,
+) -> Result<(), TypeError>
+    ensures answers { Answers (declared_faults (setting here.now) (scope locals.now.locals) line (seen_name name.now)) (λ _. tt {0}) (tt {0}) result }
+    ensures new { IfOk result (λ _. binding_of locals.now.locals (seen_name name.now) ≡ None) }
+{
+    if locals.find(name).is_some() || here.globals.find(name).is_some() {
+        let fault = TypeFault::Twice;
+        return Err(TypeError::Refused { fault, line });
+    }
+    Ok(())
+}
+
+#[tactic(auto, using(crate::proofs::Scopes::scopes))]
+/// The slot of a local that is used as a number.
+pub fn used<'a>(
+    here: &Here<'_, 'a>,
+    locals: &LocalTable<'a>,
+    line: u32,
+    name: &'a Name,
+) -> Result<u32, TypeError>
+    ensures { Answers (used_faults (setting here.now) (scope locals.now.locals) line (seen_name name.now)) (λ n. n)
+        (slot_of locals.now.locals (seen_name name.now)) result }
+{
+    match locals.find(name) {
+        Some(binding) => Ok(binding.slot),
+        None => {
+            let fault = misuse(here, locals, name);
+            Err(TypeError::Refused { fault, line })
+        }
+    }
+}
+
+#[tactic(auto, using(crate::proofs::Scopes::scopes))]
+/// The slot of a local that is assigned.
+pub fn assigned<'a>(
+    here: &Here<'_, 'a>,
+    locals: &LocalTable<'a>,
+    line: u32,
+    name: &'a Name,
+) -> Result<u32, TypeError>
+    ensures { Answers (assigned_faults (setting here.now) (scope locals.now.locals) line (seen_name name.now)) (λ n. n)
+        (slot_of locals.now.locals (seen_name name.now)) result }
+{
+    match locals.find(name) {
+        Some(binding) => {
+            if binding.fixed {
+                let fault = TypeFault::Kind;
+                return Err(TypeError::Refused { fault, line });
+            }
+            Ok(binding.slot)
+        }
+        None => {
+            let fault = misuse(here, locals, name);
+            Err(TypeError::Refused { fault, line })
+        }
+    }
+}
+
+/// The place of an array that is indexed.
+pub fn indexed<'a>(
+    here: &Here<'_, 'a>,
+    locals: &LocalTable<'a>,
+    line: u32,
+    name: &'a Name,
+) -> Result<u32, TypeError>
+    ensures { Answers (indexed_faults (setting here.now) (scope locals.now.locals) line (seen_name name.now)) (λ n. n)
+        (place_of here.now.globals.now (seen_name name.now)) result }
+{
+    match here.globals.find(name) {
+        Some(Outer::Array(place)) => Ok(place),
+        _ => {
+            let fault = misuse(here, locals, name);
+            Err(TypeError::Refused { fault, line })
+        }
+    }
+}
+
+/// The place of a function that has so many parameters.
+pub fn callee<'a>(
+    here: &Here<'_, 'a>,
+    locals: &LocalTable<'a>,
+    line: u32,
+    name: &'a Name,
+    count: usize,
+) -> Result<u32, TypeError>
+    ensures answers { Answers (callee_faults (setting here.now) (scope locals.now.locals) line (seen_name name.now) count) (λ n. n)
+        (place_of here.now.globals.now (seen_name name.now)) result }
+    ensures known { IfOk result (λ n. global_named here.now.globals.now (seen_name name.now) ≡ Some (Function n)) }
+{
+    match here.globals.find(name) {
+        Some(Outer::Function(place)) => {
+            if count != here.globals.params(place) {
+                let fault = TypeFault::Arity;
+                return Err(TypeError::Refused { fault, line });
+            }
+            Ok(place)
+        }
+        _ => {
+            let fault = misuse(here, locals, name);
+            Err(TypeError::Refused { fault, line })
+        }
+    }
+}
+
+/// The place of a function that is called with so many arguments.
+pub fn called<'a>(
+    here: &Here<'_, 'a>,
+    locals: &LocalTable<'a>,
+    line: u32,
+    name: &'a Name,
+    count: usize,
+) -> Result<u32, TypeError>
+    ensures { Answers (called_faults (setting here.now) (scope locals.now.locals) line (seen_name name.now) count [])
+        (λ n. n) (place_of here.now.globals.now (seen_name name.now)) result }
+{
+    let place = callee(here, locals, line, name, count)?;
+    if place as usize >= here.place {
+        let fault = TypeFault::CallsLater;
+        return Err(TypeError::Refused { fault, line });
+    }
+    Ok(place)
+}

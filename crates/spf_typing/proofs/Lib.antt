@@ -1,0 +1,11 @@
+pub mod Weight
+pub mod Arguments
+pub mod Steps
+pub mod Blocks
+pub mod Grown
+pub mod Forms
+pub mod Sound
+pub mod SoundStatements
+pub mod Alike
+pub mod Unique
+pub mod Faultless

@@ -1,0 +1,7 @@
+//! From raw expressions and statements to resolved ones, at a place whose names are known.
+#![tactic(auto)]
+
+mod expression;
+mod header;
+mod simple;
+pub mod statement;
