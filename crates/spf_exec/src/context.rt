@@ -6,11 +6,11 @@ ghost use Rattle.spf_registers.specs.Registers.{rooms};
 ghost use Rattle.spf_code.specs.Fits.{FunctionsFit};
 ghost use Rattle.spf_layout.specs.Instance.{program_of};
 ghost use Rattle.spf_memory.specs.Performs.{AreWithin};
-ghost use Rattle.spf_machine.specs.Machine.{setting};
+ghost use Rattle.spf_instructions.specs.Instructions.{setting};
 ghost use Rattle.spf_exec.specs.Sources.{FitsProgram};
 
 use spf_layout::instance::Instance;
-use spf_machine::context::Context;
+use spf_instructions::context::Context;
 
 /// What the code of `main` is performed in: all functions may be called.
 pub(crate) fn context_of<'a>(instance: &'a Instance) -> Context<'a>

@@ -7,7 +7,7 @@ use Rattle.spf_layout.specs.Instance.{program_of}
 use Rattle.spf_layout.specs.Frame.{main_slots}
 use Rattle.spf_memory.specs.Performs.{state}
 use Rattle.spf_memory.proofs.Steps.{at_once, then_value, exit_halt}
-use Rattle.spf_machine.specs.Machine.{setting}
+use Rattle.spf_instructions.specs.Instructions.{setting}
 use Rattle.spf_code.specs.Code.{code_means}
 use Rattle.spf_code.specs.NodeView.{code}
 use Rattle.spf_exec.proofs.Sources.{value-performed}
