@@ -1,107 +1,23 @@
-//! Runs the examples in its folder, and says of each run whether it was answered as expected.
+//! Runs the examples in its folder, and the command lines of a table, and says whether each was answered as expected.
 //!
-//! `expected.txt` lists them. A line that isn't indented has the words of a run. The indented lines after it are what is expected:
-//! `status N`, where the status isn't 0; `output FILE`, where there is an output; and the lines of the error stream.
+//! `expected.txt` lists the runs of the examples, which read real files, and `answers.txt` the command lines, which read files in memory.
 #![tactic(auto)]
 
-use spf_edge::{FetchError, Files, MemSink, RealFiles};
-use spf_shell::answer;
-use std::alloc::{AllocError, Global};
+mod answers;
+mod example;
+mod table;
+
+use crate::answers::is_right;
+use crate::example::{is_as_expected, read_runs};
+use crate::table::Reader;
+use spf_edge::RealFiles;
 use std::process::ExitCode;
 use std::sync::Wait;
 use std::thread::Threads;
 use std::{fs, io, rt};
 
-/// How many bytes a file of the examples may have.
-const MAX_FILE: u64 = 1_048_576;
-
-/// A run and what is expected of it.
-#[derive(Drop)]
-struct Run<'a> {
-    words: &'a str,
-    status: &'a str,
-    /// The name of the file that has the output.
-    output: Option<&'a str>,
-    messages: Vec<u8>,
-}
-
-impl<'a> Run<'a> {
-    /// A run that is to end with status 0, with nothing on both streams.
-    fn of(alloc: Global, words: &'a str) -> Run<'a> {
-        Run {
-            words,
-            status: "0",
-            output: None,
-            messages: Vec::new(alloc),
-        }
-    }
-
-    /// Adds a line of what is expected.
-    fn expect(&mut self, line: &'a str) -> Result<(), AllocError> {
-        if let Some(status) = line.strip_prefix("status ") {
-            self.status = status;
-        } else if let Some(file) = line.strip_prefix("output ") {
-            self.output = Some(file);
-        } else {
-            self.messages.extend_from_slice(line.as_bytes())?;
-            self.messages.push(b'\n')?;
-        }
-        Ok(())
-    }
-}
-
-/// The words of a line.
-fn words(alloc: Global, line: &str) -> Result<Vec<String>, AllocError> {
-    let mut words = Vec::new(alloc);
-    for word in line.split(' ') {
-        words.push(String::from_str(alloc, word)?)?;
-    }
-    Ok(words)
-}
-
-/// The runs that a table lists.
-fn read_runs<'a>(alloc: Global, table: &'a str) -> Result<Vec<Run<'a>>, AllocError> {
-    let mut runs: Vec<Run<'a>> = Vec::new(alloc);
-    for line in table.lines() {
-        if line.starts_with('#') {
-            continue;
-        }
-        match line.strip_prefix("  ") {
-            None => runs.push(Run::of(alloc, line))?,
-            Some(expected) => {
-                if let Some(run) = runs.last_mut() {
-                    run.expect(expected)?;
-                }
-            }
-        }
-    }
-    Ok(runs)
-}
-
-/// Whether a run is answered as expected.
-fn is_as_expected<R: Threads + Wait + Sync, F: Files>(
-    rt: &R,
-    alloc: Global,
-    files: &mut F,
-    run: &Run,
-) -> Result<bool, FetchError> {
-    let words = words(alloc, run.words)?;
-    let output = match run.output {
-        None => Vec::new(alloc),
-        Some(name) => files.fetch(alloc, name, MAX_FILE)?,
-    };
-    let mut out = MemSink::make(Vec::new(alloc), 0);
-    let mut err = MemSink::make(Vec::new(alloc), 0);
-    let status = answer(rt, alloc, &words, files, &mut out, &mut err);
-    let is_status = run
-        .status
-        .parse::<u8>()
-        .is_ok_and(|wanted| wanted == status);
-    Ok(is_status && *out.bytes() == *output && *err.bytes() == *run.messages)
-}
-
 /// Runs the examples. Gives how many are answered otherwise than expected.
-fn run_all<R: Print + rt::Files + AllocGlobal + Threads + Wait + Sync>(rt: &R) -> io::Result<u64> {
+fn run_examples<R: Print + rt::Files + AllocGlobal + Threads + Wait + Sync>(rt: &R) -> io::Result<u64> {
     let alloc = rt.alloc();
     let mut files = RealFiles::make(rt);
     let table = fs::read_to_string(rt, "expected.txt")?;
@@ -117,9 +33,34 @@ fn run_all<R: Print + rt::Files + AllocGlobal + Threads + Wait + Sync>(rt: &R) -
     Ok(wrong)
 }
 
+/// Runs the command lines. Gives how many there are, and how many of them are answered otherwise than wanted.
+fn run_table<R: Print + rt::Files + AllocGlobal + Threads + Wait + Sync>(
+    rt: &R,
+) -> io::Result<(u64, u64)> {
+    let alloc = rt.alloc();
+    let table = fs::read_to_string(rt, "answers.txt")?;
+    let mut reader = Reader::make(alloc);
+    let mut count = 0u64;
+    let mut wrong = 0u64;
+    for line in table.lines() {
+        if let Some(row) = reader.ended(line) {
+            count = count.saturating_add(1);
+            if !is_right(rt, alloc, &reader, &row).unwrap_or(false) {
+                println!(rt; "WRONG: {count} {}", row.words)?;
+                wrong = wrong.saturating_add(1);
+            }
+        }
+        reader.read(line)?;
+    }
+    Ok((count, wrong))
+}
+
 fn main(rt: HostRuntime) -> io::Result<ExitCode> {
-    Ok(match run_all(&rt)? {
-        0 => ExitCode::SUCCESS,
+    let wrong_runs = run_examples(&rt)?;
+    let (count, wrong) = run_table(&rt)?;
+    println!(&rt; "{count} command lines, {wrong} of them answered otherwise than wanted")?;
+    Ok(match (wrong_runs, wrong) {
+        (0, 0) => ExitCode::SUCCESS,
         _ => ExitCode::FAILURE,
     })
 }

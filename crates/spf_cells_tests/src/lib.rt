@@ -1,7 +1,0 @@
-//! Tests of shared cells, on one thread and on several. They are a crate of their own, since a crate with tests is proved twice.
-#![tactic(auto)]
-
-#[cfg(test)]
-mod gated;
-#[cfg(test)]
-mod tests;

@@ -1,0 +1,101 @@
+// Runs the command lines of a table over files and sinks in memory.
+
+use crate::table::{Reader, Row, words};
+use spf_cli::run_file;
+use spf_edge::{MemFiles, MemSink, Open};
+use spf_formats::toy::toy_machine;
+use spf_predictors::{Last, Predictor};
+use spf_shell::answer;
+use std::alloc::{AllocError, Global};
+use std::sync::Wait;
+use std::thread::Threads;
+
+/// How many workers run the blocks of a program at hand.
+const WORKERS: u64 = 4;
+
+/// A file.
+fn file(alloc: Global, name: &str, content: Vec<u8>) -> Result<(String, Vec<u8>), AllocError> {
+    Ok((String::from_str(alloc, name)?, content))
+}
+
+/// The files of a command line.
+fn files(alloc: Global, reader: &Reader, row: &Row) -> Result<MemFiles, AllocError> {
+    let mut files = Vec::new(alloc);
+    files.push(file(alloc, "P", reader.program.to_vec(alloc)?)?)?;
+    files.push(file(alloc, "I", reader.input.to_vec(alloc)?)?)?;
+    files.push(file(alloc, "M", toy_machine(alloc)?)?)?;
+    Ok(MemFiles::make(files, row.failing_fetches.to_vec(alloc)?))
+}
+
+/// A sink that takes all, or fails at the put with this number after so many bytes of it.
+fn sink(alloc: Global, failing: Option<(u64, u64)>) -> Result<MemSink, AllocError> {
+    let mut numbers = Vec::new(alloc);
+    let Some((number, keeps)) = failing else {
+        return Ok(MemSink::make(numbers, 0));
+    };
+    numbers.push(number)?;
+    Ok(MemSink::make(numbers, keeps))
+}
+
+/// Whether the sinks have what a command line is to put, with this status.
+fn is_wanted(row: &Row, status: u8, out: &MemSink, err: &MemSink) -> bool {
+    u64::from(status) == row.status && *out.bytes() == *row.output && *err.bytes() == *row.messages
+}
+
+/// Whether a command line is answered as wanted.
+fn is_answered<R: Threads + Wait + Sync>(
+    rt: &R,
+    alloc: Global,
+    reader: &Reader,
+    row: &Row,
+) -> Result<bool, AllocError> {
+    let words = words(alloc, row.words)?;
+    let mut files = files(alloc, reader, row)?;
+    let mut out = sink(alloc, row.failing_put)?;
+    let mut err = sink(alloc, row.failing_line)?;
+    let status = answer(rt, alloc, &words, &mut files, &mut out, &mut err);
+    Ok(is_wanted(row, status, &out, &err))
+}
+
+/// Whether a run over the program and the input at hand, without the command line, is answered as wanted.
+fn is_answered_at_hand<R: Threads + Wait + Sync>(
+    rt: &R,
+    alloc: Global,
+    reader: &Reader,
+    row: &Row,
+) -> Result<bool, AllocError> {
+    let mut out = sink(alloc, row.failing_put)?;
+    let mut err = sink(alloc, row.failing_line)?;
+    let mut hosts: Vec<Box<dyn Predictor>> = Vec::new(alloc);
+    if row.words.starts_with("--host last ") {
+        hosts.push(Box::new(alloc, Last::make())?)?;
+    }
+    let status = run_file(
+        rt,
+        alloc,
+        &reader.program,
+        &reader.input,
+        WORKERS,
+        &mut hosts,
+        &Open,
+        &mut out,
+        &mut err,
+    );
+    Ok(is_wanted(row, status, &out, &err))
+}
+
+/// Whether a command line is answered as wanted, and, where it shows the statistics of a run and fetches both files, the same run at hand.
+pub fn is_right<R: Threads + Wait + Sync>(
+    rt: &R,
+    alloc: Global,
+    reader: &Reader,
+    row: &Row,
+) -> Result<bool, AllocError> {
+    if !is_answered(rt, alloc, reader, row)? {
+        return Ok(false);
+    }
+    if row.words.ends_with("run P I --stats") && row.failing_fetches.is_empty() {
+        return is_answered_at_hand(rt, alloc, reader, row);
+    }
+    Ok(true)
+}

@@ -1,0 +1,4 @@
+pub mod CountingFold
+pub mod Crossing
+pub mod Examples
+pub mod Joined

@@ -1,0 +1,4 @@
+pub mod CountingFold
+pub mod Digits
+pub mod Examples
+pub mod Joined
