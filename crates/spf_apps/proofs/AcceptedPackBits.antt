@@ -8,8 +8,8 @@ use Rattle.spf_region.specs.Bounds.{number, plus, times}
 use Rattle.spf_region.specs.Ranges.{Offsets}
 use Rattle.spf_ast.specs.Syntax.{Program, Block, Let, on_line, Local}
 use Rattle.spf_ast.specs.Construct.{Construct, fold, constructs_in}
-use Rattle.spf_effects.specs.Found.{turn_bound}
-use Rattle.spf_effects.specs.Parts.{main_setting, within_fold}
+use Rattle.spf_findings.specs.Found.{turn_bound}
+use Rattle.spf_findings.specs.Parts.{main_setting, within_fold}
 use Rattle.spf_rollback.specs.Rules.{KeepsTheRules}
 use Rattle.spf_check.specs.Accepting.{IsAccepted}
 use Rattle.spf_programs.specs.Laws.{IsBlockSize}

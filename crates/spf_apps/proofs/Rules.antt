@@ -14,8 +14,8 @@ use Rattle.spf_ast.specs.declared.syntax.Part.{Part}
 use Rattle.spf_ast.specs.declared.syntax.Part.TheVariants.{Body, Producer, Consumer, Predictor}
 use Rattle.spf_ast.specs.Syntax.{Program, FoldHead, Block}
 use Rattle.spf_ast.specs.Construct.{Construct, fold}
-use Rattle.spf_effects.specs.Found.{nowhere}
-use Rattle.spf_effects.specs.Parts.{part_finds, part_effects}
+use Rattle.spf_findings.specs.Found.{nowhere}
+use Rattle.spf_findings.specs.Parts.{part_finds, part_effects}
 use Rattle.spf_rollback.specs.Rules.{HasArray, IsBlockPart, IsWritten, KeepsTheRules, may_write, reads_bare}
 use Rattle.spf_apps.proofs.Tame.{IsTame, NoWrite}
 

@@ -13,9 +13,9 @@ use Rattle.spf_region.specs.Ranges.{Offsets, array_of, joined, has_offset, in_bo
 use Rattle.spf_region.specs.Bounds.{is_small}
 use Rattle.spf_ast.specs.Syntax.{Expression, Number, Local, Len, Input, Load, Call, Neg, Binary, Arguments, no_more, argument, Condition, Compare, Both, Either, Not}
 use Rattle.spf_ast.specs.Syntax.{Statement, Let, Assign, Store, Fill, Emit, Fail, If, For, While, Do, Fold, Pair, Block, end, on_line, Function}
-use Rattle.spf_effects.specs.Found.{Found, Finds, finds_nothing, ◌then◌, perhaps, either, unless_covered, reads_element, writes_element, has_no_turn, Sweep, sweep_joined, sweeps_joined, swept, turns}
-use Rattle.spf_effects.specs.Forms.{Setting, Entered, expression_bound, argument_bounds, bounds_behind, bounds_at_end, bounds_in_turn, sweeps, expression_finds, arguments_find, condition_finds, statement_finds, block_finds, block_then}
-use Rattle.spf_effects.specs.Parts.{own_bounds, setting_in, entered, call_before}
+use Rattle.spf_findings.specs.Found.{Found, Finds, finds_nothing, ◌then◌, perhaps, either, unless_covered, reads_element, writes_element, has_no_turn, Sweep, sweep_joined, sweeps_joined, swept, turns}
+use Rattle.spf_findings.specs.Forms.{Setting, Entered, expression_bound, argument_bounds, bounds_behind, bounds_at_end, bounds_in_turn, sweeps, expression_finds, arguments_find, condition_finds, statement_finds, block_finds, block_then}
+use Rattle.spf_findings.specs.Parts.{own_bounds, setting_in, entered, call_before}
 
 -- ---- forms
 

@@ -4,7 +4,7 @@ use Rattle.spf_ast.specs.declared.syntax.Part.TheVariants.{Producer, Predictor}
 use Rattle.spf_ast.specs.Syntax.{Program}
 use Rattle.spf_ast.specs.Construct.{Construct, fold, pair}
 use Rattle.spf_effects.specs.declared.effects.Effects.{Effects}
-use Rattle.spf_effects.specs.Parts.{part_effects}
+use Rattle.spf_findings.specs.Parts.{part_effects}
 use Rattle.spf_region.specs.Ranges.{IsNormal}
 use Rattle.spf_effects.specs.Effects.{AreEffects}
 use Rattle.spf_check.specs.declared.construct.ConstructEffects.{ConstructEffects}

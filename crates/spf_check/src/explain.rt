@@ -5,7 +5,7 @@ ghost use Rattle.spf_ast.specs.View.{array as seen_array, program as seen_progra
 ghost use Rattle.spf_ast.specs.Construct.{Construct, constructs_in};
 ghost use Rattle.spf_ast.specs.ConstructView.{construct as seen_construct};
 ghost use Rattle.spf_effects.specs.Effects.{AreEffects};
-ghost use Rattle.spf_effects.specs.Parts.{part_effects};
+ghost use Rattle.spf_findings.specs.Parts.{part_effects};
 ghost use Rattle.spf_check.specs.Accepting.{IsLowestBroken};
 ghost use Rattle.spf_check.specs.Explaining.{Explains};
 ghost use Rattle.std.specs.Prelude.{List, ℕ};

@@ -14,8 +14,8 @@ use Rattle.spf_region.specs.declared.bound.Bound.TheVariants.{Known, Unknown}
 use Rattle.spf_region.specs.declared.range.Range.TheVariants.{Affine}
 use Rattle.spf_region.specs.Ranges.{Offsets, covers}
 use Rattle.spf_region.proofs.Covers.{covers-each}
-use Rattle.spf_effects.specs.Found.{Finds, ◌then◌, perhaps, reads_element}
-use Rattle.spf_effects.specs.Forms.{Setting, expression_bound, argument_bounds, expression_finds, arguments_find, condition_finds}
+use Rattle.spf_findings.specs.Found.{Finds, ◌then◌, perhaps, reads_element}
+use Rattle.spf_findings.specs.Forms.{Setting, expression_bound, argument_bounds, expression_finds, arguments_find, condition_finds}
 use Rattle.spf_effect_soundness.specs.Ways.{Keeps}
 use Rattle.spf_effect_soundness.proofs.Meeting.{IsWithin, IsElement, IsAmong, AreStored, EndsWith, Meets, AreWithin, EachWithin, IsKnown}
 use Rattle.spf_effect_soundness.proofs.Meets.{meets-then, meets-post, meets-perhaps, meets-perhaps-nothing, meets-after, meets-value, meets-trap, meets-checked}

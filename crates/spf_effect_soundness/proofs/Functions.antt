@@ -12,10 +12,10 @@ use Rattle.spf_region.specs.declared.bound.Bound.{Bound}
 use Rattle.spf_region.specs.declared.bound.Bound.TheVariants.{Unknown}
 use Rattle.spf_region.specs.Ranges.{Offsets}
 use Rattle.spf_region.proofs.Bools.{both-true}
-use Rattle.spf_effects.specs.Found.{Finds}
-use Rattle.spf_effects.specs.Forms.{Entered, Setting, bounds_at_end}
-use Rattle.spf_effects.specs.Parts.{parameter_bounds, own_bounds, setting_in, entered}
-use Rattle.spf_effects.specs.Parts as parts
+use Rattle.spf_findings.specs.Found.{Finds}
+use Rattle.spf_findings.specs.Forms.{Entered, Setting, bounds_at_end}
+use Rattle.spf_findings.specs.Parts.{parameter_bounds, own_bounds, setting_in, entered}
+use Rattle.spf_findings.specs.Parts as parts
 use Rattle.spf_effect_soundness.proofs.Ways.{keeps-bind}
 use Rattle.spf_effect_soundness.proofs.Meeting.{IsWithin, bound_at, IsAmong, EndsWith, Meets, AreWithin, EachWithin, IsKnown}
 use Rattle.spf_effect_soundness.proofs.Meets.{meets-then, meets-post, meets-value}

@@ -10,8 +10,8 @@ use Rattle.spf_region.specs.declared.range.Range.TheVariants.{Whole, Affine}
 use Rattle.spf_region.specs.Ranges.{array_of}
 use Rattle.spf_region.specs.Cells.{Extent, at_block, in_extent, is_cell, cells_at}
 use Rattle.spf_region.proofs.Bools.{both-true, or-left, or-right, int-le-of}
-use Rattle.spf_effects.specs.Found.{Found, nowhere}
-use Rattle.spf_effects.specs.Parts.{part_finds}
+use Rattle.spf_findings.specs.Found.{Found, nowhere}
+use Rattle.spf_findings.specs.Parts.{part_finds}
 use Rattle.spf_ast.specs.BlockRun.{part_asks}
 use Rattle.spf_effect_soundness.specs.Keeping as keeping
 use Rattle.spf_effect_soundness.proofs.Ways.{Grows, keeps-mono}

@@ -11,8 +11,8 @@ use Rattle.spf_ast.specs.Meaning as means
 use Rattle.spf_region.specs.declared.bound.Bound.{Bound}
 use Rattle.spf_region.specs.declared.bound.Bound.TheVariants.{Unknown}
 use Rattle.spf_region.specs.Ranges.{Offsets}
-use Rattle.spf_effects.specs.Found.{Finds, ◌then◌, finds_nothing, perhaps, Sweep, turn_bound, has_no_turn, swept, turns}
-use Rattle.spf_effects.specs.Forms.{Setting, declared}
+use Rattle.spf_findings.specs.Found.{Finds, ◌then◌, finds_nothing, perhaps, Sweep, turn_bound, has_no_turn, swept, turns}
+use Rattle.spf_findings.specs.Forms.{Setting, declared}
 use Rattle.spf_effect_soundness.specs.Ways.{Keeps}
 use Rattle.spf_effect_soundness.proofs.Ways.{in-rest, Grows, keeps-bind, keeps-mono}
 use Rattle.spf_effect_soundness.proofs.Meeting.{IsWithin, bound_at, IsAmong, AreStored, EndsWith, Meets, AreWithin, AreSwept}

@@ -9,8 +9,8 @@ use Rattle.spf_region.specs.declared.range.Range.{Range}
 use Rattle.spf_region.specs.declared.range.Range.TheVariants.{Whole, Affine}
 use Rattle.spf_region.specs.Ranges.{Offsets}
 use Rattle.spf_region.specs.Cells.{at_block}
-use Rattle.spf_effects.specs.Found.{Finds, Sweep}
-use Rattle.spf_effects.specs.Forms.{Setting}
+use Rattle.spf_findings.specs.Found.{Finds, Sweep}
+use Rattle.spf_findings.specs.Forms.{Setting}
 use Rattle.spf_effect_soundness.specs.Ways.{Keeps}
 use Rattle.spf_effect_soundness.proofs.Ways.{IsIn}
 

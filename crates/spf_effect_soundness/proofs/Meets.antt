@@ -8,7 +8,7 @@ use Rattle.spf_ast.specs.Meaning.{Extent, checked}
 use Rattle.spf_region.specs.declared.range.Range.{Range}
 use Rattle.spf_region.specs.Ranges.{Offsets}
 use Rattle.spf_region.proofs.Bools.{and-left, and-right}
-use Rattle.spf_effects.specs.Found.{Finds, ◌then◌, finds_nothing, perhaps, either, nowhere}
+use Rattle.spf_findings.specs.Found.{Finds, ◌then◌, finds_nothing, perhaps, either, nowhere}
 use Rattle.spf_effect_soundness.specs.Ways.{Keeps}
 use Rattle.spf_effect_soundness.proofs.Ways.{in-none, Grows, keeps-bind, keeps-mono, keeps-both, Anything}
 use Rattle.spf_effect_soundness.proofs.Meeting.{IsAmong, AreStored, EndsWith, Meets}

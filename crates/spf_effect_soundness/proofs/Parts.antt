@@ -16,8 +16,8 @@ use Rattle.spf_ast.specs.Lawful.{Names, Scope, behind, showing_fixed, in_predict
 use Rattle.spf_ast.specs.Lawful as lawful
 use Rattle.spf_region.specs.declared.bound.Bound.{Bound}
 use Rattle.spf_region.specs.declared.bound.Bound.TheVariants.{Known, Unknown}
-use Rattle.spf_effects.specs.Forms.{Setting, bounds_at_end}
-use Rattle.spf_effects.specs.Parts.{main_setting, outside, within_fold, guess_finds, part_finds}
+use Rattle.spf_findings.specs.Forms.{Setting, bounds_at_end}
+use Rattle.spf_findings.specs.Parts.{main_setting, outside, within_fold, guess_finds, part_finds}
 use Rattle.spf_ast.specs.BlockRun.{Setup, IsSetup, part_asks}
 use Rattle.spf_effect_soundness.proofs.Meeting.{bound_at, Meets, AreWithin, IsKnown}
 use Rattle.spf_effect_soundness.proofs.Meets.{meets-then, meets-post, meets-after, meets-value}

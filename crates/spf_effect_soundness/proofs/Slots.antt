@@ -5,7 +5,7 @@ use Rattle.std.specs.List.{Contains}
 use Rattle.std.proofs.lemmas.List.{get_or-set_same, get_or-set_other, length-set, get_or_past}
 use Rattle.spf_region.specs.declared.bound.Bound.{Bound}
 use Rattle.spf_region.specs.declared.bound.Bound.TheVariants.{Unknown}
-use Rattle.spf_effects.specs.Forms.{Setting, declared}
+use Rattle.spf_findings.specs.Forms.{Setting, declared}
 use Rattle.spf_effect_soundness.proofs.Ways.{Grows}
 use Rattle.spf_effect_soundness.proofs.Meeting.{IsWithin, bound_at, AreWithin}
 

@@ -13,8 +13,8 @@ use Rattle.spf_ast.specs.Lawful.{Names, Scope, behind, showing_fixed, in_body, d
 use Rattle.spf_ast.specs.Lawful as lawful
 use Rattle.spf_region.specs.declared.bound.Bound.{Bound}
 use Rattle.spf_region.proofs.Bools.{or-left, or-right}
-use Rattle.spf_effects.specs.Found.{finds_nothing, ◌then◌, either, Sweep, turn_bound, turns}
-use Rattle.spf_effects.specs.Forms.{Setting, expression_bound, declared, bounds_behind, bounds_at_end, bounds_in_turn, sweeps, condition_finds, statement_finds, block_finds, block_then}
+use Rattle.spf_findings.specs.Found.{finds_nothing, ◌then◌, either, Sweep, turn_bound, turns}
+use Rattle.spf_findings.specs.Forms.{Setting, expression_bound, declared, bounds_behind, bounds_at_end, bounds_in_turn, sweeps, condition_finds, statement_finds, block_finds, block_then}
 use Rattle.spf_ast.specs.Slots.{statement_assigns, assigns}
 use Rattle.spf_effect_soundness.proofs.Ways.{in-rest, in-first}
 use Rattle.spf_effect_soundness.proofs.Meeting.{IsWithin, Meets, AreWithin, IsKnown, AreSwept}

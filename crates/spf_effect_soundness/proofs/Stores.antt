@@ -13,7 +13,7 @@ use Rattle.spf_region.specs.declared.range.Range.TheVariants.{Whole, Affine}
 use Rattle.spf_region.specs.Ranges.{Offsets, joined, is_between}
 use Rattle.spf_region.specs.Cells.{at_block}
 use Rattle.spf_region.proofs.Bools.{and-left, and-right, or-cases, int-le-is}
-use Rattle.spf_effects.specs.Found.{◌then◌, writes_element, writes_range, may_write_between, surely_writes_between, may_write_whole}
+use Rattle.spf_findings.specs.Found.{◌then◌, writes_element, writes_range, may_write_between, surely_writes_between, may_write_whole}
 use Rattle.spf_effect_soundness.specs.Ways.{Keeps}
 use Rattle.spf_effect_soundness.proofs.Ways.{IsIn, in-first, in-rest, Grows}
 use Rattle.spf_effect_soundness.proofs.Meeting.{IsWithin, IsElement, IsAmong, AreStored, EndsWith, Meets}

@@ -10,8 +10,8 @@ use Rattle.spf_ast.specs.Syntax.{Statement, Store, Block, on_line}
 use Rattle.spf_ast.specs.Word.{is_word}
 use Rattle.spf_ast.specs.Interaction.{Interaction, State, Ending, Value, Trapped}
 use Rattle.spf_ast.specs.Meaning.{Environment, Extent, checked, expression_means}
-use Rattle.spf_effects.specs.Found.{Sweep, nowhere}
-use Rattle.spf_effects.specs.Forms.{distance, sweep, sweeps}
+use Rattle.spf_findings.specs.Found.{Sweep, nowhere}
+use Rattle.spf_findings.specs.Forms.{distance, sweep, sweeps}
 use Rattle.spf_effect_soundness.specs.Ways.{Keeps}
 use Rattle.spf_effect_soundness.proofs.Ways.{in-none, Grows, keeps-mono, keeps-any, Anything}
 use Rattle.spf_effect_soundness.proofs.Meeting.{AreStored, EndsWith, AreSwept}

@@ -14,7 +14,7 @@ use Rattle.spf_region.specs.Bounds.{is_small, kept}
 use Rattle.spf_region.specs.Ranges.{Offsets, joined}
 use Rattle.spf_region.specs.Cells.{at_block}
 use Rattle.spf_region.proofs.Bools.{and-left, and-right, int-le-is}
-use Rattle.spf_effects.specs.Found.{Finds, perhaps, Sweep, turn_bound, has_no_turn, sweep_joined, sweeps_joined, swept}
+use Rattle.spf_findings.specs.Found.{Finds, perhaps, Sweep, turn_bound, has_no_turn, sweep_joined, sweeps_joined, swept}
 use Rattle.spf_effect_soundness.proofs.Ways.{Grows}
 use Rattle.spf_effect_soundness.proofs.Meeting.{IsWithin, AreStored, Meets, AreSwept}
 use Rattle.spf_effect_soundness.proofs.Meets.{meets-post, meets-perhaps-nothing, meets-value, meets-again, meets-turn}

@@ -14,7 +14,7 @@ use Rattle.spf_region.specs.declared.bound.Bound.{Bound}
 use Rattle.spf_region.specs.declared.bound.Bound.TheVariants.{Known, Unknown}
 use Rattle.spf_region.specs.Bounds.{is_small, known, kept, plus, minus, negated, constant, scaled, times, times_constants, remainder, remainder_by, is_at_least_zero, masked, masked_by}
 use Rattle.spf_region.proofs.Bools.{and-left, and-right}
-use Rattle.spf_effects.specs.Forms.{binary_bound}
+use Rattle.spf_findings.specs.Forms.{binary_bound}
 use Rattle.spf_effect_soundness.proofs.Meeting.{IsWithin}
 use Rattle.spf_effect_soundness.proofs.Products.{add-mul, sub-mul, neg-mul, zero-mul, mul-comm, scaled-low, scaled-high}
 

@@ -10,7 +10,7 @@ use Rattle.spf_ast.specs.Program.{extents_of}
 use Rattle.spf_region.specs.declared.range.Range.{Range}
 use Rattle.spf_region.specs.Ranges.{Offsets}
 use Rattle.spf_region.specs.Cells.{Extent, at_block, cells_at}
-use Rattle.spf_effects.specs.Parts.{part_effects}
+use Rattle.spf_findings.specs.Parts.{part_effects}
 use Rattle.spf_effect_soundness.specs.Ways.{Keeps}
 use Rattle.spf_ast.specs.BlockRun.{Setup, IsSetup, part_asks}
 

@@ -1,16 +1,2 @@
-pub mod Grown
-pub mod Walks
-pub mod Then
-pub mod Between
-pub mod Either
-pub mod SlotSets
-pub mod Weight
-pub mod Calls
-pub mod Forms
-pub mod Leads
-pub mod Sweeping
-pub mod Results
-pub mod Walked
-pub mod Assigns
 pub mod Gathering
 pub mod Listed

@@ -1,11 +1,4 @@
-pub mod Found
-pub mod Forms
-pub mod Parts
 pub mod Examples
-pub mod Extends
-pub mod SlotSets
-pub mod Settings
-pub mod Sweeping
 pub mod Effects
 pub mod Gathered
 pub mod Laws

@@ -1,5 +1,5 @@
 //! The analysis of parts of top constructs.
-ghost use Rattle.std.specs.Prelude.{◌≡◌, ℕ, IfOk};
+ghost use Rattle.std.specs.Prelude.{◌≡◌, ℕ, IfOk, length};
 ghost use Rattle.spf_ast.specs.declared.syntax.Fold.{out-Fold};
 ghost use Rattle.spf_ast.specs.declared.syntax.Pair.{out-Pair};
 ghost use Rattle.spf_ast.specs.ConstructView.{construct as seen_construct};
@@ -14,18 +14,18 @@ ghost use Rattle.spf_ast.specs.View.{
   pair_head,
 };
 ghost use Rattle.spf_effects.specs.Effects.{AreEffects, effects_of};
-ghost use Rattle.spf_effects.specs.Forms.{block_finds, block_then};
-ghost use Rattle.spf_effects.specs.Parts.{guess_finds, outside, part_effects};
-ghost use Rattle.spf_effects.specs.Settings.{setting};
+ghost use Rattle.spf_findings.specs.Forms.{block_finds, block_then};
+ghost use Rattle.spf_findings.specs.Parts.{guess_finds, outside, part_effects};
+ghost use Rattle.spf_walk.specs.Settings.{setting};
 
-use crate::context::{Context, declare};
 use crate::effects::{Effects, gathered, no_effects};
-use crate::findings::Findings;
-use crate::slot_sets::slots_in;
-use crate::walk::{block, block_and, expression};
 use spf_ast::construct::{ConstructKind, TopConstruct};
 use spf_ast::syntax::{Expr, Fold, Pair, Part, Predict, Program, Stmt};
+use spf_findings::findings::Findings;
 use spf_region::bound::Bound;
+use spf_walk::context::{Context, declare};
+use spf_walk::slot_sets::slots_in;
+use spf_walk::walk::{block, block_and, expression};
 use std::alloc::{AllocError, Global};
 
 /// What is known of the number of a block.
@@ -72,7 +72,7 @@ fn fold_effects(
     };
     let mut bounds = unknown_bounds(alloc, program)?;
     declare(context.assigned, fold.block, BLOCK, &mut bounds);
-    let below = program.functions.len();
+    let below = callable(program);
     match part {
         Part::Body => effects_and(alloc, &context, below, &bounds, &fold.body, &fold.next),
         Part::Predictor => predictor_effects(alloc, &context, below, &bounds, &fold.predict),
@@ -98,13 +98,20 @@ fn pair_effects(
         assigned: &slots.assigned,
     };
     let bounds = unknown_bounds(alloc, program)?;
-    let below = program.functions.len();
+    let below = callable(program);
     match part {
         Part::Producer => effects_and(alloc, &context, below, &bounds, &pair.producer, &pair.give),
         Part::Consumer => block_effects(alloc, &context, below, &bounds, &pair.consumer),
         Part::Predictor => predictor_effects(alloc, &context, below, &bounds, &pair.predict),
         Part::Body => Ok(no_effects(alloc)),
     }
+}
+
+/// The place before which functions may be called in `main`: that after the last one.
+fn callable(program: &Program) -> usize
+    ensures { result ≡ length program.now.functions.items }
+{
+    program.functions.len()
 }
 
 /// Bounds for the slots of `main`, of which nothing is known.

@@ -3,8 +3,8 @@ ghost use Rattle.std.specs.Prelude.{◌≡◌, List, [], ◌∷◌, pos};
 ghost use Rattle.spf_region.specs.declared.range.Range.{Range};
 ghost use Rattle.spf_region.specs.declared.range.Range.TheVariants.{Affine};
 ghost use Rattle.spf_region.specs.Ranges.{joined, offsets_of, wholes_of, in_both, whole_in_both};
-ghost use Rattle.spf_effects.specs.Extends.{Extends, Lists};
-ghost use Rattle.spf_effects.specs.Found.{nowhere, Finds, ◌then◌, either};
+ghost use Rattle.spf_findings.specs.Extends.{Extends, Lists};
+ghost use Rattle.spf_findings.specs.Found.{nowhere, Finds, ◌then◌, either};
 ghost use Rattle.spf_effects.specs.Laws.{EffectsHaveLists};
 ghost use Rattle.spf_effects.specs.Examples.{filled_block, short_loop, swept_block, called_write, branches};
 

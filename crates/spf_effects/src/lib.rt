@@ -2,12 +2,5 @@
 #![tactic(auto)]
 
 pub mod analysis;
-mod bounds;
-mod context;
 pub mod effects;
-mod findings;
 pub mod laws;
-mod slot_sets;
-mod slots;
-mod sweeps;
-mod walk;

@@ -12,7 +12,7 @@ use Rattle.spf_ast.specs.Program.{extents_of, environment_of}
 use Rattle.spf_region.specs.Ranges.{offsets_of, wholes_of}
 use Rattle.spf_region.specs.Cells.{Extent, at_block}
 use Rattle.spf_ast.specs.Slots.{emits, assigns_outer, part_declares}
-use Rattle.spf_effects.specs.Parts.{part_effects}
+use Rattle.spf_findings.specs.Parts.{part_effects}
 use Rattle.spf_ast.specs.Construct.{statements_of}
 use Rattle.spf_ast.specs.BlockRun.{Setup, IsSetup, part_asks}
 use Rattle.spf_ast.specs.Laws.{LawfulFunctionsAreSilent, SilentPartsLeaveTheOutput}

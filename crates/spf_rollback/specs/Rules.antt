@@ -7,7 +7,7 @@ use Rattle.spf_ast.specs.Construct.{Construct, fold, pair}
 use Rattle.spf_region.specs.declared.range.Range.{Range}
 use Rattle.spf_region.specs.Ranges.{offsets_of, wholes_of}
 use Rattle.spf_region.specs.Laws.{HasEntry, AreSeparate}
-use Rattle.spf_effects.specs.Parts.{part_effects}
+use Rattle.spf_findings.specs.Parts.{part_effects}
 
 -- the parts that are run as blocks; a predictor isn't
 abbrev pub IsBlockPart : Part → Type 0

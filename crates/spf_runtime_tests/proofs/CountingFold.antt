@@ -21,7 +21,7 @@ use Rattle.spf_ast.specs.Interaction.{Interaction, Answer, AskTurn, Ended, Stopp
 use Rattle.spf_ast.specs.Lawful.{IsLawful, IsName, reserved_words}
 use Rattle.spf_region.specs.declared.span.Span.{Span}
 use Rattle.spf_region.specs.Cells.{in_spans}
-use Rattle.spf_effects.specs.Parts.{part_effects}
+use Rattle.spf_findings.specs.Parts.{part_effects}
 use Rattle.spf_rollback.specs.Rules.{KeepsTheRules, IsBlockPart, HasArray}
 use Rattle.spf_rollback.specs.Freedom.{TheRulesSetFree}
 use Rattle.spf_layout.specs.declared.stop.Stop.TheVariants as stop

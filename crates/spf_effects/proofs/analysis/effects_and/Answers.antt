@@ -1,6 +1,6 @@
 use Rattle.spf_ast.specs.View.{block, expression}
-use Rattle.spf_effects.specs.Forms.{block_then}
-use Rattle.spf_effects.specs.Settings.{setting}
+use Rattle.spf_findings.specs.Forms.{block_then}
+use Rattle.spf_walk.specs.Settings.{setting}
 use Rattle.spf_effects.proofs.Gathering.{effects_are}
 use Rattle.spf_effects.proofs.analysis.effects_and.Goals as goal
 

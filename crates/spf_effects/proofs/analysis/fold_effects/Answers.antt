@@ -5,18 +5,17 @@ use Rattle.spf_ast.specs.Syntax.{end}
 use Rattle.spf_ast.specs.View.{program, block, expression, predictor, fold_head}
 use Rattle.spf_region.specs.declared.bound.Bound.TheVariants.{Known}
 use Rattle.spf_effects.specs.Effects.{AreEffects, effects_of}
-use Rattle.spf_effects.specs.Forms.{Setting, block_then, declared}
-use Rattle.spf_effects.specs.Parts.{guess_finds, outside, within_fold}
+use Rattle.spf_findings.specs.Forms.{Setting, block_then, declared}
+use Rattle.spf_findings.specs.Parts.{guess_finds, outside, within_fold}
 use Rattle.spf_effects.proofs.Gathering.{main_setting_is}
-use Rattle.spf_effects.proofs.Results.{if_ok}
-use Rattle.spf_effects.proofs.Walked.{written_back}
+use Rattle.spf_walk.proofs.Results.{if_ok}
+use Rattle.spf_walk.proofs.Walked.{written_back}
 use Rattle.spf_effects.proofs.analysis.fold_effects.Goals as goal
 
 pub returns-in-Body : goal.returns-in-Body
 returns-in-Body c =
     let main = rw c.deref.ensures.value at (c.in_ok-slots.ensures {u = tt}) in
-    let count : c.len-below.result ≡ length c.args.program.now.functions.items = search rules in
-    let same = main_setting_is c.args.program.now c.in_ok-slots.slots c.deref-2.result.now c.len-below.result main c.deref-2.ensures.value count in
+    let same = main_setting_is c.args.program.now c.in_ok-slots.slots c.deref-2.result.now c.callable-below.result main c.deref-2.ensures.value c.callable-below.ensures in
     let lent = c.deref_mut.ensures.value ∙ c.in_ok-bounds.ensures {u = tt} in
     let made = rw lent at c.declare.ensures in
     let long : c.in_ok-bounds.bounds.len ≡ length c.in_ok-bounds.bounds.items = search rules in
@@ -28,8 +27,7 @@ returns-in-Body c =
 pub returns-in-Predictor : goal.returns-in-Predictor
 returns-in-Predictor c =
     let main = rw c.deref.ensures.value at (c.in_ok-slots.ensures {u = tt}) in
-    let count : c.len-below.result ≡ length c.args.program.now.functions.items = search rules in
-    let same = main_setting_is c.args.program.now c.in_ok-slots.slots c.deref-2.result.now c.len-below.result main c.deref-2.ensures.value count in
+    let same = main_setting_is c.args.program.now c.in_ok-slots.slots c.deref-2.result.now c.callable-below.result main c.deref-2.ensures.value c.callable-below.ensures in
     let lent = c.deref_mut.ensures.value ∙ c.in_ok-bounds.ensures {u = tt} in
     let made = rw lent at c.declare.ensures in
     let long : c.in_ok-bounds.bounds.len ≡ length c.in_ok-bounds.bounds.items = search rules in

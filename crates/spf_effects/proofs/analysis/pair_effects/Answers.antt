@@ -1,20 +1,19 @@
-use Rattle.std.proofs.Common.{rules, ◌≡◌, length, subst, ◌∙◌}
+use Rattle.std.proofs.Common.{subst, ◌∙◌}
 use Rattle.std.specs.Prelude.{IfOk}
 use Rattle.spf_ast.specs.declared.syntax.Pair.{out-Pair}
 use Rattle.spf_ast.specs.Syntax.{end}
 use Rattle.spf_ast.specs.View.{program, block, expression, predictor}
 use Rattle.spf_effects.specs.Effects.{AreEffects, effects_of}
-use Rattle.spf_effects.specs.Forms.{Setting, block_finds, block_then}
-use Rattle.spf_effects.specs.Parts.{guess_finds, outside}
+use Rattle.spf_findings.specs.Forms.{Setting, block_finds, block_then}
+use Rattle.spf_findings.specs.Parts.{guess_finds, outside}
 use Rattle.spf_effects.proofs.Gathering.{main_setting_is}
-use Rattle.spf_effects.proofs.Results.{if_ok}
+use Rattle.spf_walk.proofs.Results.{if_ok}
 use Rattle.spf_effects.proofs.analysis.pair_effects.Goals as goal
 
 pub returns-in-Producer : goal.returns-in-Producer
 returns-in-Producer c =
     let main = rw c.deref.ensures.value at (c.in_ok-slots.ensures {u = tt}) in
-    let count : c.len-below.result ≡ length c.args.program.now.functions.items = search rules in
-    let same = main_setting_is c.args.program.now c.in_ok-slots.slots c.deref-2.result.now c.len-below.result main c.deref-2.ensures.value count in
+    let same = main_setting_is c.args.program.now c.in_ok-slots.slots c.deref-2.result.now c.callable-below.result main c.deref-2.ensures.value c.callable-below.ensures in
     let known = c.deref-in-Producer.ensures.value ∙ c.in_ok-bounds.ensures {u = tt} in
     let exact = subst (λ (g : Setting). IfOk c.effects_and.result (AreEffects (effects_of (block_then g (outside (program c.args.program.now)) (block (out-Pair c.args.pair.now).producer.items) (expression (out-Pair c.args.pair.now).give)) (block (out-Pair c.args.pair.now).producer.items)))) same (rw (known, c.deref-in-Producer-2.ensures.value) at c.effects_and.ensures) in
     if_ok c.effects_and.result exact (λ e h line. rw c.in-Producer.is h)
@@ -22,8 +21,7 @@ returns-in-Producer c =
 pub returns-in-Consumer : goal.returns-in-Consumer
 returns-in-Consumer c =
     let main = rw c.deref.ensures.value at (c.in_ok-slots.ensures {u = tt}) in
-    let count : c.len-below.result ≡ length c.args.program.now.functions.items = search rules in
-    let same = main_setting_is c.args.program.now c.in_ok-slots.slots c.deref-2.result.now c.len-below.result main c.deref-2.ensures.value count in
+    let same = main_setting_is c.args.program.now c.in_ok-slots.slots c.deref-2.result.now c.callable-below.result main c.deref-2.ensures.value c.callable-below.ensures in
     let known = c.deref-in-Consumer.ensures.value ∙ c.in_ok-bounds.ensures {u = tt} in
     let exact = subst (λ (g : Setting). IfOk c.block_effects.result (AreEffects (effects_of (block_finds g (outside (program c.args.program.now)) (block (out-Pair c.args.pair.now).consumer.items)) (block (out-Pair c.args.pair.now).consumer.items)))) same (rw (known, c.deref-in-Consumer-2.ensures.value) at c.block_effects.ensures) in
     if_ok c.block_effects.result exact (λ e h line. rw c.in-Consumer.is h)
@@ -31,8 +29,7 @@ returns-in-Consumer c =
 pub returns-in-Predictor : goal.returns-in-Predictor
 returns-in-Predictor c =
     let main = rw c.deref.ensures.value at (c.in_ok-slots.ensures {u = tt}) in
-    let count : c.len-below.result ≡ length c.args.program.now.functions.items = search rules in
-    let same = main_setting_is c.args.program.now c.in_ok-slots.slots c.deref-2.result.now c.len-below.result main c.deref-2.ensures.value count in
+    let same = main_setting_is c.args.program.now c.in_ok-slots.slots c.deref-2.result.now c.callable-below.result main c.deref-2.ensures.value c.callable-below.ensures in
     let known = c.deref-in-Predictor.ensures.value ∙ c.in_ok-bounds.ensures {u = tt} in
     let exact = subst (λ (g : Setting). IfOk c.predictor_effects.result (AreEffects (effects_of (guess_finds g (outside (program c.args.program.now)) (predictor (out-Pair c.args.pair.now).predict)) end))) same (rw (known) at c.predictor_effects.ensures) in
     if_ok c.predictor_effects.result exact (λ e h line. rw c.in-Predictor.is h)

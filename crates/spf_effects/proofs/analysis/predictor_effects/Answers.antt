@@ -1,7 +1,7 @@
 use Rattle.spf_ast.specs.Syntax.{end}
 use Rattle.spf_ast.specs.View.{expression}
-use Rattle.spf_effects.specs.Forms.{expression_finds}
-use Rattle.spf_effects.specs.Settings.{setting}
+use Rattle.spf_findings.specs.Forms.{expression_finds}
+use Rattle.spf_walk.specs.Settings.{setting}
 use Rattle.spf_effects.proofs.Gathering.{effects_are}
 use Rattle.spf_effects.proofs.analysis.predictor_effects.Goals as goal
 

@@ -1,0 +1,4 @@
+pub mod Grown
+pub mod Between
+pub mod Then
+pub mod Either

@@ -1,0 +1,4 @@
+pub mod Found
+pub mod Forms
+pub mod Parts
+pub mod Extends

@@ -1,0 +1,10 @@
+pub mod Walks
+pub mod SlotSets
+pub mod Weight
+pub mod Calls
+pub mod Forms
+pub mod Leads
+pub mod Sweeping
+pub mod Results
+pub mod Walked
+pub mod Assigns

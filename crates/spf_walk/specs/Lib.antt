@@ -1,0 +1,3 @@
+pub mod SlotSets
+pub mod Settings
+pub mod Sweeping
