@@ -2,5 +2,4 @@ pub mod Writing
 pub mod PackBits
 pub mod Huffman
 pub mod Lexer
-pub mod Built
 pub mod Laws

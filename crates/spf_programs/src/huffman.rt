@@ -2,7 +2,7 @@
 ghost use Rattle.std.specs.Prelude.{◌≡◌, ◌≤◌, ◌<◌, ◌*◌, ◌^◌, IfOk};
 ghost use Rattle.spf_ast.specs.Lawful.{IsLawful};
 ghost use Rattle.spf_ast.specs.declared.syntax.Test.TheVariants.{Ne};
-ghost use Rattle.spf_ast.specs.Syntax.{Fold, Compare, Load, Local};
+ghost use Rattle.spf_ast.specs.Syntax.{Expression, Fold, Compare, Load, Local};
 ghost use Rattle.spf_programs.specs.Writing.{number as number_form};
 ghost use Rattle.spf_ast.specs.View.{expression, condition, block as seen_block, program as seen_program, statement, function as seen_function};
 ghost use Rattle.spf_programs.specs.Huffman.{
@@ -30,16 +30,21 @@ ghost use Rattle.spf_programs.specs.Huffman.{
   symbol_out as symbol_form,
   symbols_out as symbols_form,
   too_few as too_few_form,
+  output as output_form,
   main as main_form,
   huffman_program,
 };
 
-use crate::build::{
-    Blocks, assign, binary, blocks_for, call, choose, compare, count, declare, emit, fill, fold,
-    input, load, name, names, number, only, sized_array, store, then, when,
-};
+use crate::blocks::blocks_for;
 use crate::laws::programs_are_lawful;
 use spf_ast::syntax::{Cond, Expr, Function, Op, Program, Stmt, StmtKind, Test};
+use spf_builder::expression::{
+    binary, call, call_with_two, compare, input, length, load, local, number,
+};
+use spf_builder::name::{name, names, sized_array};
+use spf_builder::statement::{
+    Carried, assign, choose, count, declare, emit, fail, fill, fold, on_line, only, store, when,
+};
 use std::alloc::{AllocError, Global};
 
 /// The array of symbols by code word: a symbol and one more at a 1 followed by its code word.
@@ -98,10 +103,10 @@ const OUT_PLACE: u32 = 11;
 fn with_bit(alloc: Global, state: u32, byte: u32, bit: u32) -> Result<Expr, AllocError>
     ensures { IfOk result (λ e. expression e ≡ bit_form state byte bit) }
 {
-    let places = binary(alloc, Op::Sub, number(7), Expr::Local(bit))?;
-    let shifted = binary(alloc, Op::Shr, Expr::Local(byte), places)?;
-    let lowest = binary(alloc, Op::And, shifted, number(1))?;
-    let moved = binary(alloc, Op::Mul, Expr::Local(state), number(2))?;
+    let places = binary(alloc, Op::Sub, number(7), local(bit));
+    let shifted = binary(alloc, Op::Shr, local(byte), places);
+    let lowest = binary(alloc, Op::And, shifted, number(1));
+    let moved = binary(alloc, Op::Mul, local(state), number(2));
     binary(alloc, Op::Add, moved, lowest)
 }
 
@@ -109,7 +114,7 @@ fn with_bit(alloc: Global, state: u32, byte: u32, bit: u32) -> Result<Expr, Allo
 fn is_whole(alloc: Global, state: u32) -> Result<Cond, AllocError>
     ensures { IfOk result (λ c. condition c ≡ Compare Ne (Load 0 (Local state)) (number_form 0)) }
 {
-    let found = load(alloc, CODE, Expr::Local(state))?;
+    let found = load(alloc, CODE, local(state));
     compare(alloc, Test::Ne, found, number(0))
 }
 
@@ -117,38 +122,41 @@ fn is_whole(alloc: Global, state: u32) -> Result<Cond, AllocError>
 fn bite_whole(alloc: Global) -> Result<Vec<Stmt>, AllocError>
     ensures { IfOk result (λ v. seen_block v.items ≡ bite_whole_form) }
 {
-    let again = only(alloc, assign(10, BITE_NEW, number(1)))?;
-    let is_whole = is_whole(alloc, BITE_NEW)?;
-    when(alloc, 10, is_whole, again)
+    let again = only(alloc, 10, assign(BITE_NEW, number(1)));
+    only(alloc, 10, when(alloc, is_whole(alloc, BITE_NEW), again))
 }
 
 /// A bit in `bite`.
 fn bite_bits(alloc: Global) -> Result<Vec<Stmt>, AllocError>
     ensures { IfOk result (λ v. seen_block v.items ≡ bite_bits_form) }
 {
-    let bit = with_bit(alloc, BITE_NEW, BITE_BYTE, BITE_BIT)?;
-    let step = only(alloc, assign(7, BITE_NEW, bit))?;
-    let lost = only(alloc, assign(9, BITE_NEW, number(0)))?;
-    let whole = bite_whole(alloc)?;
-    let is_lost = compare(alloc, Test::Gt, Expr::Local(BITE_NEW), number(65535))?;
-    let step = then(step, choose(8, is_lost, lost, whole))?;
-    let is_found = compare(alloc, Test::Ne, Expr::Local(BITE_NEW), number(0))?;
-    when(alloc, 6, is_found, step)
+    let moved = assign(BITE_NEW, with_bit(alloc, BITE_NEW, BITE_BYTE, BITE_BIT));
+    let is_lost = compare(alloc, Test::Gt, local(BITE_NEW), number(65535));
+    let lost = only(alloc, 9, assign(BITE_NEW, number(0)));
+    let checked = choose(is_lost, lost, bite_whole(alloc));
+    let step = on_line(alloc, 7, moved, only(alloc, 8, checked));
+    let is_found = compare(alloc, Test::Ne, local(BITE_NEW), number(0));
+    only(alloc, 6, when(alloc, is_found, step))
+}
+
+/// The statements of `bite`.
+fn bite_body(alloc: Global) -> Result<Vec<Stmt>, AllocError>
+    ensures { IfOk result (λ v. seen_block v.items ≡ bite_form.body) }
+{
+    let begun = declare(BITE_NEW, local(BITE_STATE));
+    let bits = count(BITE_BIT, number(0), number(8), bite_bits(alloc));
+    on_line(alloc, 4, begun, only(alloc, 5, bits))
 }
 
 /// `bite`, which gives the state after a byte.
 fn bite(alloc: Global) -> Result<Function, AllocError>
     ensures { IfOk result (λ f. seen_function f ≡ bite_form) }
 {
-    let bits = bite_bits(alloc)?;
     Ok(Function {
         name: name(alloc, b"bite")?,
         params: 2,
         slots: names(alloc, &[b"g", b"byte", b"h", b"j"])?,
-        body: vec![in alloc;
-            declare(4, BITE_NEW, Expr::Local(BITE_STATE)),
-            count(5, BITE_BIT, number(0), number(8), bits),
-        ]?,
+        body: bite_body(alloc)?,
         answer: Expr::Local(BITE_NEW),
         answer_line: 13,
         line: 3,
@@ -159,30 +167,33 @@ fn bite(alloc: Global) -> Result<Function, AllocError>
 fn look_byte(alloc: Global) -> Result<Vec<Stmt>, AllocError>
     ensures { IfOk result (λ v. seen_block v.items ≡ look_byte_form) }
 {
-    let place = binary(alloc, Op::Add, number(264), Expr::Local(LOOK_PLACE))?;
-    let byte = input(alloc, place)?;
-    let given = vec![in alloc; Expr::Local(LOOK_STATE), byte]?;
-    let step = only(alloc, assign(18, LOOK_STATE, call(BITE, given)))?;
-    let is_inside = compare(alloc, Test::Ge, Expr::Local(LOOK_PLACE), number(0))?;
-    when(alloc, 18, is_inside, step)
+    let place = binary(alloc, Op::Add, number(264), local(LOOK_PLACE));
+    let byte = input(alloc, place);
+    let bitten = call_with_two(alloc, BITE, local(LOOK_STATE), byte);
+    let step = only(alloc, 18, assign(LOOK_STATE, bitten));
+    let is_inside = compare(alloc, Test::Ge, local(LOOK_PLACE), number(0));
+    only(alloc, 18, when(alloc, is_inside, step))
+}
+
+/// The statements of `look`.
+fn look_body(alloc: Global) -> Result<Vec<Stmt>, AllocError>
+    ensures { IfOk result (λ v. seen_block v.items ≡ look_form.body) }
+{
+    let begun = declare(LOOK_STATE, number(1));
+    let low = binary(alloc, Op::Sub, local(LOOK_END), number(16));
+    let bytes = count(LOOK_PLACE, low, local(LOOK_END), look_byte(alloc));
+    on_line(alloc, 16, begun, only(alloc, 17, bytes))
 }
 
 /// `look`, which decodes the 16 bytes before a place.
 fn look(alloc: Global) -> Result<Function, AllocError>
     ensures { IfOk result (λ f. seen_function f ≡ look_form) }
 {
-    let body = only(alloc, declare(16, LOOK_STATE, number(1)))?;
-    let byte = look_byte(alloc)?;
-    let low = binary(alloc, Op::Sub, Expr::Local(LOOK_END), number(16))?;
-    let body = then(
-        body,
-        count(17, LOOK_PLACE, low, Expr::Local(LOOK_END), byte),
-    )?;
     Ok(Function {
         name: name(alloc, b"look")?,
         params: 1,
         slots: names(alloc, &[b"p", b"h", b"i"])?,
-        body,
+        body: look_body(alloc)?,
         answer: Expr::Local(LOOK_STATE),
         answer_line: 20,
         line: 15,
@@ -193,37 +204,32 @@ fn look(alloc: Global) -> Result<Function, AllocError>
 fn table_entry(alloc: Global) -> Result<Vec<Stmt>, AllocError>
     ensures { IfOk result (λ v. seen_block v.items ≡ entry_form) }
 {
-    let first = binary(alloc, Op::Shl, number(1), Expr::Local(LENGTH))?;
-    let index = binary(alloc, Op::Add, first, Expr::Local(WORD))?;
-    let symbol = binary(alloc, Op::Add, Expr::Local(SYMBOL), number(1))?;
-    let entry = only(alloc, store(26, CODE, index, symbol))?;
-    let next = binary(alloc, Op::Add, Expr::Local(WORD), number(1))?;
-    let entry = then(entry, assign(26, WORD, next))?;
-    let place = binary(alloc, Op::Add, number(4), Expr::Local(SYMBOL))?;
-    let length = input(alloc, place)?;
-    let has_length = compare(alloc, Test::Eq, length, Expr::Local(LENGTH))?;
-    when(alloc, 26, has_length, entry)
+    let first = binary(alloc, Op::Shl, number(1), local(LENGTH));
+    let index = binary(alloc, Op::Add, first, local(WORD));
+    let symbol = binary(alloc, Op::Add, local(SYMBOL), number(1));
+    let entry = store(CODE, index, symbol);
+    let next = assign(WORD, binary(alloc, Op::Add, local(WORD), number(1)));
+    let kept = on_line(alloc, 26, entry, only(alloc, 26, next));
+    let place = binary(alloc, Op::Add, number(4), local(SYMBOL));
+    let has_length = compare(alloc, Test::Eq, input(alloc, place), local(LENGTH));
+    only(alloc, 26, when(alloc, has_length, kept))
 }
 
 /// Fills the table of code words.
-fn table(alloc: Global) -> Result<Stmt, AllocError>
-    ensures line { IfOk result (λ s. s.line ≡ 24) }
-    ensures kind { IfOk result (λ s. statement s.kind ≡ table_form) }
+fn table(alloc: Global) -> Result<StmtKind, AllocError>
+    ensures { IfOk result (λ s. statement s ≡ table_form) }
 {
-    let entry = table_entry(alloc)?;
-    let longer = binary(alloc, Op::Mul, Expr::Local(WORD), number(2))?;
-    let words = vec![in alloc;
-        count(25, SYMBOL, number(0), number(256), entry),
-        assign(28, WORD, longer),
-    ]?;
-    Ok(count(24, LENGTH, number(1), number(16), words))
+    let symbols = count(SYMBOL, number(0), number(256), table_entry(alloc));
+    let longer = assign(WORD, binary(alloc, Op::Mul, local(WORD), number(2)));
+    let words = on_line(alloc, 25, symbols, only(alloc, 28, longer));
+    count(LENGTH, number(1), number(16), words)
 }
 
 /// How many bytes hold code words.
 fn code_bytes(alloc: Global) -> Result<Expr, AllocError>
     ensures { IfOk result (λ e. expression e ≡ code_bytes_form) }
 {
-    binary(alloc, Op::Sub, Expr::Len, number(264))
+    binary(alloc, Op::Sub, length(), number(264))
 }
 
 /// The first byte of a block: its number times the size.
@@ -231,7 +237,7 @@ fn block_begin(alloc: Global, size: u64) -> Result<Expr, AllocError>
     requires { size ≤ 65536 }
     ensures { IfOk result (λ e. expression e ≡ begin_form size) }
 {
-    binary(alloc, Op::Mul, number(size), Expr::Local(BLOCK))
+    binary(alloc, Op::Mul, number(size), local(BLOCK))
 }
 
 /// The first bit of a block.
@@ -239,7 +245,7 @@ fn bits_begin(alloc: Global, size: u64) -> Result<Expr, AllocError>
     requires { size ≤ 65536 }
     ensures { IfOk result (λ e. expression e ≡ bits_begin_form size) }
 {
-    binary(alloc, Op::Mul, number(8 * size), Expr::Local(BLOCK))
+    binary(alloc, Op::Mul, number(8 * size), local(BLOCK))
 }
 
 /// The bit after a block.
@@ -247,7 +253,7 @@ fn bits_end(alloc: Global, size: u64) -> Result<Expr, AllocError>
     requires { size ≤ 65536 }
     ensures { IfOk result (λ e. expression e ≡ bits_end_form size) }
 {
-    binary(alloc, Op::Add, bits_begin(alloc, size)?, number(8 * size))
+    binary(alloc, Op::Add, bits_begin(alloc, size), number(8 * size))
 }
 
 /// The place of a bit.
@@ -255,10 +261,9 @@ fn sym_place(alloc: Global, size: u64) -> Result<Expr, AllocError>
     requires { size ≤ 65536 }
     ensures { IfOk result (λ e. expression e ≡ sym_place_form size) }
 {
-    let begin = bits_begin(alloc, size)?;
-    let bytes = binary(alloc, Op::Mul, number(8), Expr::Local(PLACE))?;
-    let byte = binary(alloc, Op::Add, begin, bytes)?;
-    binary(alloc, Op::Add, byte, Expr::Local(BIT))
+    let bytes = binary(alloc, Op::Mul, number(8), local(PLACE));
+    let byte = binary(alloc, Op::Add, bits_begin(alloc, size), bytes);
+    binary(alloc, Op::Add, byte, local(BIT))
 }
 
 /// Keeps the symbol where a code word is whole.
@@ -266,11 +271,11 @@ fn word_end(alloc: Global, size: u64) -> Result<Vec<Stmt>, AllocError>
     requires { size ≤ 65536 }
     ensures { IfOk result (λ v. seen_block v.items ≡ word_form size) }
 {
-    let place = sym_place(alloc, size)?;
-    let found = load(alloc, CODE, Expr::Local(STATE))?;
-    let whole = vec![in alloc; store(40, SYM, place, found), assign(40, STATE, number(1))]?;
-    let is_whole = is_whole(alloc, STATE)?;
-    when(alloc, 40, is_whole, whole)
+    let found = load(alloc, CODE, local(STATE));
+    let kept = store(SYM, sym_place(alloc, size), found);
+    let again = assign(STATE, number(1));
+    let whole = on_line(alloc, 40, kept, only(alloc, 40, again));
+    only(alloc, 40, when(alloc, is_whole(alloc, STATE), whole))
 }
 
 /// A bit of a block.
@@ -278,14 +283,13 @@ fn one_bit(alloc: Global, size: u64) -> Result<Vec<Stmt>, AllocError>
     requires { size ≤ 65536 }
     ensures { IfOk result (λ v. seen_block v.items ≡ bit_block_form size) }
 {
-    let bit = with_bit(alloc, STATE, BYTE, BIT)?;
-    let step = only(alloc, assign(38, STATE, bit))?;
-    let lost = only(alloc, assign(39, STATE, number(0)))?;
-    let end = word_end(alloc, size)?;
-    let is_lost = compare(alloc, Test::Gt, Expr::Local(STATE), number(65535))?;
-    let step = then(step, choose(39, is_lost, lost, end))?;
-    let is_found = compare(alloc, Test::Ne, Expr::Local(STATE), number(0))?;
-    when(alloc, 37, is_found, step)
+    let moved = assign(STATE, with_bit(alloc, STATE, BYTE, BIT));
+    let is_lost = compare(alloc, Test::Gt, local(STATE), number(65535));
+    let lost = only(alloc, 39, assign(STATE, number(0)));
+    let checked = choose(is_lost, lost, word_end(alloc, size));
+    let step = on_line(alloc, 38, moved, only(alloc, 39, checked));
+    let is_found = compare(alloc, Test::Ne, local(STATE), number(0));
+    only(alloc, 37, when(alloc, is_found, step))
 }
 
 /// The bits of a byte.
@@ -293,15 +297,11 @@ fn byte_bits(alloc: Global, size: u64) -> Result<Vec<Stmt>, AllocError>
     requires { size ≤ 65536 }
     ensures { IfOk result (λ v. seen_block v.items ≡ bits_form size) }
 {
-    let bit = one_bit(alloc, size)?;
-    let begin = block_begin(alloc, size)?;
-    let behind = binary(alloc, Op::Add, number(264), begin)?;
-    let place = binary(alloc, Op::Add, behind, Expr::Local(PLACE))?;
-    let byte = input(alloc, place)?;
-    Ok(vec![in alloc;
-        declare(35, BYTE, byte),
-        count(36, BIT, number(0), number(8), bit),
-    ]?)
+    let behind = binary(alloc, Op::Add, number(264), block_begin(alloc, size));
+    let place = binary(alloc, Op::Add, behind, local(PLACE));
+    let read = declare(BYTE, input(alloc, place));
+    let bits = count(BIT, number(0), number(8), one_bit(alloc, size));
+    on_line(alloc, 35, read, only(alloc, 36, bits))
 }
 
 /// A byte of a block.
@@ -309,11 +309,9 @@ fn one_byte(alloc: Global, size: u64) -> Result<Vec<Stmt>, AllocError>
     requires { size ≤ 65536 }
     ensures { IfOk result (λ v. seen_block v.items ≡ byte_form size) }
 {
-    let bits = byte_bits(alloc, size)?;
-    let begin = block_begin(alloc, size)?;
-    let place = binary(alloc, Op::Add, begin, Expr::Local(PLACE))?;
-    let is_inside = compare(alloc, Test::Lt, place, code_bytes(alloc)?)?;
-    when(alloc, 34, is_inside, bits)
+    let place = binary(alloc, Op::Add, block_begin(alloc, size), local(PLACE));
+    let is_inside = compare(alloc, Test::Lt, place, code_bytes(alloc));
+    only(alloc, 34, when(alloc, is_inside, byte_bits(alloc, size)))
 }
 
 /// What a block does.
@@ -321,56 +319,49 @@ fn body(alloc: Global, size: u64) -> Result<Vec<Stmt>, AllocError>
     requires { size ≤ 65536 }
     ensures { IfOk result (λ v. seen_block v.items ≡ body_form size) }
 {
-    let byte = one_byte(alloc, size)?;
-    let low = bits_begin(alloc, size)?;
-    let high = bits_end(alloc, size)?;
-    Ok(vec![in alloc;
-        fill(31, SYM, low, high, number(0)),
-        declare(32, STATE, Expr::Local(CARRIED)),
-        count(33, PLACE, number(0), number(size), byte),
-    ]?)
+    let low = bits_begin(alloc, size);
+    let high = bits_end(alloc, size);
+    let cleared = fill(SYM, low, high, number(0));
+    let begun = declare(STATE, local(CARRIED));
+    let bytes = count(PLACE, number(0), number(size), one_byte(alloc, size));
+    let bytes = only(alloc, 33, bytes);
+    on_line(alloc, 31, cleared, on_line(alloc, 32, begun, bytes))
 }
 
 /// The fold over blocks.
-fn blocks(alloc: Global, size: u64) -> Result<Stmt, AllocError>
+fn blocks(alloc: Global, size: u64) -> Result<StmtKind, AllocError>
     requires some { 1 ≤ size }
     requires few { size ≤ 65536 }
-    ensures line { IfOk result (λ s. s.line ≡ 30) }
-    ensures kind { IfOk result (λ s. statement s.kind ≡ Fold (head_form size) (body_form size)) }
+    ensures { IfOk result (λ s. statement s ≡ Fold (head_form size) (body_form size)) }
 {
-    let body = body(alloc, size)?;
-    let looked_from = vec![in alloc; block_begin(alloc, size)?]?;
-    let bytes = code_bytes(alloc)?;
-    let count = blocks_for(alloc, bytes, size)?;
-    let parts = Blocks {
-        carried: CARRIED,
-        start: number(1),
-        count,
-        guess: call(LOOK, looked_from),
-        body,
-        next: Expr::Local(STATE),
+    let carried = Carried {
+        slot: CARRIED,
+        start: 1,
+        next: STATE,
         next_line: 45,
     };
-    fold(alloc, 30, parts)
+    let count = blocks_for(alloc, code_bytes(alloc), size);
+    let guess = call(alloc, LOOK, block_begin(alloc, size));
+    fold(alloc, carried, count, guess, body(alloc, size))
 }
 
 /// A number with a byte of the header after it.
-fn with_byte(alloc: Global, high: Expr, place: u64) -> Result<Expr, AllocError>
+fn with_byte(alloc: Global, high: Result<Expr, AllocError>, place: u64) -> Result<Expr, AllocError>
     requires { place < 2 ^ 63 }
-    ensures { IfOk result (λ e. expression e ≡ with_byte_form (expression high) place) }
+    ensures { (a : Expression) → IfOk high (λ e. expression e ≡ a)
+        → IfOk result (λ e. expression e ≡ with_byte_form a place) }
 {
-    let moved = binary(alloc, Op::Mul, high, number(256))?;
-    let byte = input(alloc, number(place))?;
-    binary(alloc, Op::Add, moved, byte)
+    let moved = binary(alloc, Op::Mul, high, number(256));
+    binary(alloc, Op::Add, moved, input(alloc, number(place)))
 }
 
 /// The count of symbols in the header.
 fn wanted(alloc: Global) -> Result<Expr, AllocError>
     ensures { IfOk result (λ e. expression e ≡ wanted_form) }
 {
-    let first = input(alloc, number(260))?;
-    let second = with_byte(alloc, first, 261)?;
-    let third = with_byte(alloc, second, 262)?;
+    let first = input(alloc, number(260));
+    let second = with_byte(alloc, first, 261);
+    let third = with_byte(alloc, second, 262);
     with_byte(alloc, third, 263)
 }
 
@@ -378,41 +369,42 @@ fn wanted(alloc: Global) -> Result<Expr, AllocError>
 fn symbol_out(alloc: Global) -> Result<Vec<Stmt>, AllocError>
     ensures { IfOk result (λ v. seen_block v.items ≡ symbol_form) }
 {
-    let kept = load(alloc, SYM, Expr::Local(OUT_PLACE))?;
-    let symbol = binary(alloc, Op::Sub, kept, number(1))?;
-    let written = only(alloc, emit(50, symbol))?;
-    let more = binary(alloc, Op::Add, Expr::Local(GOT), number(1))?;
-    let written = then(written, assign(50, GOT, more))?;
-    let is_wanted = compare(alloc, Test::Lt, Expr::Local(GOT), Expr::Local(WANTED))?;
-    let choice = when(alloc, 50, is_wanted, written)?;
-    let ends = load(alloc, SYM, Expr::Local(OUT_PLACE))?;
-    let is_end = compare(alloc, Test::Ne, ends, number(0))?;
-    when(alloc, 50, is_end, choice)
+    let kept = load(alloc, SYM, local(OUT_PLACE));
+    let written = emit(binary(alloc, Op::Sub, kept, number(1)));
+    let more = assign(GOT, binary(alloc, Op::Add, local(GOT), number(1)));
+    let symbol = on_line(alloc, 50, written, only(alloc, 50, more));
+    let is_wanted = compare(alloc, Test::Lt, local(GOT), local(WANTED));
+    let choice = only(alloc, 50, when(alloc, is_wanted, symbol));
+    let ends = load(alloc, SYM, local(OUT_PLACE));
+    let is_end = compare(alloc, Test::Ne, ends, number(0));
+    only(alloc, 50, when(alloc, is_end, choice))
 }
 
 /// Writes the symbols.
-fn symbols_out(alloc: Global) -> Result<Stmt, AllocError>
-    ensures line { IfOk result (λ s. s.line ≡ 49) }
-    ensures kind { IfOk result (λ s. statement s.kind ≡ symbols_form) }
+fn symbols_out(alloc: Global) -> Result<StmtKind, AllocError>
+    ensures { IfOk result (λ s. statement s ≡ symbols_form) }
 {
-    let symbol = symbol_out(alloc)?;
-    let bytes = code_bytes(alloc)?;
-    let bits = binary(alloc, Op::Mul, number(8), bytes)?;
-    Ok(count(49, OUT_PLACE, number(0), bits, symbol))
+    let bits = binary(alloc, Op::Mul, number(8), code_bytes(alloc));
+    count(OUT_PLACE, number(0), bits, symbol_out(alloc))
 }
 
 /// Traps where there are fewer symbols than the header wants.
-fn too_few(alloc: Global) -> Result<Stmt, AllocError>
-    ensures line { IfOk result (λ s. s.line ≡ 52) }
-    ensures kind { IfOk result (λ s. statement s.kind ≡ too_few_form) }
+fn too_few(alloc: Global) -> Result<StmtKind, AllocError>
+    ensures { IfOk result (λ s. statement s ≡ too_few_form) }
 {
-    let fail = Stmt {
-        line: 53,
-        kind: StmtKind::Fail(1),
-    };
-    let failed = only(alloc, fail)?;
-    let is_short = compare(alloc, Test::Lt, Expr::Local(GOT), Expr::Local(WANTED))?;
-    Ok(choose(52, is_short, failed, Vec::new(alloc)))
+    let is_short = compare(alloc, Test::Lt, local(GOT), local(WANTED));
+    when(alloc, is_short, only(alloc, 53, fail(1)))
+}
+
+/// Writes the output.
+fn output(alloc: Global) -> Result<Vec<Stmt>, AllocError>
+    ensures { IfOk result (λ v. seen_block v.items ≡ output_form) }
+{
+    let none = declare(GOT, number(0));
+    let short = only(alloc, 52, too_few(alloc));
+    let symbols = on_line(alloc, 49, symbols_out(alloc), short);
+    let wanted = declare(WANTED, wanted(alloc));
+    on_line(alloc, 47, wanted, on_line(alloc, 48, none, symbols))
 }
 
 /// The statements of `main`.
@@ -421,13 +413,10 @@ fn statements(alloc: Global, size: u64) -> Result<Vec<Stmt>, AllocError>
     requires few { size ≤ 65536 }
     ensures { IfOk result (λ v. seen_block v.items ≡ main_form size) }
 {
-    let block = only(alloc, declare(23, WORD, number(0)))?;
-    let block = then(block, table(alloc)?)?;
-    let block = then(block, blocks(alloc, size)?)?;
-    let block = then(block, declare(47, WANTED, wanted(alloc)?))?;
-    let block = then(block, declare(48, GOT, number(0)))?;
-    let block = then(block, symbols_out(alloc)?)?;
-    then(block, too_few(alloc)?)
+    let first = declare(WORD, number(0));
+    let decoded = on_line(alloc, 30, blocks(alloc, size), output(alloc));
+    let words = on_line(alloc, 24, table(alloc), decoded);
+    on_line(alloc, 23, first, words)
 }
 
 /// The program's parts.

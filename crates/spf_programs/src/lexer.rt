@@ -21,12 +21,14 @@ ghost use Rattle.spf_programs.specs.Lexer.{
   lexer_program,
 };
 
-use crate::build::{
-    Blocks, assign, binary, blocks_for, call, compare, count, declare, emit, fill, fold, input,
-    load, name, names, number, only, sized_array, store, then, when,
-};
+use crate::blocks::blocks_for;
 use crate::laws::programs_are_lawful;
-use spf_ast::syntax::{Expr, Function, Op, Program, Stmt, Test};
+use spf_ast::syntax::{Expr, Function, Op, Program, Stmt, StmtKind, Test};
+use spf_builder::expression::{binary, call, compare, input, length, load, local, number};
+use spf_builder::name::{name, names, sized_array};
+use spf_builder::statement::{
+    Carried, assign, count, declare, emit, fill, fold, on_line, only, store, when,
+};
 use std::alloc::{AllocError, Global};
 
 /// The array of marks by place.
@@ -71,12 +73,12 @@ struct Sizes {
 fn entry_at(alloc: Global, sizes: Sizes, state: u32, place: u32) -> Result<Expr, AllocError>
     ensures { IfOk result (λ e. expression e ≡ entry_form sizes.classes sizes.machine state place) }
 {
-    let behind = binary(alloc, Op::Add, number(sizes.machine), Expr::Local(place))?;
-    let byte = input(alloc, behind)?;
-    let class = input(alloc, binary(alloc, Op::Add, number(6), byte)?)?;
-    let row = binary(alloc, Op::Mul, Expr::Local(state), number(sizes.classes))?;
-    let index = binary(alloc, Op::Add, row, class)?;
-    let offset = binary(alloc, Op::Mul, number(2), index)?;
+    let behind = binary(alloc, Op::Add, number(sizes.machine), local(place));
+    let byte = input(alloc, behind);
+    let class = input(alloc, binary(alloc, Op::Add, number(6), byte));
+    let row = binary(alloc, Op::Mul, local(state), number(sizes.classes));
+    let index = binary(alloc, Op::Add, row, class);
+    let offset = binary(alloc, Op::Mul, number(2), index);
     binary(alloc, Op::Add, number(262), offset)
 }
 
@@ -84,25 +86,31 @@ fn entry_at(alloc: Global, sizes: Sizes, state: u32, place: u32) -> Result<Expr,
 fn look_byte(alloc: Global, sizes: Sizes) -> Result<Vec<Stmt>, AllocError>
     ensures { IfOk result (λ v. seen_block v.items ≡ look_byte_form sizes.classes sizes.machine) }
 {
-    let next = input(alloc, entry_at(alloc, sizes, LOOK_STATE, LOOK_PLACE)?)?;
-    let step = only(alloc, assign(5, LOOK_STATE, next))?;
-    let is_inside = compare(alloc, Test::Ge, Expr::Local(LOOK_PLACE), number(0))?;
-    when(alloc, 5, is_inside, step)
+    let next = input(alloc, entry_at(alloc, sizes, LOOK_STATE, LOOK_PLACE));
+    let step = only(alloc, 5, assign(LOOK_STATE, next));
+    let is_inside = compare(alloc, Test::Ge, local(LOOK_PLACE), number(0));
+    only(alloc, 5, when(alloc, is_inside, step))
+}
+
+/// The statements of `look`.
+fn look_body(alloc: Global, sizes: Sizes) -> Result<Vec<Stmt>, AllocError>
+    ensures { IfOk result (λ v. seen_block v.items ≡ (look_form sizes.classes sizes.machine).body) }
+{
+    let begun = declare(LOOK_STATE, number(0));
+    let low = binary(alloc, Op::Sub, local(LOOK_END), number(32));
+    let bytes = count(LOOK_PLACE, low, local(LOOK_END), look_byte(alloc, sizes));
+    on_line(alloc, 3, begun, only(alloc, 4, bytes))
 }
 
 /// `look`, which runs the machine over the 32 bytes before a place.
 fn look(alloc: Global, sizes: Sizes) -> Result<Function, AllocError>
     ensures { IfOk result (λ f. seen_function f ≡ look_form sizes.classes sizes.machine) }
 {
-    let body = only(alloc, declare(3, LOOK_STATE, number(0)))?;
-    let byte = look_byte(alloc, sizes)?;
-    let low = binary(alloc, Op::Sub, Expr::Local(LOOK_END), number(32))?;
-    let body = then(body, count(4, LOOK_PLACE, low, Expr::Local(LOOK_END), byte))?;
     Ok(Function {
         name: name(alloc, b"look")?,
         params: 1,
         slots: names(alloc, &[b"p", b"q", b"i"])?,
-        body,
+        body: look_body(alloc, sizes)?,
         answer: Expr::Local(LOOK_STATE),
         answer_line: 7,
         line: 2,
@@ -113,7 +121,7 @@ fn look(alloc: Global, sizes: Sizes) -> Result<Function, AllocError>
 fn block_begin(alloc: Global, sizes: Sizes) -> Result<Expr, AllocError>
     ensures { IfOk result (λ e. expression e ≡ begin_form sizes.block) }
 {
-    binary(alloc, Op::Mul, number(sizes.block), Expr::Local(BLOCK))
+    binary(alloc, Op::Mul, number(sizes.block), local(BLOCK))
 }
 
 /// The place after a block.
@@ -123,7 +131,7 @@ fn block_end(alloc: Global, sizes: Sizes) -> Result<Expr, AllocError>
     binary(
         alloc,
         Op::Add,
-        block_begin(alloc, sizes)?,
+        block_begin(alloc, sizes),
         number(sizes.block),
     )
 }
@@ -132,103 +140,95 @@ fn block_end(alloc: Global, sizes: Sizes) -> Result<Expr, AllocError>
 fn content(alloc: Global, sizes: Sizes) -> Result<Expr, AllocError>
     ensures { IfOk result (λ e. expression e ≡ content_form sizes.machine) }
 {
-    binary(alloc, Op::Sub, Expr::Len, number(sizes.machine))
+    binary(alloc, Op::Sub, length(), number(sizes.machine))
 }
 
 /// A step of the machine.
 fn step(alloc: Global, sizes: Sizes) -> Result<Vec<Stmt>, AllocError>
     ensures { IfOk result (λ v. seen_block v.items ≡ step_form sizes.classes sizes.machine) }
 {
-    let entry = entry_at(alloc, sizes, STATE, PLACE)?;
-    let block = only(alloc, declare(15, ENTRY, entry))?;
-    let behind = binary(alloc, Op::Add, Expr::Local(ENTRY), number(1))?;
-    let mark = input(alloc, behind)?;
-    let block = then(block, store(16, MARK, Expr::Local(PLACE), mark))?;
-    let next = input(alloc, Expr::Local(ENTRY))?;
-    then(block, assign(17, STATE, next))
+    let entry = declare(ENTRY, entry_at(alloc, sizes, STATE, PLACE));
+    let mark = input(alloc, binary(alloc, Op::Add, local(ENTRY), number(1)));
+    let marked = store(MARK, local(PLACE), mark);
+    let next = only(alloc, 17, assign(STATE, input(alloc, local(ENTRY))));
+    on_line(alloc, 15, entry, on_line(alloc, 16, marked, next))
 }
 
 /// A byte of a block.
 fn one_byte(alloc: Global, sizes: Sizes) -> Result<Vec<Stmt>, AllocError>
     ensures { IfOk result (λ v. seen_block v.items ≡ byte_form sizes.classes sizes.machine) }
 {
-    let step = step(alloc, sizes)?;
-    let content = content(alloc, sizes)?;
-    let is_inside = compare(alloc, Test::Lt, Expr::Local(PLACE), content)?;
-    when(alloc, 14, is_inside, step)
+    let is_inside = compare(alloc, Test::Lt, local(PLACE), content(alloc, sizes));
+    only(alloc, 14, when(alloc, is_inside, step(alloc, sizes)))
 }
 
 /// What a block does.
 fn body(alloc: Global, sizes: Sizes) -> Result<Vec<Stmt>, AllocError>
     ensures { IfOk result (λ v. seen_block v.items ≡ body_form sizes.block sizes.classes sizes.machine) }
 {
-    let low = block_begin(alloc, sizes)?;
-    let high = block_end(alloc, sizes)?;
-    let block = only(alloc, fill(11, MARK, low, high, number(0)))?;
-    let block = then(block, declare(12, STATE, Expr::Local(CARRIED)))?;
-    let byte = one_byte(alloc, sizes)?;
-    let low = block_begin(alloc, sizes)?;
-    let high = block_end(alloc, sizes)?;
-    then(block, count(13, PLACE, low, high, byte))
+    let low = block_begin(alloc, sizes);
+    let high = block_end(alloc, sizes);
+    let cleared = fill(MARK, low, high, number(0));
+    let begun = declare(STATE, local(CARRIED));
+    let low = block_begin(alloc, sizes);
+    let high = block_end(alloc, sizes);
+    let bytes = only(alloc, 13, count(PLACE, low, high, one_byte(alloc, sizes)));
+    on_line(alloc, 11, cleared, on_line(alloc, 12, begun, bytes))
 }
 
 /// The fold over blocks.
-fn blocks(alloc: Global, sizes: Sizes) -> Result<Stmt, AllocError>
-    ensures line { IfOk result (λ s. s.line ≡ 10) }
-    ensures kind { IfOk result (λ s. statement s.kind ≡ Fold (head_form sizes.block sizes.machine) (body_form sizes.block sizes.classes sizes.machine)) }
+fn blocks(alloc: Global, sizes: Sizes) -> Result<StmtKind, AllocError>
+    ensures { IfOk result (λ s. statement s ≡ Fold (head_form sizes.block sizes.machine) (body_form sizes.block sizes.classes sizes.machine)) }
 {
-    let body = body(alloc, sizes)?;
-    let looked_from = vec![in alloc; block_begin(alloc, sizes)?]?;
-    let bytes = content(alloc, sizes)?;
-    let count = blocks_for(alloc, bytes, sizes.block)?;
-    let parts = Blocks {
-        carried: CARRIED,
-        start: number(0),
-        count,
-        guess: call(LOOK, looked_from),
-        body,
-        next: Expr::Local(STATE),
+    let carried = Carried {
+        slot: CARRIED,
+        start: 0,
+        next: STATE,
         next_line: 20,
     };
-    fold(alloc, 10, parts)
+    let count = blocks_for(alloc, content(alloc, sizes), sizes.block);
+    let guess = call(alloc, LOOK, block_begin(alloc, sizes));
+    fold(alloc, carried, count, guess, body(alloc, sizes))
 }
 
 /// Writes a byte of the place.
-fn emit_place(alloc: Global, line: u32, places: u64) -> Result<Stmt, AllocError>
+fn emit_place(alloc: Global, places: u64) -> Result<StmtKind, AllocError>
     requires { places < 2 ^ 63 }
-    ensures line { IfOk result (λ s. s.line ≡ line) }
-    ensures kind { IfOk result (λ s. statement s.kind ≡ place_byte_form places) }
+    ensures { IfOk result (λ s. statement s ≡ place_byte_form places) }
 {
-    let shifted = binary(alloc, Op::Shr, Expr::Local(OUT_PLACE), number(places))?;
-    let byte = binary(alloc, Op::And, shifted, number(255))?;
-    Ok(emit(line, byte))
+    let shifted = binary(alloc, Op::Shr, local(OUT_PLACE), number(places));
+    emit(binary(alloc, Op::And, shifted, number(255)))
 }
 
 /// Writes a token.
 fn token(alloc: Global) -> Result<Vec<Stmt>, AllocError>
     ensures { IfOk result (λ v. seen_block v.items ≡ token_form) }
 {
-    let mark = load(alloc, MARK, Expr::Local(OUT_PLACE))?;
-    let block = only(alloc, emit(24, mark))?;
-    let highest = binary(alloc, Op::Shr, Expr::Local(OUT_PLACE), number(24))?;
-    let block = then(block, emit(25, highest))?;
-    let block = then(block, emit_place(alloc, 26, 16)?)?;
-    let block = then(block, emit_place(alloc, 27, 8)?)?;
-    let lowest = binary(alloc, Op::And, Expr::Local(OUT_PLACE), number(255))?;
-    then(block, emit(28, lowest))
+    let mark = emit(load(alloc, MARK, local(OUT_PLACE)));
+    let highest = emit(binary(alloc, Op::Shr, local(OUT_PLACE), number(24)));
+    let lowest = emit(binary(alloc, Op::And, local(OUT_PLACE), number(255)));
+    let bytes = only(alloc, 28, lowest);
+    let bytes = on_line(alloc, 27, emit_place(alloc, 8), bytes);
+    let bytes = on_line(alloc, 26, emit_place(alloc, 16), bytes);
+    on_line(alloc, 24, mark, on_line(alloc, 25, highest, bytes))
 }
 
 /// Writes the tokens.
-fn output(alloc: Global, sizes: Sizes) -> Result<Stmt, AllocError>
-    ensures line { IfOk result (λ s. s.line ≡ 22) }
-    ensures kind { IfOk result (λ s. statement s.kind ≡ output_form sizes.machine) }
+fn output(alloc: Global, sizes: Sizes) -> Result<StmtKind, AllocError>
+    ensures { IfOk result (λ s. statement s ≡ output_form sizes.machine) }
 {
-    let token = token(alloc)?;
-    let mark = load(alloc, MARK, Expr::Local(OUT_PLACE))?;
-    let is_token = compare(alloc, Test::Ne, mark, number(0))?;
-    let choice = when(alloc, 23, is_token, token)?;
-    let content = content(alloc, sizes)?;
-    Ok(count(22, OUT_PLACE, number(0), content, choice))
+    let mark = load(alloc, MARK, local(OUT_PLACE));
+    let is_token = compare(alloc, Test::Ne, mark, number(0));
+    let choice = only(alloc, 23, when(alloc, is_token, token(alloc)));
+    count(OUT_PLACE, number(0), content(alloc, sizes), choice)
+}
+
+/// The statements of `main`.
+fn statements(alloc: Global, sizes: Sizes) -> Result<Vec<Stmt>, AllocError>
+    ensures { IfOk result (λ v. seen_block v.items ≡ (program_form sizes.block sizes.classes sizes.machine).main) }
+{
+    let written = only(alloc, 22, output(alloc, sizes));
+    on_line(alloc, 10, blocks(alloc, sizes), written)
 }
 
 /// The program for these sizes.
@@ -236,8 +236,7 @@ fn program_for(alloc: Global, sizes: Sizes) -> Result<Program, AllocError>
     ensures { IfOk result (λ p. seen_program p ≡ program_form sizes.block sizes.classes sizes.machine) }
 {
     let functions = vec![in alloc; look(alloc, sizes)?]?;
-    let main = only(alloc, blocks(alloc, sizes)?)?;
-    let main = then(main, output(alloc, sizes)?)?;
+    let main = statements(alloc, sizes)?;
     let marks = sized_array(alloc, b"mark", 1, sizes.block, 1)?;
     Ok(Program {
         arrays: vec![in alloc; marks]?,

@@ -1,7 +1,7 @@
 //! The decoders as programs of the language, each for every block size.
 #![tactic(auto)]
 
-mod build;
+mod blocks;
 pub mod huffman;
 pub mod laws;
 pub mod lexer;

@@ -1,5 +1,5 @@
 //! PackBits, unpacked by blocks.
-ghost use Rattle.std.specs.Prelude.{◌≡◌, ◌≤◌, [], ◌∷◌, IfOk};
+ghost use Rattle.std.specs.Prelude.{◌≡◌, ◌≤◌, IfOk};
 ghost use Rattle.spf_ast.specs.Lawful.{IsLawful};
 ghost use Rattle.spf_ast.specs.Syntax.{Fold};
 ghost use Rattle.spf_ast.specs.View.{expression, block as seen_block, program as seen_program, statement};
@@ -18,12 +18,14 @@ ghost use Rattle.spf_programs.specs.PackBits.{
   packbits_program,
 };
 
-use crate::build::{
-    Blocks, assign, binary, blocks_for, choose, compare, count, declare, emit, fill, fold, input,
-    load, names, number, only, sized_array, store, then, when,
-};
+use crate::blocks::blocks_for;
 use crate::laws::programs_are_lawful;
-use spf_ast::syntax::{Array, Expr, Op, Program, Stmt, Test};
+use spf_ast::syntax::{Expr, Op, Program, Stmt, StmtKind, Test};
+use spf_builder::expression::{binary, compare, input, length, load, local, number};
+use spf_builder::name::{names, sized_array};
+use spf_builder::statement::{
+    Carried, assign, choose, count, declare, emit, fill, fold, on_line, only, store, when,
+};
 use std::alloc::{AllocError, Global};
 
 // The slots of `main`.
@@ -49,7 +51,7 @@ fn block_begin(alloc: Global, size: u64) -> Result<Expr, AllocError>
     requires { size ≤ 65536 }
     ensures { IfOk result (λ e. expression e ≡ begin_form size) }
 {
-    binary(alloc, Op::Mul, number(size), Expr::Local(BLOCK))
+    binary(alloc, Op::Mul, number(size), local(BLOCK))
 }
 
 /// The place after a block.
@@ -57,79 +59,71 @@ fn block_end(alloc: Global, size: u64) -> Result<Expr, AllocError>
     requires { size ≤ 65536 }
     ensures { IfOk result (λ e. expression e ≡ end_form size) }
 {
-    binary(alloc, Op::Add, block_begin(alloc, size)?, number(size))
+    binary(alloc, Op::Add, block_begin(alloc, size), number(size))
 }
 
 /// What a header leaves to be done.
 fn header(alloc: Global) -> Result<Vec<Stmt>, AllocError>
     ensures { IfOk result (λ v. seen_block v.items ≡ header_form) }
 {
-    let copies = binary(alloc, Op::Add, Expr::Local(BYTE), number(1))?;
-    let copy = only(alloc, assign(11, LEFT, copies))?;
-    let is_copy = compare(alloc, Test::Lt, Expr::Local(BYTE), number(128))?;
-    let block = only(alloc, choose(10, is_copy, copy, Vec::new(alloc)))?;
-    let repeats = binary(alloc, Op::Sub, Expr::Local(BYTE), number(257))?;
-    let repeat = only(alloc, assign(14, LEFT, repeats))?;
-    let is_repeat = compare(alloc, Test::Gt, Expr::Local(BYTE), number(128))?;
-    then(block, choose(13, is_repeat, repeat, Vec::new(alloc)))
+    let copies = binary(alloc, Op::Add, local(BYTE), number(1));
+    let is_copy = compare(alloc, Test::Lt, local(BYTE), number(128));
+    let copy = when(alloc, is_copy, only(alloc, 11, assign(LEFT, copies)));
+    let repeats = binary(alloc, Op::Sub, local(BYTE), number(257));
+    let is_repeat = compare(alloc, Test::Gt, local(BYTE), number(128));
+    let repeat = when(alloc, is_repeat, only(alloc, 14, assign(LEFT, repeats)));
+    on_line(alloc, 10, copy, only(alloc, 13, repeat))
 }
 
 /// A byte that is copied.
 fn copied(alloc: Global) -> Result<Vec<Stmt>, AllocError>
     ensures { IfOk result (λ v. seen_block v.items ≡ copied_form) }
 {
-    let fewer = binary(alloc, Op::Sub, Expr::Local(LEFT), number(1))?;
-    Ok(vec![in alloc;
-        store(18, TIMES, Expr::Local(PLACE), number(1)),
-        assign(19, LEFT, fewer),
-    ]?)
+    let once = store(TIMES, local(PLACE), number(1));
+    let fewer = assign(LEFT, binary(alloc, Op::Sub, local(LEFT), number(1)));
+    on_line(alloc, 18, once, only(alloc, 19, fewer))
 }
 
 /// A byte that is repeated.
 fn repeated(alloc: Global) -> Result<Vec<Stmt>, AllocError>
     ensures { IfOk result (λ v. seen_block v.items ≡ repeated_form) }
 {
-    let times = binary(alloc, Op::Sub, number(0), Expr::Local(LEFT))?;
-    Ok(vec![in alloc;
-        store(21, TIMES, Expr::Local(PLACE), times),
-        assign(22, LEFT, number(0)),
-    ]?)
+    let times = binary(alloc, Op::Sub, number(0), local(LEFT));
+    let often = store(TIMES, local(PLACE), times);
+    on_line(alloc, 21, often, only(alloc, 22, assign(LEFT, number(0))))
 }
 
 /// A byte of a packet's data.
 fn data_byte(alloc: Global) -> Result<Vec<Stmt>, AllocError>
     ensures { IfOk result (λ v. seen_block v.items ≡ data_form) }
 {
-    let copied = copied(alloc)?;
-    let repeated = repeated(alloc)?;
-    let is_copied = compare(alloc, Test::Gt, Expr::Local(LEFT), number(0))?;
-    only(alloc, choose(17, is_copied, copied, repeated))
+    let is_copied = compare(alloc, Test::Gt, local(LEFT), number(0));
+    only(alloc, 17, choose(is_copied, copied(alloc), repeated(alloc)))
 }
 
 /// A byte of the input.
 fn one_byte(alloc: Global) -> Result<Vec<Stmt>, AllocError>
     ensures { IfOk result (λ v. seen_block v.items ≡ byte_form) }
 {
-    let byte = input(alloc, Expr::Local(PLACE))?;
-    let block = only(alloc, declare(8, BYTE, byte))?;
-    let header = header(alloc)?;
-    let data = data_byte(alloc)?;
-    let is_header = compare(alloc, Test::Eq, Expr::Local(LEFT), number(0))?;
-    then(block, choose(9, is_header, header, data))
+    let read = declare(BYTE, input(alloc, local(PLACE)));
+    let is_header = compare(alloc, Test::Eq, local(LEFT), number(0));
+    let packet = choose(is_header, header(alloc), data_byte(alloc));
+    on_line(alloc, 8, read, only(alloc, 9, packet))
 }
 
 /// The bytes of a block.
-fn block_bytes(alloc: Global, size: u64) -> Result<Stmt, AllocError>
+fn block_bytes(alloc: Global, size: u64) -> Result<StmtKind, AllocError>
     requires { size ≤ 65536 }
-    ensures line { IfOk result (λ s. s.line ≡ 6) }
-    ensures kind { IfOk result (λ s. statement s.kind ≡ bytes_form size) }
+    ensures { IfOk result (λ s. statement s ≡ bytes_form size) }
 {
-    let byte = one_byte(alloc)?;
-    let is_inside = compare(alloc, Test::Lt, Expr::Local(PLACE), Expr::Len)?;
-    let byte = when(alloc, 7, is_inside, byte)?;
-    let low = block_begin(alloc, size)?;
-    let high = block_end(alloc, size)?;
-    Ok(count(6, PLACE, low, high, byte))
+    let is_inside = compare(alloc, Test::Lt, local(PLACE), length());
+    let byte = only(alloc, 7, when(alloc, is_inside, one_byte(alloc)));
+    count(
+        PLACE,
+        block_begin(alloc, size),
+        block_end(alloc, size),
+        byte,
+    )
 }
 
 /// What a block does.
@@ -137,44 +131,51 @@ fn body(alloc: Global, size: u64) -> Result<Vec<Stmt>, AllocError>
     requires { size ≤ 65536 }
     ensures { IfOk result (λ v. seen_block v.items ≡ body_form size) }
 {
-    let low = block_begin(alloc, size)?;
-    let high = block_end(alloc, size)?;
-    let block = only(alloc, fill(4, TIMES, low, high, number(0)))?;
-    let block = then(block, declare(5, LEFT, Expr::Local(CARRIED)))?;
-    then(block, block_bytes(alloc, size)?)
+    let cleared = fill(
+        TIMES,
+        block_begin(alloc, size),
+        block_end(alloc, size),
+        number(0),
+    );
+    let bytes = only(alloc, 6, block_bytes(alloc, size));
+    let left = declare(LEFT, local(CARRIED));
+    on_line(alloc, 4, cleared, on_line(alloc, 5, left, bytes))
 }
 
 /// The fold over blocks.
-fn blocks(alloc: Global, size: u64) -> Result<Stmt, AllocError>
+fn blocks(alloc: Global, size: u64) -> Result<StmtKind, AllocError>
     requires some { 1 ≤ size }
     requires few { size ≤ 65536 }
-    ensures line { IfOk result (λ s. s.line ≡ 3) }
-    ensures kind { IfOk result (λ s. statement s.kind ≡ Fold (head_form size) (body_form size)) }
+    ensures { IfOk result (λ s. statement s ≡ Fold (head_form size) (body_form size)) }
 {
-    let body = body(alloc, size)?;
-    let count = blocks_for(alloc, Expr::Len, size)?;
-    let parts = Blocks {
-        carried: CARRIED,
-        start: number(0),
-        count,
-        guess: number(0),
-        body,
-        next: Expr::Local(LEFT),
+    let carried = Carried {
+        slot: CARRIED,
+        start: 0,
+        next: LEFT,
         next_line: 27,
     };
-    fold(alloc, 3, parts)
+    let count = blocks_for(alloc, length(), size);
+    fold(alloc, carried, count, number(0), body(alloc, size))
 }
 
 /// Writes each byte of the input as often as it was found to be written.
-fn output(alloc: Global) -> Result<Stmt, AllocError>
-    ensures line { IfOk result (λ s. s.line ≡ 29) }
-    ensures kind { IfOk result (λ s. statement s.kind ≡ output_form) }
+fn output(alloc: Global) -> Result<StmtKind, AllocError>
+    ensures { IfOk result (λ s. statement s ≡ output_form) }
 {
-    let byte = input(alloc, Expr::Local(OUT_PLACE))?;
-    let emitted = only(alloc, emit(31, byte))?;
-    let times = load(alloc, TIMES, Expr::Local(OUT_PLACE))?;
-    let repeated = only(alloc, count(30, OUT_TURN, number(0), times, emitted))?;
-    Ok(count(29, OUT_PLACE, number(0), Expr::Len, repeated))
+    let emitted = only(alloc, 31, emit(input(alloc, local(OUT_PLACE))));
+    let times = load(alloc, TIMES, local(OUT_PLACE));
+    let repeated = only(alloc, 30, count(OUT_TURN, number(0), times, emitted));
+    count(OUT_PLACE, number(0), length(), repeated)
+}
+
+/// The statements of `main`.
+fn statements(alloc: Global, size: u64) -> Result<Vec<Stmt>, AllocError>
+    requires some { 1 ≤ size }
+    requires few { size ≤ 65536 }
+    ensures { IfOk result (λ v. seen_block v.items ≡ (packbits_program size).main) }
+{
+    let written = only(alloc, 29, output(alloc));
+    on_line(alloc, 3, blocks(alloc, size), written)
 }
 
 /// The program that unpacks PackBits by blocks of this size.
@@ -185,8 +186,7 @@ pub fn packbits(alloc: Global, size: u64) -> Result<Program, AllocError>
     ensures lawful { IfOk result (λ p. IsLawful (seen_program p)) }
 {
     programs_are_lawful();
-    let main = only(alloc, blocks(alloc, size)?)?;
-    let main = then(main, output(alloc)?)?;
+    let main = statements(alloc, size)?;
     let times = sized_array(alloc, b"rep", 1, size, 1)?;
     Ok(Program {
         arrays: vec![in alloc; times]?,
