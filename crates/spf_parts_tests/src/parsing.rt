@@ -9,7 +9,10 @@ fn ends_too_early_behind_each_token(rt: HostRuntime) {
     for (at, byte) in text.bytes().enumerate() {
         if byte == b' ' {
             let front = text.as_bytes().get(..at).unwrap_or(&[]);
-            assert_eq!(rt; parse(rt.alloc(), front).err(), Some(ParseError::Unexpected { at }));
+            assert_eq!(rt;
+                parse(rt.alloc(), front).err(),
+                Some(ParseError::Unexpected { at })
+            );
         }
     }
 }
