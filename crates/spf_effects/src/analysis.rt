@@ -65,12 +65,12 @@ fn fold_effects(
         (part_effects (seen_program program.now)
         (fold_construct line (fold_head fold.now) (seen_block (out-Fold fold.now).body.items)) part) e) }
 {
+    let mut bounds = unknown_bounds(alloc, program)?;
     let slots = slots_in(alloc, &program.main)?;
     let context = Context {
         functions: &program.functions,
         assigned: &slots.assigned,
     };
-    let mut bounds = unknown_bounds(alloc, program)?;
     declare(context.assigned, fold.block, BLOCK, &mut bounds);
     let below = callable(program);
     match part {
@@ -92,12 +92,12 @@ fn pair_effects(
         (pair_construct line (pair_head pair.now) (seen_block (out-Pair pair.now).producer.items)
         (seen_block (out-Pair pair.now).consumer.items)) part) e) }
 {
+    let bounds = unknown_bounds(alloc, program)?;
     let slots = slots_in(alloc, &program.main)?;
     let context = Context {
         functions: &program.functions,
         assigned: &slots.assigned,
     };
-    let bounds = unknown_bounds(alloc, program)?;
     let below = callable(program);
     match part {
         Part::Producer => effects_and(alloc, &context, below, &bounds, &pair.producer, &pair.give),
