@@ -6,4 +6,5 @@
 
 pub mod expression;
 pub mod name;
+pub mod program;
 pub mod statement;

@@ -42,6 +42,7 @@ use spf_builder::expression::{
     binary, call, call_with_two, compare, input, length, load, local, number,
 };
 use spf_builder::name::{name, names, sized_array};
+use spf_builder::program::{Signature, function, program, two_arrays, two_functions};
 use spf_builder::statement::{
     Carried, assign, choose, count, declare, emit, fail, fill, fold, on_line, only, store, when,
 };
@@ -152,15 +153,14 @@ fn bite_body(alloc: Global) -> Result<Vec<Stmt>, AllocError>
 fn bite(alloc: Global) -> Result<Function, AllocError>
     ensures { IfOk result (λ f. seen_function f ≡ bite_form) }
 {
-    Ok(Function {
-        name: name(alloc, b"bite")?,
-        params: 2,
-        slots: names(alloc, &[b"g", b"byte", b"h", b"j"])?,
-        body: bite_body(alloc)?,
-        answer: Expr::Local(BITE_NEW),
-        answer_line: 13,
+    let signature = Signature {
         line: 3,
-    })
+        params: 2,
+        answer: BITE_NEW,
+        answer_line: 13,
+    };
+    let slots = names(alloc, &[b"g", b"byte", b"h", b"j"]);
+    function(signature, name(alloc, b"bite"), slots, bite_body(alloc))
 }
 
 /// A byte in `look`.
@@ -189,15 +189,14 @@ fn look_body(alloc: Global) -> Result<Vec<Stmt>, AllocError>
 fn look(alloc: Global) -> Result<Function, AllocError>
     ensures { IfOk result (λ f. seen_function f ≡ look_form) }
 {
-    Ok(Function {
-        name: name(alloc, b"look")?,
-        params: 1,
-        slots: names(alloc, &[b"p", b"h", b"i"])?,
-        body: look_body(alloc)?,
-        answer: Expr::Local(LOOK_STATE),
-        answer_line: 20,
+    let signature = Signature {
         line: 15,
-    })
+        params: 1,
+        answer: LOOK_STATE,
+        answer_line: 20,
+    };
+    let slots = names(alloc, &[b"p", b"h", b"i"]);
+    function(signature, name(alloc, b"look"), slots, look_body(alloc))
 }
 
 /// The table's entry for a symbol whose code word has the length.
@@ -425,19 +424,15 @@ fn build(alloc: Global, size: u64) -> Result<Program, AllocError>
     requires few { size ≤ 65536 }
     ensures { IfOk result (λ p. seen_program p ≡ huffman_program size) }
 {
-    let functions = vec![in alloc; bite(alloc)?, look(alloc)?]?;
-    let main = statements(alloc, size)?;
-    let code = sized_array(alloc, b"code", 0, 65536, 1)?;
-    let sym = sized_array(alloc, b"sym", 8, 8 * size, 2)?;
+    let code = sized_array(alloc, b"code", 0, 65536, 1);
+    let sym = sized_array(alloc, b"sym", 8, 8 * size, 2);
+    let arrays = two_arrays(alloc, code, sym);
+    let functions = two_functions(alloc, bite(alloc), look(alloc));
     let slots: [&[u8]; 12] = [
         b"v", b"n", b"y", b"s", b"k", b"h", b"i", b"byte", b"j", b"want", b"got", b"i",
     ];
-    Ok(Program {
-        arrays: vec![in alloc; code, sym]?,
-        functions,
-        slots: names(alloc, &slots)?,
-        main,
-    })
+    let slots = names(alloc, &slots);
+    program(arrays, functions, slots, statements(alloc, size))
 }
 
 /// The program that decodes HUF1 by blocks of this size.

@@ -26,6 +26,7 @@ use crate::laws::programs_are_lawful;
 use spf_ast::syntax::{Expr, Function, Op, Program, Stmt, StmtKind, Test};
 use spf_builder::expression::{binary, call, compare, input, length, load, local, number};
 use spf_builder::name::{name, names, sized_array};
+use spf_builder::program::{Signature, function, one_array, one_function, program};
 use spf_builder::statement::{
     Carried, assign, count, declare, emit, fill, fold, on_line, only, store, when,
 };
@@ -106,15 +107,19 @@ fn look_body(alloc: Global, sizes: Sizes) -> Result<Vec<Stmt>, AllocError>
 fn look(alloc: Global, sizes: Sizes) -> Result<Function, AllocError>
     ensures { IfOk result (λ f. seen_function f ≡ look_form sizes.classes sizes.machine) }
 {
-    Ok(Function {
-        name: name(alloc, b"look")?,
-        params: 1,
-        slots: names(alloc, &[b"p", b"q", b"i"])?,
-        body: look_body(alloc, sizes)?,
-        answer: Expr::Local(LOOK_STATE),
-        answer_line: 7,
+    let signature = Signature {
         line: 2,
-    })
+        params: 1,
+        answer: LOOK_STATE,
+        answer_line: 7,
+    };
+    let slots = names(alloc, &[b"p", b"q", b"i"]);
+    function(
+        signature,
+        name(alloc, b"look"),
+        slots,
+        look_body(alloc, sizes),
+    )
 }
 
 /// The first place of a block: its number times the size.
@@ -235,15 +240,10 @@ fn statements(alloc: Global, sizes: Sizes) -> Result<Vec<Stmt>, AllocError>
 fn program_for(alloc: Global, sizes: Sizes) -> Result<Program, AllocError>
     ensures { IfOk result (λ p. seen_program p ≡ program_form sizes.block sizes.classes sizes.machine) }
 {
-    let functions = vec![in alloc; look(alloc, sizes)?]?;
-    let main = statements(alloc, sizes)?;
-    let marks = sized_array(alloc, b"mark", 1, sizes.block, 1)?;
-    Ok(Program {
-        arrays: vec![in alloc; marks]?,
-        functions,
-        slots: names(alloc, &[b"s", b"k", b"q", b"i", b"e", b"i"])?,
-        main,
-    })
+    let arrays = one_array(alloc, sized_array(alloc, b"mark", 1, sizes.block, 1));
+    let functions = one_function(alloc, look(alloc, sizes));
+    let slots = names(alloc, &[b"s", b"k", b"q", b"i", b"e", b"i"]);
+    program(arrays, functions, slots, statements(alloc, sizes))
 }
 
 /// The program that runs machines with so many states and classes over the bytes after them, by blocks of this size.

@@ -23,6 +23,7 @@ use crate::laws::programs_are_lawful;
 use spf_ast::syntax::{Expr, Op, Program, Stmt, StmtKind, Test};
 use spf_builder::expression::{binary, compare, input, length, load, local, number};
 use spf_builder::name::{names, sized_array};
+use spf_builder::program::{one_array, program};
 use spf_builder::statement::{
     Carried, assign, choose, count, declare, emit, fill, fold, on_line, only, store, when,
 };
@@ -178,6 +179,17 @@ fn statements(alloc: Global, size: u64) -> Result<Vec<Stmt>, AllocError>
     on_line(alloc, 3, blocks(alloc, size), written)
 }
 
+/// The program's parts.
+fn build(alloc: Global, size: u64) -> Result<Program, AllocError>
+    requires some { 1 ≤ size }
+    requires few { size ≤ 65536 }
+    ensures { IfOk result (λ p. seen_program p ≡ packbits_program size) }
+{
+    let arrays = one_array(alloc, sized_array(alloc, b"rep", 1, size, 1));
+    let slots = names(alloc, &[b"s", b"k", b"t", b"i", b"b", b"i", b"j"]);
+    program(arrays, Ok(Vec::new(alloc)), slots, statements(alloc, size))
+}
+
 /// The program that unpacks PackBits by blocks of this size.
 pub fn packbits(alloc: Global, size: u64) -> Result<Program, AllocError>
     requires some { 1 ≤ size }
@@ -186,12 +198,5 @@ pub fn packbits(alloc: Global, size: u64) -> Result<Program, AllocError>
     ensures lawful { IfOk result (λ p. IsLawful (seen_program p)) }
 {
     programs_are_lawful();
-    let main = statements(alloc, size)?;
-    let times = sized_array(alloc, b"rep", 1, size, 1)?;
-    Ok(Program {
-        arrays: vec![in alloc; times]?,
-        functions: Vec::new(alloc),
-        slots: names(alloc, &[b"s", b"k", b"t", b"i", b"b", b"i", b"j"])?,
-        main,
-    })
+    build(alloc, size)
 }
