@@ -27,7 +27,7 @@ use Rattle.spf_region.specs.declared.range.Range.{Range}
 use Rattle.spf_region.specs.Ranges.{Offsets}
 use Rattle.spf_ast.specs.declared.syntax.Part.{Part}
 use Rattle.spf_ast.specs.declared.syntax.Part.TheVariants.{Body, Producer, Consumer, Predictor}
-use Rattle.spf_ast.specs.Syntax.{Program, Function, Block, By, Host, FoldHead, PairHead}
+use Rattle.spf_ast.specs.Syntax.{Program, Function, Block, By, Host, FoldHead}
 use Rattle.spf_ast.specs.Syntax as syntax
 use Rattle.spf_ast.specs.Construct.{Construct, fold, pair, statements_of}
 use Rattle.spf_findings.specs.Found.{Finds, finds_nothing, ◌then◌, nowhere}

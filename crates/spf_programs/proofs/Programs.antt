@@ -1,10 +1,9 @@
 -- The programs are lawful.
-use Rattle.std.proofs.Common.{◌≡◌, ℕ, zero, suc, ◌+◌, ◌*◌, ◌-◌, ◌<◌, ◌≤◌, ◌^◌, Bool, true, false, List, [], ◌∷◌, length, refl, arith, rules}
-use Rattle.std.specs.Prelude.{◌==◌, if◌then◌else◌, pos, codes, All, IfSome, slice_get}
+use Rattle.std.proofs.Common.{ℕ, zero, suc, ◌*◌, ◌<◌, ◌≤◌, ◌^◌, Bool, true, false, [], ◌∷◌, refl, arith, rules}
+use Rattle.std.specs.Prelude.{◌==◌, if◌then◌else◌, pos, codes, IfSome, slice_get}
 use Rattle.std.proofs.lemmas.Nat.{mul-le}
 use Rattle.std.proofs.lemmas.List.Elements.{All-nil, All-cons}
-use Rattle.spf_ast.specs.Syntax.{Function, Array, Program}
-use Rattle.spf_ast.specs.Size.{function_sizes}
+use Rattle.spf_ast.specs.Syntax.{Array}
 use Rattle.spf_ast.specs.Lawful.{IsNumber, IsLawful, IsLawfulFunction, names_at, nothing_declared, parameters, names_taken, scope_at_end}
 use Rattle.spf_programs.specs.Laws.{IsBlockSize, IsMachineCount}
 use Rattle.spf_programs.specs.PackBits as packbits

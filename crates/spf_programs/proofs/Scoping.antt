@@ -1,15 +1,15 @@
 -- Tests for lawful programs, which compute on programs that are written out: all but their numbers.
-use Rattle.std.proofs.Common.{◌≡◌, ◌⊎◌, inl, inr, ℕ, zero, suc, ◌+◌, ◌<◌, ◌≤◌, ◌^◌, Bool, true, false, List, [], ◌∷◌, ◌++◌, length, Some, None, Option, ℤ, pos, negsuc, refl, sym, ap, ◌∙◌, subst, arith, Contains}
-use Rattle.std.specs.Prelude.{◌&&◌, ◌||◌, not, ◌==◌, nat_lt, nat_le, IfSome, slice_get, ◌≤ℤ◌, ◌<ℤ◌, All}
+use Rattle.std.proofs.Common.{◌≡◌, ◌⊎◌, inl, inr, ℕ, zero, suc, ◌<◌, ◌≤◌, ◌^◌, Bool, true, false, List, [], ◌∷◌, ◌++◌, Some, None, Option, ℤ, pos, negsuc, refl, sym, subst, arith, Contains}
+use Rattle.std.specs.Prelude.{◌&&◌, ◌||◌, not, ◌==◌, nat_lt, nat_le, IfSome, slice_get, All}
 use Rattle.std.specs.List.{AllByRecursion}
 use Rattle.std.proofs.lemmas.Bool.{ltb-true}
 use Rattle.std.proofs.lemmas.Bool.Decides.{nat_tests}
 use Rattle.std.proofs.lemmas.List.Elements.{All-nil, All-cons}
 use Rattle.spf_lemmas.proofs.Members.{first-in, later-in, none-in, first-or-later, cases, some_is}
 use Rattle.spf_ast.specs.Syntax.{Expression, Number, Local, Len, Input, Load, Call, Neg, Binary, Arguments, no_more, argument, Condition, Compare, Both, Either, Not, Predictor, By, Host}
-use Rattle.spf_ast.specs.Syntax.{Statement, Let, Assign, Store, Fill, Emit, Fail, If, For, While, Do, Fold, Pair, Block, end, on_line, Function, FoldHead}
+use Rattle.spf_ast.specs.Syntax.{Statement, Let, Assign, Store, Fill, Emit, Fail, If, For, While, Do, Fold, Pair, Block, end, on_line, Function}
 use Rattle.spf_ast.specs.Meaning.{count_of}
-use Rattle.spf_ast.specs.Lawful.{IsLetter, IsWordByte, IsWord, IsName, IsNumber, AreDifferent, reserved_words, Names, Scope, behind, showing, showing_fixed, IsNew, Declares, IsCallable, IsLawfulExpression, AreLawfulArguments, IsLawfulCondition, IsLawfulPredictor, IsLawfulStatement, IsLawfulBlock, declared, declared_in, scope_after, scope_at_end, in_predictor, in_body, parameters}
+use Rattle.spf_ast.specs.Lawful.{IsLetter, IsWordByte, IsWord, IsName, IsNumber, AreDifferent, reserved_words, Names, Scope, behind, showing, showing_fixed, IsNew, Declares, IsCallable, IsLawfulExpression, AreLawfulArguments, IsLawfulCondition, IsLawfulPredictor, IsLawfulStatement, IsLawfulBlock, declared_in, scope_after, scope_at_end, in_predictor, in_body, parameters}
 
 -- ---- tests in general
 

@@ -87,7 +87,6 @@ use Rattle.spf_ast.specs.Syntax.{
   end,
   on_line,
   FoldHead,
-  Array,
   Function,
   Program,
 }

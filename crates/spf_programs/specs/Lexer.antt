@@ -60,7 +60,6 @@ use Rattle.spf_ast.specs.Syntax.{
   end,
   on_line,
   FoldHead,
-  Array,
   Function,
   Program,
 }

@@ -60,7 +60,6 @@ use Rattle.spf_ast.specs.Syntax.{
   end,
   on_line,
   FoldHead,
-  Array,
   Program,
 }
 use Rattle.spf_programs.specs.Writing.{number, plus, minus, times, only, blocks_for}

@@ -1,7 +1,7 @@
 -- Words in which programs are written out: the signs of the language, and code that each of the programs has.
 use Rattle.std.specs.Prelude.{ℕ, ◌-◌, pos}
 use Rattle.spf_ast.specs.declared.syntax.Op.TheVariants.{Add, Sub, Mul, Div, Shr, And}
-use Rattle.spf_ast.specs.Syntax.{Expression, Number, Local, Binary, Block, end, on_line, Statement}
+use Rattle.spf_ast.specs.Syntax.{Expression, Number, Binary, Block, end, on_line, Statement}
 
 abbrev pub number : ℕ → Expression
 number n = Number (pos n)

@@ -13,7 +13,7 @@ use Rattle.spf_ast.specs.declared.syntax.Pair.{Pair, out-Pair}
 use Rattle.spf_ast.specs.declared.syntax.Stmt.{Stmt}
 use Rattle.spf_ast.specs.declared.syntax.StmtKind.{StmtKind}
 use Rattle.spf_ast.specs.declared.syntax.StmtKind.TheVariants as s
-use Rattle.spf_ast.specs.Syntax.{Block, Condition, Expression, FoldHead, PairHead, If, For, While, end, on_line}
+use Rattle.spf_ast.specs.Syntax.{Block, FoldHead, PairHead, If, For, While}
 use Rattle.spf_ast.specs.Syntax as syntax
 use Rattle.spf_ast.specs.View.{statement, block, fold_head, pair_head}
 use Rattle.spf_ast.proofs.Views.{statement-if, statement-for, statement-while, statement-fold, statement-pair}
