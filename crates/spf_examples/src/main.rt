@@ -17,7 +17,9 @@ use std::thread::Threads;
 use std::{fs, io, rt};
 
 /// Runs the examples. Gives how many are answered otherwise than expected.
-fn run_examples<R: Print + rt::Files + AllocGlobal + Threads + Wait + Sync>(rt: &R) -> io::Result<u64> {
+fn run_examples<R: Print + rt::Files + AllocGlobal + Threads + Wait + Sync>(
+    rt: &R,
+) -> io::Result<u64> {
     let alloc = rt.alloc();
     let mut files = RealFiles::make(rt);
     let table = fs::read_to_string(rt, "expected.txt")?;

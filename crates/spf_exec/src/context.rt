@@ -9,8 +9,8 @@ ghost use Rattle.spf_memory.specs.Performs.{AreWithin};
 ghost use Rattle.spf_instructions.specs.Instructions.{setting};
 ghost use Rattle.spf_exec.specs.Sources.{FitsProgram};
 
-use spf_layout::instance::Instance;
 use spf_instructions::context::Context;
+use spf_layout::instance::Instance;
 
 /// What the code of `main` is performed in: all functions may be called.
 pub(crate) fn context_of<'a>(instance: &'a Instance) -> Context<'a>
