@@ -27,7 +27,7 @@ def need(found, what):
 
 
 TOKENS = text("crates", "spf_text", "specs", "Tokens.antt")
-MESSAGE = text("crates", "spf_cli", "specs", "Message.antt")
+MESSAGE = text("crates", "spf_commands", "specs", "Message.antt")
 KEYWORDS = need(codes(TOKENS, "word_spelling"), "keywords")
 SIGNS = need(codes(TOKENS, "sign_spelling"), "signs")
 RULES = need(codes(text("crates", "spf_check", "specs", "Text.antt"), "rule_name"), "rules")
@@ -39,7 +39,7 @@ HOSTS = text("crates", "spf_host_words", "specs", "HostWords.antt")
 OPTIONS += need(re.findall(r'codes "(--\w+)"', HOSTS), "options for hosts")
 OPTIONS += need(re.findall(r'"\$1" = (--\w+)', text("spf")), "options of the script")
 KINDS = need(re.findall(r'^Names text .*?codes "([a-z:]+)"', HOSTS, re.M), "kinds of hosts")
-STATUSES = need(re.findall(r"^    \w+ = (\d),", text("crates", "spf_cli", "src", "status.rt"), re.M), "statuses")
+STATUSES = need(re.findall(r"^    \w+ = (\d),", text("crates", "spf_commands", "src", "status.rt"), re.M), "statuses")
 MESSAGES = need([piece.strip() for piece in re.findall(r'codes "([^"]*)"', MESSAGE)], "messages")
 
 missing = []

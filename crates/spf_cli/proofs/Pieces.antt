@@ -1,10 +1,14 @@
 -- Bytes that are put in pieces.
-use Rattle.std.proofs.Common.{◌≡◌, ◌≤◌, ℕ, List, [], ◌∷◌, ◌++◌, Option, sym, ap, ◌∙◌, append_assoc, arith, subst}
+use Rattle.std.proofs.Common.{◌≡◌, ◌≤◌, ◌<◌, ℕ, ◌+◌, List, [], ◌∷◌, ◌++◌, length, get_or, drop, Option, add-one, sym, ap, ◌∙◌, append_assoc, arith, subst}
+use Rattle.std.proofs.Math.Seq.{drop-cons}
 use Rattle.std.specs.List.{concat}
+use Rattle.std.specs.declared.alloc.Global.{Global}
+use Rattle.std.specs.declared.vec.Vec.{Vec}
 use Rattle.std.proofs.lemmas.List.{append-nil}
 use Rattle.std.proofs.lemmas.List.Folds.{concat-append}
 use Rattle.spf_edge.specs.Bytes.{Adds, AddsPrefix, Hands}
 use Rattle.spf_edge.proofs.Taking.{adds_both, adds_whole, adds_prefix_of_both, adds_prefix_of_more, hands_both, joined-nil}
+use Rattle.spf_commands.specs.Answering.{lines_of}
 use Rattle.spf_cli.specs.Putting.{IsPutUpTo, AreLinesPutUpTo}
 
 -- one piece more
@@ -28,6 +32,11 @@ put_broken bytes rest piece others before between now n m p e a =
     (adds_prefix_of_both before between now p.front (piece ++ others) p.took (adds_prefix_of_more between now piece others a))
 
 -- ---- lines
+
+-- the lines from one on
+pub from_line : (lines : List (Vec ℕ Global)) (i : ℕ) (m : Vec ℕ Global) → i < length lines → m ≡ get_or lines i m → lines_of (drop i lines) ≡ m.items ∷ lines_of (drop (i + 1) lines)
+from_line lines i m l e =
+    ap lines_of (drop-cons lines i m l) ∙ (λ j. (sym e j).items ∷ lines_of (drop (sym (add-one i) j) lines))
 
 -- one line more
 pub line_put : (lines rest : List (List ℕ)) (line : List ℕ) (others : List (List ℕ)) (before between now : Option (List ℕ)) (p q r : Option (List (List ℕ))) (n m k : ℕ) → AreLinesPutUpTo lines rest before between p q n m → rest ≡ line ∷ others → Adds between now line → Hands q r (line ∷ []) → m ≤ k → AreLinesPutUpTo lines others before now p r n k

@@ -1,9 +1,2 @@
-pub mod Message
-pub mod Reading
-pub mod Answer
-pub mod Status
-pub mod Whole
-pub mod Unread
-pub mod Answering
+pub mod Answered
 pub mod Putting
-pub mod Laws

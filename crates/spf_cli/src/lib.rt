@@ -1,13 +1,8 @@
 //! The program: all that it does, over files and sinks that are handed in.
 #![tactic(auto)]
 
-mod answer;
 mod bytes;
-mod decoding;
-pub mod laws;
-mod message;
-mod reading;
-mod status;
+mod putting;
 mod top;
 
 pub use bytes::run_file;

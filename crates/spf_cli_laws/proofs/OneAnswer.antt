@@ -4,7 +4,7 @@ use Rattle.std.proofs.Common.{◌≡◌, ◌⊎◌, ◌++◌, ℕ, Bool, true, f
 use Rattle.spf_ast.specs.Syntax.{Program}
 use Rattle.spf_ast.specs.Program.{Outcome, cell_count_of, max_cells}
 use Rattle.spf_edge.specs.Entries.{Entry, lookup}
-use Rattle.spf_cli.specs.Answer.{Answer, not_understood, text_refused, rule_refused, explained, file_failed, file_too_long, host_missing, not_huf1, not_lex1, ran, shown}
+use Rattle.spf_commands.specs.Answer.{Answer, not_understood, text_refused, rule_refused, explained, file_failed, file_too_long, host_missing, not_huf1, not_lex1, ran, shown}
 use Rattle.spf_formats.specs.declared.generate.Kind.{Kind}
 use Rattle.spf_programs.specs.PackBits.{packbits_program}
 use Rattle.spf_programs.specs.Huffman.{huffman_program}
@@ -12,10 +12,10 @@ use Rattle.spf_programs.specs.Lexer.{lexer_program}
 use Rattle.spf_formats.specs.Laws.{Huf1HasOneVerdict, Lex1HasOneVerdict, EachInputIsGeneratedOnce}
 use Rattle.spf_guess.specs.declared.stats.Stats.{Stats}
 use Rattle.spf_words.specs.Command.{Command, Run, Check, Explain, Print, Unpack, Unhuff, Lex, Demo, Options, DecodeOptions, Asks}
-use Rattle.spf_cli.specs.Reading.{Verdict, Says, Refuses, IsVerdict}
+use Rattle.spf_commands.specs.Reading.{Verdict, Says, Refuses, IsVerdict}
 use Rattle.spf_words.specs.Only.{IsOnly}
-use Rattle.spf_cli.specs.Whole.{Handed, handed, Wanted, Is, Either, Fetched, Judged, Read, CheckedBy, Explained, WithHosts, host_wanted, RunsTo, Runs, RunsOn, Decodes, WithHuf1, WithLex1, Lexes, Demonstrates, demo_program, demo_input, by_blocks, run_options, block_of, WholeOf, Whole, max_program, max_machine, max_input}
-use Rattle.spf_cli.specs.Laws.{RuleLaws}
+use Rattle.spf_commands.specs.Whole.{Handed, handed, Wanted, Is, Either, Fetched, Judged, Read, CheckedBy, Explained, WithHosts, host_wanted, RunsTo, Runs, RunsOn, Decodes, WithHuf1, WithLex1, Lexes, Demonstrates, demo_program, demo_input, by_blocks, run_options, block_of, WholeOf, Whole, max_program, max_machine, max_input}
+use Rattle.spf_commands.specs.Laws.{RuleLaws}
 use Rattle.spf_cli_laws.specs.Laws.{VerdictsAreTheSame, NoTextIsLeftUnjudged}
 use Rattle.spf_words.specs.Laws.{EachAsksForOneOrNone}
 

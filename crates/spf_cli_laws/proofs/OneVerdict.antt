@@ -13,7 +13,7 @@ use Rattle.spf_roundtrip.specs.Laws.{TokensAreOfOneProgram, NoTokensAreLeft}
 use Rattle.spf_scopes.specs.declared.fault.TypeFault.{TypeFault}
 use Rattle.spf_types.specs.Contract.{IsResolved, IsRefused}
 use Rattle.spf_types.specs.Laws.{ResolveOrAreRefused, ResolveToOne, AreRefusedForOne, ResolvedAreNotRefused}
-use Rattle.spf_cli.specs.Reading.{text_too_long, bad_byte, number_too_large, unexpected, too_deep, on_line, Verdict, Says, Refuses, IsVerdict}
+use Rattle.spf_commands.specs.Reading.{text_too_long, bad_byte, number_too_large, unexpected, too_deep, on_line, Verdict, Says, Refuses, IsVerdict}
 
 -- the laws on texts, tokens and raw programs that are used
 pub record TextLaws : Type 0 where

@@ -1,7 +1,7 @@
 // Laws about the program's answers. Each is the contract of a function that does nothing.
 ghost use Rattle.spf_cli_laws.specs.Laws.{VerdictsAreTheSame, NoTextIsLeftUnjudged, NoneHasTwoAnswers, NoneIsLeftUnanswered};
 
-use spf_cli::laws::rules_say_one_thing;
+use spf_commands::laws::rules_say_one_thing;
 use spf_formats::laws::{each_demo_input_is_generated_once, files_have_one_verdict};
 use spf_parse::laws::{texts_say_writable_programs, tokens_go_wrong_once};
 use spf_roundtrip::laws::tokens_are_of_one_program;

@@ -1,7 +1,7 @@
 use Rattle.std.proofs.Common.{◌≡◌, ◌⊎◌, ◌∙◌, sym, subst, map}
-use Rattle.spf_cli.specs.Whole.{handed}
-use Rattle.spf_cli.specs.Answering.{seen_answer}
-use Rattle.spf_cli.proofs.AtHand.{text_not_put}
+use Rattle.spf_commands.specs.Whole.{handed}
+use Rattle.spf_commands.specs.Answering.{seen_answer}
+use Rattle.spf_commands.proofs.AtHand.{text_not_put}
 use Rattle.spf_cli.proofs.bytes.run_file.Goals as goal
 
 pub returns-in-Ok-put-clause-told : goal.returns-in-Ok-put-clause-told

@@ -1,8 +1,8 @@
 use Rattle.std.proofs.Common.{◌⊎◌, inl, map, string_bytes, ap, ◌∙◌}
 use Rattle.std.specs.Prelude.{Err}
 use Rattle.spf_edge.specs.Faults.{Rose}
-use Rattle.spf_cli.specs.Answering.{seen_answer}
-use Rattle.spf_cli.proofs.Steps.{put_failed, answered_without, put_not_file, put_fault, given_in_part, fault_status, fault_line, fault_ends}
+use Rattle.spf_commands.specs.Answering.{seen_answer}
+use Rattle.spf_cli.proofs.Puts.{put_failed, answered_without, put_not_file, put_fault, given_in_part, fault_status, fault_line, fault_ends}
 use Rattle.spf_cli.proofs.top.spf_main.Goals as goal
 
 pub returns-clause-answered : goal.returns-clause-answered

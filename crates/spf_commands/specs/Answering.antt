@@ -1,0 +1,86 @@
+-- What the steps to an answer leave.
+use Rattle.std.specs.Prelude.{◌≡◌, ◌⊎◌, ℕ, List, [], ◌∷◌, Option, Some, Result, Ok, Err, Vec}
+use Rattle.std.specs.declared.alloc.Global.{Global}
+use Rattle.spf_ast.specs.Syntax.{Program}
+use Rattle.spf_ast.specs.View.{program}
+use Rattle.spf_region.specs.declared.range.Range.{Range}
+use Rattle.spf_check.specs.declared.rule.Rule.{Rule}
+use Rattle.spf_check.specs.declared.rule.CheckError.{CheckError}
+use Rattle.spf_check.specs.declared.rule.CheckError.TheVariants as not_accepted
+use Rattle.spf_check.specs.Accepting.{IsFirstRefusal}
+use Rattle.spf_edge.specs.Entries.{Entry, IsMissing, IsLongerThan}
+use Rattle.spf_layout.specs.declared.layout.RunError.{RunError}
+use Rattle.spf_layout.specs.declared.layout.RunError.TheVariants.{TooManyCells}
+use Rattle.spf_layout.specs.declared.layout.RunError.TheVariants as run_error
+use Rattle.spf_commands.specs.Answer as said
+use Rattle.spf_commands.specs.Answer.{text_refused, rule_refused, file_failed, file_too_long, too_many_cells}
+use Rattle.spf_commands.specs.Reading.{Refusal, Refuses, IsVerdict}
+use Rattle.spf_commands.specs.Status.{status_number}
+use Rattle.spf_words.specs.Only.{IsOnly}
+use Rattle.spf_commands.specs.Whole.{Wanted}
+use Rattle.spf_commands.specs.declared.answer.Answer.{Answer}
+use Rattle.spf_commands.specs.declared.answer.Exit.{Exit}
+use Rattle.spf_commands.specs.declared.answer.Exit.TheVariants.{Answered, NoMemory}
+
+-- the lines that messages are
+abbrev pub lines_of : List (Vec ℕ Global) → List (List ℕ)
+lines_of [] = []
+lines_of (message ∷ messages) = message.items ∷ lines_of messages
+
+-- what contracts see of an answer
+abbrev pub seen_answer : Answer → said.Answer
+seen_answer a = record { status = status_number a.status; out = a.output.items; err = lines_of a.messages.items }
+
+-- a fetch ended the run: a fault was met, the name is missing, or the file is too long
+abbrev pub FetchAnswer : Option (List Entry) → List ℕ → ℕ → Type 0 → said.Answer → Type 0
+FetchAnswer told name limit Fault answer =
+    (Fault × (answer ≡ file_failed name))
+    ⊎ (IsMissing told name × (answer ≡ file_failed name))
+    ⊎ (IsLongerThan limit told name × (answer ≡ file_too_long name limit))
+
+abbrev pub IsFetchExit : Option (List Entry) → List ℕ → ℕ → Type 0 → Exit → Type 0
+IsFetchExit told name limit Fault (Answered a) = FetchAnswer told name limit Fault (seen_answer a)
+IsFetchExit told name limit Fault NoMemory = Unit {0}
+
+-- the text is refused, and only so
+abbrev pub IsReadExit : List ℕ → Exit → Type 0
+IsReadExit text (Answered a) = (refusal : Refusal) × IsOnly (IsVerdict text) (Refuses refusal) × (seen_answer a ≡ text_refused refusal)
+IsReadExit text NoMemory = Unit {0}
+
+-- the rules refuse the program so, or memory ran out
+abbrev pub IsRuleExit : Program → Exit → Type 0
+IsRuleExit p (Answered a) =
+    (rule : Rule) × (line : ℕ) × (range : Option Range) × IsFirstRefusal p rule line range × (seen_answer a ≡ rule_refused p rule line range)
+IsRuleExit p NoMemory = Unit {0}
+
+-- a program isn't accepted: it is handed back with its refusal, or memory ran out
+abbrev pub IsNotAccepted : CheckError → Exit → Type 0
+IsNotAccepted (not_accepted.Refused p refusal) (Answered a) = seen_answer a ≡ rule_refused (program p) refusal.rule refusal.line refusal.range
+IsNotAccepted (not_accepted.OutOfMemory p) (Answered a) = ⊥
+IsNotAccepted error NoMemory = Unit {0}
+
+-- the arrays have too many cells, or memory ran out
+abbrev pub IsNotRun : RunError → Exit → Type 0
+IsNotRun (TooManyCells count) (Answered a) = seen_answer a ≡ too_many_cells count
+IsNotRun run_error.OutOfMemory (Answered a) = ⊥
+IsNotRun error NoMemory = Unit {0}
+
+-- where the files are told, an answer is the one that is wanted, or that to a fault of theirs
+abbrev pub IsWholeUnless : (List Entry → Wanted) → (List Entry → Wanted) → Option (List Entry) → Type 0 → said.Answer → Type 0
+IsWholeUnless Right Faulty told Fault answer =
+    (files : List Entry) → told ≡ Some files → IsOnly (Right files) answer ⊎ (Fault × Faulty files answer)
+
+-- an answer has the status for a file only of a fault, or where the files are told, and never that for a put
+pub record IsCaused (told : Option (List Entry)) (Fault : Type 0) (answer : said.Answer) : Type 0 where
+  pub file : answer.status ≡ 5 → Fault ⊎ ((files : List Entry) × (told ≡ Some files))
+  pub put : answer.status ≡ 6 → ⊥
+
+-- the answer that stands, if memory wasn't short
+abbrev pub AnswersWith : (said.Answer → Type 0) → Result Answer Exit → Type 0
+AnswersWith P (Ok a) = P (seen_answer a)
+AnswersWith P (Err (Answered a)) = P (seen_answer a)
+AnswersWith P (Err NoMemory) = Unit {0}
+
+-- a program was run to its end, or to its trap
+abbrev pub IsRunToItsEnd : said.Answer → Type 0
+IsRunToItsEnd answer = (answer.status ≡ 0) ⊎ (answer.status ≡ 1)

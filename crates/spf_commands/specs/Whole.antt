@@ -1,0 +1,259 @@
+-- The whole answer of the program: what it says to these words, where these are the files.
+use Rattle.std.specs.Prelude.{◌≡◌, ◌⊎◌, ℕ, ◌≤◌, Bool, true, false, if◌then◌else◌, nat_le, List, [], ◌++◌, length, Option, Some, None, unwrap_or}
+use Rattle.spf_ast.specs.Syntax.{Program}
+use Rattle.spf_ast.specs.Program.{Outcome, outcome, cell_count_of, max_cells}
+use Rattle.spf_layout.specs.RunErrors.{counted}
+use Rattle.spf_edge.specs.Entries.{Entry, lookup}
+use Rattle.spf_commands.specs.Answer.{
+  Answer,
+  not_understood,
+  text_refused,
+  accepted,
+  rule_refused,
+  explained,
+  file_failed,
+  file_too_long,
+  too_many_cells,
+  host_missing,
+  not_huf1,
+  not_lex1,
+  printed,
+  ran,
+  shown,
+}
+use Rattle.spf_words.specs.Command.{Command, Run, Check, Explain, Print, Unpack, Unhuff, Lex, Demo, Options, DecodeOptions, Asks}
+use Rattle.spf_words.specs.Only.{IsOnly}
+use Rattle.spf_region.specs.declared.range.Range.{Range}
+use Rattle.spf_check.specs.declared.rule.Rule.{Rule}
+use Rattle.spf_check.specs.Accepting.{IsAccepted, IsFirstRefusal}
+use Rattle.spf_check.specs.Explaining.{Explains}
+use Rattle.spf_guess.specs.declared.stats.Stats.{Stats}
+use Rattle.spf_ast.specs.Construct.{constructs_in}
+use Rattle.spf_guess.specs.Guess.{Hosts}
+use Rattle.spf_guess.specs.Statistics.{none, tally}
+use Rattle.spf_predictors.specs.Answers.{Answers, handed_in}
+use Rattle.spf_predictors.specs.Missing.{missing_host}
+use Rattle.spf_formats.specs.declared.generate.Kind.{Kind}
+use Rattle.spf_formats.specs.declared.generate.Kind.TheVariants as kind
+use Rattle.spf_formats.specs.Draws.{IsGenerated}
+use Rattle.spf_formats.specs.Toy.{machine as toy_machine}
+use Rattle.spf_formats.specs.Laws.{AreBytes}
+use Rattle.spf_formats.specs.Huf1.{IsHuf1, IsNoHuf1At}
+use Rattle.spf_formats.specs.Lex1.{IsLex1, IsNoLex1At}
+use Rattle.spf_programs.specs.PackBits.{packbits_program}
+use Rattle.spf_programs.specs.Huffman.{huffman_program}
+use Rattle.spf_programs.specs.Lexer.{lexer_program}
+use Rattle.spf_commands.specs.Reading.{Verdict, Says, Refuses, IsVerdict}
+
+-- how many bytes the file of a program, that of a machine, and that of an input may have
+abbrev pub max_program : ℕ
+max_program = 1048576
+
+abbrev pub max_machine : ℕ
+max_machine = 16384
+
+abbrev pub max_input : ℕ
+max_input = 4194304
+
+-- what an answer has to meet
+abbrev pub Wanted : Type 1
+Wanted = Answer → Type 0
+
+-- this answer
+abbrev pub Is : Answer → Wanted
+Is said answer = answer ≡ said
+
+-- one or the other, by a test
+abbrev pub Either : Bool → Wanted → Wanted → Wanted
+Either true first second = first
+Either false first second = second
+
+-- with the content of a file, or without it
+abbrev pub Fetched : List ℕ → ℕ → Option (List ℕ) → (List ℕ → Wanted) → Wanted
+Fetched name limit None next = Is (file_failed name)
+Fetched name limit (Some content) next = Either (nat_le (length content) limit) (next content) (Is (file_too_long name limit))
+
+-- with the program that a text says, or without one
+abbrev pub Judged : Verdict → (Program → Wanted) → Wanted
+Judged (Says p) next = next p
+Judged (Refuses refusal) next = Is (text_refused refusal)
+
+abbrev pub Read : List ℕ → (Program → Wanted) → Wanted
+Read text next answer = (v : Verdict) × IsVerdict text v × Judged v next answer
+
+-- with a program that the rules accept, or by the first refusal of one that they don't
+abbrev pub CheckedBy : Program → Wanted → Wanted
+CheckedBy p next answer =
+    (IsAccepted p × next answer)
+    ⊎ ((rule : Rule) × (line : ℕ) × (range : Option Range) × IsFirstRefusal p rule line range × (answer ≡ rule_refused p rule line range))
+
+-- the explanation of a program
+abbrev pub Explained : Program → Wanted
+Explained p answer = (text : List ℕ) × Explains p text × (answer ≡ explained text)
+
+-- the predictors that are handed in: what each answers, and how many they are
+pub record Handed : Type 0 where
+  pub hosts : Hosts
+  pub count : ℕ
+
+-- the predictors whose answers these are
+abbrev pub handed : List Answers → Handed
+handed predictors = record { hosts = handed_in predictors; count = length predictors }
+
+-- the statistics of a run; by the plain meaning no block is guessed
+abbrev pub stats_of : Options → Handed → Program → List ℕ → Stats
+stats_of options given p input = if options.plain then none else (tally given.hosts p input).stats
+
+-- the first host that a run would ask and that isn't handed in; by the plain meaning none is asked
+abbrev pub host_wanted : Options → Handed → Program → Option ℕ
+host_wanted options given p = if options.plain then None else missing_host given.count (constructs_in p.main)
+
+-- where no host is missing
+abbrev pub WithHosts : Option ℕ → Wanted → Wanted
+WithHosts None next = next
+WithHosts (Some host) next = Is (host_missing host)
+
+-- a program is run on an input, and this is said of how it ended and of its statistics
+abbrev pub RunsTo : (Outcome → Stats → Answer) → Options → Handed → Program → List ℕ → Wanted
+RunsTo said options given p input =
+    Either (nat_le (cell_count_of p (length input)) max_cells)
+    (WithHosts (host_wanted options given p) (Is (said (outcome p input) (stats_of options given p input))))
+    (Is (too_many_cells (counted (cell_count_of p (length input)))))
+
+-- a program is run on an input
+abbrev pub Runs : Options → Handed → Program → List ℕ → Wanted
+Runs options given p input = RunsTo (ran options p (length input)) options given p input
+
+-- a program is run on the file of an input
+abbrev pub RunsOn : Options → Handed → List ℕ → Program → List Entry → Wanted
+RunsOn options given input p files = Fetched input max_input (lookup files input) (λ content. Runs options given p content)
+
+-- ---- bytes at hand
+
+-- a run by blocks on so many workers, which shows its statistics
+abbrev pub with_stats : ℕ → Options
+with_stats workers = record { workers = Some workers; stats = true; cells = false; plain = false }
+
+-- the program that a text says is run so, where the rules accept it, on an input
+abbrev pub RunsText : Handed → ℕ → List ℕ → List ℕ → Wanted
+RunsText given workers text input = Read text (λ p. CheckedBy p (Runs (with_stats workers) given p input))
+
+-- ---- decoders
+
+-- how many input bytes a block has: as many as the words say, else 1,024
+abbrev pub block_of : DecodeOptions → ℕ
+block_of options = unwrap_or options.block 1024
+
+-- the options of a decoder's run, which goes by blocks and shows no cells
+abbrev pub run_options : DecodeOptions → Options
+run_options options = record { workers = options.workers; stats = options.stats; cells = false; plain = false }
+
+-- a decoder's program is run on an input, with no hosts
+abbrev pub Decodes : DecodeOptions → Program → List ℕ → Wanted
+Decodes options p input = Runs (run_options options) (handed []) p input
+
+-- with a file that is HUF1, or by the place at which it isn't
+abbrev pub WithHuf1 : List ℕ → Wanted → Wanted
+WithHuf1 file next answer = (IsHuf1 file × next answer) ⊎ ((place : ℕ) × IsNoHuf1At file place × (answer ≡ not_huf1 place))
+
+-- with a file that is LEX1, or by the place at which it isn't
+abbrev pub WithLex1 : List ℕ → (ℕ → ℕ → Wanted) → Wanted
+WithLex1 file next answer =
+    ((states : ℕ) × (classes : ℕ) × IsLex1 file states classes × next states classes answer)
+    ⊎ ((place : ℕ) × IsNoLex1At file place × (answer ≡ not_lex1 place))
+
+-- the content of a file is decoded by a machine
+abbrev pub Lexes : DecodeOptions → List ℕ → ℕ → ℕ → List ℕ → List Entry → Wanted
+Lexes options machine states classes input files =
+    Fetched input max_input (lookup files input) (λ content. Decodes options (lexer_program (block_of options) states classes) (machine ++ content))
+
+-- ---- demos
+
+-- a demo's program, for blocks of 1,024 bytes
+abbrev pub demo_program : Kind → Program
+demo_program kind.Unpack = packbits_program 1024
+demo_program kind.Unhuff = huffman_program 1024
+demo_program kind.Lex = lexer_program 1024 6 6
+
+-- its input: the generated file, after the toy machine where it is a lexer's
+abbrev pub demo_input : Kind → List ℕ → List ℕ
+demo_input kind.Unpack file = file
+demo_input kind.Unhuff file = file
+demo_input kind.Lex file = toy_machine ++ file
+
+-- by blocks, with nothing shown but what is said
+abbrev pub by_blocks : Options
+by_blocks = record { workers = None; stats = false; cells = false; plain = false }
+
+-- a decoder's program is run, with no hosts, on the input that a seed and a size generate
+abbrev pub Demonstrates : Kind → ℕ → ℕ → Wanted
+Demonstrates decoder seed size answer =
+    (file : List ℕ) × AreBytes file × IsGenerated decoder seed size file
+    × RunsTo shown by_blocks (handed []) (demo_program decoder) (demo_input decoder file) answer
+
+-- ---- commands
+
+-- a program may be run so: by the plain meaning each, else those that the rules accept
+abbrev pub MayRun : Options → Program → Type 0
+MayRun options p = (options.plain ≡ true) ⊎ IsAccepted p
+
+-- the answer to a command: its files in their order, each with its tests
+abbrev pub WholeOf : Handed → Command → List Entry → Wanted
+WholeOf given (Run program input options) files =
+    Fetched program max_program (lookup files program) (λ text.
+    Read text (λ p.
+    Either options.plain (RunsOn options given input p files) (CheckedBy p (RunsOn options given input p files))))
+WholeOf given (Check program) files =
+    Fetched program max_program (lookup files program) (λ text. Read text (λ p. CheckedBy p (Is accepted)))
+WholeOf given (Explain program) files =
+    Fetched program max_program (lookup files program) (λ text. Read text (λ p. Explained p))
+WholeOf given (Print program) files =
+    Fetched program max_program (lookup files program) (λ text. Read text (λ p. Is (printed p)))
+WholeOf given (Unpack input options) files =
+    Fetched input max_input (lookup files input) (λ content. Decodes options (packbits_program (block_of options)) content)
+WholeOf given (Unhuff input options) files =
+    Fetched input max_input (lookup files input) (λ content. WithHuf1 content (Decodes options (huffman_program (block_of options)) content))
+WholeOf given (Lex machine input options) files =
+    Fetched machine max_machine (lookup files machine) (λ table. WithLex1 table (λ states classes. Lexes options table states classes input files))
+WholeOf given (Demo decoder seed size workers) files = Demonstrates decoder seed size
+
+-- the answer to these words, where these predictors are handed in, and these are the files
+abbrev pub Whole : Handed → List (List ℕ) → List Entry → Wanted
+Whole given words files answer =
+    ((command : Command) × Asks words command × WholeOf given command files answer)
+    ⊎ (((command : Command) → Asks words command → ⊥) × (answer ≡ not_understood))
+
+-- the file of this name is reached: it is the command's first, or it is the second and nothing before it is refused
+abbrev pub IsReached : Command → List Entry → List ℕ → Type 0
+IsReached (Run program input options) files name =
+    (name ≡ program)
+    ⊎ ((name ≡ input)
+    × ((text : List ℕ)
+    × (lookup files program ≡ Some text)
+    × (length text ≤ max_program)
+    × ((p : Program) × IsVerdict text (Says p) × MayRun options p)))
+IsReached (Check program) files name = name ≡ program
+IsReached (Explain program) files name = name ≡ program
+IsReached (Print program) files name = name ≡ program
+IsReached (Unpack input options) files name = name ≡ input
+IsReached (Unhuff input options) files name = name ≡ input
+IsReached (Lex machine input options) files name =
+    (name ≡ machine)
+    ⊎ ((name ≡ input)
+    × ((table : List ℕ)
+    × (lookup files machine ≡ Some table)
+    × (length table ≤ max_machine)
+    × ((states : ℕ) × (classes : ℕ) × IsLex1 table states classes)))
+IsReached (Demo decoder seed size workers) files name = ⊥
+
+-- the answer that the input of a program which is run can't be had
+abbrev pub IsInputFault : List ℕ → List Entry → Wanted
+IsInputFault input files answer = answer ≡ file_failed input
+
+-- the answer that a file which a command reaches can't be had
+abbrev pub IsFaultOf : Command → List Entry → Answer → Type 0
+IsFaultOf command files answer = (name : List ℕ) × IsReached command files name × (answer ≡ file_failed name)
+
+-- the same, for the command that the words ask for
+abbrev pub IsFaultAnswer : List (List ℕ) → List Entry → Answer → Type 0
+IsFaultAnswer words files answer = (command : Command) × Asks words command × IsFaultOf command files answer
