@@ -1,5 +1,5 @@
 -- What was answered, from what was put.
-use Rattle.std.proofs.Common.{◌≡◌, ◌⊎◌, ℕ, List, refl, ap, arith, inl, inr}
+use Rattle.std.proofs.Common.{◌≡◌, ◌⊎◌, ℕ, List, refl, sym, ap, subst, arith, inl, inr}
 use Rattle.std.specs.List.{concat}
 use Rattle.std.specs.Prelude.{Option}
 use Rattle.spf_edge.specs.Entries.{Entry}
@@ -10,8 +10,8 @@ use Rattle.spf_edge.proofs.Taking.{adds_empty_prefix}
 use Rattle.spf_words.specs.Only.{IsOnly}
 use Rattle.spf_commands.specs.Answer.{Answer}
 use Rattle.spf_commands.specs.Message.{failed_line}
-use Rattle.spf_commands.specs.Whole.{Handed, Whole, IsFaultAnswer}
-use Rattle.spf_cli.specs.Answered.{IsGiven, IsGivenInPart, IsAnswered, IsAnsweredInPart}
+use Rattle.spf_commands.specs.Whole.{Handed, Wanted, Whole, IsFaultAnswer}
+use Rattle.spf_cli.specs.Answered.{IsGiven, IsGivenInPart, IsPut, IsAnswered, IsAnsweredInPart}
 use Rattle.spf_cli.specs.Putting.{put_status, IsPutFault, IsOneLine}
 
 -- an answer that was put is what was answered
@@ -21,6 +21,11 @@ answered_by given words files FileFault PutFault a status out_before out_now err
       | inl w ↦ inl (a, w, put)
       | inr f ↦ inr (inr (inl (f.0, (a, f.1, put))))
     ]
+
+-- the same of an answer that is wanted, with the status that was given
+pub was_put : (wanted : Wanted) (PutFault : Type 0) (a : Answer) (given status : ℕ) (out_before out_now err_before err_now : Option (List ℕ)) (lines_before lines_now : Option (List (List ℕ))) → status ≡ given → IsOnly wanted a → IsGiven a given out_before out_now err_before err_now lines_before lines_now → IsPut wanted PutFault status out_before out_now err_before err_now lines_before lines_now
+was_put wanted PutFault a given status out_before out_now err_before err_now lines_before lines_now same only put =
+    inl (a, only, subst (λ n. IsGiven a n out_before out_now err_before err_now lines_before lines_now) (sym same) put)
 
 -- a put that failed has its cause
 pub put_failed : (Fault : Type 0) (error : PutError) (status : ℕ) → IsPutFault Fault error → status ≡ put_status error → (Fault × (status ≡ 6)) ⊎ (status ≡ 8)
