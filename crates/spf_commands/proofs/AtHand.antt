@@ -1,6 +1,6 @@
 -- The steps of a run over bytes at hand.
-use Rattle.std.proofs.Common.{◌≡◌, ◌⊎◌, ℕ, List, [], ◌++◌, inl, inr, arith, refl, sym, ap, subst, append-nil}
-use Rattle.std.specs.Prelude.{Option, None, Result, Ok, Err}
+use Rattle.std.proofs.Common.{◌≡◌, ℕ, List, [], inl, inr, arith, refl, sym, ap, subst, append-nil}
+use Rattle.std.specs.Prelude.{None, Result, Err}
 use Rattle.spf_ast.specs.Syntax.{Program}
 use Rattle.spf_commands.specs.Answer.{Answer, text_refused, rule_refused}
 use Rattle.spf_commands.specs.Answering.{seen_answer, IsReadExit, IsRuleExit, AnswersWith, IsRunToItsEnd}

@@ -1,15 +1,14 @@
 -- The answers of the decoders.
-use Rattle.std.proofs.Common.{◌≡◌, ◌⊎◌, ◌≤◌, ◌<◌, ℕ, List, [], ◌∷◌, ◌++◌, map, length, refl, sym, ap, ◌∙◌, subst, inl, inr, arith}
-use Rattle.std.specs.Prelude.{Option, Some, None, Result, Ok, Err}
+use Rattle.std.proofs.Common.{◌≡◌, ◌⊎◌, ◌≤◌, ℕ, List, [], map, length, refl, sym, ap, ◌∙◌, subst, inl, inr, arith}
+use Rattle.std.specs.Prelude.{Option, Some, Result}
 use Rattle.spf_ast.specs.Syntax.{Program}
-use Rattle.spf_ast.specs.Program.{Outcome, Done, Stopped}
+use Rattle.spf_ast.specs.Program.{Done, Stopped}
 use Rattle.spf_edge.specs.Entries.{Entry, lookup, HasContent}
 use Rattle.spf_formats.specs.Huf1.{IsHuf1, IsNoHuf1At}
 use Rattle.spf_formats.specs.Lex1.{IsLex1, IsNoLex1At}
 use Rattle.spf_formats.specs.declared.generate.Kind.{Kind}
 use Rattle.spf_formats.specs.Draws.{IsGenerated}
 use Rattle.spf_formats.specs.Laws.{AreBytes, Huf1HasOneVerdict, Lex1HasOneVerdict, EachInputIsGeneratedOnce}
-use Rattle.spf_guess.specs.declared.stats.Stats.{Stats}
 use Rattle.spf_predictors.specs.Answers.{Answers}
 use Rattle.spf_words.specs.Command.{Lex, DecodeOptions}
 use Rattle.spf_words.specs.Only.{IsOnly}
