@@ -1,10 +1,8 @@
 -- Laws about the answers of the program.
-use Rattle.std.specs.Prelude.{◌≡◌, ◌⊎◌, ℕ, List}
+use Rattle.std.specs.Prelude.{◌≡◌, ℕ, List}
 use Rattle.spf_edge.specs.Entries.{Entry}
 use Rattle.spf_commands.specs.Answer.{Answer}
-use Rattle.spf_words.specs.Command.{Command, Asks}
 use Rattle.spf_commands.specs.Reading.{Verdict, IsVerdict}
-use Rattle.spf_words.specs.Only.{IsOnly}
 use Rattle.spf_commands.specs.Whole.{Handed, Whole}
 
 -- ---- texts
