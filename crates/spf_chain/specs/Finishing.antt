@@ -1,5 +1,5 @@
 -- What a chain comes to.
-use Rattle.std.specs.Prelude.{◌≡◌, ℕ, List, [], ◌∷◌, map, Option, Some, None, Result, Ok, Err, ℤ}
+use Rattle.std.specs.Prelude.{◌≡◌, ℕ, List, [], ◌∷◌, length, map, Option, Some, None, Result, Ok, Err, ℤ}
 use Rattle.spf_ast.specs.declared.outcome.Trap.{Trap}
 use Rattle.spf_ast.specs.Carried as carried
 use Rattle.spf_ast.specs.Event.{Event}
@@ -34,11 +34,13 @@ EveryMergingRuns c logs = (steps : List Step) → Merges c.site.blocks logs step
 
 -- The chain came to this, with these logs, and its lanes were written back to a memory. The plain run of the site's
 -- blocks has the same real values and the same result, and where none traps and the memory was that of the entry, the
--- same memory. Every merging of the logs that keeps the order of each log is a speculative run.
+-- same memory. The trace has one log for each block, and every merging of them that keeps the order of each log is a
+-- speculative run.
 pub record IsFinished (c : ChainValue) (s : Settled) (trace : List (List LogEntry)) (before after : List ℤ) : Type 0 where
   pub settled : s ≡ c.settled
   pub values : map (λ b. b.real) c.history ≡ (plain_blocks (entry_at c.site)).values
   pub result : (plain_blocks (entry_at c.site)).result ≡ result_as s
   pub memory : (v : carried.Carried) → s ≡ Carried v → before ≡ c.site.memory → after ≡ (plain_blocks (entry_at c.site)).memory
+  pub logs : length trace ≡ c.site.blocks
   pub merging : (steps : List Step) → Merges c.site.blocks (logs_in trace) steps
       → IsSpeculativeRun (entry_at c.site) (guess_at c.site) steps (map (λ b. b.real) c.history) (result_as s)

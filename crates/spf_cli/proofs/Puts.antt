@@ -1,94 +1,112 @@
 -- What was answered, from what was put.
-use Rattle.std.proofs.Common.{◌≡◌, ◌⊎◌, ℕ, List, refl, sym, ap, subst, arith, inl, inr}
-use Rattle.std.specs.List.{concat}
-use Rattle.std.specs.Prelude.{Option}
-use Rattle.spf_edge.specs.Entries.{Entry}
+use Rattle.std.specs.Prelude.{Option, Some, None}
+use Rattle.std.specs.List.{AllByRecursion}
+use Rattle.std.proofs.Common.{◌≡◌, ◌⊎◌, ℕ, List, [], ◌∷◌, refl, sym, ◌∙◌, arith, inl, inr, subst}
 use Rattle.spf_edge.specs.declared.sink.PutError.{PutError}
-use Rattle.spf_edge.specs.declared.sink.PutError.TheVariants.{Failed}
 use Rattle.spf_edge.specs.declared.sink.PutError.TheVariants as put_error
-use Rattle.spf_edge.proofs.Taking.{adds_empty_prefix}
+use Rattle.spf_edge.specs.Entries.{Entry, IsMissing}
+use Rattle.spf_edge.specs.Faults.{Rose}
+use Rattle.spf_edge.specs.Fetches.{FilesState, Fetch, Gives, IsGiven, AreMade}
 use Rattle.spf_words.specs.Only.{IsOnly}
 use Rattle.spf_commands.specs.Answer.{Answer}
-use Rattle.spf_commands.specs.Message.{failed_line}
-use Rattle.spf_commands.specs.Whole.{Handed, Wanted, Whole, IsFaultAnswer}
-use Rattle.spf_cli.specs.Answered.{IsGiven, IsGivenInPart, IsPut, IsAnswered, IsAnsweredInPart}
-use Rattle.spf_cli.specs.Putting.{put_status, IsPutFault, IsOneLine}
+use Rattle.spf_commands.specs.Answering.{IsFollowed}
+use Rattle.spf_commands.specs.Course.{Wanted, Course}
+use Rattle.spf_commands.specs.Laws.{HasFailed, StatusesHaveCauses}
+use Rattle.spf_commands.specs.Whole.{Handed, AskForNothing, Whole}
+use Rattle.spf_cli.specs.Answered.{Sinks, IsGiven as IsAnswerGiven, IsGivenInPart, IsBroken, IsUntouched, IsPut, IsAnswered}
+use Rattle.spf_cli.specs.Putting.{put_status, IsPutFault}
 
--- an answer that was put is what was answered
-pub answered_by : (given : Handed) (words : List (List ℕ)) (files : List Entry) (FileFault PutFault : Type 0) (a : Answer) (status : ℕ) (out_before out_now err_before err_now : Option (List ℕ)) (lines_before lines_now : Option (List (List ℕ))) → IsOnly (Whole given words files) a ⊎ (FileFault × IsFaultAnswer words files a) → IsGiven a status out_before out_now err_before err_now lines_before lines_now → IsAnswered given words files FileFault PutFault status out_before out_now err_before err_now lines_before lines_now
-answered_by given words files FileFault PutFault a status out_before out_now err_before err_now lines_before lines_now h put =
-    elim h [
-      | inl w ↦ inl (a, w, put)
-      | inr f ↦ inr (inr (inl (f.0, (a, f.1, put))))
-    ]
-
--- the same of an answer that is wanted, with the status that was given
-pub was_put : (wanted : Wanted) (PutFault : Type 0) (a : Answer) (given status : ℕ) (out_before out_now err_before err_now : Option (List ℕ)) (lines_before lines_now : Option (List (List ℕ))) → status ≡ given → IsOnly wanted a → IsGiven a given out_before out_now err_before err_now lines_before lines_now → IsPut wanted PutFault status out_before out_now err_before err_now lines_before lines_now
-was_put wanted PutFault a given status out_before out_now err_before err_now lines_before lines_now same only put =
-    inl (a, only, subst (λ n. IsGiven a n out_before out_now err_before err_now lines_before lines_now) (sym same) put)
+-- an answer was given, with its status by another name
+pub was_given : (answer : Answer) (status given : ℕ) (s : Sinks) → given ≡ status → IsAnswerGiven answer status s → IsAnswerGiven answer given s
+was_given answer status given s same h = subst (λ n. IsAnswerGiven answer n s) (sym same) h
 
 -- a put that failed has its cause
-pub put_failed : (Fault : Type 0) (error : PutError) (status : ℕ) → IsPutFault Fault error → status ≡ put_status error → (Fault × (status ≡ 6)) ⊎ (status ≡ 8)
-put_failed Fault Failed status h e = inl (h, e)
-put_failed Fault put_error.OutOfMemory status h e = inr e
+pub was_broken : (status : ℕ) (s : Sinks) (error : PutError) → IsPutFault (Rose s.out_before.faults s.out_now.faults ⊎ Rose s.err_before.faults s.err_now.faults) error → status ≡ put_status error → IsBroken status s
+was_broken status s put_error.Failed h e = inr (e, h)
+was_broken status s put_error.OutOfMemory h e = inl e
 
-pub answered_without : (given : Handed) (words : List (List ℕ)) (files : List Entry) (FileFault PutFault : Type 0) (status : ℕ) (out_before out_now err_before err_now : Option (List ℕ)) (lines_before lines_now : Option (List (List ℕ))) → (PutFault × (status ≡ 6)) ⊎ (status ≡ 8) → IsAnswered given words files FileFault PutFault status out_before out_now err_before err_now lines_before lines_now
-answered_without given words files FileFault PutFault status out_before out_now err_before err_now lines_before lines_now h =
+-- the answer that is wanted was put
+pub put_whole : (wanted : Wanted) (answer : Answer) (status given : ℕ) (s : Sinks) → IsOnly wanted answer → given ≡ status → IsAnswerGiven answer status s → IsPut wanted given s
+put_whole wanted answer status given s only same h = (answer, only, inl (was_given answer status given s same h))
+
+pub put_part : (wanted : Wanted) (answer : Answer) (given : ℕ) (s : Sinks) (error : PutError) → IsOnly wanted answer → IsGivenInPart answer s
+    → IsPutFault (Rose s.out_before.faults s.out_now.faults ⊎ Rose s.err_before.faults s.err_now.faults) error → given ≡ put_status error → IsPut wanted given s
+put_part wanted answer given s error only part fault same = (answer, only, inr (part, was_broken given s error fault same))
+
+-- the course was followed, and its answer was put
+pub answered_by : (course : Course) (old new : FilesState) (answer : Answer) (status : ℕ) (s : Sinks) → (followed : IsFollowed course old new answer) → (IsOnly (course followed.fetches) answer → IsPut (course followed.fetches) status s) → IsAnswered course old new status s
+answered_by course old new answer status s followed put = inl (followed.fetches, followed.made, put followed.only)
+
+-- ---- causes
+
+-- what a status that is neither of a put nor of memory says of the answer
+by_status : {A : Type 0} (given : Handed) (words : List (List ℕ)) (old new : FilesState) (status : ℕ) (s : Sinks) → IsAnswered (Whole given words) old new status s
+    → (status ≡ 6 → A) → (status ≡ 8 → A)
+    → ((fetches : List Fetch) (answer : Answer) → AreMade old new fetches → Whole given words fetches answer → status ≡ answer.status → A) → A
+by_status given words old new status s h put memory whole =
     elim h [
-      | inl f ↦ inr (inr (inr f))
-      | inr e ↦ inr (inl e)
-    ]
-
-pub put_not_file : {A : Type 0} (Fault : Type 0) (status : ℕ) → (Fault × (status ≡ 6)) ⊎ (status ≡ 8) → status ≡ 5 → A
-put_not_file Fault status h s =
-    elim h [
-      | inl f ↦ absurd (omega (arith, f.1, s))
-      | inr e ↦ absurd (omega (arith, e, s))
-    ]
-
-pub put_fault : (Fault : Type 0) (status : ℕ) → (Fault × (status ≡ 6)) ⊎ (status ≡ 8) → status ≡ 6 → Fault
-put_fault Fault status h s =
-    elim h [
-      | inl f ↦ f.0
-      | inr e ↦ absurd (omega (arith, e, s))
-    ]
-
--- nothing that was put is a front of every answer
-pub nothing_given : (answer : Answer) (out_before out_now err_before err_now : Option (List ℕ)) → out_now ≡ out_before → err_now ≡ err_before → IsGivenInPart answer out_before out_now err_before err_now
-nothing_given answer out_before out_now err_before err_now o e = record {
-  out_took = adds_empty_prefix out_before out_now answer.out o;
-  err_took = adds_empty_prefix err_before err_now (concat answer.err) e;
-  lines_wait = inr e;
-}
-
--- what was put of an answer, by its status
-pub given_in_part : (handed : Handed) (words : List (List ℕ)) (files : List Entry) (FileFault : Type 0) (given : Answer) (status : ℕ) (out_before out_now err_before err_now : Option (List ℕ)) → IsOnly (Whole handed words files) given ⊎ (FileFault × IsFaultAnswer words files given) → IsGivenInPart given out_before out_now err_before err_now
-    → (IsFaultAnswer words files given → (status ≡ 5) ⊎ (status ≡ 6) ⊎ ((status ≡ 8) × (out_now ≡ out_before) × (err_now ≡ err_before)))
-    → IsAnsweredInPart handed words files FileFault status out_before out_now err_before err_now
-given_in_part handed words files FileFault given status out_before out_now err_before err_now h part ends =
-    elim h [
-      | inl w ↦ inl (given, w, part)
-      | inr f ↦ elim (ends f.1) [
-        | inl five ↦ inr (inr (f.0, inl five, (given, f.1, part)))
-        | inr y ↦ elim y [
-          | inl six ↦ inr (inr (f.0, inr six, (given, f.1, part)))
-          | inr eight ↦ inr (inl eight)
+      | inl x ↦ elim x.2.2 [
+        | inl g ↦ whole x.0 x.2.0 x.1 x.2.1.is g.status_is
+        | inr part ↦ elim part.1 [
+          | inl eight ↦ memory eight
+          | inr six ↦ put six.0
         ]
       ]
+      | inr u ↦ memory u.0
     ]
 
--- the answer to a fault of a file has its status, and is one line
-pub fault_status : (words : List (List ℕ)) (files : List Entry) (answer : Answer) → IsFaultAnswer words files answer → answer.status ≡ 5
-fault_status words files answer f = ap (λ (a : Answer). a.status) f.2.2
+pub words_cause : StatusesHaveCauses → (given : Handed) (words : List (List ℕ)) (old new : FilesState) (status : ℕ) (s : Sinks) → IsAnswered (Whole given words) old new status s → status ≡ 2 → AskForNothing words
+words_cause laws given words old new status s h two =
+    by_status given words old new status s h (λ six. absurd (omega (arith, two, six))) (λ eight. absurd (omega (arith, two, eight)))
+    (λ fetches answer made whole is. laws.words given words fetches answer whole (sym is ∙ two))
 
-pub fault_line : (words : List (List ℕ)) (files : List Entry) (answer : Answer) → IsFaultAnswer words files answer → IsOneLine answer
-fault_line words files answer f = record {
-  silent = ap (λ (a : Answer). a.out) f.2.2;
-  line = failed_line f.2.0;
-  one = ap (λ (a : Answer). a.err) f.2.2;
-}
+-- a fetch failed of a fault, or since the files are told
+failed_cause : (told : Option (List Entry)) (Fault : Type 0) (fetches : List Fetch) → AllByRecursion (IsGiven told Fault) fetches → HasFailed fetches → Fault ⊎ ((files : List Entry) × (told ≡ Some files))
+failed_cause told Fault [] given failed = absurd failed
+failed_cause told Fault (fetch ∷ fetches) given failed =
+    elim failed [
+      | inl missing ↦ inr (told_of told (subst (Gives told Fault fetch.name fetch.limit) missing given.0))
+      | inr other ↦ elim other [
+        | inl fault ↦ inl (subst (Gives told Fault fetch.name fetch.limit) fault given.0)
+        | inr later ↦ failed_cause told Fault fetches given.1 later
+      ]
+    ]
+  where
+    told_of : (o : Option (List Entry)) → IsMissing o fetch.name → (files : List Entry) × (o ≡ Some files)
+    told_of None h = absurd h
+    told_of (Some files) h = (files, refl)
 
--- a put of the answer to a fault that failed: a sink failed, or memory was short and nothing was put
-pub fault_ends : (error : PutError) (status : ℕ) (out_before out_now err_before err_now : Option (List ℕ)) → status ≡ put_status error → (error ≡ put_error.OutOfMemory → (out_now ≡ out_before) × (err_now ≡ err_before)) → (status ≡ 5) ⊎ (status ≡ 6) ⊎ ((status ≡ 8) × (out_now ≡ out_before) × (err_now ≡ err_before))
-fault_ends Failed status out_before out_now err_before err_now is nothing = inr (inl is)
-fault_ends put_error.OutOfMemory status out_before out_now err_before err_now is nothing = let same = nothing refl in inr (inr (is, same.0, same.1))
+pub file_cause : StatusesHaveCauses → (given : Handed) (words : List (List ℕ)) (old new : FilesState) (status : ℕ) (s : Sinks) → IsAnswered (Whole given words) old new status s → status ≡ 5
+    → Rose old.faults new.faults ⊎ ((files : List Entry) × (old.told ≡ Some files))
+file_cause laws given words old new status s h five =
+    by_status given words old new status s h (λ six. absurd (omega (arith, five, six))) (λ eight. absurd (omega (arith, five, eight)))
+    (λ fetches answer made whole is. failed_cause old.told (Rose old.faults new.faults) fetches made.given (laws.file given words fetches answer whole (sym is ∙ five)))
+
+pub sink_cause : StatusesHaveCauses → (given : Handed) (words : List (List ℕ)) (old new : FilesState) (status : ℕ) (s : Sinks) → IsAnswered (Whole given words) old new status s → status ≡ 6
+    → Rose s.out_before.faults s.out_now.faults ⊎ Rose s.err_before.faults s.err_now.faults
+sink_cause laws given words old new status s h six =
+    elim h [
+      | inl x ↦ elim x.2.2 [
+        | inl g ↦ absurd (laws.put given words x.0 x.2.0 x.2.1.is (sym g.status_is ∙ six))
+        | inr part ↦ elim part.1 [
+          | inl eight ↦ absurd (omega (arith, six, eight))
+          | inr fault ↦ fault.1
+        ]
+      ]
+      | inr u ↦ let eight = u.0 in absurd (omega (arith, six, eight))
+    ]
+
+-- the same of a run over bytes at hand, whose answer has never that status
+pub hand_cause : (wanted : Wanted) → ((answer : Answer) → wanted answer → answer.status ≡ 6 → ⊥) → (status : ℕ) (s : Sinks) → IsPut wanted status s ⊎ IsUntouched status s → status ≡ 6
+    → Rose s.out_before.faults s.out_now.faults ⊎ Rose s.err_before.faults s.err_now.faults
+hand_cause wanted never status s h six =
+    elim h [
+      | inl x ↦ elim x.2 [
+        | inl g ↦ absurd (never x.0 x.1.is (sym g.status_is ∙ six))
+        | inr part ↦ elim part.1 [
+          | inl eight ↦ absurd (omega (arith, six, eight))
+          | inr fault ↦ fault.1
+        ]
+      ]
+      | inr u ↦ let eight = u.0 in absurd (omega (arith, six, eight))
+    ]

@@ -1,55 +1,60 @@
 -- What came of an answer: how much of it was put.
-use Rattle.std.specs.Prelude.{◌≡◌, ◌⊎◌, ℕ, List, Option}
-use Rattle.std.specs.List.{concat}
-use Rattle.spf_edge.specs.Bytes.{Adds, AddsPrefix, Hands}
-use Rattle.spf_edge.specs.Entries.{Entry}
+use Rattle.std.specs.Prelude.{◌≡◌, ◌⊎◌, ℕ, List}
+use Rattle.spf_edge.specs.Faults.{Rose}
+use Rattle.spf_edge.specs.Fetches.{FilesState, Fetch, AreMade}
+use Rattle.spf_edge.specs.Puts.{SinkState}
 use Rattle.spf_words.specs.Only.{IsOnly}
 use Rattle.spf_commands.specs.Answer.{Answer}
-use Rattle.spf_commands.specs.Whole.{Handed, Wanted, Whole, IsFaultAnswer}
+use Rattle.spf_commands.specs.Course.{Wanted, Course}
+use Rattle.spf_cli.specs.Putting.{AreCut, AreTaken, AreTakenInPart}
 
--- what came of an answer: its status, and its bytes on both sinks, each line of the error stream by a put of its own
-pub record IsGiven (answer : Answer) (status : ℕ) (out_before out_now err_before err_now : Option (List ℕ))
-    (lines_before lines_now : Option (List (List ℕ))) : Type 0 where
+-- the sinks for the output and for the lines, before and after
+pub record Sinks : Type 0 where
+  pub out_before : SinkState
+  pub out_now : SinkState
+  pub err_before : SinkState
+  pub err_now : SinkState
+
+abbrev pub sinks : SinkState → SinkState → SinkState → SinkState → Sinks
+sinks out_before out_now err_before err_now = record {
+  out_before = out_before;
+  out_now = out_now;
+  err_before = err_before;
+  err_now = err_now;
+}
+
+-- an answer was given: its status, its output in pieces, and then its lines, each by a put of its own
+pub record IsGiven (answer : Answer) (status : ℕ) (s : Sinks) : Type 0 where
   pub status_is : status ≡ answer.status
-  pub out_took : Adds out_before out_now answer.out
-  pub err_took : Adds err_before err_now (concat answer.err)
-  pub lines_put : Hands lines_before lines_now answer.err
+  pub pieces : List (List ℕ)
+  pub cut : AreCut answer.out pieces
+  pub out_took : AreTaken pieces s.out_before s.out_now
+  pub err_took : AreTaken answer.err s.err_before s.err_now
 
--- each sink took a prefix of what an answer has for it, the error stream nothing before the output had all of its bytes
-pub record IsGivenInPart (answer : Answer) (out_before out_now err_before err_now : Option (List ℕ)) : Type 0 where
-  pub out_took : AddsPrefix out_before out_now answer.out
-  pub err_took : AddsPrefix err_before err_now (concat answer.err)
-  pub lines_wait : Adds out_before out_now answer.out ⊎ (err_now ≡ err_before)
+-- The first pieces of an answer were put, and no line before the output had all of its own. After a put that failed,
+-- nothing more was put on either sink.
+pub record IsGivenInPart (answer : Answer) (s : Sinks) : Type 0 where
+  pub pieces : List (List ℕ)
+  pub cut : AreCut answer.out pieces
+  pub out_took : AreTakenInPart pieces s.out_before s.out_now
+  pub err_took : AreTakenInPart answer.err s.err_before s.err_now
+  pub lines_wait : AreTaken pieces s.out_before s.out_now ⊎ (s.err_now ≡ s.err_before)
 
--- the one answer that is wanted was put on both sinks; or memory ran out, or a fault of a sink was met
-abbrev pub IsPut : Wanted → Type 0 → ℕ → Option (List ℕ) → Option (List ℕ) → Option (List ℕ) → Option (List ℕ)
-    → Option (List (List ℕ)) → Option (List (List ℕ)) → Type 0
-IsPut wanted PutFault status out_before out_now err_before err_now lines_before lines_now =
-    ((answer : Answer) × IsOnly wanted answer × IsGiven answer status out_before out_now err_before err_now lines_before lines_now)
-    ⊎ (status ≡ 8)
-    ⊎ (PutFault × (status ≡ 6))
+-- memory ran out, or a sink failed
+abbrev pub IsBroken : ℕ → Sinks → Type 0
+IsBroken status s =
+    (status ≡ 8) ⊎ ((status ≡ 6) × (Rose s.out_before.faults s.out_now.faults ⊎ Rose s.err_before.faults s.err_now.faults))
 
--- what was put is a prefix of the one answer that is wanted; or memory ran out, and nothing was put
-abbrev pub IsPutInPart : Wanted → ℕ → Option (List ℕ) → Option (List ℕ) → Option (List ℕ) → Option (List ℕ) → Type 0
-IsPutInPart wanted status out_before out_now err_before err_now =
-    ((answer : Answer) × IsOnly wanted answer × IsGivenInPart answer out_before out_now err_before err_now)
-    ⊎ ((status ≡ 8) × (out_now ≡ out_before) × (err_now ≡ err_before))
+-- memory ran out, and nothing was put
+abbrev pub IsUntouched : ℕ → Sinks → Type 0
+IsUntouched status s = (status ≡ 8) × (s.out_now ≡ s.out_before) × (s.err_now ≡ s.err_before)
 
--- What was put is a prefix of the one whole answer; or memory ran out, and nothing was put; or a fault of a file that
--- was reached was met, and it is a prefix of the answer to that, with its status or that for a sink.
-abbrev pub IsAnsweredInPart : Handed → List (List ℕ) → List Entry → Type 0 → ℕ → Option (List ℕ) → Option (List ℕ) → Option (List ℕ) → Option (List ℕ) → Type 0
-IsAnsweredInPart given words files FileFault status out_before out_now err_before err_now =
-    ((answer : Answer) × IsOnly (Whole given words files) answer × IsGivenInPart answer out_before out_now err_before err_now)
-    ⊎ ((status ≡ 8) × (out_now ≡ out_before) × (err_now ≡ err_before))
-    ⊎ (FileFault × ((status ≡ 5) ⊎ (status ≡ 6))
-    × ((answer : Answer) × IsFaultAnswer words files answer
-    × IsGivenInPart answer out_before out_now err_before err_now))
+-- the one answer that is wanted was given; or the first pieces of it, until memory ran out or a sink failed
+abbrev pub IsPut : Wanted → ℕ → Sinks → Type 0
+IsPut wanted status s =
+    (answer : Answer) × IsOnly wanted answer × (IsGiven answer status s ⊎ (IsGivenInPart answer s × IsBroken status s))
 
--- What the program answered: the one whole answer, put on both sinks; or memory ran out, or a fault of a file that was reached, or of a sink, was met.
-abbrev pub IsAnswered : Handed → List (List ℕ) → List Entry → Type 0 → Type 0 → ℕ → Option (List ℕ) → Option (List ℕ)
-    → Option (List ℕ) → Option (List ℕ) → Option (List (List ℕ)) → Option (List (List ℕ)) → Type 0
-IsAnswered given words files FileFault PutFault status out_before out_now err_before err_now lines_before lines_now =
-    ((answer : Answer) × IsOnly (Whole given words files) answer × IsGiven answer status out_before out_now err_before err_now lines_before lines_now)
-    ⊎ (status ≡ 8)
-    ⊎ (FileFault × ((answer : Answer) × IsFaultAnswer words files answer × IsGiven answer status out_before out_now err_before err_now lines_before lines_now))
-    ⊎ (PutFault × (status ≡ 6))
+-- a course was followed, and the one answer to what its fetches gave was put, unless memory ran out before
+abbrev pub IsAnswered : Course → FilesState → FilesState → ℕ → Sinks → Type 0
+IsAnswered course old new status s =
+    ((fetches : List Fetch) × AreMade old new fetches × IsPut (course fetches) status s) ⊎ IsUntouched status s

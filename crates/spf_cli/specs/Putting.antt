@@ -1,26 +1,42 @@
--- Bytes and lines that are put.
-use Rattle.std.specs.Prelude.{◌≡◌, ℕ, ◌≤◌, List, [], ◌∷◌, ◌++◌, Option}
+-- How bytes and lines are put: piece by piece.
+use Rattle.std.specs.Prelude.{◌≡◌, ⊤, ℕ, ◌<◌, ◌≤◌, List, [], ◌∷◌, length, map, Result, OnOk}
 use Rattle.std.specs.List.{concat}
-use Rattle.spf_edge.specs.Bytes.{Adds, Hands}
+use Rattle.spf_edge.specs.Bytes.{Adds, AddsPrefix}
+use Rattle.spf_edge.specs.Puts.{SinkState, taken_whole, HasPut, HasPutFirst}
 use Rattle.spf_edge.specs.declared.sink.PutError.{PutError}
 use Rattle.spf_edge.specs.declared.sink.PutError.TheVariants.{Failed, OutOfMemory}
-use Rattle.spf_commands.specs.Answer.{Answer}
 
--- of these bytes those before the rest were taken, and the count of faults didn't fall
-pub record IsPutUpTo (bytes rest : List ℕ) (taken_before taken_now : Option (List ℕ)) (faults_before faults_now : ℕ) : Type 0 where
-  pub front : List ℕ
-  pub split : bytes ≡ front ++ rest
-  pub took : Adds taken_before taken_now front
-  pub later : faults_before ≤ faults_now
+-- how many bytes of output are put at once
+abbrev pub piece_size : ℕ
+piece_size = 4096
 
--- the same of lines, each of which was put by a put of its own
-pub record AreLinesPutUpTo (lines rest : List (List ℕ)) (taken_before taken_now : Option (List ℕ))
-    (pieces_before pieces_now : Option (List (List ℕ))) (faults_before faults_now : ℕ) : Type 0 where
-  pub first : List (List ℕ)
-  pub split : lines ≡ first ++ rest
-  pub took : Adds taken_before taken_now (concat first)
-  pub handed : Hands pieces_before pieces_now first
-  pub later : faults_before ≤ faults_now
+-- pieces of this size, of which only the last may be shorter, and none is empty
+abbrev pub ArePieces : ℕ → List (List ℕ) → Type 0
+ArePieces size [] = ⊤
+ArePieces size (piece ∷ []) = (0 < length piece) × (length piece ≤ size)
+ArePieces size (piece ∷ next ∷ pieces) = (length piece ≡ size) × ArePieces size (next ∷ pieces)
+
+-- bytes are put in these pieces
+pub record AreCut (bytes : List ℕ) (pieces : List (List ℕ)) : Type 0 where
+  pub all : concat pieces ≡ bytes
+  pub sizes : ArePieces piece_size pieces
+
+-- these pieces were put on a sink, in order, and it took them whole
+pub record AreTaken (pieces : List (List ℕ)) (before now : SinkState) : Type 0 where
+  pub took : Adds before.taken now.taken (concat pieces)
+  pub put : HasPut before.puts now.puts (map taken_whole pieces)
+
+-- the first of these pieces were put on a sink, in order, up to one that failed; it took a prefix of them all
+pub record AreTakenInPart (pieces : List (List ℕ)) (before now : SinkState) : Type 0 where
+  pub took : AddsPrefix before.taken now.taken (concat pieces)
+  pub put : HasPutFirst before.puts now.puts pieces
+
+-- bytes were put in pieces, all of them where this is the result
+pub record IsPutInPieces (bytes : List ℕ) (result : Result (Unit {0}) PutError) (before now : SinkState) : Type 0 where
+  pub pieces : List (List ℕ)
+  pub cut : AreCut bytes pieces
+  pub part : AreTakenInPart pieces before now
+  pub whole : OnOk result (AreTaken pieces before now)
 
 -- the status of a put that failed
 abbrev pub put_status : PutError → ℕ
@@ -31,9 +47,3 @@ put_status OutOfMemory = 8
 abbrev pub IsPutFault : Type 0 → PutError → Type 0
 IsPutFault Fault Failed = Fault
 IsPutFault Fault OutOfMemory = Unit {0}
-
--- an answer is one line, with nothing on the output
-pub record IsOneLine (answer : Answer) : Type 0 where
-  pub silent : answer.out ≡ []
-  pub line : List ℕ
-  pub one : answer.err ≡ line ∷ []

@@ -8,9 +8,10 @@ ghost use Rattle.spf_engine.specs.Runs.{WereToldFirst};
 ghost use Rattle.spf_edge.specs.Faults.{Rose};
 ghost use Rattle.spf_commands.specs.Reading.{IsVerdict, Refusal, Refuses, Says};
 ghost use Rattle.spf_commands.specs.Whole.{handed, RunsText};
-ghost use Rattle.spf_cli.specs.Answered.{IsPut, IsPutInPart};
+ghost use Rattle.spf_cli.specs.Answered.{sinks, IsPut, IsUntouched};
 
 use crate::putting::{put, put_status};
+use spf_commands::laws::each_status_has_its_cause;
 use spf_commands::{Status, answer_text, number};
 use spf_edge::{Gate, Sink};
 use spf_predictors::Predictor;
@@ -39,14 +40,13 @@ pub fn run_file<R: Threads + Wait + Sync, S: Sink, G: Gate + Sync>(
     err: &mut S,
 ) -> u8
     requires workers { (0 < workers) × (workers ≤ 64) }
-    // The whole answer is given, unless a sink failed or memory ran out.
-    ensures answered { IsPut (RunsText (handed (map (λ h. answer h) hosts.old.items)) workers program.now input.now)
-        (Rose (S.faults out.old) (S.faults out.new) ⊎ Rose (S.faults err.old) (S.faults err.new)) result
-        (S.taken out.old) (S.taken out.new) (S.taken err.old) (S.taken err.new) (S.pieces err.old) (S.pieces err.new) }
+    // The one answer is put whole; or its first pieces are, until a sink failed or memory ran out.
+    ensures answered { IsPut
+        (RunsText (handed (map (λ h. answer h) hosts.old.items)) workers program.now input.now) result
+        (sinks (S.state out.old) (S.state out.new) (S.state err.old) (S.state err.new))
+        ⊎ IsUntouched result
+        (sinks (S.state out.old) (S.state out.new) (S.state err.old) (S.state err.new)) }
 
-    // With every status each sink took a prefix of what the whole answer has for it.
-    ensures in_part { IsPutInPart (RunsText (handed (map (λ h. answer h) hosts.old.items)) workers program.now input.now)
-        result (S.taken out.old) (S.taken out.new) (S.taken err.old) (S.taken err.new) }
     // The hosts were told the first of what they are told in the whole run of the program that the text says.
     ensures told_first { (p : Program) → IsVerdict program.now (Says p) → WereToldFirst (handed_in (map (λ h. answer h) hosts.old.items)) p input.now
         (handed_in (map (λ h. answer h) hosts.new.items)) }
@@ -57,8 +57,13 @@ pub fn run_file<R: Threads + Wait + Sync, S: Sink, G: Gate + Sync>(
         (handed_in (map (λ h. answer h) hosts.new.items)) }
     ensures untold { (refusal : Refusal) → IsVerdict program.now (Refuses refusal)
         → WereTold (handed_in (map (λ h. answer h) hosts.old.items)) [] (handed_in (map (λ h. answer h) hosts.new.items)) }
-    ensures put_fault { result ≡ 6 → Rose (S.faults out.old) (S.faults out.new) ⊎ Rose (S.faults err.old) (S.faults err.new) }
+    // Nor were they told anything where the rules or a limit left the program unrun.
+    ensures unrun { (result ≡ 4) ⊎ (result ≡ 7)
+        → WereTold (handed_in (map (λ h. answer h) hosts.old.items)) [] (handed_in (map (λ h. answer h) hosts.new.items)) }
+    ensures put_fault { result ≡ 6 → Rose (S.state out.old).faults (S.state out.new).faults
+        ⊎ Rose (S.state err.old).faults (S.state err.new).faults }
 {
+    each_status_has_its_cause();
     let Ok(given) = answer_text(rt, alloc, program, input, workers, hosts, gate) else {
         return number(Status::NoMemory);
     };

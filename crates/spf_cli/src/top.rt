@@ -3,10 +3,11 @@
 ghost use Rattle.std.specs.Prelude.{◌≡◌, ◌⊎◌, List, Some, map, string_bytes};
 ghost use Rattle.spf_edge.specs.Entries.{Entry};
 ghost use Rattle.spf_edge.specs.Faults.{Rose};
-ghost use Rattle.spf_commands.specs.Whole.{handed};
-ghost use Rattle.spf_cli.specs.Answered.{IsAnswered, IsAnsweredInPart};
+ghost use Rattle.spf_commands.specs.Whole.{handed, AskForNothing, Whole};
+ghost use Rattle.spf_cli.specs.Answered.{sinks, IsAnswered};
 
 use crate::putting::{put, put_status};
+use spf_commands::laws::each_status_has_its_cause;
 use spf_commands::{Status, answer_words, number};
 use spf_edge::{Files, Gate, Sink};
 use spf_predictors::Predictor;
@@ -15,7 +16,8 @@ use std::sync::Wait;
 use std::thread::Threads;
 
 /// Does all that the program does: reads the words of its command line, fetches the files that they
-/// name, and puts the answer.
+/// name, and puts the answer. The output is put in pieces of 4,096 bytes, of which only the last may be
+/// shorter, and then each line on the error stream. After a put that failed, nothing more is put.
 ///
 /// `words` are the words after the program's name and after those that ask for hosts. `hosts` are the predictors that a program
 /// names by number; they are asked, told and dropped here. `gate` watches the attempts. Blocks run in threads, and the call waits
@@ -43,24 +45,21 @@ pub fn spf_main<R: Threads + Wait + Sync, F: Files, S: Sink, G: Gate + Sync>(
     hosts: Vec<Box<dyn Predictor>>,
     gate: &G,
 ) -> u8
-    // Where the files are told, the whole answer is given, unless a fault was met or memory ran out.
-    ensures answered { (told : List Entry) → F.told files.old ≡ Some told
-        → IsAnswered (handed (map (λ h. answer h) hosts.items)) (map string_bytes words.now) told
-        (Rose (F.faults files.old) (F.faults files.new))
-        (Rose (S.faults out.old) (S.faults out.new) ⊎ Rose (S.faults err.old) (S.faults err.new))
-        result (S.taken out.old) (S.taken out.new) (S.taken err.old) (S.taken err.new) (S.pieces err.old) (S.pieces err.new) }
+    // The files of the command are fetched, each once and in order, and the one answer to what they
+    // give is put whole; or its first pieces are, until a sink failed or memory ran out.
+    ensures answered { IsAnswered
+        (Whole (handed (map (λ h. answer h) hosts.items)) (map string_bytes words.now))
+        (F.state files.old) (F.state files.new) result
+        (sinks (S.state out.old) (S.state out.new) (S.state err.old) (S.state err.new)) }
 
-    // With every status each sink took a prefix of what the whole answer has for it; only with status 5 or 6 may it
-    // be one of the answer to a fault of the files that was met.
-    ensures in_part { (told : List Entry) → F.told files.old ≡ Some told
-        → IsAnsweredInPart (handed (map (λ h. answer h) hosts.items)) (map string_bytes words.now) told
-        (Rose (F.faults files.old) (F.faults files.new))
-        result (S.taken out.old) (S.taken out.new) (S.taken err.old) (S.taken err.new) }
-
-    // Whatever the files are, a fault of theirs or of a sink is answered only where there was one.
-    ensures file_fault { result ≡ 5 → Rose (F.faults files.old) (F.faults files.new) ⊎ ((told : List Entry) × (F.told files.old ≡ Some told)) }
-    ensures put_fault { result ≡ 6 → Rose (S.faults out.old) (S.faults out.new) ⊎ Rose (S.faults err.old) (S.faults err.new) }
+    // So words aren't understood, and a file or a sink has failed, only where that is so.
+    ensures understood { result ≡ 2 → AskForNothing (map string_bytes words.now) }
+    ensures file_fault { result ≡ 5 → Rose (F.state files.old).faults (F.state files.new).faults
+        ⊎ ((told : List Entry) × ((F.state files.old).told ≡ Some told)) }
+    ensures put_fault { result ≡ 6 → Rose (S.state out.old).faults (S.state out.new).faults
+        ⊎ Rose (S.state err.old).faults (S.state err.new).faults }
 {
+    each_status_has_its_cause();
     let mut hosts = hosts;
     let Ok(given) = answer_words(rt, alloc, words, files, &mut hosts, gate) else {
         return number(Status::NoMemory);

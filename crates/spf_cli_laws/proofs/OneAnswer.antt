@@ -1,31 +1,66 @@
 -- A list of words has at most one answer, and none is left without one.
-use Rattle.std.specs.Prelude.{Option, Some, None}
-use Rattle.std.proofs.Common.{◌≡◌, ◌⊎◌, ◌++◌, ℕ, Bool, true, false, List, [], length, refl, sym, ap, ◌∙◌, subst, inl, inr, nat_le}
+use Rattle.std.specs.Prelude.{Option, Some, None, Result, Ok, Err, if◌then◌else◌}
+use Rattle.std.specs.List.{AllByRecursion}
+use Rattle.std.proofs.Common.{◌≡◌, ◌⊎◌, ◌++◌, ◌≤◌, ◌<◌, ℕ, Bool, true, false, List, [], ◌∷◌, length, refl, sym, ap, ◌∙◌, subst, inl, inr, nat_le, arith}
 use Rattle.spf_ast.specs.Syntax.{Program}
 use Rattle.spf_ast.specs.Program.{Outcome, cell_count_of, max_cells}
+use Rattle.spf_edge.specs.declared.files.FetchError.{FetchError}
+use Rattle.spf_edge.specs.declared.files.FetchError.TheVariants.{Missing, Failed, TooLong, OutOfMemory}
 use Rattle.spf_edge.specs.Entries.{Entry, lookup}
-use Rattle.spf_commands.specs.Answer.{Answer, not_understood, text_refused, rule_refused, explained, file_failed, file_too_long, host_missing, not_huf1, not_lex1, ran, shown}
+use Rattle.spf_edge.specs.Fetches.{Fetch, Gives, IsGiven}
+use Rattle.spf_commands.specs.Answer.{Answer, not_understood, accepted, printed, text_refused, rule_refused, explained, file_failed, file_too_long, host_missing, not_huf1, not_lex1, ran, shown}
 use Rattle.spf_formats.specs.declared.generate.Kind.{Kind}
 use Rattle.spf_programs.specs.PackBits.{packbits_program}
 use Rattle.spf_programs.specs.Huffman.{huffman_program}
 use Rattle.spf_programs.specs.Lexer.{lexer_program}
+use Rattle.spf_formats.specs.Huf1.{IsHuf1}
+use Rattle.spf_formats.specs.Lex1.{IsLex1}
 use Rattle.spf_formats.specs.Laws.{Huf1HasOneVerdict, Lex1HasOneVerdict, EachInputIsGeneratedOnce}
 use Rattle.spf_guess.specs.declared.stats.Stats.{Stats}
 use Rattle.spf_words.specs.Command.{Command, Run, Check, Explain, Print, Unpack, Unhuff, Lex, Demo, Options, DecodeOptions, Asks}
-use Rattle.spf_commands.specs.Reading.{Verdict, Says, Refuses, IsVerdict}
 use Rattle.spf_words.specs.Only.{IsOnly}
-use Rattle.spf_commands.specs.Whole.{Handed, handed, Wanted, Is, Either, Fetched, Judged, Read, CheckedBy, Explained, WithHosts, host_wanted, RunsTo, Runs, RunsOn, Decodes, WithHuf1, WithLex1, Lexes, Demonstrates, demo_program, demo_input, by_blocks, run_options, block_of, WholeOf, Whole, max_program, max_machine, max_input}
-use Rattle.spf_commands.specs.Laws.{RuleLaws}
-use Rattle.spf_cli_laws.specs.Laws.{VerdictsAreTheSame, NoTextIsLeftUnjudged}
 use Rattle.spf_words.specs.Laws.{EachAsksForOneOrNone}
+use Rattle.spf_commands.specs.Reading.{Verdict, Says, Refuses, IsVerdict}
+use Rattle.spf_commands.specs.Decoded.{Unpacked, Unhuffed, Tokenized}
+use Rattle.spf_commands.specs.Course.{Wanted, Is, Both, Either, Course, Ends, Unfetched, After, Fetches}
+use Rattle.spf_commands.specs.Whole.{Handed, handed, Judged, Read, CheckedBy, Allowed, Explained, WithHosts, host_wanted, RunsTo, Runs, RunsOn, Decodes, Unpacking, Unhuffing, Lexing, WithHuf1, WithLex1, Demonstrates, WholeOf, Whole, block_of, run_options, by_blocks, demo_program, demo_input, max_program, max_machine, max_input}
+use Rattle.spf_commands.specs.Laws.{RuleLaws, DecoderLaws}
+use Rattle.spf_cli_laws.specs.Laws.{VerdictsAreTheSame, NoTextIsLeftUnjudged, Over}
 
 -- ---- formats
 
--- what is known of files and of generated inputs
+-- what is known of files, of generated inputs and of what decoders write
 pub record FormatLaws : Type 0 where
   pub huf1 : Huf1HasOneVerdict
   pub lex1 : Lex1HasOneVerdict
   pub generated : EachInputIsGeneratedOnce
+  pub decoders : DecoderLaws
+
+-- ---- fetches
+
+-- what a fetch of a file with this content, or of none, gives
+found : Option (List ℕ) → ℕ → Result (List ℕ) FetchError
+found None limit = Err Missing
+found (Some content) limit = if nat_le (length content) limit then Ok content else Err TooLong
+
+within : (a b : ℕ) → a ≤ b → nat_le a b ≡ true
+within a b l = grind arith
+
+beyond : (a b : ℕ) → b < a → nat_le a b ≡ false
+beyond a b l = grind arith
+
+-- a fetch that goes on gave just that
+sure : (files : List Entry) (name : List ℕ) (limit : ℕ) (r : Result (List ℕ) FetchError) (next : List ℕ → Course) (fetches : List Fetch) (a : Answer)
+    → Gives (Some files) ⊥ name limit r → After name limit r next fetches a → r ≡ found (lookup files name) limit
+unfolding found
+sure files name limit (Ok content) next fetches a given after =
+    sym (ap (λ o. found o limit) given.0 ∙ ap (λ b. if b then Ok content else Err TooLong) (within (length content) limit given.1))
+sure files name limit (Err Missing) next fetches a given after = sym (ap (λ o. found o limit) given)
+sure files name limit (Err Failed) next fetches a given after = absurd given
+sure files name limit (Err TooLong) next fetches a given after =
+    sym (ap (λ o. found o limit) given.1 ∙ ap (λ b. if b then Ok given.0 else Err TooLong) (beyond (length given.0) limit given.2))
+sure files name limit (Err OutOfMemory) next [] a given after = absurd after
+sure files name limit (Err OutOfMemory) next (fetch ∷ fetches) a given after = absurd after
 
 -- ---- at most one answer
 
@@ -40,27 +75,73 @@ same_either : (A B : Wanted) (b : Bool) → AtMostOne A → AtMostOne B → AtMo
 same_either A B true f g = f
 same_either A B false f g = g
 
-same_fetched : (name : List ℕ) (limit : ℕ) (held : Option (List ℕ)) (next : List ℕ → Wanted) → ((content : List ℕ) → AtMostOne (next content)) → AtMostOne (Fetched name limit held next)
-same_fetched name limit None next f = same_said (file_failed name)
-same_fetched name limit (Some content) next f = same_either (next content) (Is (file_too_long name limit)) (nat_le (length content) limit) (f content) (same_said (file_too_long name limit))
+same_ends : (files : List Entry) (wanted : Wanted) → AtMostOne wanted → AtMostOne (Over files (Ends wanted))
+same_ends files wanted f a b x y = by x.0 y.0 x.2 y.2
+  where
+    by : (xs ys : List Fetch) → Ends wanted xs a → Ends wanted ys b → a ≡ b
+    by [] [] p q = f a b p q
+    by [] (y ∷ ys) p q = absurd q
+    by (x ∷ xs) ys p q = absurd p
 
-same_judged : (v : Verdict) (next : Program → Wanted) → ((p : Program) → AtMostOne (next p)) → AtMostOne (Judged v next)
-same_judged (Says p) next f = f p
-same_judged (Refuses refusal) next f = same_said (text_refused refusal)
+same_unfetched : (name : List ℕ) (limit : ℕ) (error : FetchError) → AtMostOne (Unfetched name limit error)
+same_unfetched name limit Missing a b e f = e ∙ sym f
+same_unfetched name limit Failed a b e f = e ∙ sym f
+same_unfetched name limit TooLong a b e f = e ∙ sym f
+same_unfetched name limit OutOfMemory a b e f = absurd e
 
-same_read : VerdictsAreTheSame → (text : List ℕ) (next : Program → Wanted) → ((p : Program) → AtMostOne (next p)) → AtMostOne (Read text next)
-same_read one text next f a b x y = same_judged x.0 next f a b x.2 (subst (λ v. Judged v next b) (one text y.0 x.0 y.1 x.1) y.2)
+same_after : (files : List Entry) (name : List ℕ) (limit : ℕ) (r : Result (List ℕ) FetchError) (next : List ℕ → Course) → ((content : List ℕ) → AtMostOne (Over files (next content))) → AtMostOne (Over files (After name limit r next))
+same_after files name limit (Ok content) next f = f content
+same_after files name limit (Err error) next f = same_ends files (Unfetched name limit error) (same_unfetched name limit error)
 
-same_checked : RuleLaws → (p : Program) (next : Wanted) → AtMostOne next → AtMostOne (CheckedBy p next)
-same_checked laws p next f a b (inl x) (inl y) = f a b x.1 y.1
-same_checked laws p next f a b (inl x) (inr y) = absurd (laws.refused p y.0 y.1 y.2 y.3 x.0)
-same_checked laws p next f a b (inr x) (inl y) = absurd (laws.refused p x.0 x.1 x.2 x.3 y.0)
-same_checked laws p next f a b (inr x) (inr y) =
-    let same = laws.one p x.0 y.0 x.1 y.1 x.2 y.2 x.3 y.3 in
-    x.4 ∙ (λ i. rule_refused p (same.0 i) (same.1 i) (same.2 i)) ∙ sym y.4
+same_fetches : (files : List Entry) (name : List ℕ) (limit : ℕ) (next : List ℕ → Course) → ((content : List ℕ) → AtMostOne (Over files (next content))) → AtMostOne (Over files (Fetches name limit next))
+same_fetches files name limit next f a b x y = by x.0 y.0 x.1 y.1 x.2 y.2
+  where
+    gave : (fetch : Fetch) → fetch.name ≡ name → fetch.limit ≡ limit → IsGiven (Some files) ⊥ fetch → Gives (Some files) ⊥ name limit fetch.gave
+    gave fetch n l given = subst (λ m. Gives (Some files) ⊥ m limit fetch.gave) n (subst (λ m. Gives (Some files) ⊥ fetch.name m fetch.gave) l given)
+
+    by : (xs ys : List Fetch) → AllByRecursion (IsGiven (Some files) ⊥) xs → AllByRecursion (IsGiven (Some files) ⊥) ys → Fetches name limit next xs a → Fetches name limit next ys b → a ≡ b
+    by [] ys given others p q = absurd p
+    by (x ∷ xs) [] given others p q = absurd q
+    by (x ∷ xs) (y ∷ ys) given others p q =
+        let one = sure files name limit x.gave next xs a (gave x p.0 p.1 given.0) p.2 in
+        let other = sure files name limit y.gave next ys b (gave y q.0 q.1 others.0) q.2 in
+        same_after files name limit (found (lookup files name) limit) next f a b
+        (xs, given.1, subst (λ r. After name limit r next xs a) one p.2)
+        (ys, others.1, subst (λ r. After name limit r next ys b) other q.2)
+
+same_judged : (files : List Entry) (v : Verdict) (next : Program → Course) → ((p : Program) → AtMostOne (Over files (next p))) → AtMostOne (Over files (Judged v next))
+same_judged files (Says p) next f = f p
+same_judged files (Refuses refusal) next f = same_ends files (Is (text_refused refusal)) (same_said (text_refused refusal))
+
+same_read : VerdictsAreTheSame → (files : List Entry) (text : List ℕ) (next : Program → Course) → ((p : Program) → AtMostOne (Over files (next p))) → AtMostOne (Over files (Read text next))
+same_read one files text next f a b x y =
+    same_judged files x.2.0 next f a b (x.0, x.1, x.2.2) (y.0, y.1, subst (λ v. Judged v next y.0 b) (one text y.2.0 x.2.0 y.2.1 x.2.1) y.2.2)
+
+-- a case that ends is one answer
+ends_said : (files : List Entry) (said : Answer) (fetches : List Fetch) (a : Answer) → Ends (Is said) fetches a → a ≡ said
+ends_said files said [] a e = e
+ends_said files said (fetch ∷ fetches) a e = absurd e
+
+same_checked : RuleLaws → (files : List Entry) (p : Program) (next : Course) → AtMostOne (Over files next) → AtMostOne (Over files (CheckedBy p next))
+same_checked laws files p next f a b x y = by x.2 y.2
+  where
+    by : CheckedBy p next x.0 a → CheckedBy p next y.0 b → a ≡ b
+    by (inl u) (inl v) = f a b (x.0, x.1, u.1) (y.0, y.1, v.1)
+    by (inl u) (inr v) = absurd (laws.refused p v.0 v.1 v.2 v.3 u.0)
+    by (inr u) (inl v) = absurd (laws.refused p u.0 u.1 u.2 u.3 v.0)
+    by (inr u) (inr v) =
+        let same = laws.one p u.0 v.0 u.1 v.1 u.2 v.2 u.3 v.3 in
+        ends_said files (rule_refused p u.0 u.1 u.2) x.0 a u.4 ∙ (λ i. rule_refused p (same.0 i) (same.1 i) (same.2 i)) ∙ sym (ends_said files (rule_refused p v.0 v.1 v.2) y.0 b v.4)
+
+same_allowed : RuleLaws → (files : List Entry) (plain : Bool) (p : Program) (next : Course) → AtMostOne (Over files next) → AtMostOne (Over files (Allowed plain p next))
+same_allowed laws files true p next f = f
+same_allowed laws files false p next f = same_checked laws files p next f
 
 same_explained : RuleLaws → (p : Program) → AtMostOne (Explained p)
 same_explained laws p a b x y = x.2 ∙ ap explained (laws.explanation p x.0 y.0 x.1 y.1) ∙ sym y.2
+
+same_both : (A B : Wanted) → AtMostOne A → AtMostOne (Both A B)
+same_both A B f a b x y = f a b x.0 y.0
 
 same_hosts : (wanted : Option ℕ) (next : Wanted) → AtMostOne next → AtMostOne (WithHosts wanted next)
 same_hosts None next f = f
@@ -70,27 +151,33 @@ same_runs : (said : Outcome → Stats → Answer) (options : Options) (given : H
 same_runs said options given p input =
     same_either _ _ (nat_le (cell_count_of p (length input)) max_cells) (same_hosts (host_wanted options given p) _ (same_said _)) (same_said _)
 
-same_runs_on : (options : Options) (given : Handed) (input : List ℕ) (p : Program) (files : List Entry) → AtMostOne (RunsOn options given input p files)
-same_runs_on options given input p files =
-    same_fetched input max_input (lookup files input) (λ content. Runs options given p content) (λ content.
-    same_runs (ran options p (length content)) options given p content)
+same_runs_on : (files : List Entry) (options : Options) (given : Handed) (input : List ℕ) (p : Program) → AtMostOne (Over files (RunsOn options given input p))
+same_runs_on files options given input p =
+    same_fetches files input max_input (λ content. Ends (Runs options given p content)) (λ content.
+    same_ends files (Runs options given p content) (same_runs (ran options p (length content)) options given p content))
 
 same_decodes : (options : DecodeOptions) (p : Program) (input : List ℕ) → AtMostOne (Decodes options p input)
 same_decodes options p input = same_runs (ran (run_options options) p (length input)) (run_options options) (handed []) p input
 
-same_huf1 : Huf1HasOneVerdict → (file : List ℕ) (next : Wanted) → AtMostOne next → AtMostOne (WithHuf1 file next)
-same_huf1 laws file next f a b (inl x) (inl y) = f a b x.1 y.1
-same_huf1 laws file next f a b (inl x) (inr y) = absurd (laws.apart file y.0 x.0 y.1)
-same_huf1 laws file next f a b (inr x) (inl y) = absurd (laws.apart file x.0 y.0 x.1)
-same_huf1 laws file next f a b (inr x) (inr y) = x.2 ∙ ap not_huf1 (laws.one file x.0 y.0 x.1 y.1) ∙ sym y.2
+same_huf1 : Huf1HasOneVerdict → (files : List Entry) (file : List ℕ) (next : Course) → AtMostOne (Over files next) → AtMostOne (Over files (WithHuf1 file next))
+same_huf1 laws files file next f a b x y = by x.2 y.2
+  where
+    by : WithHuf1 file next x.0 a → WithHuf1 file next y.0 b → a ≡ b
+    by (inl u) (inl v) = f a b (x.0, x.1, u.1) (y.0, y.1, v.1)
+    by (inl u) (inr v) = absurd (laws.apart file v.0 u.0 v.1)
+    by (inr u) (inl v) = absurd (laws.apart file u.0 v.0 u.1)
+    by (inr u) (inr v) = ends_said files (not_huf1 u.0) x.0 a u.2 ∙ ap not_huf1 (laws.one file u.0 v.0 u.1 v.1) ∙ sym (ends_said files (not_huf1 v.0) y.0 b v.2)
 
-same_lex1 : Lex1HasOneVerdict → (file : List ℕ) (next : ℕ → ℕ → Wanted) → ((states classes : ℕ) → AtMostOne (next states classes)) → AtMostOne (WithLex1 file next)
-same_lex1 laws file next f a b (inl x) (inl y) =
-    let same = laws.counts file y.0 y.1 x.0 x.1 y.2 x.2 in
-    f x.0 x.1 a b x.3 (subst (λ n. next x.0 n b) same.1 (subst (λ n. next n y.1 b) same.0 y.3))
-same_lex1 laws file next f a b (inl x) (inr y) = absurd (laws.apart file y.0 x.0 x.1 x.2 y.1)
-same_lex1 laws file next f a b (inr x) (inl y) = absurd (laws.apart file x.0 y.0 y.1 y.2 x.1)
-same_lex1 laws file next f a b (inr x) (inr y) = x.2 ∙ ap not_lex1 (laws.one file x.0 y.0 x.1 y.1) ∙ sym y.2
+same_lex1 : Lex1HasOneVerdict → (files : List Entry) (file : List ℕ) (next : ℕ → ℕ → Course) → ((states classes : ℕ) → AtMostOne (Over files (next states classes))) → AtMostOne (Over files (WithLex1 file next))
+same_lex1 laws files file next f a b x y = by x.2 y.2
+  where
+    by : WithLex1 file next x.0 a → WithLex1 file next y.0 b → a ≡ b
+    by (inl u) (inl v) =
+        let same = laws.counts file v.0 v.1 u.0 u.1 v.2 u.2 in
+        f u.0 u.1 a b (x.0, x.1, u.3) (y.0, y.1, subst (λ n. next u.0 n y.0 b) same.1 (subst (λ n. next n v.1 y.0 b) same.0 v.3))
+    by (inl u) (inr v) = absurd (laws.apart file v.0 u.0 u.1 u.2 v.1)
+    by (inr u) (inl v) = absurd (laws.apart file u.0 v.0 v.1 v.2 u.1)
+    by (inr u) (inr v) = ends_said files (not_lex1 u.0) x.0 a u.2 ∙ ap not_lex1 (laws.one file u.0 v.0 u.1 v.1) ∙ sym (ends_said files (not_lex1 v.0) y.0 b v.2)
 
 same_demo : EachInputIsGeneratedOnce → (decoder : Kind) (seed size : ℕ) → AtMostOne (Demonstrates decoder seed size)
 same_demo laws decoder seed size a b x y =
@@ -98,42 +185,49 @@ same_demo laws decoder seed size a b x y =
     same_runs shown by_blocks (handed []) (demo_program decoder) (demo_input decoder x.0) a b x.3
     (subst (λ file. RunsTo shown by_blocks (handed []) (demo_program decoder) (demo_input decoder file) b) same y.3)
 
-command_same : RuleLaws → VerdictsAreTheSame → FormatLaws → (given : Handed) (command : Command) (files : List Entry) → AtMostOne (WholeOf given command files)
+command_same : RuleLaws → VerdictsAreTheSame → FormatLaws → (given : Handed) (command : Command) (files : List Entry) → AtMostOne (Over files (WholeOf given command))
 command_same laws one formats given (Run program input options) files =
-    same_fetched program max_program (lookup files program) _ (λ text. same_read one text _ (λ p.
-    same_either _ _ options.plain (same_runs_on options given input p files) (same_checked laws p _ (same_runs_on options given input p files))))
+    same_fetches files program max_program _ (λ text. same_read one files text (λ p. Allowed options.plain p (RunsOn options given input p)) (λ p.
+    same_allowed laws files options.plain p (RunsOn options given input p) (same_runs_on files options given input p)))
 command_same laws one formats given (Check program) files =
-    same_fetched program max_program (lookup files program) _ (λ text. same_read one text _ (λ p. same_checked laws p _ (same_said _)))
+    same_fetches files program max_program _ (λ text. same_read one files text (λ p. CheckedBy p (Ends (Is accepted))) (λ p. same_checked laws files p (Ends (Is accepted)) (same_ends files (Is accepted) (same_said accepted))))
 command_same laws one formats given (Explain program) files =
-    same_fetched program max_program (lookup files program) _ (λ text. same_read one text _ (λ p. same_explained laws p))
+    same_fetches files program max_program _ (λ text. same_read one files text (λ p. Ends (Explained p)) (λ p. same_ends files (Explained p) (same_explained laws p)))
 command_same laws one formats given (Print program) files =
-    same_fetched program max_program (lookup files program) _ (λ text. same_read one text _ (λ p. same_said _))
+    same_fetches files program max_program _ (λ text. same_read one files text (λ p. Ends (Is (printed p))) (λ p. same_ends files (Is (printed p)) (same_said (printed p))))
 command_same laws one formats given (Unpack input options) files =
-    let p = packbits_program (block_of options) in
-    same_fetched input max_input (lookup files input) (λ content. Decodes options p content) (λ content. same_decodes options p content)
+    same_fetches files input max_input (λ content. Ends (Unpacking options content)) (λ content.
+    same_ends files (Unpacking options content)
+    (same_both (Decodes options (packbits_program (block_of options)) content) (Unpacked (block_of options) content) (same_decodes options (packbits_program (block_of options)) content)))
 command_same laws one formats given (Unhuff input options) files =
-    let p = huffman_program (block_of options) in
-    same_fetched input max_input (lookup files input) (λ content. WithHuf1 content (Decodes options p content)) (λ content.
-    same_huf1 formats.huf1 content (Decodes options p content) (same_decodes options p content))
+    same_fetches files input max_input (λ content. WithHuf1 content (Ends (Unhuffing options content))) (λ content.
+    same_huf1 formats.huf1 files content (Ends (Unhuffing options content))
+    (same_ends files (Unhuffing options content)
+    (same_both (Decodes options (huffman_program (block_of options)) content) (Unhuffed (block_of options) content) (same_decodes options (huffman_program (block_of options)) content))))
 command_same laws one formats given (Lex machine input options) files =
-    same_fetched machine max_machine (lookup files machine) (λ table. WithLex1 table (λ states classes. Lexes options table states classes input files)) (λ table.
-    same_lex1 formats.lex1 table (λ states classes. Lexes options table states classes input files) (λ states classes.
+    same_fetches files machine max_machine _ (λ table.
+    same_lex1 formats.lex1 files table (λ states classes. Fetches input max_input (λ content. Ends (Lexing options table states classes content))) (λ states classes.
     let p = lexer_program (block_of options) states classes in
-    same_fetched input max_input (lookup files input) (λ content. Decodes options p (table ++ content)) (λ content. same_decodes options p (table ++ content))))
-command_same laws one formats given (Demo decoder seed size workers) files = same_demo formats.generated decoder seed size
+    same_fetches files input max_input (λ content. Ends (Lexing options table states classes content)) (λ content.
+    same_ends files (Lexing options table states classes content)
+    (same_both (Decodes options p (table ++ content)) (Tokenized (block_of options) table content) (same_decodes options p (table ++ content))))))
+command_same laws one formats given (Demo decoder seed size workers) files =
+    same_ends files (Demonstrates decoder seed size) (same_demo formats.generated decoder seed size)
 
 -- a list of words has at most one answer
-pub answers_same : RuleLaws → VerdictsAreTheSame → FormatLaws → EachAsksForOneOrNone → (given : Handed) (words : List (List ℕ)) (files : List Entry) → AtMostOne (Whole given words files)
-answers_same laws one formats asks given words files a b x y = by_command (asks words) x y
+pub answers_same : RuleLaws → VerdictsAreTheSame → FormatLaws → EachAsksForOneOrNone → (given : Handed) (words : List (List ℕ)) (files : List Entry) → AtMostOne (Over files (Whole given words))
+answers_same laws one formats asks given words files a b x y = by_command (asks words) x.2 y.2
   where
-    by_command : ((command : Command) × IsOnly (Asks words) command) ⊎ ((command : Command) → Asks words command → ⊥) → Whole given words files a → Whole given words files b → a ≡ b
-    by_command (inl c) (inl x) (inl y) =
-        command_same laws one formats given c.0 files a b (subst (λ k. WholeOf given k files a) (c.1.only x.0 x.1) x.2) (subst (λ k. WholeOf given k files b) (c.1.only y.0 y.1) y.2)
-    by_command (inl c) (inl x) (inr y) = absurd (y.0 c.0 c.1.is)
-    by_command (inl c) (inr x) y = absurd (x.0 c.0 c.1.is)
-    by_command (inr none) (inl x) y = absurd (none x.0 x.1)
-    by_command (inr none) (inr x) (inl y) = absurd (none y.0 y.1)
-    by_command (inr none) (inr x) (inr y) = x.1 ∙ sym y.1
+    by_command : ((command : Command) × IsOnly (Asks words) command) ⊎ ((command : Command) → Asks words command → ⊥) → Whole given words x.0 a → Whole given words y.0 b → a ≡ b
+    by_command (inl c) (inl u) (inl v) =
+        command_same laws one formats given c.0 files a b
+        (x.0, x.1, subst (λ k. WholeOf given k x.0 a) (c.1.only u.0 u.1) u.2)
+        (y.0, y.1, subst (λ k. WholeOf given k y.0 b) (c.1.only v.0 v.1) v.2)
+    by_command (inl c) (inl u) (inr v) = absurd (v.0 c.0 c.1.is)
+    by_command (inl c) (inr u) v = absurd (u.0 c.0 c.1.is)
+    by_command (inr none) (inl u) v = absurd (none u.0 u.1)
+    by_command (inr none) (inr u) (inl v) = absurd (none v.0 v.1)
+    by_command (inr none) (inr u) (inr v) = ends_said files not_understood x.0 a u.1 ∙ sym (ends_said files not_understood y.0 b v.1)
 
 -- ---- some answer
 
@@ -149,23 +243,41 @@ some_either : (A B : Wanted) (b : Bool) → HasOne A → HasOne B → HasOne (Ei
 some_either A B true a b = a
 some_either A B false a b = b
 
-some_fetched : (name : List ℕ) (limit : ℕ) (held : Option (List ℕ)) (next : List ℕ → Wanted) → ((content : List ℕ) → held ≡ Some content → HasOne (next content)) → HasOne (Fetched name limit held next)
-some_fetched name limit None next f = (file_failed name, refl)
-some_fetched name limit (Some content) next f = some_either (next content) (Is (file_too_long name limit)) (nat_le (length content) limit) (f content refl) (file_too_long name limit, refl)
+some_ends : (files : List Entry) (wanted : Wanted) → HasOne wanted → HasOne (Over files (Ends wanted))
+some_ends files wanted one = (one.0, ([], tt, one.1))
 
-some_read : (text : List ℕ) (next : Program → Wanted) → HasVerdict text → ((p : Program) → HasOne (next p)) → HasOne (Read text next)
-some_read text next v f = let judged = by_verdict v.0 in (judged.0, (v.0, v.1, judged.1))
+-- a number is within a limit or beyond it
+compare : (a b : ℕ) → (a ≤ b) ⊎ (b < a)
+compare a b = grind arith
+
+some_fetches : (files : List Entry) (name : List ℕ) (limit : ℕ) (next : List ℕ → Course) → ((content : List ℕ) → lookup files name ≡ Some content → HasOne (Over files (next content))) → HasOne (Over files (Fetches name limit next))
+some_fetches files name limit next f = by (lookup files name) refl
   where
-    by_verdict : (w : Verdict) → HasOne (Judged w next)
-    by_verdict (Says p) = f p
-    by_verdict (Refuses refusal) = (text_refused refusal, refl)
-
-some_checked : RuleLaws → (p : Program) (next : Wanted) → HasOne next → HasOne (CheckedBy p next)
-some_checked laws p next one =
-    elim (laws.some p) [
-      | inl accepted ↦ (one.0, inl (accepted, one.1))
-      | inr r ↦ (rule_refused p r.0 r.1 r.2, inr (r.0, r.1, r.2, r.3, refl))
+    by : (held : Option (List ℕ)) → lookup files name ≡ held → HasOne (Over files (Fetches name limit next))
+    by None e = (file_failed name, (record { name = name; limit = limit; gave = Err Missing } ∷ [], (e, tt), (refl, refl, refl)))
+    by (Some content) e = elim (compare (length content) limit) [
+      | inl l ↦ let one = f content e in
+          (one.0, (record { name = name; limit = limit; gave = Ok content } ∷ one.1.0, ((e, l), one.1.1), (refl, refl, one.1.2)))
+      | inr l ↦ (file_too_long name limit, (record { name = name; limit = limit; gave = Err TooLong } ∷ [], ((content, e, l), tt), (refl, refl, refl)))
     ]
+
+some_read : (files : List Entry) (text : List ℕ) (next : Program → Course) → HasVerdict text → ((p : Program) → HasOne (Over files (next p))) → HasOne (Over files (Read text next))
+some_read files text next v f = let judged = by_verdict v.0 in (judged.0, (judged.1.0, judged.1.1, (v.0, v.1, judged.1.2)))
+  where
+    by_verdict : (w : Verdict) → HasOne (Over files (Judged w next))
+    by_verdict (Says p) = f p
+    by_verdict (Refuses refusal) = some_ends files (Is (text_refused refusal)) (text_refused refusal, refl)
+
+some_checked : RuleLaws → (files : List Entry) (p : Program) (next : Course) → HasOne (Over files next) → HasOne (Over files (CheckedBy p next))
+some_checked laws files p next one =
+    elim (laws.some p) [
+      | inl accepted ↦ (one.0, (one.1.0, one.1.1, inl (accepted, one.1.2)))
+      | inr r ↦ (rule_refused p r.0 r.1 r.2, ([], tt, inr (r.0, r.1, r.2, r.3, refl)))
+    ]
+
+some_allowed : RuleLaws → (files : List Entry) (plain : Bool) (p : Program) (next : Course) → HasOne (Over files next) → HasOne (Over files (Allowed plain p next))
+some_allowed laws files true p next one = one
+some_allowed laws files false p next one = some_checked laws files p next one
 
 some_explained : RuleLaws → (p : Program) → HasOne (Explained p)
 some_explained laws p = let x = laws.explained p in (explained x.0, (x.0, x.1, refl))
@@ -178,26 +290,29 @@ some_runs : (said : Outcome → Stats → Answer) (options : Options) (given : H
 some_runs said options given p input =
     some_either _ _ (nat_le (cell_count_of p (length input)) max_cells) (some_hosts (host_wanted options given p) _ (_, refl)) (_, refl)
 
-some_run : (options : Options) (given : Handed) (input : List ℕ) (p : Program) (files : List Entry) → HasOne (RunsOn options given input p files)
-some_run options given input p files =
-    some_fetched input max_input (lookup files input) (λ content. Runs options given p content) (λ content e.
-    some_runs (ran options p (length content)) options given p content)
+some_run : (files : List Entry) (options : Options) (given : Handed) (input : List ℕ) (p : Program) → HasOne (Over files (RunsOn options given input p))
+some_run files options given input p =
+    some_fetches files input max_input (λ content. Ends (Runs options given p content)) (λ content e.
+    some_ends files (Runs options given p content) (some_runs (ran options p (length content)) options given p content))
 
 some_decoded : (options : DecodeOptions) (p : Program) (input : List ℕ) → HasOne (Decodes options p input)
 some_decoded options p input = some_runs (ran (run_options options) p (length input)) (run_options options) (handed []) p input
 
-some_huf1 : Huf1HasOneVerdict → (file : List ℕ) (next : Wanted) → HasOne next → HasOne (WithHuf1 file next)
-some_huf1 laws file next one =
+some_both : (A B : Wanted) → ((a : Answer) → A a → B a) → HasOne A → HasOne (Both A B)
+some_both A B means one = (one.0, (one.1, means one.0 one.1))
+
+some_huf1 : Huf1HasOneVerdict → (files : List Entry) (file : List ℕ) (next : Course) → (IsHuf1 file → HasOne (Over files next)) → HasOne (Over files (WithHuf1 file next))
+some_huf1 laws files file next some =
     elim (laws.some file) [
-      | inl h ↦ (one.0, inl (h, one.1))
-      | inr r ↦ (not_huf1 r.0, inr (r.0, r.1, refl))
+      | inl h ↦ let one = some h in (one.0, (one.1.0, one.1.1, inl (h, one.1.2)))
+      | inr r ↦ (not_huf1 r.0, ([], tt, inr (r.0, r.1, refl)))
     ]
 
-some_lex1 : Lex1HasOneVerdict → (file : List ℕ) (next : ℕ → ℕ → Wanted) → ((states classes : ℕ) → HasOne (next states classes)) → HasOne (WithLex1 file next)
-some_lex1 laws file next some =
+some_lex1 : Lex1HasOneVerdict → (files : List Entry) (file : List ℕ) (next : ℕ → ℕ → Course) → ((states classes : ℕ) → IsLex1 file states classes → HasOne (Over files (next states classes))) → HasOne (Over files (WithLex1 file next))
+some_lex1 laws files file next some =
     elim (laws.some file) [
-      | inl h ↦ let one = some h.0 h.1 in (one.0, inl (h.0, h.1, h.2, one.1))
-      | inr r ↦ (not_lex1 r.0, inr (r.0, r.1, refl))
+      | inl h ↦ let one = some h.0 h.1 h.2 in (one.0, (one.1.0, one.1.1, inl (h.0, h.1, h.2, one.1.2)))
+      | inr r ↦ (not_lex1 r.0, ([], tt, inr (r.0, r.1, refl)))
     ]
 
 some_demo : EachInputIsGeneratedOnce → (decoder : Kind) (seed size : ℕ) → HasOne (Demonstrates decoder seed size)
@@ -214,43 +329,51 @@ program_of (Explain program) = program
 program_of (Print program) = program
 program_of other = []
 
-some_command : RuleLaws → FormatLaws → (given : Handed) (command : Command) (files : List Entry) → ((text : List ℕ) → lookup files (program_of command) ≡ Some text → HasVerdict text) → HasOne (WholeOf given command files)
+some_command : RuleLaws → FormatLaws → (given : Handed) (command : Command) (files : List Entry) → ((text : List ℕ) → lookup files (program_of command) ≡ Some text → HasVerdict text) → HasOne (Over files (WholeOf given command))
 some_command laws formats given (Run program input options) files judged =
-    some_fetched program max_program (lookup files program) _ (λ text e. some_read text _ (judged text e) (λ p.
-    some_either _ _ options.plain (some_run options given input p files) (some_checked laws p _ (some_run options given input p files))))
+    some_fetches files program max_program _ (λ text e. some_read files text (λ p. Allowed options.plain p (RunsOn options given input p)) (judged text e) (λ p.
+    some_allowed laws files options.plain p (RunsOn options given input p) (some_run files options given input p)))
 some_command laws formats given (Check program) files judged =
-    some_fetched program max_program (lookup files program) _ (λ text e. some_read text _ (judged text e) (λ p. some_checked laws p _ (_, refl)))
+    some_fetches files program max_program _ (λ text e. some_read files text (λ p. CheckedBy p (Ends (Is accepted))) (judged text e) (λ p.
+    some_checked laws files p (Ends (Is accepted)) (some_ends files (Is accepted) (accepted, refl))))
 some_command laws formats given (Explain program) files judged =
-    some_fetched program max_program (lookup files program) _ (λ text e. some_read text _ (judged text e) (λ p. some_explained laws p))
+    some_fetches files program max_program _ (λ text e. some_read files text (λ p. Ends (Explained p)) (judged text e) (λ p. some_ends files (Explained p) (some_explained laws p)))
 some_command laws formats given (Print program) files judged =
-    some_fetched program max_program (lookup files program) _ (λ text e. some_read text _ (judged text e) (λ p. (_, refl)))
+    some_fetches files program max_program _ (λ text e. some_read files text (λ p. Ends (Is (printed p))) (judged text e) (λ p. some_ends files (Is (printed p)) (printed p, refl)))
 some_command laws formats given (Unpack input options) files judged =
     let p = packbits_program (block_of options) in
-    some_fetched input max_input (lookup files input) (λ content. Decodes options p content) (λ content e. some_decoded options p content)
+    some_fetches files input max_input (λ content. Ends (Unpacking options content)) (λ content e.
+    some_ends files (Unpacking options content)
+    (some_both (Decodes options p content) (Unpacked (block_of options) content) (formats.decoders.unpacked options content) (some_decoded options p content)))
 some_command laws formats given (Unhuff input options) files judged =
     let p = huffman_program (block_of options) in
-    some_fetched input max_input (lookup files input) (λ content. WithHuf1 content (Decodes options p content)) (λ content e.
-    some_huf1 formats.huf1 content (Decodes options p content) (some_decoded options p content))
+    some_fetches files input max_input (λ content. WithHuf1 content (Ends (Unhuffing options content))) (λ content e.
+    some_huf1 formats.huf1 files content (Ends (Unhuffing options content)) (λ huf1.
+    some_ends files (Unhuffing options content)
+    (some_both (Decodes options p content) (Unhuffed (block_of options) content) (λ a. formats.decoders.unhuffed options content a huf1) (some_decoded options p content))))
 some_command laws formats given (Lex machine input options) files judged =
-    some_fetched machine max_machine (lookup files machine) (λ table. WithLex1 table (λ states classes. Lexes options table states classes input files)) (λ table e.
-    some_lex1 formats.lex1 table (λ states classes. Lexes options table states classes input files) (λ states classes.
+    some_fetches files machine max_machine _ (λ table e.
+    some_lex1 formats.lex1 files table (λ states classes. Fetches input max_input (λ content. Ends (Lexing options table states classes content))) (λ states classes lex1.
     let p = lexer_program (block_of options) states classes in
-    some_fetched input max_input (lookup files input) (λ content. Decodes options p (table ++ content)) (λ content e. some_decoded options p (table ++ content))))
+    some_fetches files input max_input (λ content. Ends (Lexing options table states classes content)) (λ content e.
+    some_ends files (Lexing options table states classes content)
+    (some_both (Decodes options p (table ++ content)) (Tokenized (block_of options) table content)
+    (λ a. formats.decoders.tokenized options states classes table content a lex1) (some_decoded options p (table ++ content))))))
 some_command laws formats given (Demo decoder seed size workers) files judged =
-    some_demo formats.generated decoder seed size
+    some_ends files (Demonstrates decoder seed size) (some_demo formats.generated decoder seed size)
 
 -- no list of words is left without an answer
-pub none_unanswered : RuleLaws → NoTextIsLeftUnjudged → FormatLaws → EachAsksForOneOrNone → (given : Handed) (words : List (List ℕ)) (files : List Entry) → ((answer : Answer) → Whole given words files answer → ⊥) → ⊥
+pub none_unanswered : RuleLaws → NoTextIsLeftUnjudged → FormatLaws → EachAsksForOneOrNone → (given : Handed) (words : List (List ℕ)) (files : List Entry) → ((answer : Answer) → Over files (Whole given words) answer → ⊥) → ⊥
 none_unanswered laws left formats asks given words files never =
     elim (asks words) [
-      | inl c ↦ by_file c.0 (lookup files (program_of c.0)) refl (λ a w. never a (inl (c.0, c.1.is, w)))
-      | inr none ↦ never not_understood (inr (none, refl))
+      | inl c ↦ by_file c.0 (lookup files (program_of c.0)) refl (λ a w. never a (w.0, w.1, inl (c.0, c.1.is, w.2)))
+      | inr none ↦ never not_understood ([], tt, inr (none, refl))
     ]
   where
     same_text : (text other : List ℕ) → Some text ≡ Some other → text ≡ other
     same_text text other e = cc
 
-    by_file : (command : Command) (held : Option (List ℕ)) → lookup files (program_of command) ≡ held → ((answer : Answer) → WholeOf given command files answer → ⊥) → ⊥
+    by_file : (command : Command) (held : Option (List ℕ)) → lookup files (program_of command) ≡ held → ((answer : Answer) → Over files (WholeOf given command) answer → ⊥) → ⊥
     by_file command None e unanswered =
         let one = some_command laws formats given command files (λ text is. let none : None ≡ Some text = sym e ∙ is in absurd (cc)) in
         unanswered one.0 one.1

@@ -1,7 +1,10 @@
 -- Laws about the answers of the program.
-use Rattle.std.specs.Prelude.{◌≡◌, ℕ, List}
+use Rattle.std.specs.Prelude.{◌≡◌, ℕ, List, Some}
+use Rattle.std.specs.List.{AllByRecursion}
 use Rattle.spf_edge.specs.Entries.{Entry}
+use Rattle.spf_edge.specs.Fetches.{Fetch, IsGiven}
 use Rattle.spf_commands.specs.Answer.{Answer}
+use Rattle.spf_commands.specs.Course.{Wanted, Course}
 use Rattle.spf_commands.specs.Reading.{Verdict, IsVerdict}
 use Rattle.spf_commands.specs.Whole.{Handed, Whole}
 
@@ -17,11 +20,15 @@ NoTextIsLeftUnjudged = (text : List ℕ) → ((verdict : Verdict) → IsVerdict 
 
 -- ---- lists of words
 
+-- an answer of a course over these files, each of whose fetches gives what they hold
+abbrev pub Over : List Entry → Course → Wanted
+Over files course answer = (fetches : List Fetch) × AllByRecursion (IsGiven (Some files) ⊥) fetches × course fetches answer
+
 -- a list of words has at most one answer, with what is handed in and over files
 abbrev pub NoneHasTwoAnswers : Type 0
 NoneHasTwoAnswers = (handed : Handed) (words : List (List ℕ)) (files : List Entry) (one other : Answer)
-    → Whole handed words files one → Whole handed words files other → one ≡ other
+    → Over files (Whole handed words) one → Over files (Whole handed words) other → one ≡ other
 
 -- no list of words is left without an answer: there is none, whatever is handed in and whatever the files are, to which no answer is the whole one
 abbrev pub NoneIsLeftUnanswered : Type 0
-NoneIsLeftUnanswered = (handed : Handed) (words : List (List ℕ)) (files : List Entry) → ((answer : Answer) → Whole handed words files answer → ⊥) → ⊥
+NoneIsLeftUnanswered = (handed : Handed) (words : List (List ℕ)) (files : List Entry) → ((answer : Answer) → Over files (Whole handed words) answer → ⊥) → ⊥

@@ -1,7 +1,7 @@
 // Laws about the program's answers. Each is the contract of a function that does nothing.
 ghost use Rattle.spf_cli_laws.specs.Laws.{VerdictsAreTheSame, NoTextIsLeftUnjudged, NoneHasTwoAnswers, NoneIsLeftUnanswered};
 
-use spf_commands::laws::rules_say_one_thing;
+use spf_commands::laws::{decoders_keep_their_formats, rules_say_one_thing};
 use spf_formats::laws::{each_demo_input_is_generated_once, files_have_one_verdict};
 use spf_parse::laws::{texts_say_writable_programs, tokens_go_wrong_once};
 use spf_roundtrip::laws::tokens_are_of_one_program;
@@ -31,5 +31,6 @@ pub fn each_list_of_words_has_one_answer()
     each_text_has_one_verdict();
     files_have_one_verdict();
     each_demo_input_is_generated_once();
+    decoders_keep_their_formats();
     each_list_of_words_asks_for_one_command_or_none();
 }

@@ -1,14 +1,15 @@
 -- The steps of a run over bytes at hand.
-use Rattle.std.proofs.Common.{◌≡◌, ℕ, List, [], inl, inr, arith, refl, sym, ap, subst, append-nil}
-use Rattle.std.specs.Prelude.{None, Result, Err}
+use Rattle.std.proofs.Common.{◌≡◌, ◌∙◌, ℕ, List, [], arith, refl, sym, ap, subst, append-nil}
+use Rattle.std.specs.Prelude.{Result, Err}
 use Rattle.spf_ast.specs.Syntax.{Program}
-use Rattle.spf_commands.specs.Answer.{Answer, text_refused, rule_refused}
+use Rattle.spf_commands.specs.Answer.{Answer, ran}
 use Rattle.spf_commands.specs.Answering.{seen_answer, IsReadExit, IsRuleExit, AnswersWith, IsRunToItsEnd}
 use Rattle.spf_commands.specs.Reading.{Verdict, Says, Refuses, Refusal, IsVerdict}
 use Rattle.spf_check.specs.Accepting.{IsAccepted}
 use Rattle.spf_commands.specs.Laws.{RuleLaws}
 use Rattle.spf_words.specs.Only.{IsOnly}
-use Rattle.spf_commands.specs.Whole.{Handed, Wanted, Read, CheckedBy, with_stats, RunsText}
+use Rattle.spf_commands.specs.Course.{Wanted, Course, Ends}
+use Rattle.spf_commands.specs.Whole.{Read, CheckedBy}
 use Rattle.spf_commands.specs.declared.answer.Answer as made
 use Rattle.spf_commands.specs.declared.answer.Exit.{Exit}
 use Rattle.spf_commands.specs.declared.answer.Exit.TheVariants.{Answered, NoMemory}
@@ -16,28 +17,29 @@ use Rattle.spf_guess.specs.Guess.{Hosts}
 use Rattle.spf_guess.specs.Statistics.{tally}
 use Rattle.spf_predictors.specs.Answers.{WereTold}
 use Rattle.spf_engine.specs.Runs.{WereToldFirst}
-use Rattle.spf_commands.proofs.Steps.{at_same, other_status, run_cause, read_refuses, read_says, checked_accepted, checked_refused, answers_with}
+use Rattle.spf_ast.specs.Program.{Outcome, Done, Stopped}
+use Rattle.spf_guess.specs.declared.stats.Stats.{Stats}
+use Rattle.spf_words.specs.Command.{Options}
+use Rattle.spf_commands.proofs.Steps.{only_unread, read_says, only_accepted, only_refused, answers_with}
 
 -- the text is refused
-pub text_left : (text : List ℕ) (next : Program → Wanted) (left : Exit) → IsReadExit text left → AnswersWith (IsOnly (Read text next)) (Err left)
-text_left text next (Answered a) h =
-    at_same (IsOnly (Read text next)) (seen_answer a) (text_refused h.0) h.2 (read_refuses text h.0 next h.1)
+pub text_left : (text : List ℕ) (next : Program → Course) (left : Exit) → IsReadExit text left → AnswersWith (IsOnly (Read text next [])) (Err left)
+text_left text next (Answered a) h = only_unread text next (seen_answer a) h.0 h.1 h.2
 text_left text next NoMemory h = tt
 
 -- the rules refuse the program
-pub rules_left : RuleLaws → (text : List ℕ) (p : Program) (next : Program → Wanted) (left : Exit) → IsOnly (IsVerdict text) (Says p) → IsRuleExit p left
-    → AnswersWith (IsOnly (Read text (λ q. CheckedBy q (next q)))) (Err left)
+pub rules_left : RuleLaws → (text : List ℕ) (p : Program) (next : Program → Course) (left : Exit) → IsOnly (IsVerdict text) (Says p) → IsRuleExit p left
+    → AnswersWith (IsOnly (Read text (λ q. CheckedBy q (next q)) [])) (Err left)
 rules_left laws text p next (Answered a) v h =
-    at_same (IsOnly (Read text (λ q. CheckedBy q (next q)))) (seen_answer a) (rule_refused p h.0 h.1 h.2) h.4
-    (read_says text p (λ q. CheckedBy q (next q)) (rule_refused p h.0 h.1 h.2) v (checked_refused laws p (next p) h.0 h.1 h.2 h.3))
+    read_says text p (λ q. CheckedBy q (next q)) (seen_answer a) [] v (only_refused laws p (next p) (seen_answer a) h.0 h.1 h.2 h.3 h.4)
 rules_left laws text p next NoMemory v h = tt
 
 -- the program is run
 pub text_run : RuleLaws → (text : List ℕ) (p : Program) (next : Program → Wanted) (r : Result made.Answer Exit) → IsOnly (IsVerdict text) (Says p)
-    → IsAccepted p → AnswersWith (IsOnly (next p)) r → AnswersWith (IsOnly (Read text (λ q. CheckedBy q (next q)))) r
+    → IsAccepted p → AnswersWith (IsOnly (next p)) r → AnswersWith (IsOnly (Read text (λ q. CheckedBy q (Ends (next q))) [])) r
 text_run laws text p next r v accepted h =
-    answers_with (IsOnly (Read text (λ q. CheckedBy q (next q)))) (IsOnly (next p)) r h
-    (λ a o. read_says text p (λ q. CheckedBy q (next q)) a v (checked_accepted laws p (next p) a accepted o))
+    answers_with (IsOnly (Read text (λ q. CheckedBy q (Ends (next q))) [])) (IsOnly (next p)) r h
+    (λ a o. read_says text p (λ q. CheckedBy q (Ends (next q))) a [] v (only_accepted laws p (Ends (next p)) a [] accepted o))
 
 -- ---- what hosts are told
 
@@ -98,13 +100,13 @@ told_of text q hosts now input r only t =
     (λ a. IsRunToItsEnd a → WereTold hosts (tally hosts q input).telling now) r t
     (λ a f p v e. subst (λ x. WereTold hosts (tally hosts x input).telling now) (says_one text q p only v) (f e))
 
--- ---- causes
+-- ---- programs that weren't run
 
--- a run over a text at hand is never answered with the status of a put
-pub text_not_put : (given : Handed) (workers : ℕ) (text input : List ℕ) (a : Answer) → RunsText given workers text input a → a.status ≡ 6 → ⊥
-text_not_put given workers text input a (Says p, v, x) s =
-    elim x [
-      | inl y ↦ (run_cause (with_stats workers) given p input a None (Unit {0}) y.1).put s
-      | inr z ↦ other_status 6 a (rule_refused p z.0 z.1 z.2) z.4 (λ e. omega (arith, e)) s
-    ]
-text_not_put given workers text input a (Refuses refusal, v, x) s = other_status 6 a (text_refused refusal) x (λ e. omega (arith, e)) s
+-- an answer of another status
+pub other_status : {A : Type 0} (n m : ℕ) (answer said : Answer) → answer ≡ said → said.status ≡ m → (n ≡ m → ⊥) → answer.status ≡ n → A
+other_status n m answer said e is differs s = absurd (differs (sym s ∙ ap (λ (a : Answer). a.status) e ∙ is))
+
+-- a run to its end or its trap isn't answered with the status of a limit
+pub ran_status : {A : Type 0} (options : Options) (p : Program) (len : ℕ) (o : Outcome) (stats : Stats) (answer : Answer) → answer ≡ ran options p len o stats → answer.status ≡ 7 → A
+ran_status options p len (Done cells output) stats answer e s = other_status 7 0 answer _ e refl (λ z. omega (arith, z)) s
+ran_status options p len (Stopped trap output) stats answer e s = other_status 7 1 answer _ e refl (λ z. omega (arith, z)) s

@@ -1,5 +1,5 @@
 -- What the steps to an answer leave.
-use Rattle.std.specs.Prelude.{◌≡◌, ◌⊎◌, ℕ, List, [], ◌∷◌, Option, Some, Result, Ok, Err, Vec}
+use Rattle.std.specs.Prelude.{◌≡◌, ◌⊎◌, ℕ, List, [], ◌∷◌, Option, Result, Ok, Err, Vec}
 use Rattle.std.specs.declared.alloc.Global.{Global}
 use Rattle.spf_ast.specs.Syntax.{Program}
 use Rattle.spf_ast.specs.View.{program}
@@ -8,16 +8,17 @@ use Rattle.spf_check.specs.declared.rule.Rule.{Rule}
 use Rattle.spf_check.specs.declared.rule.CheckError.{CheckError}
 use Rattle.spf_check.specs.declared.rule.CheckError.TheVariants as not_accepted
 use Rattle.spf_check.specs.Accepting.{IsFirstRefusal}
-use Rattle.spf_edge.specs.Entries.{Entry, IsMissing, IsLongerThan}
+use Rattle.spf_edge.specs.declared.files.FetchError.{FetchError}
+use Rattle.spf_edge.specs.Fetches.{FilesState, Fetch, AreMade}
 use Rattle.spf_layout.specs.declared.layout.RunError.{RunError}
 use Rattle.spf_layout.specs.declared.layout.RunError.TheVariants.{TooManyCells}
 use Rattle.spf_layout.specs.declared.layout.RunError.TheVariants as run_error
 use Rattle.spf_commands.specs.Answer as said
-use Rattle.spf_commands.specs.Answer.{text_refused, rule_refused, file_failed, file_too_long, too_many_cells}
+use Rattle.spf_commands.specs.Answer.{text_refused, rule_refused, too_many_cells}
+use Rattle.spf_commands.specs.Course.{Course, Unfetched}
 use Rattle.spf_commands.specs.Reading.{Refusal, Refuses, IsVerdict}
 use Rattle.spf_commands.specs.Status.{status_number}
 use Rattle.spf_words.specs.Only.{IsOnly}
-use Rattle.spf_commands.specs.Whole.{Wanted}
 use Rattle.spf_commands.specs.declared.answer.Answer.{Answer}
 use Rattle.spf_commands.specs.declared.answer.Exit.{Exit}
 use Rattle.spf_commands.specs.declared.answer.Exit.TheVariants.{Answered, NoMemory}
@@ -31,16 +32,12 @@ lines_of (message ∷ messages) = message.items ∷ lines_of messages
 abbrev pub seen_answer : Answer → said.Answer
 seen_answer a = record { status = status_number a.status; out = a.output.items; err = lines_of a.messages.items }
 
--- a fetch ended the run: a fault was met, the name is missing, or the file is too long
-abbrev pub FetchAnswer : Option (List Entry) → List ℕ → ℕ → Type 0 → said.Answer → Type 0
-FetchAnswer told name limit Fault answer =
-    (Fault × (answer ≡ file_failed name))
-    ⊎ (IsMissing told name × (answer ≡ file_failed name))
-    ⊎ (IsLongerThan limit told name × (answer ≡ file_too_long name limit))
-
-abbrev pub IsFetchExit : Option (List Entry) → List ℕ → ℕ → Type 0 → Exit → Type 0
-IsFetchExit told name limit Fault (Answered a) = FetchAnswer told name limit Fault (seen_answer a)
-IsFetchExit told name limit Fault NoMemory = Unit {0}
+-- a fetch gave no content, and there is the answer to that, or memory ran out
+abbrev pub IsFetchExit : FilesState → FilesState → List ℕ → ℕ → Exit → Type 0
+IsFetchExit old new name limit (Answered a) =
+    (error : FetchError) × AreMade old new (record { name = name; limit = limit; gave = Err error } ∷ [])
+    × Unfetched name limit error (seen_answer a)
+IsFetchExit old new name limit NoMemory = Unit {0}
 
 -- the text is refused, and only so
 abbrev pub IsReadExit : List ℕ → Exit → Type 0
@@ -65,15 +62,11 @@ IsNotRun (TooManyCells count) (Answered a) = seen_answer a ≡ too_many_cells co
 IsNotRun run_error.OutOfMemory (Answered a) = ⊥
 IsNotRun error NoMemory = Unit {0}
 
--- where the files are told, an answer is the one that is wanted, or that to a fault of theirs
-abbrev pub IsWholeUnless : (List Entry → Wanted) → (List Entry → Wanted) → Option (List Entry) → Type 0 → said.Answer → Type 0
-IsWholeUnless Right Faulty told Fault answer =
-    (files : List Entry) → told ≡ Some files → IsOnly (Right files) answer ⊎ (Fault × Faulty files answer)
-
--- an answer has the status for a file only of a fault, or where the files are told, and never that for a put
-pub record IsCaused (told : Option (List Entry)) (Fault : Type 0) (answer : said.Answer) : Type 0 where
-  pub file : answer.status ≡ 5 → Fault ⊎ ((files : List Entry) × (told ≡ Some files))
-  pub put : answer.status ≡ 6 → ⊥
+-- the course was followed: these fetches were made, and this is the one answer to what they gave
+pub record IsFollowed (course : Course) (old new : FilesState) (answer : said.Answer) : Type 0 where
+  pub fetches : List Fetch
+  pub made : AreMade old new fetches
+  pub only : IsOnly (course fetches) answer
 
 -- the answer that stands, if memory wasn't short
 abbrev pub AnswersWith : (said.Answer → Type 0) → Result Answer Exit → Type 0
@@ -84,3 +77,7 @@ AnswersWith P (Err NoMemory) = Unit {0}
 -- a program was run to its end, or to its trap
 abbrev pub IsRunToItsEnd : said.Answer → Type 0
 IsRunToItsEnd answer = (answer.status ≡ 0) ⊎ (answer.status ≡ 1)
+
+-- the rules or a limit left a program unrun
+abbrev pub IsLeftUnrun : said.Answer → Type 0
+IsLeftUnrun answer = (answer.status ≡ 4) ⊎ (answer.status ≡ 7)

@@ -2,6 +2,8 @@ pub mod Message
 pub mod Reading
 pub mod Answer
 pub mod Status
+pub mod Decoded
+pub mod Course
 pub mod Whole
 pub mod Unread
 pub mod Answering

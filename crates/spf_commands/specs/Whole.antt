@@ -1,9 +1,8 @@
--- The whole answer of the program: what it says to these words, where these are the files.
-use Rattle.std.specs.Prelude.{◌≡◌, ◌⊎◌, ℕ, ◌≤◌, Bool, true, false, if◌then◌else◌, nat_le, List, [], ◌++◌, length, Option, Some, None, unwrap_or}
+-- The whole answer of the program: what it says to these words, by what the fetches of their files give.
+use Rattle.std.specs.Prelude.{◌≡◌, ◌⊎◌, ℕ, Bool, true, false, if◌then◌else◌, nat_le, List, [], ◌++◌, length, Option, Some, None, unwrap_or}
 use Rattle.spf_ast.specs.Syntax.{Program}
 use Rattle.spf_ast.specs.Program.{Outcome, outcome, cell_count_of, max_cells}
 use Rattle.spf_layout.specs.RunErrors.{counted}
-use Rattle.spf_edge.specs.Entries.{Entry, lookup}
 use Rattle.spf_commands.specs.Answer.{
   Answer,
   not_understood,
@@ -11,8 +10,6 @@ use Rattle.spf_commands.specs.Answer.{
   accepted,
   rule_refused,
   explained,
-  file_failed,
-  file_too_long,
   too_many_cells,
   host_missing,
   not_huf1,
@@ -21,6 +18,7 @@ use Rattle.spf_commands.specs.Answer.{
   ran,
   shown,
 }
+use Rattle.spf_commands.specs.Course.{Wanted, Is, Both, Either, Course, Ends, Fetches}
 use Rattle.spf_words.specs.Command.{Command, Run, Check, Explain, Print, Unpack, Unhuff, Lex, Demo, Options, DecodeOptions, Asks}
 use Rattle.spf_region.specs.declared.range.Range.{Range}
 use Rattle.spf_check.specs.declared.rule.Rule.{Rule}
@@ -43,6 +41,7 @@ use Rattle.spf_programs.specs.PackBits.{packbits_program}
 use Rattle.spf_programs.specs.Huffman.{huffman_program}
 use Rattle.spf_programs.specs.Lexer.{lexer_program}
 use Rattle.spf_commands.specs.Reading.{Verdict, Says, Refuses, IsVerdict}
+use Rattle.spf_commands.specs.Decoded.{Unpacked, Unhuffed, Tokenized}
 
 -- how many bytes the file of a program, that of a machine, and that of an input may have
 abbrev pub max_program : ℕ
@@ -54,37 +53,25 @@ max_machine = 16384
 abbrev pub max_input : ℕ
 max_input = 4194304
 
--- what an answer has to meet
-abbrev pub Wanted : Type 1
-Wanted = Answer → Type 0
-
--- this answer
-abbrev pub Is : Answer → Wanted
-Is said answer = answer ≡ said
-
--- one or the other, by a test
-abbrev pub Either : Bool → Wanted → Wanted → Wanted
-Either true first second = first
-Either false first second = second
-
--- with the content of a file, or without it
-abbrev pub Fetched : List ℕ → ℕ → Option (List ℕ) → (List ℕ → Wanted) → Wanted
-Fetched name limit None next = Is (file_failed name)
-Fetched name limit (Some content) next = Either (nat_le (length content) limit) (next content) (Is (file_too_long name limit))
-
 -- with the program that a text says, or without one
-abbrev pub Judged : Verdict → (Program → Wanted) → Wanted
+abbrev pub Judged : Verdict → (Program → Course) → Course
 Judged (Says p) next = next p
-Judged (Refuses refusal) next = Is (text_refused refusal)
+Judged (Refuses refusal) next = Ends (Is (text_refused refusal))
 
-abbrev pub Read : List ℕ → (Program → Wanted) → Wanted
-Read text next answer = (v : Verdict) × IsVerdict text v × Judged v next answer
+abbrev pub Read : List ℕ → (Program → Course) → Course
+Read text next fetches answer = (v : Verdict) × IsVerdict text v × Judged v next fetches answer
 
 -- with a program that the rules accept, or by the first refusal of one that they don't
-abbrev pub CheckedBy : Program → Wanted → Wanted
-CheckedBy p next answer =
-    (IsAccepted p × next answer)
-    ⊎ ((rule : Rule) × (line : ℕ) × (range : Option Range) × IsFirstRefusal p rule line range × (answer ≡ rule_refused p rule line range))
+abbrev pub CheckedBy : Program → Course → Course
+CheckedBy p next fetches answer =
+    (IsAccepted p × next fetches answer)
+    ⊎ ((rule : Rule) × (line : ℕ) × (range : Option Range) × IsFirstRefusal p rule line range
+    × Ends (Is (rule_refused p rule line range)) fetches answer)
+
+-- with a program that may be run: by the plain meaning each may, else those that the rules accept
+abbrev pub Allowed : Bool → Program → Course → Course
+Allowed true p next = next
+Allowed false p next = CheckedBy p next
 
 -- the explanation of a program
 abbrev pub Explained : Program → Wanted
@@ -124,8 +111,8 @@ abbrev pub Runs : Options → Handed → Program → List ℕ → Wanted
 Runs options given p input = RunsTo (ran options p (length input)) options given p input
 
 -- a program is run on the file of an input
-abbrev pub RunsOn : Options → Handed → List ℕ → Program → List Entry → Wanted
-RunsOn options given input p files = Fetched input max_input (lookup files input) (λ content. Runs options given p content)
+abbrev pub RunsOn : Options → Handed → List ℕ → Program → Course
+RunsOn options given input p = Fetches input max_input (λ content. Ends (Runs options given p content))
 
 -- ---- bytes at hand
 
@@ -133,9 +120,9 @@ RunsOn options given input p files = Fetched input max_input (lookup files input
 abbrev pub with_stats : ℕ → Options
 with_stats workers = record { workers = Some workers; stats = true; cells = false; plain = false }
 
--- the program that a text says is run so, where the rules accept it, on an input
+-- the program that a text says is run so, where the rules accept it, on an input; nothing is fetched
 abbrev pub RunsText : Handed → ℕ → List ℕ → List ℕ → Wanted
-RunsText given workers text input = Read text (λ p. CheckedBy p (Runs (with_stats workers) given p input))
+RunsText given workers text input = Read text (λ p. CheckedBy p (Ends (Runs (with_stats workers) given p input))) []
 
 -- ---- decoders
 
@@ -152,19 +139,28 @@ abbrev pub Decodes : DecodeOptions → Program → List ℕ → Wanted
 Decodes options p input = Runs (run_options options) (handed []) p input
 
 -- with a file that is HUF1, or by the place at which it isn't
-abbrev pub WithHuf1 : List ℕ → Wanted → Wanted
-WithHuf1 file next answer = (IsHuf1 file × next answer) ⊎ ((place : ℕ) × IsNoHuf1At file place × (answer ≡ not_huf1 place))
+abbrev pub WithHuf1 : List ℕ → Course → Course
+WithHuf1 file next fetches answer =
+    (IsHuf1 file × next fetches answer)
+    ⊎ ((place : ℕ) × IsNoHuf1At file place × Ends (Is (not_huf1 place)) fetches answer)
 
 -- with a file that is LEX1, or by the place at which it isn't
-abbrev pub WithLex1 : List ℕ → (ℕ → ℕ → Wanted) → Wanted
-WithLex1 file next answer =
-    ((states : ℕ) × (classes : ℕ) × IsLex1 file states classes × next states classes answer)
-    ⊎ ((place : ℕ) × IsNoLex1At file place × (answer ≡ not_lex1 place))
+abbrev pub WithLex1 : List ℕ → (ℕ → ℕ → Course) → Course
+WithLex1 file next fetches answer =
+    ((states : ℕ) × (classes : ℕ) × IsLex1 file states classes × next states classes fetches answer)
+    ⊎ ((place : ℕ) × IsNoLex1At file place × Ends (Is (not_lex1 place)) fetches answer)
 
--- the content of a file is decoded by a machine
-abbrev pub Lexes : DecodeOptions → List ℕ → ℕ → ℕ → List ℕ → List Entry → Wanted
-Lexes options machine states classes input files =
-    Fetched input max_input (lookup files input) (λ content. Decodes options (lexer_program (block_of options) states classes) (machine ++ content))
+-- what is wanted of the answers of the decoders: that of a run of their programs, which writes what the formats mean
+abbrev pub Unpacking : DecodeOptions → List ℕ → Wanted
+Unpacking options file = Both (Decodes options (packbits_program (block_of options)) file) (Unpacked (block_of options) file)
+
+abbrev pub Unhuffing : DecodeOptions → List ℕ → Wanted
+Unhuffing options file = Both (Decodes options (huffman_program (block_of options)) file) (Unhuffed (block_of options) file)
+
+abbrev pub Lexing : DecodeOptions → List ℕ → ℕ → ℕ → List ℕ → Wanted
+Lexing options machine states classes content =
+    Both (Decodes options (lexer_program (block_of options) states classes) (machine ++ content))
+    (Tokenized (block_of options) machine content)
 
 -- ---- demos
 
@@ -192,67 +188,26 @@ Demonstrates decoder seed size answer =
 
 -- ---- commands
 
--- a program may be run so: by the plain meaning each, else those that the rules accept
-abbrev pub MayRun : Options → Program → Type 0
-MayRun options p = (options.plain ≡ true) ⊎ IsAccepted p
+-- the course of a command: its files in their order, each with its tests
+abbrev pub WholeOf : Handed → Command → Course
+WholeOf given (Run program input options) =
+    Fetches program max_program (λ text. Read text (λ p. Allowed options.plain p (RunsOn options given input p)))
+WholeOf given (Check program) = Fetches program max_program (λ text. Read text (λ p. CheckedBy p (Ends (Is accepted))))
+WholeOf given (Explain program) = Fetches program max_program (λ text. Read text (λ p. Ends (Explained p)))
+WholeOf given (Print program) = Fetches program max_program (λ text. Read text (λ p. Ends (Is (printed p))))
+WholeOf given (Unpack input options) = Fetches input max_input (λ content. Ends (Unpacking options content))
+WholeOf given (Unhuff input options) = Fetches input max_input (λ content. WithHuf1 content (Ends (Unhuffing options content)))
+WholeOf given (Lex machine input options) =
+    Fetches machine max_machine (λ table. WithLex1 table (λ states classes.
+    Fetches input max_input (λ content. Ends (Lexing options table states classes content))))
+WholeOf given (Demo decoder seed size workers) = Ends (Demonstrates decoder seed size)
 
--- the answer to a command: its files in their order, each with its tests
-abbrev pub WholeOf : Handed → Command → List Entry → Wanted
-WholeOf given (Run program input options) files =
-    Fetched program max_program (lookup files program) (λ text.
-    Read text (λ p.
-    Either options.plain (RunsOn options given input p files) (CheckedBy p (RunsOn options given input p files))))
-WholeOf given (Check program) files =
-    Fetched program max_program (lookup files program) (λ text. Read text (λ p. CheckedBy p (Is accepted)))
-WholeOf given (Explain program) files =
-    Fetched program max_program (lookup files program) (λ text. Read text (λ p. Explained p))
-WholeOf given (Print program) files =
-    Fetched program max_program (lookup files program) (λ text. Read text (λ p. Is (printed p)))
-WholeOf given (Unpack input options) files =
-    Fetched input max_input (lookup files input) (λ content. Decodes options (packbits_program (block_of options)) content)
-WholeOf given (Unhuff input options) files =
-    Fetched input max_input (lookup files input) (λ content. WithHuf1 content (Decodes options (huffman_program (block_of options)) content))
-WholeOf given (Lex machine input options) files =
-    Fetched machine max_machine (lookup files machine) (λ table. WithLex1 table (λ states classes. Lexes options table states classes input files))
-WholeOf given (Demo decoder seed size workers) files = Demonstrates decoder seed size
+-- the words ask for no command
+abbrev pub AskForNothing : List (List ℕ) → Type 0
+AskForNothing words = (command : Command) → Asks words command → ⊥
 
--- the answer to these words, where these predictors are handed in, and these are the files
-abbrev pub Whole : Handed → List (List ℕ) → List Entry → Wanted
-Whole given words files answer =
-    ((command : Command) × Asks words command × WholeOf given command files answer)
-    ⊎ (((command : Command) → Asks words command → ⊥) × (answer ≡ not_understood))
-
--- the file of this name is reached: it is the command's first, or it is the second and nothing before it is refused
-abbrev pub IsReached : Command → List Entry → List ℕ → Type 0
-IsReached (Run program input options) files name =
-    (name ≡ program)
-    ⊎ ((name ≡ input)
-    × ((text : List ℕ)
-    × (lookup files program ≡ Some text)
-    × (length text ≤ max_program)
-    × ((p : Program) × IsVerdict text (Says p) × MayRun options p)))
-IsReached (Check program) files name = name ≡ program
-IsReached (Explain program) files name = name ≡ program
-IsReached (Print program) files name = name ≡ program
-IsReached (Unpack input options) files name = name ≡ input
-IsReached (Unhuff input options) files name = name ≡ input
-IsReached (Lex machine input options) files name =
-    (name ≡ machine)
-    ⊎ ((name ≡ input)
-    × ((table : List ℕ)
-    × (lookup files machine ≡ Some table)
-    × (length table ≤ max_machine)
-    × ((states : ℕ) × (classes : ℕ) × IsLex1 table states classes)))
-IsReached (Demo decoder seed size workers) files name = ⊥
-
--- the answer that the input of a program which is run can't be had
-abbrev pub IsInputFault : List ℕ → List Entry → Wanted
-IsInputFault input files answer = answer ≡ file_failed input
-
--- the answer that a file which a command reaches can't be had
-abbrev pub IsFaultOf : Command → List Entry → Answer → Type 0
-IsFaultOf command files answer = (name : List ℕ) × IsReached command files name × (answer ≡ file_failed name)
-
--- the same, for the command that the words ask for
-abbrev pub IsFaultAnswer : List (List ℕ) → List Entry → Answer → Type 0
-IsFaultAnswer words files answer = (command : Command) × Asks words command × IsFaultOf command files answer
+-- the course of these words, where these predictors are handed in
+abbrev pub Whole : Handed → List (List ℕ) → Course
+Whole given words fetches answer =
+    ((command : Command) × Asks words command × WholeOf given command fetches answer)
+    ⊎ (AskForNothing words × Ends (Is not_understood) fetches answer)

@@ -1,6 +1,6 @@
 // What the program answers, before any of it is put anywhere.
 
-ghost use Rattle.std.specs.Prelude.{◌≡◌, ◌≤◌, ◌<◌, ◌^◌, ◌++◌, ◌∷◌, [], List, Option, Some, IfOk, IfErr, map, length, string_bytes, true, false};
+ghost use Rattle.std.specs.Prelude.{◌≡◌, ◌≤◌, ◌<◌, ◌^◌, ◌++◌, ◌∷◌, [], Ok, IfOk, IfErr, map, length, string_bytes, true, false};
 ghost use Rattle.spf_ast.specs.View.{program as seen_program, array as seen_array};
 ghost use Rattle.spf_ast.specs.Program.{extents_from, seen_outcome};
 ghost use Rattle.spf_ast.specs.Lawful.{IsLawful};
@@ -8,8 +8,7 @@ ghost use Rattle.spf_layout.specs.Instance.{program_of as instance_program};
 ghost use Rattle.spf_guess.specs.Statistics.{tally};
 ghost use Rattle.spf_predictors.specs.Answers.{handed_in, WereTold};
 ghost use Rattle.spf_engine.specs.Runs.{WereToldFirst};
-ghost use Rattle.spf_edge.specs.Entries.{Entry, HasContent};
-ghost use Rattle.spf_edge.specs.Faults.{Rose};
+ghost use Rattle.spf_edge.specs.Fetches.{AreMade};
 ghost use Rattle.spf_commands.specs.Message.{array_lines};
 ghost use Rattle.spf_words.specs.Command.{Run as run_command, Check as check_command, Explain as explain_command, Print as print_command, IsUpTo, HasNumbers};
 ghost use Rattle.spf_commands.specs.Reading.{IsVerdict, Says};
@@ -28,7 +27,7 @@ ghost use Rattle.spf_commands.specs.Answer.{
 ghost use Rattle.spf_words.specs.Asked.{seen_command, seen_options};
 ghost use Rattle.spf_commands.specs.Status.{status_number};
 ghost use Rattle.spf_words.specs.Only.{IsOnly};
-ghost use Rattle.spf_commands.specs.Whole.{Handed, handed, Runs, RunsOn, IsInputFault, Whole, WholeOf, IsFaultOf, IsFaultAnswer};
+ghost use Rattle.spf_commands.specs.Whole.{Handed, handed, Runs, RunsOn, Whole, WholeOf};
 ghost use Rattle.spf_commands.specs.Answering.{
   lines_of,
   seen_answer,
@@ -37,10 +36,10 @@ ghost use Rattle.spf_commands.specs.Answering.{
   IsRuleExit,
   IsNotAccepted,
   IsNotRun,
-  IsWholeUnless,
-  IsCaused,
+  IsFollowed,
   AnswersWith,
   IsRunToItsEnd,
+  IsLeftUnrun,
 };
 
 use crate::decoding::{demo, lex_files, unhuff_file, unpack_file};
@@ -150,11 +149,10 @@ pub(crate) fn fetch<F: Files>(
     name: &str,
     limit: u64,
 ) -> Result<Vec<u8>, Exit>
-    ensures told { F.told files.new ≡ F.told files.old }
-    ensures later { F.faults files.old ≤ F.faults files.new }
-    ensures content { IfOk result (λ content. HasContent (F.told files.old) name.now content.items) }
-    ensures within { IfOk result (λ content. length content.items ≤ limit) }
-    ensures left { IfErr result (IsFetchExit (F.told files.old) name.now limit (Rose (F.faults files.old) (F.faults files.new))) }
+    ensures content { IfOk result (λ content. AreMade (F.state files.old) (F.state files.new)
+        (record { name = name.now; limit = limit; gave = Ok content.items } ∷ [])) }
+    ensures left { IfErr result
+        (IsFetchExit (F.state files.old) (F.state files.new) name.now limit) }
 {
     match files.fetch(alloc, name, limit) {
         Ok(content) => Ok(content),
@@ -379,6 +377,8 @@ pub(crate) fn run_by_blocks<R: Threads + Wait + Sync, G: Gate + Sync>(
     ensures told { AnswersWith (λ a. IsRunToItsEnd a → WereTold (handed_in (map (λ h. answer h) hosts.old.items))
         (tally (handed_in (map (λ h. answer h) hosts.old.items)) (seen_program checked.now) input.now).telling
         (handed_in (map (λ h. answer h) hosts.new.items))) result }
+    ensures unrun { AnswersWith (λ a. IsLeftUnrun a → WereTold (handed_in (map (λ h. answer h) hosts.old.items)) []
+        (handed_in (map (λ h. answer h) hosts.new.items))) result }
 {
     let program = checked.program();
     let instance = match Instance::make(alloc, program, input) {
@@ -403,11 +403,9 @@ fn run_plainly_on<F: Files>(
 ) -> Result<Answer, Exit>
     requires lawful { IsLawful (seen_program program.now) }
     requires plain { options.plain ≡ true }
-    ensures whole { (handed : Handed) → let o = seen_options options in let p = seen_program program.now in
-        AnswersWith (IsWholeUnless (RunsOn o handed input.now p) (IsInputFault input.now) (F.told files.old)
-        (Rose (F.faults files.old) (F.faults files.new))) result }
-    ensures cause { AnswersWith (IsCaused (F.told files.old) (Rose (F.faults files.old) (F.faults files.new))) result }
-    ensures later { F.faults files.old ≤ F.faults files.new }
+    ensures { (handed : Handed) → AnswersWith (IsFollowed
+        (RunsOn (seen_options options) handed input.now (seen_program program.now))
+        (F.state files.old) (F.state files.new)) result }
 {
     let content = fetch(alloc, files, input, MAX_INPUT)?;
     run_plainly(alloc, options, program, &content)
@@ -426,11 +424,9 @@ fn run_by_blocks_on<R: Threads + Wait + Sync, F: Files, G: Gate + Sync>(
 ) -> Result<Answer, Exit>
     requires blocks { options.plain ≡ false }
     requires workers { IsUpTo 64 options.workers }
-    ensures whole { let o = seen_options options in let p = seen_program checked.now in
-        AnswersWith (IsWholeUnless (RunsOn o (handed (map (λ h. answer h) hosts.old.items)) input.now p)
-        (IsInputFault input.now) (F.told files.old) (Rose (F.faults files.old) (F.faults files.new))) result }
-    ensures cause { AnswersWith (IsCaused (F.told files.old) (Rose (F.faults files.old) (F.faults files.new))) result }
-    ensures later { F.faults files.old ≤ F.faults files.new }
+    ensures { AnswersWith (IsFollowed
+        (RunsOn (seen_options options) (handed (map (λ h. answer h) hosts.old.items)) input.now
+        (seen_program checked.now)) (F.state files.old) (F.state files.new)) result }
 {
     let content = fetch(alloc, files, input, MAX_INPUT)?;
     run_by_blocks(rt, alloc, options, checked, &content, hosts, gate)
@@ -448,11 +444,9 @@ fn run_files<R: Threads + Wait + Sync, F: Files, G: Gate + Sync>(
     gate: &G,
 ) -> Result<Answer, Exit>
     requires workers { IsUpTo 64 options.workers }
-    ensures whole { let command = run_command program.now input.now (seen_options options) in
-        AnswersWith (IsWholeUnless (WholeOf (handed (map (λ h. answer h) hosts.old.items)) command)
-        (IsFaultOf command) (F.told files.old) (Rose (F.faults files.old) (F.faults files.new))) result }
-    ensures cause { AnswersWith (IsCaused (F.told files.old) (Rose (F.faults files.old) (F.faults files.new))) result }
-    ensures later { F.faults files.old ≤ F.faults files.new }
+    ensures { AnswersWith (IsFollowed (WholeOf (handed (map (λ h. answer h) hosts.old.items))
+        (run_command program.now input.now (seen_options options)))
+        (F.state files.old) (F.state files.new)) result }
 {
     rules_say_one_thing();
     let text = fetch(alloc, files, program, MAX_PROGRAM)?;
@@ -466,10 +460,8 @@ fn run_files<R: Threads + Wait + Sync, F: Files, G: Gate + Sync>(
 
 /// The answer of `check` over a file.
 fn check_file<F: Files>(alloc: Global, program: &str, files: &mut F) -> Result<Answer, Exit>
-    ensures whole { (handed : Handed) → let command = check_command program.now in
-        AnswersWith (IsWholeUnless (WholeOf handed command) (IsFaultOf command) (F.told files.old) (Rose (F.faults files.old) (F.faults files.new))) result }
-    ensures cause { AnswersWith (IsCaused (F.told files.old) (Rose (F.faults files.old) (F.faults files.new))) result }
-    ensures later { F.faults files.old ≤ F.faults files.new }
+    ensures { (handed : Handed) → AnswersWith (IsFollowed (WholeOf handed (check_command program.now))
+        (F.state files.old) (F.state files.new)) result }
 {
     rules_say_one_thing();
     let text = fetch(alloc, files, program, MAX_PROGRAM)?;
@@ -480,10 +472,8 @@ fn check_file<F: Files>(alloc: Global, program: &str, files: &mut F) -> Result<A
 
 /// The answer of `explain` over a file.
 fn explain_file<F: Files>(alloc: Global, program: &str, files: &mut F) -> Result<Answer, Exit>
-    ensures whole { (handed : Handed) → let command = explain_command program.now in
-        AnswersWith (IsWholeUnless (WholeOf handed command) (IsFaultOf command) (F.told files.old) (Rose (F.faults files.old) (F.faults files.new))) result }
-    ensures cause { AnswersWith (IsCaused (F.told files.old) (Rose (F.faults files.old) (F.faults files.new))) result }
-    ensures later { F.faults files.old ≤ F.faults files.new }
+    ensures { (handed : Handed) → AnswersWith (IsFollowed (WholeOf handed (explain_command program.now))
+        (F.state files.old) (F.state files.new)) result }
 {
     rules_say_one_thing();
     let text = fetch(alloc, files, program, MAX_PROGRAM)?;
@@ -498,10 +488,8 @@ fn explain_file<F: Files>(alloc: Global, program: &str, files: &mut F) -> Result
 
 /// The answer of `print` over a file.
 fn print_file<F: Files>(alloc: Global, program: &str, files: &mut F) -> Result<Answer, Exit>
-    ensures whole { (handed : Handed) → let command = print_command program.now in
-        AnswersWith (IsWholeUnless (WholeOf handed command) (IsFaultOf command) (F.told files.old) (Rose (F.faults files.old) (F.faults files.new))) result }
-    ensures cause { AnswersWith (IsCaused (F.told files.old) (Rose (F.faults files.old) (F.faults files.new))) result }
-    ensures later { F.faults files.old ≤ F.faults files.new }
+    ensures { (handed : Handed) → AnswersWith (IsFollowed (WholeOf handed (print_command program.now))
+        (F.state files.old) (F.state files.new)) result }
 {
     let text = fetch(alloc, files, program, MAX_PROGRAM)?;
     let parsed = read(alloc, &text)?;
@@ -522,11 +510,8 @@ fn answer_command<R: Threads + Wait + Sync, F: Files, G: Gate + Sync>(
     gate: &G,
 ) -> Result<Answer, Exit>
     requires numbers { HasNumbers (seen_command command) }
-    ensures whole { AnswersWith (IsWholeUnless (WholeOf (handed (map (λ h. answer h) hosts.old.items))
-        (seen_command command.entry)) (IsFaultOf (seen_command command.entry)) (F.told files.old)
-        (Rose (F.faults files.old) (F.faults files.new))) result }
-    ensures cause { AnswersWith (IsCaused (F.told files.old) (Rose (F.faults files.old) (F.faults files.new))) result }
-    ensures later { F.faults files.old ≤ F.faults files.new }
+    ensures { AnswersWith (IsFollowed (WholeOf (handed (map (λ h. answer h) hosts.old.items))
+        (seen_command command.entry)) (F.state files.old) (F.state files.new)) result }
 {
     match command {
         Command::Run {
@@ -570,10 +555,10 @@ pub fn answer_words<R: Threads + Wait + Sync, F: Files, G: Gate + Sync>(
     hosts: &mut Vec<Box<dyn Predictor>>,
     gate: &G,
 ) -> Result<Answer, AllocError>
-    ensures whole { IfOk result (λ a. IsWholeUnless (Whole (handed (map (λ h. answer h) hosts.old.items))
-        (map string_bytes words.now)) (IsFaultAnswer (map string_bytes words.now)) (F.told files.old)
-        (Rose (F.faults files.old) (F.faults files.new)) (seen_answer a)) }
-    ensures cause { IfOk result (λ a. IsCaused (F.told files.old) (Rose (F.faults files.old) (F.faults files.new)) (seen_answer a)) }
+    // The files that the command needs are fetched, each once and in order, and what they give
+    // decides the answer.
+    ensures { IfOk result (λ a. IsFollowed (Whole (handed (map (λ h. answer h) hosts.old.items))
+        (map string_bytes words.now)) (F.state files.old) (F.state files.new) (seen_answer a)) }
 {
     let command = match read_words(alloc, words) {
         Ok(command) => command,

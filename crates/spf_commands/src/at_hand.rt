@@ -8,7 +8,7 @@ ghost use Rattle.spf_engine.specs.Runs.{WereToldFirst};
 ghost use Rattle.spf_commands.specs.Reading.{IsVerdict, Refusal, Refuses, Says};
 ghost use Rattle.spf_words.specs.Only.{IsOnly};
 ghost use Rattle.spf_commands.specs.Whole.{handed, RunsText};
-ghost use Rattle.spf_commands.specs.Answering.{AnswersWith, IsRunToItsEnd, seen_answer};
+ghost use Rattle.spf_commands.specs.Answering.{AnswersWith, IsRunToItsEnd, IsLeftUnrun, seen_answer};
 
 use crate::answer::{Answer, Exit, accept, read, run_by_blocks};
 use crate::laws::rules_say_one_thing;
@@ -39,6 +39,8 @@ fn run_text<R: Threads + Wait + Sync, G: Gate + Sync>(
         (handed_in (map (λ h. answer h) hosts.new.items))) result }
     ensures untold { (refusal : Refusal) → IsVerdict text.now (Refuses refusal)
         → WereTold (handed_in (map (λ h. answer h) hosts.old.items)) [] (handed_in (map (λ h. answer h) hosts.new.items)) }
+    ensures unrun { AnswersWith (λ a. IsLeftUnrun a
+        → WereTold (handed_in (map (λ h. answer h) hosts.old.items)) [] (handed_in (map (λ h. answer h) hosts.new.items))) result }
 {
     rules_say_one_thing();
     let program = read(alloc, text)?;
@@ -75,6 +77,8 @@ pub fn answer_text<R: Threads + Wait + Sync, G: Gate + Sync>(
         (handed_in (map (λ h. answer h) hosts.new.items))) }
     ensures untold { (refusal : Refusal) → IsVerdict text.now (Refuses refusal)
         → WereTold (handed_in (map (λ h. answer h) hosts.old.items)) [] (handed_in (map (λ h. answer h) hosts.new.items)) }
+    ensures unrun { IfOk result (λ a. IsLeftUnrun (seen_answer a)
+        → WereTold (handed_in (map (λ h. answer h) hosts.old.items)) [] (handed_in (map (λ h. answer h) hosts.new.items))) }
 {
     match run_text(rt, alloc, text, input, workers, hosts, gate) {
         Ok(given) => Ok(given),

@@ -6,7 +6,6 @@ ghost use Rattle.spf_ast.specs.View.{program as seen_program};
 ghost use Rattle.spf_ast.specs.Program.{seen_outcome};
 ghost use Rattle.spf_ast.specs.Lawful.{IsLawful};
 ghost use Rattle.spf_check.specs.Accepting.{IsAccepted};
-ghost use Rattle.spf_edge.specs.Faults.{Rose};
 ghost use Rattle.spf_words.specs.Command.{
   Unpack as unpack_command,
   Unhuff as unhuff_command,
@@ -22,6 +21,7 @@ ghost use Rattle.spf_formats.specs.Lex1.{IsLex1};
 ghost use Rattle.spf_programs.specs.Laws.{IsBlockSize};
 ghost use Rattle.spf_commands.specs.Answer.{not_huf1 as not_huf1_answer, not_lex1 as not_lex1_answer, shown as shown_answer};
 ghost use Rattle.spf_commands.specs.Status.{status_number};
+ghost use Rattle.spf_commands.specs.Course.{Fetches, Ends};
 ghost use Rattle.spf_commands.specs.Whole.{
   Handed,
   Decodes,
@@ -32,17 +32,17 @@ ghost use Rattle.spf_commands.specs.Whole.{
   by_blocks,
   handed,
   block_of,
+  max_input,
   run_options as run_options_of,
-  Lexes,
+  Lexing,
   WholeOf,
-  IsInputFault,
-  IsFaultOf,
 };
-ghost use Rattle.spf_commands.specs.Answering.{seen_answer, IsWholeUnless, IsCaused, AnswersWith};
+ghost use Rattle.spf_commands.specs.Answering.{seen_answer, IsFollowed, AnswersWith};
 
 use crate::answer::{
     Answer, Exit, MAX_INPUT, fetch, not_run, refused, run_by_blocks, without_host,
 };
+use crate::laws::decoders_keep_their_formats;
 use crate::message::{not_huf1_line, not_lex1_line, sum_line, trap_line};
 use crate::status::Status;
 use spf_apps::{huffman, lexer, packbits};
@@ -138,11 +138,11 @@ pub(crate) fn unpack_file<R: Threads + Wait + Sync, F: Files, G: Gate + Sync>(
     gate: &G,
 ) -> Result<Answer, Exit>
     requires numbers { HasDecodeNumbers (seen_decode_options options) }
-    ensures whole { (given : Handed) → let command = unpack_command input.now (seen_decode_options options) in
-        AnswersWith (IsWholeUnless (WholeOf given command) (IsFaultOf command) (F.told files.old) (Rose (F.faults files.old) (F.faults files.new))) result }
-    ensures cause { AnswersWith (IsCaused (F.told files.old) (Rose (F.faults files.old) (F.faults files.new))) result }
-    ensures later { F.faults files.old ≤ F.faults files.new }
+    ensures { (given : Handed) → AnswersWith (IsFollowed
+        (WholeOf given (unpack_command input.now (seen_decode_options options)))
+        (F.state files.old) (F.state files.new)) result }
 {
+    decoders_keep_their_formats();
     let content = fetch(alloc, files, input, MAX_INPUT)?;
     let program = packbits(alloc, block_size(options))?;
     decode(rt, alloc, options, program, &content, gate)
@@ -165,12 +165,12 @@ pub(crate) fn unhuff_file<R: Threads + Wait + Sync, F: Files, G: Gate + Sync>(
     gate: &G,
 ) -> Result<Answer, Exit>
     requires numbers { HasDecodeNumbers (seen_decode_options options) }
-    ensures whole { (given : Handed) → let command = unhuff_command input.now (seen_decode_options options) in
-        AnswersWith (IsWholeUnless (WholeOf given command) (IsFaultOf command) (F.told files.old) (Rose (F.faults files.old) (F.faults files.new))) result }
-    ensures cause { AnswersWith (IsCaused (F.told files.old) (Rose (F.faults files.old) (F.faults files.new))) result }
-    ensures later { F.faults files.old ≤ F.faults files.new }
+    ensures { (given : Handed) → AnswersWith (IsFollowed
+        (WholeOf given (unhuff_command input.now (seen_decode_options options)))
+        (F.state files.old) (F.state files.new)) result }
 {
     files_have_one_verdict();
+    decoders_keep_their_formats();
     let content = fetch(alloc, files, input, MAX_INPUT)?;
     if let Err(place) = huf1_check(&content) {
         return Ok(not_huf1(alloc, place)?);
@@ -200,11 +200,11 @@ fn lex_on<R: Threads + Wait + Sync, F: Files, G: Gate + Sync>(
 ) -> Result<Answer, Exit>
     requires numbers { HasDecodeNumbers (seen_decode_options options) }
     requires lex1 { IsLex1 machine.now states classes }
-    ensures whole { AnswersWith (IsWholeUnless (Lexes (seen_decode_options options) machine.now states classes input.now)
-        (IsInputFault input.now) (F.told files.old) (Rose (F.faults files.old) (F.faults files.new))) result }
-    ensures cause { AnswersWith (IsCaused (F.told files.old) (Rose (F.faults files.old) (F.faults files.new))) result }
-    ensures later { F.faults files.old ≤ F.faults files.new }
+    ensures { AnswersWith (IsFollowed (Fetches input.now max_input (λ content.
+        Ends (Lexing (seen_decode_options options) machine.now states classes content)))
+        (F.state files.old) (F.state files.new)) result }
 {
+    decoders_keep_their_formats();
     let content = fetch(alloc, files, input, MAX_INPUT)?;
     let program = lexer(alloc, block_size(options), states, classes)?;
     let joined = lex_input(alloc, machine, &content)?;
@@ -222,10 +222,9 @@ pub(crate) fn lex_files<R: Threads + Wait + Sync, F: Files, G: Gate + Sync>(
     gate: &G,
 ) -> Result<Answer, Exit>
     requires numbers { HasDecodeNumbers (seen_decode_options options) }
-    ensures whole { (given : Handed) → let command = lex_command machine.now input.now (seen_decode_options options) in
-        AnswersWith (IsWholeUnless (WholeOf given command) (IsFaultOf command) (F.told files.old) (Rose (F.faults files.old) (F.faults files.new))) result }
-    ensures cause { AnswersWith (IsCaused (F.told files.old) (Rose (F.faults files.old) (F.faults files.new))) result }
-    ensures later { F.faults files.old ≤ F.faults files.new }
+    ensures { (given : Handed) → AnswersWith (IsFollowed
+        (WholeOf given (lex_command machine.now input.now (seen_decode_options options)))
+        (F.state files.old) (F.state files.new)) result }
 {
     files_have_one_verdict();
     let table = fetch(alloc, files, machine, MAX_MACHINE)?;

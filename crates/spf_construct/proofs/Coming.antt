@@ -70,6 +70,7 @@ comes guess p at h guesses there c same taken law settled trace before after f e
           ∙ ap (λ l. counts_of (length (real_values c.history)) (paired l (drop 1 (real_values c.history)))) taken
           ∙ counts-are guess (h.blocks - 1) (real_values c.history) (omega (arith, few, size, some))
           ∙ ap (statistics_with guess) values;
+      logs = f.logs ∙ ap (λ (x : Site). x.blocks) same;
       merging = λ steps merges.
           law (entry_of at h) (guess_at s) (λ n. (guess n).value) steps (plain_blocks (entry_of at h)).values (result_as settled)
           (same-guesses guess at h guesses taken)

@@ -47,12 +47,13 @@ entry_of at header = record {
 }
 
 -- The blocks from this entry came to this, and left this memory: the result is that of their plain run, and where
--- none traps, so is the memory. The statistics compare the guesses with the real values. Every merging of the logs
--- that keeps the order of each log is a speculative run from these guesses.
+-- none traps, so is the memory. The statistics compare the guesses with the real values. The trace has one log for each
+-- block, and every merging of them that keeps the order of each log is a speculative run from these guesses.
 pub record ComesTo (e : Entry) (guess : ℕ → Guess) (report : ConstructReport) (memory : List ℤ) : Type 0 where
   pub result : (plain_blocks e).result ≡ result_as report.settled
   pub plain_memory : (v : carried.Carried) → report.settled ≡ Carried v → memory ≡ (plain_blocks e).memory
   pub statistics : report.stats ≡ statistics_with guess (plain_blocks e).values
+  pub logs : length report.trace ≡ e.header.blocks
   pub merging : (steps : List Step) → Merges e.header.blocks (logs_in report.trace) steps
       → IsSpeculativeRun e (λ n. (guess n).value) steps (plain_blocks e).values (result_as report.settled)
 

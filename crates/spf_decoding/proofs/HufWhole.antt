@@ -16,12 +16,12 @@ use Rattle.spf_ast.specs.Meaning.{Environment, block_means, statement_means, exp
 use Rattle.spf_ast.specs.Program.{environment_of, start_of, zeros_of, cell_count_of, size_or_none, outcome, outcome_from}
 use Rattle.spf_laws.proofs.Plainly.{Comes, comes-then}
 use Rattle.spf_formats.specs.Huffman.{bits_of}
-use Rattle.spf_formats.specs.Huf1.{lengths_of}
+use Rattle.spf_formats.specs.Huf1.{IsHuf1, lengths_of}
 use Rattle.spf_formats.specs.Decoded.{count_of, IsDecoded}
-use Rattle.spf_programs.specs.Laws.{IsBlockSize}
 use Rattle.spf_programs.specs.Writing.{number, plus, only, blocks_for}
 use Rattle.spf_programs.specs.Huffman.{code_bytes, table, head, body, output, wanted, symbols_out, too_few, main, huffman_program}
-use Rattle.spf_decoding.specs.Laws.{IsWithin, HuffmanDecodes}
+use Rattle.spf_decoding.specs.Fitting.{FitsHuffman}
+use Rattle.spf_decoding.specs.Laws.{HuffmanDecodes}
 use Rattle.spf_decoding.proofs.Places.{bytes_small}
 use Rattle.spf_decoding.proofs.Whole.{blocks_of, blocks_few, block_inside, blocks_enough}
 use Rattle.spf_decoding.proofs.HufWords.{IsTable, found_decoded}
@@ -200,15 +200,15 @@ code_cells len = ap size_or_none (let sum : pos 0 *ℤ pos len +ℤ pos 65536 �
 sym_cells : (len n : ℕ) → size_or_none (pos 8 *ℤ pos len +ℤ pos n) ≡ 8 * len + n
 sym_cells len n = ap size_or_none (let sum : pos 8 *ℤ pos len +ℤ pos n ≡ pos (8 * len + n) = omega (arith, ints) in sum)
 
-decodes : (size : ℕ) (file written : List ℕ) → IsBlockSize size → IsWithin size file → IsDecoded file written → (cells : ℕ) → cells ≡ 65536
+decodes : (size : ℕ) (file written : List ℕ) → FitsHuffman size file → IsHuf1 file → IsDecoded file written → (cells : ℕ) → cells ≡ 65536
     → Ends (block_means (environment_of (huffman_program size) file) (main size)) (Ended written (count_of file)) (start_of (huffman_program size)) (zeros_of (huffman_program size) (length file))
-decodes size file written some h is cells many =
+decodes size file written h huf1 is cells many =
     let p = huffman_program size in
     let g = environment_of p file in
     let lengths = lengths_of file in
     let content = drop 264 file in
     let want = count_of file in
-    let header = h.huf1.header in
+    let header = huf1.header in
     let dropped = length-drop 264 file in
     let long : length file ≡ 264 + length content = omega (arith, header, dropped) in
     let fits = h.cells in
@@ -228,16 +228,16 @@ decodes size file written some h is cells many =
       length_at = λ y small. sym (get_or-take 256 (drop 4 file) y 0 small ∙ get_or-drop 4 file y 0);
       byte_at = λ i. sym (get_or-drop 264 file i 0);
       many = length-take-le 256 (drop 4 file) (omega (arith, header, length-drop 4 file));
-      code = h.huf1.lengths;
+      code = huf1.lengths;
       bytes = λ i. subst (λ b. b < 256) (sym (get_or-drop 264 file i 0)) (bytes (264 + i));
-      some = some.0;
+      some = h.block.0;
       few = omega (arith, fits, long);
     } in
     let zeros : zeros_of p (length file) ≡ map pos (replicate cells 0) ++ replicate (room_for size content) (pos 0) =
     ap (λ n. replicate n (pos 0)) (let e : cell_count_of p (length file) ≡ cells + room_for size content = omega (arith, codes, syms, many, long) in e)
     ∙ zeros_split cells (room_for size content) in
     let found : (code : List ℕ) → IsTable lengths code → found_before code (bits_of content) (8 * length content) ≡ is.symbols =
-    λ code holds. ap (found_before code (bits_of content)) (sym (bits_long content)) ∙ found_all code (bits_of content) ∙ found_decoded lengths code is.symbols (bits_of content) h.huf1.lengths holds is.decodes in
+    λ code holds. ap (found_before code (bits_of content)) (sym (bits_long content)) ∙ found_all code (bits_of content) ∙ found_decoded lengths code is.symbols (bits_of content) huf1.lengths holds is.decodes in
     subst (λ (z : List ℤ × List ℕ). Ends (block_means g (main size)) (Ended z.1 want) (start_of p) z.0) (λ i. (sym zeros i, sym is.output_is i))
     (main-ends g size lengths content is.symbols d bytes (omega (arith, long, few_blocks)) found want (count_is file header) cells many)
 
@@ -247,10 +247,10 @@ outcome_is size file written want e = λ i. outcome_from (e.comes.answer i) (e.c
 
 pub huffman : HuffmanDecodes
 huffman = record {
-  whole = λ size file written some h is all.
-      let e = decodes size file written some h is 65536 refl in
-      (e.memory, outcome_is size file written (count_of file) e ∙ e.holds.whole all);
-  short = λ size file written some h is short.
-      let e = decodes size file written some h is 65536 refl in
+  whole = λ size file written h huf1 is.
+      let e = decodes size file written h huf1 is.0 65536 refl in
+      (e.memory, outcome_is size file written (count_of file) e ∙ e.holds.whole is.1);
+  short = λ size file written h huf1 is short.
+      let e = decodes size file written h huf1 is 65536 refl in
       outcome_is size file written (count_of file) e ∙ e.holds.short short;
 }

@@ -1,4 +1,5 @@
 pub mod Bytes
+pub mod Cells
 pub mod Steps
 pub mod Places
 pub mod Body

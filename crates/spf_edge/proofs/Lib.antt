@@ -1,4 +1,4 @@
-pub mod Fetching
 mod Finding
 mod Reading
+pub mod Fetched
 pub mod Taking

@@ -3,7 +3,8 @@ use Rattle.std.proofs.Common.{◌≡◌, ℕ, List, [], ◌++◌, take, drop, Op
 use Rattle.spf_edge.specs.declared.sink.PutError.{PutError}
 use Rattle.spf_edge.specs.declared.sink.PutError.TheVariants.{Failed, OutOfMemory}
 use Rattle.std.proofs.lemmas.List.{take-append-drop, append-nil}
-use Rattle.spf_edge.specs.Bytes.{joined, Adds, AddsPrefix, Hands}
+use Rattle.spf_edge.specs.Bytes.{joined, Adds, AddsPrefix}
+use Rattle.spf_edge.specs.Puts.{Put, HasPut}
 
 -- no bytes join to what was there
 pub joined-nil : (taken : Option (List ℕ)) → joined taken [] ≡ taken
@@ -73,18 +74,18 @@ is_some-joined (Some before) bytes = refl
 pub adds_untold : (piece : List ℕ) → AddsPrefix None None piece
 adds_untold piece = adds_empty_prefix None None piece refl
 
--- ---- pieces
+-- ---- puts
 
--- where nothing changes, no piece was put
-pub hands_none : (old new : Option (List (List ℕ))) → new ≡ old → Hands old new []
-hands_none None new same = same
-hands_none (Some before) new same = same ∙ ap Some (sym (append-nil before))
+-- where nothing changes, no put was made
+pub puts_none : (old new : Option (List Put)) → new ≡ old → HasPut old new []
+puts_none None new same = same
+puts_none (Some before) new same = same ∙ ap Some (sym (append-nil before))
 
--- pieces that were put after others were put with them
-pub hands_both : (old between new : Option (List (List ℕ))) (first second : List (List ℕ)) → Hands old between first → Hands between new second → Hands old new (first ++ second)
-hands_both old between new first second one two =
-    two ∙ ap (λ (pieces : Option (List (List ℕ))). option_map (λ before. before ++ second) pieces) one ∙ joined_twice old
+-- puts that were made after others were made with them
+pub puts_both : (old between new : Option (List Put)) (first second : List Put) → HasPut old between first → HasPut between new second → HasPut old new (first ++ second)
+puts_both old between new first second one two =
+    two ∙ ap (λ (puts : Option (List Put)). option_map (λ before. before ++ second) puts) one ∙ joined_twice old
   where
-    joined_twice : (pieces : Option (List (List ℕ))) → option_map (λ before. before ++ second) (option_map (λ before. before ++ first) pieces) ≡ option_map (λ before. before ++ (first ++ second)) pieces
+    joined_twice : (puts : Option (List Put)) → option_map (λ before. before ++ second) (option_map (λ before. before ++ first) puts) ≡ option_map (λ before. before ++ (first ++ second)) puts
     joined_twice None = refl
     joined_twice (Some before) = ap Some (append_assoc before first second)

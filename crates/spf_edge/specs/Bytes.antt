@@ -15,7 +15,3 @@ pub record AddsPrefix (old new : Option (List ℕ)) (bytes : List ℕ) : Type 0 
   pub rest : List ℕ
   pub split : bytes ≡ front ++ rest
   pub added : Adds old new front
-
--- these pieces were put, each by a put of its own, and whether the sink tells them stays
-abbrev pub Hands : Option (List (List ℕ)) → Option (List (List ℕ)) → List (List ℕ) → Type 0
-Hands old new pieces = new ≡ option_map (λ before. before ++ pieces) old

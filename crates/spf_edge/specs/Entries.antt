@@ -8,21 +8,11 @@ use Rattle.std.specs.Prelude.{
   bytes_eq,
   find,
   option_map,
-  nat_le,
-  if◌then◌else◌,
   Option,
   None,
   Some,
   ⊤,
-  Result,
-  Ok,
-  Err,
-  Vec,
-  MatchResult,
 }
-use Rattle.std.specs.declared.alloc.Global.{Global}
-use Rattle.spf_edge.specs.declared.files.FetchError.{FetchError}
-use Rattle.spf_edge.specs.declared.files.FetchError.TheVariants.{Missing, TooLong}
 
 -- a file: its name and its content, both in bytes
 pub record Entry : Type 0 where
@@ -47,12 +37,3 @@ HasContent (Some entries) name content = lookup entries name ≡ Some content
 abbrev pub IsLongerThan : ℕ → Option (List Entry) → List ℕ → Type 0
 IsLongerThan limit None name = ⊤
 IsLongerThan limit (Some entries) name = (content : List ℕ) × (lookup entries name ≡ Some content) × (limit < length content)
-
--- the answer for what a look-up gave: the content where it is within the limit
-abbrev pub answer_for : Option (List ℕ) → ℕ → Result (List ℕ) FetchError
-answer_for None limit = Err Missing
-answer_for (Some content) limit = if nat_le (length content) limit then Ok content else Err TooLong
-
--- the result is this answer: the same content, or the same error
-abbrev pub IsAnswer : Result (Vec ℕ Global) FetchError → Result (List ℕ) FetchError → Type 0
-IsAnswer result answer = MatchResult result (λ content. answer ≡ Ok content.items) (λ error. answer ≡ Err error)

@@ -1,8 +1,8 @@
 // Where files come from.
-ghost use Rattle.std.specs.Prelude.{◌≡◌, ℕ, ◌≤◌, ◌↔◌, List, Option, vec_len, Err, IfOk};
+ghost use Rattle.std.specs.Prelude.{◌≡◌, [], ◌∷◌, Err};
 ghost use Rattle.spf_edge.specs.declared.files.FetchError.TheVariants.{OutOfMemory};
-ghost use Rattle.spf_edge.specs.Entries.{Entry, IsMissing, HasContent, IsLongerThan};
-ghost use Rattle.spf_edge.specs.Faults.{Rose};
+ghost use Rattle.spf_edge.specs.Entries.{IsMissing};
+ghost use Rattle.spf_edge.specs.Fetches.{FilesState, AreMade, fetch_of};
 
 use std::alloc::{AllocError, Global};
 use thiserror::Error;
@@ -34,29 +34,18 @@ impl From<AllocError> for FetchError {
 
 /// A place that files are read from, by name.
 pub trait Files {
-    /// The files with their contents, where they are told.
-    ghost told: { Self → Option (List Entry) };
-
-    /// How often a fetch has failed; the count stops at its last value.
-    ghost faults: { Self → ℕ };
+    /// What they tell: names and contents, and the names that were fetched so far, where they tell
+    /// them; and how often a fetch has failed, a count that stops at its last value.
+    ghost state: { Self → FilesState };
 
     /// The whole content of the file of that name, of at most `limit` bytes.
     fn fetch(&mut self, alloc: Global, name: &str, limit: u64) -> Result<Vec<u8>, FetchError>
-        ensures told { told self.new ≡ told self.old }
-        ensures later { faults self.old ≤ faults self.new }
+        // This one fetch was made, and gave what the files hold, where they tell it.
+        ensures made { AreMade (state self.old) (state self.new)
+            (fetch_of name.now limit result ∷ []) }
 
-        ensures content { IfOk result
-            (λ content. HasContent (told self.old) name.now content.items) }
-        ensures within { IfOk result (λ content. vec_len content ≤ limit) }
-
-        // A missing name is no fault.
-        ensures missing { (result ≡ Err FetchError.Missing)
-            ↔ IsMissing (told self.old) name.now }
-        ensures no_fault { IsMissing (told self.old) name.now
-            → faults self.new ≡ faults self.old }
-
-        ensures failed { result ≡ Err FetchError.Failed
-            → Rose (faults self.old) (faults self.new) }
-        ensures too_long { result ≡ Err FetchError.TooLong
-            → IsLongerThan limit (told self.old) name.now };
+        // A name that isn't among those told is missing, which is no fault.
+        ensures missing { IsMissing (state self.old).told name.now → result ≡ Err FetchError.Missing }
+        ensures no_fault { IsMissing (state self.old).told name.now
+            → (state self.new).faults ≡ (state self.old).faults };
 }

@@ -9,6 +9,6 @@ mod sink;
 
 pub use files::{FetchError, Files};
 pub use gate::{Barrier, Gate, Open, Place};
-pub use memory::{MemFiles, MemSink};
+pub use memory::{MemFiles, MemSink, PutMade};
 pub use real::{RealFiles, RealSink, StandardStream};
 pub use sink::{PutError, Sink};

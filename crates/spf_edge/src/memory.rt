@@ -14,12 +14,14 @@ ghost use Rattle.std.specs.Prelude.{
   IfOk,
   OnOk,
   IsErr,
+  IfErr,
   vec_len,
   Contains,
   IsSome,
   ◌+◌,
   ◌++◌,
   option_map,
+  map,
   option_copied,
   ◌∷◌,
   List,
@@ -30,7 +32,9 @@ ghost use Rattle.std.specs.Prelude.{
 };
 ghost use Rattle.spf_edge.specs.Entries.{lookup, IsLongerThan};
 ghost use Rattle.spf_edge.specs.Faults.{one_more};
-ghost use Rattle.spf_edge.specs.Memory.{entries_of};
+ghost use Rattle.spf_edge.specs.Memory.{entries_of, names_of, puts_of};
+ghost use Rattle.spf_edge.specs.Fetches.{HasFetched};
+ghost use Rattle.spf_edge.specs.Puts.{HasPut, put_of};
 
 use crate::{FetchError, Files, PutError, Sink};
 use std::alloc::{AllocError, Global};
@@ -43,10 +47,11 @@ pub struct MemFiles {
     failing: Vec<u64>,
     calls: u64,
     faults: u64,
+    names: Option<Vec<String>>,
 }
 
 impl Model for MemFiles {
-    ghost use Rattle.spf_edge.specs.Memory.{FilesInMemory, entries_of};
+    ghost use Rattle.spf_edge.specs.Memory.{FilesInMemory, entries_of, names_of};
 
     ghost Value = { FilesInMemory };
 
@@ -55,6 +60,7 @@ impl Model for MemFiles {
       failing = files.failing.items;
       calls = files.calls;
       faults = files.faults;
+      fetches = names_of files.names;
     } };
 }
 
@@ -83,25 +89,48 @@ impl MemFiles {
         ensures failing { result.failing ≡ failing.items }
         ensures calls { result.calls ≡ 0 }
         ensures faults { result.faults ≡ 0 }
+        ensures fetches { result.fetches ≡ Some [] }
     {
+        let names = Some(Vec::new(*failing.allocator()));
         MemFiles {
             entries,
             failing,
             calls: 0,
             faults: 0,
+            names,
         }
+    }
+
+    /// The names that were fetched so far, in order; `None` once there was no memory for one.
+    pub fn fetches(&self) -> Option<&[String]>
+        ensures { option_map (map string_bytes) (option_copied result) ≡ self.now.fetches }
+    {
+        self.names.as_deref()
     }
 }
 
-impl Files for MemFiles {
-    ghost told = { λ files. Some files.entries };
+/// The names with one more at their end, where there is memory for it.
+fn with_name(alloc: Global, names: Option<Vec<String>>, name: &str) -> Option<Vec<String>>
+    ensures { HasFetched (names_of names) (names_of result) (name.now ∷ []) }
+{
+    let mut known = names?;
+    let copy = String::from_str(alloc, name).ok()?;
+    known.push(copy).ok()?;
+    Some(known)
+}
 
-    ghost faults = { λ files. files.faults };
+impl Files for MemFiles {
+    ghost state = { λ files. record {
+      told = Some files.entries;
+      fetches = files.fetches;
+      faults = files.faults;
+    } };
 
     fn fetch(&mut self, alloc: Global, name: &str, limit: u64) -> Result<Vec<u8>, FetchError>
         ensures entries { self.new.entries ≡ self.old.entries }
         ensures failing { self.new.failing ≡ self.old.failing }
         ensures calls { self.new.calls ≡ one_more self.old.calls }
+        ensures fetched { HasFetched self.old.fetches self.new.fetches (name.now ∷ []) }
 
         // A call fails exactly where its number says so and the name isn't missing.
         ensures fails { Contains self.old.failing self.old.calls
@@ -126,6 +155,7 @@ impl Files for MemFiles {
     {
         let number = self.calls;
         self.calls = number.saturating_add(1);
+        self.names = with_name(alloc, self.names.take(), name);
         let Some(content) = find_content(&self.entries, name) else {
             return Err(FetchError::Missing);
         };
@@ -140,10 +170,20 @@ impl Files for MemFiles {
     }
 }
 
+/// A put that a sink in memory was given.
+#[derive(Drop)]
+pub struct PutMade {
+    /// What was handed in.
+    pub piece: Vec<u8>,
+    /// Whether all of it was taken.
+    pub whole: bool,
+}
+
 /// A sink in memory. The calls of `put` are numbered from 0, and those in a given list fail.
 #[derive(Drop)]
 pub struct MemSink {
     bytes: Vec<u8>,
+    puts: Vec<PutMade>,
     failing: Vec<u64>,
     keeps: u64,
     calls: u64,
@@ -151,12 +191,13 @@ pub struct MemSink {
 }
 
 impl Model for MemSink {
-    ghost use Rattle.spf_edge.specs.Memory.{SinkInMemory};
+    ghost use Rattle.spf_edge.specs.Memory.{SinkInMemory, puts_of};
 
     ghost Value = { SinkInMemory };
 
     ghost view = { λ sink. record {
       taken = sink.bytes.items;
+      puts = puts_of sink.puts.items;
       failing = sink.failing.items;
       keeps = sink.keeps;
       calls = sink.calls;
@@ -170,14 +211,17 @@ impl MemSink {
     /// that is shorter. It takes no memory.
     pub fn make(failing: Vec<u64>, keeps: u64) -> MemSink
         ensures taken { result.taken ≡ [] }
+        ensures puts { result.puts ≡ [] }
         ensures failing { result.failing ≡ failing.items }
         ensures keeps { result.keeps ≡ keeps }
         ensures calls { result.calls ≡ 0 }
         ensures faults { result.faults ≡ 0 }
     {
         let bytes = Vec::new(*failing.allocator());
+        let puts = Vec::new(*failing.allocator());
         MemSink {
             bytes,
+            puts,
             failing,
             keeps,
             calls: 0,
@@ -191,14 +235,46 @@ impl MemSink {
     {
         &self.bytes
     }
+
+    /// The puts so far, but for those for which there was no memory.
+    pub fn puts(&self) -> &[PutMade]
+        ensures { puts_of result.now ≡ self.now.puts }
+    {
+        &self.puts
+    }
+
+    /// Takes some first bytes of a piece, and notes the put.
+    fn receive(&mut self, piece: &[u8], count: usize, whole: bool) -> Result<(), AllocError>
+        requires count { count ≤ length piece.now }
+        ensures failing { self.new.failing ≡ self.old.failing }
+        ensures keeps { self.new.keeps ≡ self.old.keeps }
+        ensures calls { self.new.calls ≡ self.old.calls }
+        ensures faults { self.new.faults ≡ self.old.faults }
+        ensures taken { OnOk result (self.new.taken ≡ self.old.taken ++ take count piece.now) }
+        ensures puts { OnOk result
+            (self.new.puts ≡ self.old.puts ++ record { piece = piece.now; whole = whole } ∷ []) }
+        ensures nothing { IfErr result (λ _.
+            (self.new.taken ≡ self.old.taken) × (self.new.puts ≡ self.old.puts)) }
+    {
+        let alloc = *self.bytes.allocator();
+        let copy = piece.to_vec(alloc)?;
+        self.puts.push(PutMade { piece: copy, whole })?;
+        match self.bytes.extend_from_slice(&piece[..count]) {
+            Ok(()) => Ok(()),
+            Err(error) => {
+                self.puts.pop();
+                Err(error)
+            }
+        }
+    }
 }
 
 impl Sink for MemSink {
-    ghost taken = { λ sink. Some sink.taken };
-
-    ghost pieces = { λ _. None };
-
-    ghost faults = { λ sink. sink.faults };
+    ghost state = { λ sink. record {
+      taken = Some sink.taken;
+      puts = Some sink.puts;
+      faults = sink.faults;
+    } };
 
     fn put(&mut self, piece: &[u8]) -> Result<(), PutError>
         ensures failing { self.new.failing ≡ self.old.failing }
@@ -220,16 +296,19 @@ impl Sink for MemSink {
             → self.new.taken ≡ self.old.taken ++ take self.old.keeps piece.now }
         ensures nothing { result ≡ Err PutError.OutOfMemory
             → self.new.taken ≡ self.old.taken }
+
+        // One put was made of it, or none where there was no memory.
+        ensures made { self.new.puts ≡ self.old.puts ++ put_of piece.now result }
     {
         let number = self.calls;
         self.calls = number.saturating_add(1);
         if self.failing.contains(&number) {
             let kept = piece.len().min(self.keeps as usize);
-            self.bytes.extend_from_slice(&piece[..kept])?;
+            self.receive(piece, kept, false)?;
             self.faults = self.faults.saturating_add(1);
             return Err(PutError::Failed);
         }
-        self.bytes.extend_from_slice(piece)?;
+        self.receive(piece, piece.len(), true)?;
         Ok(())
     }
 }

@@ -1,5 +1,5 @@
 // The machine's files and standard streams. They tell nothing of what they hold.
-ghost use Rattle.std.specs.Prelude.{◌≡◌, ◌<◌, ◌≤◌, length, vec_len, IfOk, OnOk, IfSome, IfNone, None, Err};
+ghost use Rattle.std.specs.Prelude.{◌≡◌, ◌≢◌, ◌<◌, ◌≤◌, length, vec_len, IfOk, OnOk, IfSome, IfNone, None, Err};
 ghost use Rattle.spf_edge.specs.Faults.{Rose};
 ghost use Rattle.std.specs.Io.KnownBytes.{Appends};
 
@@ -66,9 +66,7 @@ fn read_file<R: rt::Files>(
 }
 
 impl<'a, R: rt::Files> Files for RealFiles<'a, R> {
-    ghost told = { λ _. None };
-
-    ghost faults = { λ count. count };
+    ghost state = { λ count. record { told = None; fetches = None; faults = count } };
 
     fn fetch(&mut self, alloc: Global, name: &str, limit: u64) -> Result<Vec<u8>, FetchError> {
         match read_file(self.machine, alloc, name, limit) {
@@ -136,11 +134,7 @@ fn write_piece<W: Write>(stream: &mut W, piece: &[u8]) -> io::Result<()>
 impl<W: Write> Sink for RealSink<W> {
     ghost use Rattle.spf_edge.specs.Streams.{stream_of, failure_count};
 
-    ghost taken = { λ _. None };
-
-    ghost pieces = { λ _. None };
-
-    ghost faults = { failure_count };
+    ghost state = { λ sink. record { taken = None; puts = None; faults = failure_count sink } };
 
     fn put(&mut self, piece: &[u8]) -> Result<(), PutError>
         ensures later { failure_count self.old ≤ failure_count self.new }
@@ -150,6 +144,8 @@ impl<W: Write> Sink for RealSink<W> {
             (W.contents (stream_of self.new)) piece.now) }
         ensures failed { result ≡ Err PutError.Failed
             → Rose (failure_count self.old) (failure_count self.new) }
+        // It needs no memory of its own.
+        ensures enough { result ≢ Err PutError.OutOfMemory }
     {
         match write_piece(&mut self.stream, piece) {
             Ok(()) => Ok(()),

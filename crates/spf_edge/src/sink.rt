@@ -1,7 +1,8 @@
 // Where output goes.
-ghost use Rattle.std.specs.Prelude.{◌≡◌, ℕ, ◌≤◌, List, [], ◌∷◌, Option, Err, OnOk};
+ghost use Rattle.std.specs.Prelude.{◌≡◌, ◌≤◌, Err, OnOk};
 ghost use Rattle.spf_edge.specs.declared.sink.PutError.TheVariants.{OutOfMemory};
-ghost use Rattle.spf_edge.specs.Bytes.{Adds, AddsPrefix, Hands};
+ghost use Rattle.spf_edge.specs.Bytes.{Adds, AddsPrefix};
+ghost use Rattle.spf_edge.specs.Puts.{SinkState, HasPut, put_of};
 ghost use Rattle.spf_edge.specs.Faults.{Rose};
 
 use std::alloc::AllocError;
@@ -28,28 +29,22 @@ impl From<AllocError> for PutError {
 
 /// A device that takes bytes, one piece after another.
 pub trait Sink {
-    /// The bytes taken so far, where they are told.
-    ghost taken: { Self → Option (List ℕ) };
-
-    /// The pieces put so far, each as it was handed in, where they are told.
-    ghost pieces: { Self → Option (List (List ℕ)) };
-
-    /// How often a put has failed; the count stops at its last value.
-    ghost faults: { Self → ℕ };
+    /// What it tells: the bytes taken and the puts so far, where it tells them, and how often a put
+    /// has failed; this count stops at its last value.
+    ghost state: { Self → SinkState };
 
     /// Takes the piece, after what was taken before.
     fn put(&mut self, piece: &[u8]) -> Result<(), PutError>
-        ensures later { faults self.old ≤ faults self.new }
-
-        // Whatever the answer, this one piece was put.
-        ensures handed { Hands (pieces self.old) (pieces self.new) (piece.now ∷ []) }
+        ensures later { (state self.old).faults ≤ (state self.new).faults }
 
         // Whatever the answer, a prefix of the piece was taken and nothing else.
-        ensures front { AddsPrefix (taken self.old) (taken self.new) piece.now }
-        ensures added { OnOk result (Adds (taken self.old) (taken self.new) piece.now) }
-        ensures nothing { result ≡ Err PutError.OutOfMemory
-            → taken self.new ≡ taken self.old }
+        ensures front { AddsPrefix (state self.old).taken (state self.new).taken piece.now }
+        ensures added { OnOk result (Adds (state self.old).taken (state self.new).taken piece.now) }
+
+        // One put was made of it, or none where there was no memory.
+        ensures made { HasPut (state self.old).puts (state self.new).puts (put_of piece.now result) }
+        ensures nothing { result ≡ Err PutError.OutOfMemory → state self.new ≡ state self.old }
 
         ensures failed { result ≡ Err PutError.Failed
-            → Rose (faults self.old) (faults self.new) };
+            → Rose (state self.old).faults (state self.new).faults };
 }

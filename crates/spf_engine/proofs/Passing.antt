@@ -33,7 +33,7 @@ use Rattle.spf_guess.specs.Guess.{Guess, Hosts, Telling, guess_for, predictor_of
 use Rattle.spf_guess.specs.Statistics.{none, plus, statistics_with}
 use Rattle.spf_predictors.specs.Answers.{WereTold}
 use Rattle.spf_progress.specs.Traces.{Trace, begin_with}
-use Rattle.spf_progress.specs.Progress.{Progress, GoesOn, HasCome, BlocksComeTo, entry_there, guess_there, with_construct}
+use Rattle.spf_progress.specs.Progress.{Progress, GoesOn, HasCome, HasRuns, BlocksComeTo, entry_there, guess_there, with_construct}
 use Rattle.spf_progress.specs.Laws.{HeadersEndRuns, ConstructsSettle, ConstructsEndRuns}
 use Rattle.spf_engine.specs.declared.construct.Passed.{Passed}
 use Rattle.spf_engine.specs.Runs.{SettlesSo, LeadsTo}
@@ -105,7 +105,7 @@ blocks-come e guess report memory some c = record {
   result = c.result;
   values_are = refl;
   memory_is = λ v is. c.plain_memory v (carried-as report.settled v is);
-  traces_are = one-trace e.header.blocks _ report.trace some c.merging;
+  traces_are = one-trace e.header.blocks (HasRuns e guess (result_as report.settled) (plain_blocks e).values) report.trace some (record { logs = c.logs; merging = c.merging });
 }
 
 -- ---- without blocks
@@ -128,7 +128,7 @@ no-blocks-come p input c h s guess none_there = record {
   result = ap (λ n. (chained (environment_of p input) c (main_slots p s.frame) 0 n h.low h.start s.cells).result) none_there;
   values_are = ap (λ n. (chained (environment_of p input) c (main_slots p s.frame) 0 n h.low h.start s.cells).values) none_there;
   memory_is = λ v is. sym (ap (λ n. (chained (environment_of p input) c (main_slots p s.frame) 0 n h.low h.start s.cells).memory) none_there);
-  traces_are = no-trace h.blocks _ none_there;
+  traces_are = no-trace h.blocks (HasRuns (entry_there p input c h s) guess (Ok h.start) []) none_there;
 }
 
 -- a construct without blocks leads on with its start value

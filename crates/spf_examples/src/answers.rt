@@ -37,6 +37,47 @@ fn sink(alloc: Global, failing: Option<(u64, u64)>) -> Result<MemSink, AllocErro
     Ok(MemSink::make(numbers, keeps))
 }
 
+/// Whether these files were fetched, in this order.
+fn are_fetched(names: &str, files: &MemFiles) -> bool {
+    match files.fetches() {
+        Some(fetches) => names
+            .split(' ')
+            .eq(fetches.iter().map(|name| name.as_str())),
+        None => false,
+    }
+}
+
+/// Whether the output was put in pieces of these lengths.
+fn are_pieces(alloc: Global, lengths: &str, out: &MemSink) -> Result<bool, AllocError> {
+    let mut found = String::new(alloc);
+    for put in out.puts() {
+        if !found.is_empty() {
+            found.push(' ')?;
+        }
+        let length = format!(in alloc; "{}", put.piece.len())?;
+        found.push_str(&length)?;
+    }
+    Ok(found.as_str() == lengths)
+}
+
+/// Whether the files were fetched and the output was put as the table says, where it says it.
+fn is_done_so(
+    alloc: Global,
+    row: &Row,
+    files: &MemFiles,
+    out: &MemSink,
+) -> Result<bool, AllocError> {
+    let fetched = match row.fetched {
+        Some(names) => are_fetched(names, files),
+        None => true,
+    };
+    let put = match row.pieces {
+        Some(lengths) => are_pieces(alloc, lengths, out)?,
+        None => true,
+    };
+    Ok(fetched && put)
+}
+
 /// Whether the sinks have what a command line is to put, with this status.
 fn is_wanted(row: &Row, status: u8, out: &MemSink, err: &MemSink) -> bool {
     u64::from(status) == row.status && *out.bytes() == *row.output && *err.bytes() == *row.messages
@@ -54,7 +95,7 @@ fn is_answered<R: Threads + Wait + Sync>(
     let mut out = sink(alloc, row.failing_put)?;
     let mut err = sink(alloc, row.failing_line)?;
     let status = answer(rt, alloc, &words, &mut files, &mut out, &mut err);
-    Ok(is_wanted(row, status, &out, &err))
+    Ok(is_wanted(row, status, &out, &err) && is_done_so(alloc, row, &files, &out)?)
 }
 
 /// Whether a run over the program and the input at hand, without the command line, is answered as wanted.

@@ -4,10 +4,12 @@
 #![tactic(auto)]
 
 mod answers;
+mod barrier;
 mod example;
 mod table;
 
 use crate::answers::is_right;
+use crate::barrier::run_at_gate;
 use crate::example::{is_as_expected, read_runs};
 use crate::table::Reader;
 use spf_edge::RealFiles;
@@ -57,12 +59,22 @@ fn run_table<R: Print + rt::Files + AllocGlobal + Threads + Wait + Sync>(
     Ok((count, wrong))
 }
 
+/// Runs two blocks on two workers, and on one. Gives whether they were under way at once on two, and one after the other on one.
+fn run_gates<R: AllocGlobal + Threads + Wait + Sync>(rt: &R) -> io::Result<bool> {
+    let alloc = rt.alloc();
+    let on_two = run_at_gate(rt, alloc, "2", 100_000_000)?;
+    let on_one = run_at_gate(rt, alloc, "1", 1000)?;
+    Ok(on_two == (true, true) && on_one == (true, false))
+}
+
 fn main(rt: HostRuntime) -> io::Result<ExitCode> {
     let wrong_runs = run_examples(&rt)?;
     let (count, wrong) = run_table(&rt)?;
     println!(&rt; "{count} command lines, {wrong} of them answered otherwise than wanted")?;
-    Ok(match (wrong_runs, wrong) {
-        (0, 0) => ExitCode::SUCCESS,
+    let are_at_once = run_gates(&rt)?;
+    println!(&rt; "two workers attempt two blocks at once, and one does not: {are_at_once}")?;
+    Ok(match (wrong_runs, wrong, are_at_once) {
+        (0, 0, true) => ExitCode::SUCCESS,
         _ => ExitCode::FAILURE,
     })
 }

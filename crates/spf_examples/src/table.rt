@@ -11,7 +11,9 @@
 //
 // - `status N`, where it isn't 0; `> LINE`: a line of the output; `bytes ..`: bytes of the output;
 // - `! LINE`: a line of the error stream; `part TEXT`: a part of one;
-// - `fetch N`: this fetch fails, counted from 0; `put N K` and `line N K`: this put on the output or on the error stream fails after K bytes.
+// - `fetch N`: this fetch fails, counted from 0; `put N K` and `line N K`: this put on the output or on the error stream fails after K bytes;
+// - `fetched NAMES`: these files are fetched, in this order, and no others;
+// - `pieces N N`: the output is put in pieces of so many bytes, the one that fails with them.
 //
 // `end` is the last line.
 
@@ -31,6 +33,10 @@ pub struct Row<'a> {
     pub failing_put: Option<(u64, u64)>,
     /// The same of the error stream.
     pub failing_line: Option<(u64, u64)>,
+    /// The names that are fetched, with a space between any two, where the table says it.
+    pub fetched: Option<&'a str>,
+    /// How long the pieces of the output are, with a space between any two, where the table says it.
+    pub pieces: Option<&'a str>,
 }
 
 /// The files of the command lines that follow, and the one whose lines are being read.
@@ -123,11 +129,13 @@ impl<'a> Row<'a> {
             failing_fetches: Vec::new(alloc),
             failing_put: None,
             failing_line: None,
+            fetched: None,
+            pieces: None,
         }
     }
 
     /// Reads a line of what is wanted.
-    fn read(&mut self, line: &str) -> Result<(), AllocError> {
+    fn read(&mut self, line: &'a str) -> Result<(), AllocError> {
         if let Some(line) = line.strip_prefix("! ") {
             return add_line(&mut self.messages, line);
         }
@@ -146,6 +154,10 @@ impl<'a> Row<'a> {
             self.failing_put = Some(pair(put));
         } else if let Some(put) = line.strip_prefix("line ") {
             self.failing_line = Some(pair(put));
+        } else if let Some(names) = line.strip_prefix("fetched ") {
+            self.fetched = Some(names);
+        } else if let Some(lengths) = line.strip_prefix("pieces ") {
+            self.pieces = Some(lengths);
         } else {
             self.status = number(line.strip_prefix("status "));
         }

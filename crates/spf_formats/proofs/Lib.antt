@@ -1,4 +1,5 @@
 pub mod BitStrings
+pub mod Decodings
 pub mod Drawing
 pub mod Encoding
 pub mod Five

@@ -20,7 +20,7 @@ prefix_free lengths symbol other rest more a h k e =
     one_symbol lengths symbol other rest more a (record { inside = within lengths symbol h; some = h }) (record { inside = within lengths other k; some = k }) e
 
 -- symbols whose code words the same bits begin with
-parsed_once : (lengths a b : List ℕ) (x y : List Bool) → AreCodeLengths lengths → HaveWords lengths (length a) a → HaveWords lengths (length b) b → length a ≤ length b → code_words lengths a ++ x ≡ code_words lengths b ++ y → take (length a) b ≡ a
+pub parsed_once : (lengths a b : List ℕ) (x y : List Bool) → AreCodeLengths lengths → HaveWords lengths (length a) a → HaveWords lengths (length b) b → length a ≤ length b → code_words lengths a ++ x ≡ code_words lengths b ++ y → take (length a) b ≡ a
 parsed_once lengths [] b x y code h k few e = refl
 parsed_once lengths (s ∷ a) [] x y code h k few e = absurd (omega (arith, few))
 parsed_once lengths (s ∷ a) (t ∷ b) x y code h k few e =
@@ -44,7 +44,7 @@ drop_front [] b (suc n) h = absurd (omega (arith, h))
 drop_front (x ∷ a) b zero h = absurd (omega (arith, h))
 drop_front (x ∷ a) b (suc n) h = drop_front a b n (omega (arith, h))
 
-lengths_back : (lengths words : List ℕ) (n : ℕ) → length lengths ≡ 256 → lengths_of (header lengths n ++ words) ≡ lengths
+pub lengths_back : (lengths words : List ℕ) (n : ℕ) → length lengths ≡ 256 → lengths_of (header lengths n ++ words) ≡ lengths
 lengths_back lengths words n h =
     ap (take 256) (append_assoc lengths (to_be_bytes w32 n) words) ∙ take_front lengths (to_be_bytes w32 n ++ words) 256 h
 

@@ -24,3 +24,7 @@ pub record IsDecoded (file output : List ℕ) : Type 0 where
 
 abbrev pub IsShort : List ℕ → List ℕ → Type 0
 IsShort file output = length output < count_of file
+
+-- these are the symbols of the file, and as many as it says
+abbrev pub IsWhollyDecoded : List ℕ → List ℕ → Type 0
+IsWhollyDecoded file output = IsDecoded file output × (IsShort file output → ⊥)

@@ -36,6 +36,11 @@ CodeWordsArePrefixFree =
     (lengths : List ℕ) (symbol other : ℕ) (rest more : List Bool) → AreCodeLengths lengths → 0 < slice_index lengths symbol → 0 < slice_index lengths other
     → code_word lengths symbol ++ rest ≡ code_word lengths other ++ more → symbol ≡ other
 
+-- each HUF1 file is decoded, and in one way
+pub record Huf1IsDecodedOnce : Type 0 where
+  pub some : (file : List ℕ) → IsHuf1 file → (output : List ℕ) × IsDecoded file output
+  pub one : (file output other : List ℕ) → IsHuf1 file → IsDecoded file output → IsDecoded file other → output ≡ other
+
 -- what is decoded of a file that encodes symbols are these symbols, all of them
 abbrev pub EncodedFilesDecode : Type 0
 EncodedFilesDecode =

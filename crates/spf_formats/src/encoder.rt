@@ -11,6 +11,7 @@ ghost use Rattle.spf_formats.specs.Huffman.{
   code_words,
 };
 ghost use Rattle.spf_formats.specs.Huf1.{Encodes, Holds};
+ghost use Rattle.spf_formats.specs.Decoded.{IsWhollyDecoded};
 ghost use Rattle.spf_formats.specs.Refusals.{IsRefusedWith};
 
 use crate::bits::BitWriter;
@@ -145,7 +146,8 @@ pub(crate) fn encode(alloc: Global, lengths: &[u8], symbols: &[u8]) -> Result<Ve
 pub fn encode_huf1(alloc: Global, lengths: &[u8], symbols: &[u8]) -> Result<Vec<u8>, EncodeError>
     requires lengths { length lengths.now ≡ 256 }
     requires symbols { length symbols.now < 2 ^ 32 }
-    ensures { MatchResult result (λ file. Encodes lengths.now symbols.now file.items) (IsRefusedWith lengths.now symbols.now) }
+    ensures encodes { MatchResult result (λ file. Encodes lengths.now symbols.now file.items) (IsRefusedWith lengths.now symbols.now) }
+    ensures decodes { IfOk result (λ file. IsWhollyDecoded file.items symbols.now) }
 {
     if let Err(symbol) = check_lengths(lengths) {
         return Err(EncodeError::BadLengths {

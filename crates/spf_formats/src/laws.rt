@@ -3,6 +3,7 @@ ghost use Rattle.spf_formats.specs.Laws.{
   Huf1HasOneVerdict,
   Lex1HasOneVerdict,
   PackBitsIsCutOnce,
+  Huf1IsDecodedOnce,
   CodeWordsArePrefixFree,
   EncodedFilesDecode,
   EachInputIsGeneratedOnce,
@@ -17,6 +18,11 @@ pub fn files_have_one_verdict()
 /// Each file is packets of PackBits and a rest that is cut off, in exactly one way.
 pub fn packbits_files_are_cut_once()
     ensures { PackBitsIsCutOnce }
+{}
+
+/// Each HUF1 file is decoded to exactly one output.
+pub fn huf1_files_are_decoded_once()
+    ensures { Huf1IsDecodedOnce }
 {}
 
 /// The code words of a code are prefix free, so what is decoded of an encoded file are the symbols that were encoded.

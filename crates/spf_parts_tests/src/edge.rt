@@ -41,6 +41,11 @@ fn follow<R: Abort, F: Files>(rt: &R, files: &mut F, alloc: Global, fetches: &[F
     }
 }
 
+/// Whether names are those of a text, with a space between any two.
+fn are_named(text: &str, names: &[String]) -> bool {
+    text.split(' ').eq(names.iter().map(|name| name.as_str()))
+}
+
 #[test]
 fn files_in_memory_answer_by_number(rt: HostRuntime) -> Result<(), Fail> {
     let alloc = rt.alloc();
@@ -57,6 +62,8 @@ fn files_in_memory_answer_by_number(rt: HostRuntime) -> Result<(), Fail> {
         ("a", 9, Ok("one")),
     ];
     follow(&rt, &mut files, alloc, &fetches);
+    let fetches = files.fetches().unwrap_or(&[]);
+    assert!(rt; are_named("a a c a c b a", fetches));
     Ok(())
 }
 
@@ -76,6 +83,11 @@ fn a_sink_in_memory_fails_by_number(rt: HostRuntime) -> Result<(), Fail> {
         assert_eq!(rt; got, want, "at {piece}");
         assert!(rt; sink.bytes() == taken.as_bytes(), "at {piece}");
     }
+    let puts = sink
+        .puts()
+        .iter()
+        .map(|put| put.piece.len() as u64 + u64::from(put.whole) * 10);
+    assert!(rt; puts.eq([13, 3, 10, 1, 13]));
     Ok(())
 }
 

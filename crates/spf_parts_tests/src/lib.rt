@@ -1,8 +1,6 @@
-//! Tests of single crates: texts, files, ranges, formats, the words of the command line, predictors, runs in pieces, plans, and the texts of the decoders. They have a crate of their own, since a crate with tests is proved twice. What a command line shows is a row of `spf_examples/data/answers.txt`.
+//! Tests of single crates: texts, files, ranges, formats, the words of the command line, predictors, runs in order, and plans. They have a crate of their own, since a crate with tests is proved twice. What a command line shows is a row of `spf_examples/data/answers.txt`.
 #![tactic(auto)]
 
-#[cfg(test)]
-mod decoder_texts;
 #[cfg(test)]
 mod edge;
 #[cfg(test)]

@@ -39,7 +39,7 @@ use Rattle.spf_alike.specs.Alike.{SlotsLookAlike}
 use Rattle.spf_guess.specs.Guess.{Guess, Hosts, Telling, guess_of, guess_by, guess_for, predictor_of}
 use Rattle.spf_guess.specs.Statistics.{guess_at}
 use Rattle.spf_progress.specs.Traces.{Trace, entry_reached, IsRunReached, begin_with}
-use Rattle.spf_progress.specs.Progress.{IsAt, Progress, IsCompletedBy, GoesOn, HasCome, BlocksComeTo, entry_there, guess_there, with_construct}
+use Rattle.spf_progress.specs.Progress.{IsAt, Progress, IsCompletedBy, GoesOn, HasCome, HasRuns, BlocksComeTo, entry_there, guess_there, with_construct}
 use Rattle.spf_progress.specs.Laws.{ConstructsSettle, ConstructsEndRuns}
 use Rattle.spf_progress.proofs.Places.{goes-to}
 use Rattle.spf_progress.proofs.Fronts.{declared-after}
@@ -293,11 +293,14 @@ is-reached-so laws hosts p input before after progress c h e silent keeps r valu
     record {
       guesses = guesses-alike laws hosts p input before after progress c h e;
       values_are = real;
-      traces_are = traces-of h.blocks _ _ (λ trace all steps merges. record {
-        result = r;
-        run = subst (λ vs. IsSpeculativeRun (entry_reached p input c (reached_as g c e.goes.moment h e.header.state)) (λ n. (guess_at hosts progress.telling p input c (reached_as g c e.goes.moment h e.header.state) n).value) steps vs r) (sym real)
-            (runs-alike laws hosts p input before after progress c h e steps values r (all steps merges));
-        trapped = sym trap;
+      traces_are = traces-of h.blocks (HasRuns (entry_there p input c h after) (guess_there hosts progress.telling p input c h after) r values) _ (λ trace has. record {
+        logs = has.logs;
+        merging = λ steps merges. record {
+          result = r;
+          run = subst (λ vs. IsSpeculativeRun (entry_reached p input c (reached_as g c e.goes.moment h e.header.state)) (λ n. (guess_at hosts progress.telling p input c (reached_as g c e.goes.moment h e.header.state) n).value) steps vs r) (sym real)
+              (runs-alike laws hosts p input before after progress c h e steps values r (has.merging steps merges));
+          trapped = sym trap;
+        };
       }) traces out.traces_are;
     }
 

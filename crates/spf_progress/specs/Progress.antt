@@ -82,16 +82,18 @@ entry_there p input c h s = record {
 abbrev pub guess_there : Hosts → List Telling → Program → List ℕ → Construct → Header → Stand → ℕ → Guess
 guess_there hosts telling p input c h s n = guess_for hosts telling p input c (main_slots p s.frame) s.cells (h.low +ℤ pos n)
 
+-- the trace has one log for each block, and every merging of the logs is a speculative run from these guesses, with these values and this result
+pub record HasRuns (e : Entry) (guess : ℕ → Guess) (r : Result Carried Trap) (values : List Carried) (trace : Trace) : Type 0 where
+  pub logs : length trace ≡ e.header.blocks
+  pub merging : (steps : List Step) → Merges e.header.blocks (logs_in trace) steps → IsSpeculativeRun e (λ n. (guess n).value) steps values r
+
 -- The blocks from this entry came to this result, began at these values, and left this memory where none trapped.
--- Every merging of their logs is a speculative run from these guesses; without blocks there is no trace.
+-- Their trace is one of speculative runs from these guesses; without blocks there is no trace.
 pub record BlocksComeTo (e : Entry) (guess : ℕ → Guess) (r : Result Carried Trap) (values : List Carried) (memory : List ℤ) (traces : List Trace) : Type 0 where
   pub result : (plain_blocks e).result ≡ r
   pub values_are : (plain_blocks e).values ≡ values
   pub memory_is : (v : Carried) → r ≡ Ok v → memory ≡ (plain_blocks e).memory
-  pub traces_are : begin_with e.header.blocks
-      (λ trace. (steps : List Step) → Merges e.header.blocks (logs_in trace) steps → IsSpeculativeRun e (λ n. (guess n).value) steps values r)
-      (λ others. others ≡ [])
-      traces
+  pub traces_are : begin_with e.header.blocks (HasRuns e guess r values) (λ others. others ≡ []) traces
 
 -- the progress after a construct whose blocks began at these values, had these guesses and left these traces
 abbrev pub with_construct : (ℕ → Guess) → Construct → Header → List Carried → List Trace → Progress → Progress

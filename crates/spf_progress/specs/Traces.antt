@@ -1,5 +1,5 @@
 -- The traces of a run: for each construct with blocks, what its attempts left in the logs of its lanes.
-use Rattle.std.specs.Prelude.{◌≡◌, ℕ, zero, suc, List, [], ◌∷◌, ◌++◌, Result}
+use Rattle.std.specs.Prelude.{◌≡◌, ℕ, zero, suc, List, [], ◌∷◌, ◌++◌, length, Result}
 use Rattle.spf_ast.specs.declared.outcome.Trap.{Trap}
 use Rattle.spf_ast.specs.Carried.{Carried}
 use Rattle.spf_ast.specs.Syntax.{Program}
@@ -34,9 +34,10 @@ pub record IsRunReached (e : Entry) (guess : ℕ → Carried) (reals : RealValue
   pub run : IsSpeculativeRun e guess steps reals.values result
   pub trapped : is_trap result ≡ reals.trapped
 
--- every merging of a trace's logs that keeps the order of each log is a speculative run
-abbrev pub IsTraceOf : Entry → (ℕ → Carried) → RealValues → Trace → Type 0
-IsTraceOf e guess reals trace = (steps : List Step) → Merges e.header.blocks (logs_in trace) steps → IsRunReached e guess reals steps
+-- a trace has one log for each block, and every merging of the logs that keeps the order of each log is a speculative run
+pub record IsTraceOf (e : Entry) (guess : ℕ → Carried) (reals : RealValues) (trace : Trace) : Type 0 where
+  pub logs : length trace ≡ e.header.blocks
+  pub merging : (steps : List Step) → Merges e.header.blocks (logs_in trace) steps → IsRunReached e guess reals steps
 
 -- the first trace is that of a construct with so many blocks, and the others are those of later constructs; a construct without blocks has no trace
 abbrev pub begin_with : ℕ → (Trace → Type 0) → (List Trace → Type 0) → List Trace → Type 0

@@ -1,10 +1,22 @@
 //! What the program does with the words after its name: the help and the version, the hosts, and the command.
 #![tactic(auto)]
 
+ghost use Rattle.std.specs.Prelude.{◌≡◌, ◌⊎◌, ℕ, List, map, drop, string_bytes, IfOk, IfErr, Err};
+ghost use Rattle.spf_edge.specs.Bytes.{AddsPrefix};
+ghost use Rattle.spf_host_words.specs.HostWords.{Reading, Say, SayNothing};
+ghost use Rattle.spf_host_words.specs.declared.host_words.WordsError.TheVariants.{NotUnderstood};
+ghost use Rattle.spf_commands.specs.Message.{words_line};
+ghost use Rattle.spf_commands.specs.Whole.{handed, Whole};
+ghost use Rattle.spf_cli.specs.Answered.{sinks, IsAnswered, IsUntouched};
+ghost use Rattle.spf_usage.specs.Pages.{IsAnswer};
+ghost use Rattle.spf_shell_hosts.specs.Hosts.{answers_of};
+ghost use Rattle.spf_shell.specs.Shell.{AskForNoPage, IsTextPut, IsShown, AreRefused};
+
 use spf_cli::spf_main;
 use spf_edge::{Files, Open, PutError, Sink};
-use spf_host_words::{HostKind, WordsError, read_hosts};
-use spf_predictors::{Fixed, Last, Most, Predictor, Table};
+use spf_host_words::{WordsError, read_hosts};
+use spf_predictors::Predictor;
+use spf_shell_hosts::Host;
 use spf_usage::usage;
 use std::alloc::Global;
 use std::sync::Wait;
@@ -19,12 +31,6 @@ const PUT_FAILED: u8 = 6;
 /// The status where there is too little memory for the hosts.
 const NO_MEMORY: u8 = 8;
 
-/// How many different values a host counts that guesses the one it was told most often.
-const MOST_ROOM: u64 = 256;
-
-/// For how many blocks a host keeps a value that guesses by block numbers.
-const TABLE_ROOM: u64 = 4096;
-
 /// Makes the hosts that the words ask for, does what the words after them ask for, and gives the status.
 fn run_command<R: Threads + Wait + Sync, F: Files, S: Sink>(
     rt: &R,
@@ -33,16 +39,22 @@ fn run_command<R: Threads + Wait + Sync, F: Files, S: Sink>(
     files: &mut F,
     out: &mut S,
     err: &mut S,
-) -> Result<u8, WordsError> {
+) -> Result<u8, WordsError>
+    ensures answered { (reading : Reading) → Say (map string_bytes words.now) reading
+        → IfOk result (λ status. IsAnswered
+        (Whole (handed (map answers_of reading.kinds)) (drop reading.rest (map string_bytes words.now)))
+        (F.state files.old) (F.state files.new) status
+        (sinks (S.state out.old) (S.state out.new) (S.state err.old) (S.state err.new))) }
+    ensures says { IfOk result (λ _. (reading : Reading) × Say (map string_bytes words.now) reading) }
+    ensures nothing { result ≡ Err NotUnderstood → SayNothing (map string_bytes words.now) }
+    ensures unput { IfErr result (λ _.
+        (S.state out.new ≡ S.state out.old) × (S.state err.new ≡ S.state err.old)) }
+    ensures unfetched { IfErr result (λ _. F.state files.new ≡ F.state files.old) }
+{
     let asked = read_hosts(alloc, words)?;
     let mut hosts: Vec<Box<dyn Predictor>> = Vec::new(alloc);
     for kind in &asked.kinds {
-        match *kind {
-            HostKind::Fixed(value) => hosts.push(Box::new(alloc, Fixed::make(value))?)?,
-            HostKind::Last => hosts.push(Box::new(alloc, Last::make())?)?,
-            HostKind::Most => hosts.push(Box::new(alloc, Most::make(alloc, MOST_ROOM)?)?)?,
-            HostKind::Table => hosts.push(Box::new(alloc, Table::make(alloc, TABLE_ROOM)?)?)?,
-        }
+        hosts.push(Box::new(alloc, Host::make(alloc, *kind)?)?)?;
     }
     let (_, command) = words.split_at((asked.rest as usize).min(words.len()));
     Ok(spf_main(rt, alloc, command, files, out, err, hosts, &Open))
@@ -50,13 +62,18 @@ fn run_command<R: Threads + Wait + Sync, F: Files, S: Sink>(
 
 /// The status where the words that ask for hosts aren't understood, after a line on the error stream. Where that can't be put, the status
 /// alone tells it.
-fn not_understood<S: Sink>(err: &mut S) -> u8 {
+fn not_understood<S: Sink>(err: &mut S) -> u8
+    ensures status { result ≡ 2 }
+    ensures said { AddsPrefix (S.state err.old).taken (S.state err.new).taken words_line }
+{
     let _ = err.put(b"words not understood\n");
     NOT_UNDERSTOOD
 }
 
 /// Puts the help or the version, and gives the status.
-fn show<S: Sink>(out: &mut S, text: &str) -> u8 {
+fn show<S: Sink>(out: &mut S, text: &str) -> u8
+    ensures { IsTextPut text.now result (S.state out.old) (S.state out.new) }
+{
     match out.put(text.as_bytes()) {
         Ok(()) => 0,
         Err(PutError::Failed) => PUT_FAILED,
@@ -64,7 +81,8 @@ fn show<S: Sink>(out: &mut S, text: &str) -> u8 {
     }
 }
 
-/// Does what the words after the program's name ask for, and gives the status with which the program ends.
+/// Does what the words after the program's name ask for, and gives the status with which the program ends: 0 where the help or the
+/// version is shown, 2 where the words for hosts aren't understood, and else that of [`spf_main`].
 pub fn answer<R: Threads + Wait + Sync, F: Files, S: Sink>(
     rt: &R,
     alloc: Global,
@@ -72,7 +90,24 @@ pub fn answer<R: Threads + Wait + Sync, F: Files, S: Sink>(
     files: &mut F,
     out: &mut S,
     err: &mut S,
-) -> u8 {
+) -> u8
+    // The help or the version is shown.
+    ensures shown { (text : List ℕ) → IsAnswer (map string_bytes words.now) text
+        → IsShown text result (sinks (S.state out.old) (S.state out.new) (S.state err.old) (S.state err.new)) }
+
+    // Words with a broken pair for a host aren't understood.
+    ensures not_understood { AskForNoPage (map string_bytes words.now) → SayNothing (map string_bytes words.now)
+        → AreRefused result (sinks (S.state out.old) (S.state out.new) (S.state err.old) (S.state err.new))
+        ⊎ IsUntouched result (sinks (S.state out.old) (S.state out.new) (S.state err.old) (S.state err.new)) }
+
+    // Any others are answered as the words after the pairs are, with hosts of the kinds that these ask for.
+    ensures answered { (reading : Reading) → AskForNoPage (map string_bytes words.now)
+        → Say (map string_bytes words.now) reading
+        → IsAnswered
+        (Whole (handed (map answers_of reading.kinds)) (drop reading.rest (map string_bytes words.now)))
+        (F.state files.old) (F.state files.new) result
+        (sinks (S.state out.old) (S.state out.new) (S.state err.old) (S.state err.new)) }
+{
     if let Some(text) = usage(words) {
         return show(out, text);
     }

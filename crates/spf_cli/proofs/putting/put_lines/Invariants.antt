@@ -1,9 +1,9 @@
 use Rattle.std.proofs.Common.{drop}
 use Rattle.spf_commands.specs.Answering.{lines_of}
-use Rattle.spf_cli.specs.Putting.{AreLinesPutUpTo}
+use Rattle.spf_cli.proofs.Pieces.{AreLinesPutUpTo}
 use Rattle.spf_cli.proofs.putting.put_lines.Given as goal
 
 -- the lines before this one were put
 abbrev pub invariant-loop-line : goal.invariant-loop-line
 invariant-loop-line g l =
-    AreLinesPutUpTo (lines_of l.lines) (lines_of (drop l.line-index l.lines)) (g.S.Sink.taken l.initial.sink) (g.S.Sink.taken l.sink) (g.S.Sink.pieces l.initial.sink) (g.S.Sink.pieces l.sink) (g.S.Sink.faults l.initial.sink) (g.S.Sink.faults l.sink)
+    AreLinesPutUpTo (lines_of l.lines) (lines_of (drop l.line-index l.lines)) (g.S.Sink.state l.initial.sink) (g.S.Sink.state l.sink)

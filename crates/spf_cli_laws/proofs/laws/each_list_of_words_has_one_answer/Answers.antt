@@ -10,5 +10,6 @@ returns c =
       huf1 = c.files_have_one_verdict.ensures.huf1;
       lex1 = c.files_have_one_verdict.ensures.lex1;
       generated = c.each_demo_input_is_generated_once.ensures;
+      decoders = c.decoders_keep_their_formats.ensures;
     } in
     record { one = answers_same rules texts.one formats asks; left = none_unanswered rules texts.left formats asks }

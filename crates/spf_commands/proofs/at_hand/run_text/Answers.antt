@@ -3,7 +3,8 @@ use Rattle.std.proofs.lemmas.Result.{err_from_is_err_and}
 use Rattle.spf_ast.specs.Syntax.{Program}
 use Rattle.spf_ast.specs.View.{program as seen_program}
 use Rattle.spf_predictors.specs.Answers.{handed_in}
-use Rattle.spf_commands.specs.Whole.{Wanted, handed, Runs, with_stats}
+use Rattle.spf_commands.specs.Course.{Wanted}
+use Rattle.spf_commands.specs.Whole.{handed, Runs, with_stats}
 use Rattle.spf_words.specs.Only.{IsOnly}
 use Rattle.spf_commands.specs.Answering.{AnswersWith}
 use Rattle.spf_commands.proofs.AtHand.{text_left, rules_left, text_run, told_nothing, says_no_refusal, told_first_of, told_of}
@@ -44,3 +45,6 @@ returns-clause-told g c =
 
 pub returns-clause-untold : goal.returns-clause-untold
 returns-clause-untold g c refusal v = says_no_refusal c.args.text.now (seen_program c.in_ok-program.program) refusal c.in_ok-program.ensures.program v
+
+pub returns-clause-unrun : goal.returns-clause-unrun
+returns-clause-unrun g c = c.run_by_blocks.ensures.unrun

@@ -1,4 +1,5 @@
-use Rattle.std.proofs.Common.{◌≡◌, ◌≢◌, ◌∙◌, ℕ, sym, ap, refl, subst, Some, None, slice_get, List, ℤ}
+use Rattle.std.proofs.Common.{◌≡◌, ◌≢◌, ◌∙◌, ℕ, sym, ap, refl, subst, Some, None, length, slice_get, List, ℤ}
+use Rattle.std.proofs.lemmas.List.{length-map}
 use Rattle.spf_cells.specs.declared.view.LogEntry.{LogEntry}
 use Rattle.spf_cells.specs.Values.{LaneValue}
 use Rattle.spf_cells.specs.Finish.{AreAllLanes, IsFinish}
@@ -36,6 +37,7 @@ finished complete merging gives a v lanes trace before after h is ended these fi
           gives e g (cells_inside a) (lanes_in a.homes.items) trace (reals a.validation.count a.validation.blocks.items) x after h.ground.entry lf
           (subst (λ (s : Settled). LogsComeTo e g (logs_in (trace_of (lanes_in a.homes.items))) 0 e.header.start (reals a.validation.count a.validation.blocks.items) (result_as s)) carried come)
           (subst (λ m. IsFinish (cells_inside a) (lanes_in a.homes.items) trace m after) entry (subst (λ l. IsFinish (cells_inside a) l trace before after) these finish));
+      logs = ap length finish.logs ∙ length-map lanes (λ (l : LaneValue). l.log) ∙ ap length these ∙ lf.all.0 ∙ lf.made.blocks;
       merging = subst (λ (t : List (List LogEntry)). (steps : List Step) → Merges e.header.blocks (logs_in t) steps → IsSpeculativeRun e g steps (reals a.validation.count a.validation.blocks.items) (result_as a.validation.settled)) (sym (finish.logs ∙ ap trace_of these))
           (merging e g (cells_inside a) (lanes_in a.homes.items) (reals a.validation.count a.validation.blocks.items) (result_as a.validation.settled) h.ground.entry lf come);
     }

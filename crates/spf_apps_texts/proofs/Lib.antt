@@ -1,0 +1,5 @@
+mod Lines
+mod PackBitsText
+mod HuffmanText
+mod LexerText
+mod Said
