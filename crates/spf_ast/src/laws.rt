@@ -11,7 +11,6 @@ ghost use Rattle.spf_ast.specs.Laws.{
   SilentPartsLeaveTheOutput,
   HeadersLeaveTheOutput,
 };
-ghost use Rattle.spf_ast.specs.GoingOn.{BlocksWithoutBreakGoOn, LawfulBlocksKeepTheirBreaks, LawfulProgramsAreOrderly};
 
 /// A form, a state and a memory have exactly one list of events that is consistent with the memory, polls nothing, and is performed to its end.
 pub fn each_form_has_one_plain_run()
@@ -37,11 +36,4 @@ pub fn lawful_programs_are_quiet_and_small()
 pub fn silent_forms_leave_the_output()
     ensures parts { SilentPartsLeaveTheOutput }
     ensures headers { HeadersLeaveTheOutput }
-{}
-
-/// A block that holds no `break` of a loop around it never breaks off, and no lawful block outside of loops holds one.
-pub fn breaks_stay_in_their_loops()
-    ensures go_on { BlocksWithoutBreakGoOn }
-    ensures lawful { LawfulBlocksKeepTheirBreaks }
-    ensures programs { LawfulProgramsAreOrderly }
 {}
