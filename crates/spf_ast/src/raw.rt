@@ -58,11 +58,9 @@ pub enum RawStmtKind {
     Call(Name, Vec<RawExpr>),
     Fold(Box<RawFold>),
     Pair(Box<RawPair>),
-    /// Ends the innermost loop.
-    Break,
 }
 
-/// How one part of a block's carried row is guessed.
+/// How a block's carried value is guessed.
 #[derive(Drop)]
 pub enum RawPredict {
     /// By an expression.
@@ -75,26 +73,26 @@ pub enum RawPredict {
 #[derive(Drop)]
 #[cycle(raw)]
 pub struct RawFold {
-    pub carried: Vec<Name>,
-    pub start: Vec<RawExpr>,
+    pub carried: Name,
+    pub start: RawExpr,
     pub block: Name,
     pub low: RawExpr,
     pub high: RawExpr,
-    pub predict: Vec<RawPredict>,
+    pub predict: RawPredict,
     pub body: Vec<RawStmt>,
-    pub next: Vec<RawExpr>,
+    pub next: RawExpr,
     pub next_line: u32,
 }
 
-/// `spec`: a producer, and a consumer of the row that it gives.
+/// `spec`: a producer, and a consumer of the value that it gives.
 #[derive(Drop)]
 #[cycle(raw)]
 pub struct RawPair {
-    pub carried: Vec<Name>,
+    pub carried: Name,
     pub producer: Vec<RawStmt>,
-    pub give: Vec<RawExpr>,
+    pub give: RawExpr,
     pub give_line: u32,
-    pub predict: Vec<RawPredict>,
+    pub predict: RawPredict,
     pub consumer: Vec<RawStmt>,
 }
 
@@ -112,8 +110,6 @@ pub struct RawFunction {
 /// A whole program. `main_line` is the line of the word `main`.
 #[derive(Drop)]
 pub struct RawProgram {
-    /// The version of the language, 1 or 2.
-    pub version: u32,
     pub arrays: Vec<Array>,
     pub functions: Vec<RawFunction>,
     pub main: Vec<RawStmt>,

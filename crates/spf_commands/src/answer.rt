@@ -49,7 +49,6 @@ use crate::message::{
 };
 use crate::reading::{Unread, read_program, refusal_line};
 use crate::status::Status;
-use spf_ast::laws::breaks_stay_in_their_loops;
 use spf_ast::outcome::Outcome;
 use spf_ast::syntax::{Array, Program};
 use spf_check::check::check;
@@ -60,7 +59,6 @@ use spf_edge::{FetchError, Files, Gate};
 use spf_engine::run::run_instance;
 use spf_exec::plain_run;
 use spf_guess::stats::Stats;
-use spf_layout::arrays::max_cells_of;
 use spf_layout::instance::Instance;
 use spf_layout::layout::RunError;
 use spf_predictors::Predictor;
@@ -307,12 +305,12 @@ fn ran(
     }
 }
 
-/// The answer where the arrays of a program have too many cells, or memory runs out.
-pub(crate) fn not_run(alloc: Global, program: &Program, error: RunError) -> Exit
-    ensures { IsNotRun (seen_program program.now) error result }
+/// The answer where the arrays have too many cells, or memory runs out.
+pub(crate) fn not_run(alloc: Global, error: RunError) -> Exit
+    ensures { IsNotRun error result }
 {
     match error {
-        RunError::TooManyCells { count } => match too_many(alloc, count, max_cells_of(program)) {
+        RunError::TooManyCells { count } => match too_many(alloc, count) {
             Ok(given) => Exit::Answered(given),
             Err(_) => Exit::NoMemory,
         },
@@ -320,15 +318,11 @@ pub(crate) fn not_run(alloc: Global, program: &Program, error: RunError) -> Exit
     }
 }
 
-/// The answer where the arrays have so many cells, which are over the limit.
-fn too_many(alloc: Global, count: u128, limit: u32) -> Result<Answer, AllocError>
-    ensures { IfOk result (λ a. seen_answer a ≡ too_many_cells count limit) }
+/// The answer where the arrays have so many cells, which are too many.
+fn too_many(alloc: Global, count: u128) -> Result<Answer, AllocError>
+    ensures { IfOk result (λ a. seen_answer a ≡ too_many_cells count) }
 {
-    refused(
-        alloc,
-        Status::OverLimit,
-        too_many_line(alloc, count, limit)?,
-    )
+    refused(alloc, Status::OverLimit, too_many_line(alloc, count)?)
 }
 
 /// The answer where a host isn't handed in.
@@ -349,10 +343,9 @@ fn run_plainly(
     requires plain { options.plain ≡ true }
     ensures { (handed : Handed) → AnswersWith (IsOnly (Runs (seen_options options) handed (seen_program program.now) input.now)) result }
 {
-    breaks_stay_in_their_loops();
     let instance = match Instance::make(alloc, program, input) {
         Ok(instance) => instance,
-        Err(error) => return Err(not_run(alloc, program, error)),
+        Err(error) => return Err(not_run(alloc, error)),
     };
     let outcome = plain_run::run_instance(alloc, &instance)?;
     Ok(ran(alloc, options, &instance, outcome, Stats::none())?)
@@ -388,10 +381,9 @@ pub(crate) fn run_by_blocks<R: Threads + Wait + Sync, G: Gate + Sync>(
         (handed_in (map (λ h. answer h) hosts.new.items))) result }
 {
     let program = checked.program();
-    breaks_stay_in_their_loops();
     let instance = match Instance::make(alloc, program, input) {
         Ok(instance) => instance,
-        Err(error) => return Err(not_run(alloc, program, error)),
+        Err(error) => return Err(not_run(alloc, error)),
     };
     if let Some(host) = first_missing(program, hosts.len() as u64) {
         return Ok(without_host(alloc, host)?);

@@ -1,7 +1,6 @@
 pub mod Ways
 pub mod Meeting
 pub mod Meets
-pub mod Leaves
 pub mod Products
 pub mod Within
 pub mod Expressions

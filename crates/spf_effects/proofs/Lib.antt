@@ -1,3 +1,2 @@
 pub mod Gathering
-pub mod Guessing
 pub mod Listed

@@ -1,5 +1,5 @@
 -- What productions are made of.
-use Rattle.std.specs.Prelude.{ℕ, Bool, List, ℤ}
+use Rattle.std.specs.Prelude.{ℕ, List, ℤ}
 use Rattle.spf_text.specs.declared.token.Keyword.{Keyword}
 use Rattle.spf_text.specs.declared.token.Sign.{Sign}
 use Rattle.spf_text.specs.declared.token.TokenKind.{TokenKind}
@@ -8,8 +8,7 @@ use Rattle.spf_ast.specs.Syntax.{Array}
 use Rattle.spf_ast.specs.RawSyntax.{RawExpression, RawPredictor, RawStatement, RawBlock, RawFunction, RawProgram}
 
 -- A token, or what a production is named after. The first number of a part is how many levels of nesting are open
--- where it begins; `used` is how many operators its expression has so far. A part with statements is told whether
--- `break` is one.
+-- where it begins; `used` is how many operators its expression has so far.
 pub data Part : Type 0 where
   -- this token; a sign that opens a level of nesting; an operator of this rank
   token : TokenKind → Part
@@ -19,9 +18,8 @@ pub data Part : Type 0 where
   name : Part
   number : Part
   count : Part
-  -- a part any number of times, or so many times at most; a part with the line of its first token
+  -- a part any number of times; a part with the line of its first token
   many : Part → Part
-  few : (most : ℕ) → Part → Part
   lined : Part → Part
   -- an expression, and what it is made of
   expression : ℕ → Part
@@ -31,23 +29,17 @@ pub data Part : Type 0 where
   operand : ℕ → Part
   arguments : ℕ → Part
   next_argument : ℕ → Part
-  -- the names, the expressions and the predictors of a row, and one predictor
-  names : ℕ → Part
-  row : ℕ → Part
-  guess : ℕ → Part
-  predictor : ℕ → Part
-  next_predictor : ℕ → Part
   -- a statement, and what it is made of
-  form : (breaks : Bool) → ℕ → Part
-  block : (breaks : Bool) → ℕ → Part
-  otherwise : (breaks : Bool) → ℕ → Part
+  form : ℕ → Part
+  block : ℕ → Part
+  otherwise : ℕ → Part
+  guess : ℕ → Part
   -- a program, and what it is made of
-  header : Part
   size : Part
   array : Part
   parameters : Part
   next_parameter : Part
-  function : (breaks : Bool) → Part
+  function : Part
   program : Part
 
 -- What a part says. A token says its line; where operators are counted, their number comes too.
@@ -59,7 +51,6 @@ Value name = List ℕ
 Value number = ℤ
 Value count = ℕ
 Value (many p) = List (Value p)
-Value (few most p) = List (Value p)
 Value (lined p) = ℕ × Value p
 Value (expression n) = RawExpression
 Value (level n rank used) = RawExpression × ℕ
@@ -68,20 +59,15 @@ Value (compared n rank a used) = RawExpression × ℕ
 Value (operand n) = RawExpression
 Value (arguments n) = List RawExpression
 Value (next_argument n) = RawExpression
-Value (names n) = List (List ℕ)
-Value (row n) = List RawExpression
-Value (guess n) = List RawPredictor
-Value (predictor n) = RawPredictor
-Value (next_predictor n) = RawPredictor
-Value (form breaks n) = RawStatement
-Value (block breaks n) = RawBlock
-Value (otherwise breaks n) = RawBlock
-Value header = ℕ
+Value (form n) = RawStatement
+Value (block n) = RawBlock
+Value (otherwise n) = RawBlock
+Value (guess n) = RawPredictor
 Value size = ℤ × ℤ
 Value array = Array
 Value parameters = List (List ℕ)
 Value next_parameter = List ℕ
-Value (function breaks) = RawFunction
+Value function = RawFunction
 Value program = RawProgram
 
 abbrev pub keyword : Keyword → Part
@@ -91,8 +77,8 @@ abbrev pub sign : Sign → Part
 sign s = token (kind.Sign s)
 
 -- a statement is a form with its line
-abbrev pub statement : Bool → ℕ → Part
-statement breaks n = lined (form breaks n)
+abbrev pub statement : ℕ → Part
+statement n = lined (form n)
 
 -- what a production says: parts one after another, of which later ones may depend on what earlier ones say, and alternatives
 pub data Rule (A : Type 0) : Type 0 where

@@ -1,8 +1,8 @@
 -- A construct is its blocks: what it means is what its block runs come to, one after another.
-use Rattle.std.specs.Prelude.{◌≡◌, ℕ, zero, suc, Bool, true, false, List, [], ◌∷◌, ◌++◌, Some, Result, Ok, Err, ℤ, pos, ◌+ℤ◌}
+use Rattle.std.specs.Prelude.{◌≡◌, ℕ, zero, suc, Bool, true, false, List, [], ◌∷◌, Some, Result, Ok, Err, ℤ, pos, ◌+ℤ◌}
 use Rattle.spf_ast.specs.declared.outcome.Trap.{Trap}
 use Rattle.spf_ast.specs.Carried.{Carried, with_carried}
-use Rattle.spf_ast.specs.Interaction.{Interaction, State, Flow, Onward, Ending, Value, Trapped}
+use Rattle.spf_ast.specs.Interaction.{Interaction, State, Ending, Value, Trapped}
 use Rattle.spf_ast.specs.Syntax.{Statement, Function}
 use Rattle.spf_ast.specs.Meaning.{Environment, Extent, environment_before, statement_means}
 use Rattle.spf_ast.specs.Plain.{plain_answer, plain_memory}
@@ -42,10 +42,10 @@ abbrev pub is_trap : Result Carried Trap → Bool
 is_trap (Ok value) = false
 is_trap (Err trap) = true
 
--- a construct ends as its blocks did: its carried slots have their row, and the other visible slots are those of the entry; or it ends with their trap
-abbrev pub IsSettledAs : List ℕ → State → List ℕ → Result Carried Trap → Ending Flow → Type 0
-IsSettledAs visible entry carried (Ok value) (Value Onward after) =
-    LookAlike (carried ++ visible) after (record entry { slots = with_carried carried value entry.slots })
+-- a construct ends as its blocks did: its carried slot has their value, and the other visible slots are those of the entry; or it ends with their trap
+abbrev pub IsSettledAs : List ℕ → State → ℕ → Result Carried Trap → Ending (Unit {0}) → Type 0
+IsSettledAs visible entry carried (Ok value) (Value done after) =
+    LookAlike (carried ∷ visible) after (record entry { slots = with_carried carried value entry.slots })
 IsSettledAs visible entry carried (Err trap) (Trapped other output) = (other ≡ trap) × (output ≡ entry.output)
 IsSettledAs visible entry carried _ _ = ⊥
 

@@ -16,4 +16,3 @@ pub mod Programs
 pub mod Parts
 pub mod Settings
 pub mod Fitted
-pub mod Rows

@@ -2,6 +2,6 @@ mod Best
 mod Counts
 pub mod Handed
 mod Kept
-pub mod Named
+mod Named
 mod Stores
 mod Tables

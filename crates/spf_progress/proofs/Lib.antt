@@ -1,6 +1,5 @@
 pub mod Places
 pub mod Fronts
-pub mod Guesses
 pub mod Performing
 pub mod Tallies
 pub mod Standing

@@ -2,9 +2,7 @@ pub mod Pieces
 pub mod Bytes
 pub mod Cuts
 pub mod Wholes
-pub mod Parens
 pub mod Lexing
-pub mod Limits
 pub mod Levels
 pub mod Statements
 pub mod Programs

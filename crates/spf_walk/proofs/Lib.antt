@@ -8,4 +8,3 @@ pub mod Sweeping
 pub mod Results
 pub mod Walked
 pub mod Assigns
-pub mod Breaks
