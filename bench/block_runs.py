@@ -50,7 +50,7 @@ def main():
             plain, _ = counted(folder, ["run", path, data, "--plain"], IN_ORDER)
             lanes, told = counted(folder, ["run", path, data, "--workers", "1", "--stats"], ATTEMPTS)
             blocks, hits, misses, blind = map(int, re.search(r"blocks (\d+) hits (\d+) misses (\d+) blind (\d+)", told).groups())
-            runs = blocks + misses + blind
+            runs = blocks + misses
             print(f"| {name} | {blocks} | {runs} | {plain / blocks:,.0f} | {lanes / runs:,.0f} | {lanes / runs / (plain / blocks):.2f} |", flush=True)
 
 

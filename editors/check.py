@@ -84,7 +84,7 @@ def is_colored_whole(word, prefixes):
 
 
 for word in KEYWORDS:
-    check(is_colored_whole(word, ("keyword.", "storage.", "variable.language.", "invalid.")), f"grammar: keyword {word}")
+    check(is_colored_whole(word, ("keyword.", "storage.", "variable.language.")), f"grammar: keyword {word}")
 for sign in SIGNS:
     check(is_colored_whole(sign, ("keyword.operator.", "punctuation.")), f"grammar: sign {sign}")
 for _, rule in RULES_IN_ORDER:

@@ -1,5 +1,5 @@
 -- Speculative runs from other slots.
-use Rattle.std.proofs.Common.{◌≡◌, ℕ, zero, suc, ◌<◌, List, [], Some, ℤ, refl, sym, ap, ◌∙◌, subst}
+use Rattle.std.proofs.Common.{◌≡◌, ℕ, zero, suc, List, [], Some, ℤ, refl, sym, ap, ◌∙◌, subst}
 use Rattle.std.specs.Prelude.{Result, length}
 use Rattle.spf_ast.specs.declared.outcome.Trap.{Trap}
 use Rattle.spf_ast.specs.Carried.{Carried}
@@ -64,7 +64,7 @@ same-begin : (e : Entry) (slots : List ℤ) (guess : ℕ → Carried) (n : ℕ) 
 same-begin e slots guess zero = refl
 same-begin e slots guess (suc n) = refl
 
--- the log of a block at its real value, with an answer that is alike
+-- the log of a block at its real row, with an answer that is alike
 record IsRealLogToo (e : Entry) (guess : ℕ → Carried) (After : Relation) (n : ℕ) (v : Carried) (log : List Event) (answer : Ending Carried) : Type 0 where
   other : Ending Carried
   real : IsRealLog e guess n v log other
@@ -85,7 +85,7 @@ real-log-too e slots After alike guess n v log answer (again first second split 
       alike = w.alike;
     }
 
--- a block that gave a value gives it from other slots too
+-- a block that gave a row gives it from other slots too
 record GivesToo (e : Entry) (guess : ℕ → Carried) (n : ℕ) (v next : Carried) (log : List Event) : Type 0 where
   state : State
   real : IsRealLog e guess n v log (Value next state)

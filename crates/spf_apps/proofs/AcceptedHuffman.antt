@@ -1,13 +1,12 @@
 -- The program that decodes HUF1 is accepted.
-use Rattle.std.proofs.Common.{◌≡◌, ℕ, zero, suc, ◌+◌, ◌*◌, ◌-◌, ◌≤◌, ◌^◌, Bool, true, false, List, [], ◌∷◌, Some, ℤ, pos, refl, sym, ap, ◌∙◌, subst, arith}
+use Rattle.std.proofs.Common.{ℕ, zero, suc, ◌+◌, ◌*◌, ◌-◌, ◌≤◌, ◌^◌, [], ◌∷◌, pos, refl, sym, subst, arith}
 use Rattle.std.proofs.lemmas.Int.{ints}
 use Rattle.spf_lemmas.proofs.Members.{some_is}
-use Rattle.spf_region.specs.declared.bound.Bound.{Bound}
-use Rattle.spf_region.specs.declared.bound.Bound.TheVariants.{Known, Unknown}
+use Rattle.spf_region.specs.declared.bound.Bound.TheVariants.{Known}
 use Rattle.spf_region.specs.declared.range.Range.TheVariants.{Affine}
 use Rattle.spf_region.specs.Bounds.{number, plus, times}
-use Rattle.spf_ast.specs.Syntax.{Program, Block, Call, argument, no_more, Let, For, on_line, Local}
-use Rattle.spf_ast.specs.Construct.{Construct, fold}
+use Rattle.spf_ast.specs.Syntax.{Block, Call, argument, no_more, Let, For, on_line, Local}
+use Rattle.spf_ast.specs.Construct.{fold}
 use Rattle.spf_findings.specs.Found.{turn_bound}
 use Rattle.spf_findings.specs.Parts.{main_setting, within_fold}
 use Rattle.spf_rollback.specs.Rules.{KeepsTheRules}
@@ -15,7 +14,7 @@ use Rattle.spf_check.specs.Accepting.{IsAccepted}
 use Rattle.spf_programs.specs.Laws.{IsBlockSize}
 use Rattle.spf_programs.specs.Huffman.{huffman_program, bite, look, head, body, block_begin, bits_begin, bits_end, one_byte}
 use Rattle.spf_programs.specs.Writing as writing
-use Rattle.spf_apps.proofs.Tame.{NoWrite, range_of, reads_only, calls-tame}
+use Rattle.spf_apps.proofs.Tame.{range_of, guess-tame, calls-tame}
 use Rattle.spf_apps.proofs.Rules.{IsInside, FillsItsBlocks, fold-keeps}
 use Rattle.spf_apps.proofs.Ends.{begin-is, end-is, bit-is}
 use Rattle.spf_apps.proofs.Filled.{BeginsWithFill, filled-tame, filled-fills}
@@ -35,7 +34,7 @@ bit_inside size h =
     within : IsInside 1 (pos (8 * size)) (Affine 1 (pos (8 * size)) (pos 0) (pos (8 * (size - 1) + 7)))
     within = (refl, refl, omega (arith, ints), omega (arith, ints, h.0))
 
-filled : (size : ℕ) → IsBlockSize size → BeginsWithFill (main_setting (huffman_program size)) (within_fold (huffman_program size) (head size)) 1 (8 * size) (bits_begin size) (bits_end size) (writing.number 0) (rest size) (Local 5)
+filled : (size : ℕ) → IsBlockSize size → BeginsWithFill (main_setting (huffman_program size)) (within_fold (huffman_program size) (head size)) 1 (8 * size) (bits_begin size) (bits_end size) (writing.number 0) (rest size) (argument (Local 5) no_more)
 filled size h = record {
   calls = calls-tame 1 (bite ∷ look ∷ []) refl 2;
   some = omega (arith, h.0);
@@ -53,9 +52,9 @@ fold_filled size h =
     let g = main_setting (huffman_program size) in
     let slots = within_fold (huffman_program size) (head size) in
     record {
-      body = filled-tame g slots 1 (8 * size) 31 (bits_begin size) (bits_end size) (writing.number 0) (rest size) (Local 5) (filled size h);
-      fills = filled-fills g slots 1 (8 * size) 31 (bits_begin size) (bits_end size) (writing.number 0) (rest size) (Local 5) (filled size h);
-      guess = reads_only 1 NoWrite g slots (calls-tame 1 (bite ∷ look ∷ []) refl 2) (Call 1 (argument (block_begin size) no_more)) refl;
+      body = filled-tame g slots 1 (8 * size) 31 (bits_begin size) (bits_end size) (writing.number 0) (rest size) (argument (Local 5) no_more) (filled size h);
+      fills = filled-fills g slots 1 (8 * size) 31 (bits_begin size) (bits_end size) (writing.number 0) (rest size) (argument (Local 5) no_more) (filled size h);
+      guess = guess-tame 1 g slots (calls-tame 1 (bite ∷ look ∷ []) refl 2) (Call 1 (argument (block_begin size) no_more)) refl;
       assigns_no_outer = refl;
       emits_nothing = refl;
     }

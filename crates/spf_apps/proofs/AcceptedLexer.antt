@@ -1,19 +1,16 @@
 -- The program that runs LEX1 machines is accepted.
-use Rattle.std.proofs.Common.{◌≡◌, ℕ, zero, suc, ◌-◌, ◌≤◌, ◌^◌, Bool, true, false, List, [], ◌∷◌, Some, ℤ, pos, refl, sym, ap, ◌∙◌, subst, arith}
+use Rattle.std.proofs.Common.{ℕ, zero, suc, [], ◌∷◌, pos, refl, subst}
 use Rattle.spf_lemmas.proofs.Members.{some_is}
-use Rattle.spf_region.specs.declared.bound.Bound.{Bound}
-use Rattle.spf_region.specs.declared.bound.Bound.TheVariants.{Known, Unknown}
-use Rattle.spf_region.specs.Bounds.{number, plus, times}
-use Rattle.spf_ast.specs.Syntax.{Program, Block, Call, argument, no_more, Let, For, on_line, Local}
-use Rattle.spf_ast.specs.Construct.{Construct, fold}
-use Rattle.spf_findings.specs.Found.{turn_bound}
+use Rattle.spf_region.specs.Bounds.{number}
+use Rattle.spf_ast.specs.Syntax.{Block, Call, argument, no_more, Let, For, on_line, Local}
+use Rattle.spf_ast.specs.Construct.{fold}
 use Rattle.spf_findings.specs.Parts.{main_setting, within_fold}
 use Rattle.spf_rollback.specs.Rules.{KeepsTheRules}
 use Rattle.spf_check.specs.Accepting.{IsAccepted}
 use Rattle.spf_programs.specs.Laws.{IsBlockSize, IsMachineCount}
 use Rattle.spf_programs.specs.Lexer.{lexer_program, program_for, machine_length, look, head, body, block_begin, block_end, one_byte}
 use Rattle.spf_programs.specs.Writing as writing
-use Rattle.spf_apps.proofs.Tame.{NoWrite, reads_only, calls-tame}
+use Rattle.spf_apps.proofs.Tame.{guess-tame, calls-tame}
 use Rattle.spf_apps.proofs.Rules.{FillsItsBlocks, fold-keeps}
 use Rattle.spf_apps.proofs.Ends.{begin-is, end-is}
 use Rattle.spf_apps.proofs.Filled.{BeginsWithFill, filled-tame, filled-fills}
@@ -23,7 +20,7 @@ use Rattle.spf_apps.proofs.AcceptedPackBits.{few, place_inside}
 abbrev rest : (size classes machine : ℕ) → Block
 rest size classes machine = on_line 12 (Let 2 (Local 0)) (writing.only 13 (For 3 (block_begin size) (block_end size) (one_byte classes machine)))
 
-filled : (size classes machine : ℕ) → IsBlockSize size → BeginsWithFill (main_setting (program_for size classes machine)) (within_fold (program_for size classes machine) (head size machine)) 0 size (block_begin size) (block_end size) (writing.number 0) (rest size classes machine) (Local 2)
+filled : (size classes machine : ℕ) → IsBlockSize size → BeginsWithFill (main_setting (program_for size classes machine)) (within_fold (program_for size classes machine) (head size machine)) 0 size (block_begin size) (block_end size) (writing.number 0) (rest size classes machine) (argument (Local 2) no_more)
 filled size classes machine h = record {
   calls = calls-tame 0 (look classes machine ∷ []) refl 1;
   some = h.0;
@@ -41,9 +38,9 @@ fold_filled size classes machine h =
     let g = main_setting (program_for size classes machine) in
     let slots = within_fold (program_for size classes machine) (head size machine) in
     record {
-      body = filled-tame g slots 0 size 11 (block_begin size) (block_end size) (writing.number 0) (rest size classes machine) (Local 2) (filled size classes machine h);
-      fills = filled-fills g slots 0 size 11 (block_begin size) (block_end size) (writing.number 0) (rest size classes machine) (Local 2) (filled size classes machine h);
-      guess = reads_only 0 NoWrite g slots (calls-tame 0 (look classes machine ∷ []) refl 1) (Call 0 (argument (block_begin size) no_more)) refl;
+      body = filled-tame g slots 0 size 11 (block_begin size) (block_end size) (writing.number 0) (rest size classes machine) (argument (Local 2) no_more) (filled size classes machine h);
+      fills = filled-fills g slots 0 size 11 (block_begin size) (block_end size) (writing.number 0) (rest size classes machine) (argument (Local 2) no_more) (filled size classes machine h);
+      guess = guess-tame 0 g slots (calls-tame 0 (look classes machine ∷ []) refl 1) (Call 0 (argument (block_begin size) no_more)) refl;
       assigns_no_outer = refl;
       emits_nothing = refl;
     }

@@ -1,24 +1,21 @@
 -- The program that unpacks PackBits is accepted.
-use Rattle.std.proofs.Common.{◌≡◌, ℕ, zero, suc, ◌-◌, ◌≤◌, ◌^◌, Bool, true, false, List, [], ◌∷◌, Some, ℤ, pos, refl, sym, ap, ◌∙◌, subst, arith}
-use Rattle.std.specs.Prelude.{slice_get, ◌≤ℤ◌, ◌<ℤ◌}
+use Rattle.std.proofs.Common.{ℕ, zero, suc, ◌≤◌, ◌^◌, [], pos, refl, sym, ◌∙◌, subst, arith}
 use Rattle.spf_lemmas.proofs.Members.{some_is}
-use Rattle.spf_region.specs.declared.bound.Bound.{Bound}
-use Rattle.spf_region.specs.declared.bound.Bound.TheVariants.{Known, Unknown}
+use Rattle.spf_region.specs.declared.bound.Bound.TheVariants.{Known}
 use Rattle.spf_region.specs.Bounds.{number, plus, times}
-use Rattle.spf_region.specs.Ranges.{Offsets}
-use Rattle.spf_ast.specs.Syntax.{Program, Block, Let, on_line, Local}
-use Rattle.spf_ast.specs.Construct.{Construct, fold, constructs_in}
+use Rattle.spf_ast.specs.Syntax.{Block, argument, no_more, Let, on_line, Local}
+use Rattle.spf_ast.specs.Construct.{fold}
 use Rattle.spf_findings.specs.Found.{turn_bound}
 use Rattle.spf_findings.specs.Parts.{main_setting, within_fold}
 use Rattle.spf_rollback.specs.Rules.{KeepsTheRules}
 use Rattle.spf_check.specs.Accepting.{IsAccepted}
 use Rattle.spf_programs.specs.Laws.{IsBlockSize}
-use Rattle.spf_programs.specs.PackBits.{packbits_program, head, body, block_begin, block_end, block_bytes, one_byte, header, data_byte}
+use Rattle.spf_programs.specs.PackBits.{packbits_program, head, body, block_begin, block_end, block_bytes}
 use Rattle.spf_programs.specs.Writing as writing
-use Rattle.spf_apps.proofs.Tame.{NoWrite, range_of, tame-nothing, quiet_block-stores, calls-tame}
+use Rattle.spf_apps.proofs.Tame.{range_of, guess-tame, calls-tame}
 use Rattle.spf_apps.proofs.Filled.{BeginsWithFill, filled-tame, filled-fills}
 use Rattle.spf_apps.proofs.Rules.{IsInside, FillsItsBlocks, fold-keeps}
-use Rattle.spf_apps.proofs.Ends.{begin-is, end-is, turn-is, inside, range-tame, range-fills}
+use Rattle.spf_apps.proofs.Ends.{begin-is, end-is, turn-is, inside}
 
 -- what follows the fill
 abbrev rest : ℕ → Block
@@ -32,7 +29,7 @@ pub place_inside : (size : ℕ) → IsBlockSize size → IsInside 0 (pos size) (
 place_inside size h =
     subst (λ b. IsInside 0 (pos size) (range_of 0 b)) (sym ((λ i. turn_bound (begin-is size (few size h.1) i) (end-is size (few size h.1) i)) ∙ turn-is size h.0 (few size h.1))) (inside 0 size h.0)
 
-filled : (size : ℕ) → IsBlockSize size → BeginsWithFill (main_setting (packbits_program size)) (within_fold (packbits_program size) (head size)) 0 size (block_begin size) (block_end size) (writing.number 0) (rest size) (Local 2)
+filled : (size : ℕ) → IsBlockSize size → BeginsWithFill (main_setting (packbits_program size)) (within_fold (packbits_program size) (head size)) 0 size (block_begin size) (block_end size) (writing.number 0) (rest size) (argument (Local 2) no_more)
 filled size h = record {
   calls = calls-tame 0 [] refl 0;
   some = h.0;
@@ -50,9 +47,9 @@ fold_filled size h =
     let g = main_setting (packbits_program size) in
     let slots = within_fold (packbits_program size) (head size) in
     record {
-      body = filled-tame g slots 0 size 4 (block_begin size) (block_end size) (writing.number 0) (rest size) (Local 2) (filled size h);
-      fills = filled-fills g slots 0 size 4 (block_begin size) (block_end size) (writing.number 0) (rest size) (Local 2) (filled size h);
-      guess = tame-nothing 0 NoWrite;
+      body = filled-tame g slots 0 size 4 (block_begin size) (block_end size) (writing.number 0) (rest size) (argument (Local 2) no_more) (filled size h);
+      fills = filled-fills g slots 0 size 4 (block_begin size) (block_end size) (writing.number 0) (rest size) (argument (Local 2) no_more) (filled size h);
+      guess = guess-tame 0 g slots (calls-tame 0 [] refl 0) (writing.number 0) refl;
       assigns_no_outer = refl;
       emits_nothing = refl;
     }

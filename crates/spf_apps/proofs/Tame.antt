@@ -1,7 +1,7 @@
 -- What forms find that read one array nowhere, and store only where a test says.
-use Rattle.std.proofs.Common.{◌≡◌, ◌⊎◌, inl, inr, ℕ, zero, suc, Bool, true, false, List, [], ◌∷◌, ◌++◌, Some, None, Option, ℤ, pos, refl, sym, ap, ◌∙◌, subst, arith, length}
+use Rattle.std.proofs.Common.{◌≡◌, ℕ, zero, suc, Bool, true, false, List, [], ◌∷◌, ◌++◌, Some, None, Option, ℤ, pos, refl, subst, arith, length}
 use Rattle.std.specs.Prelude.{◌&&◌, ◌||◌, not, ◌==◌, ◌+ℤ◌, ◌-ℤ◌, int_lt, if◌then◌else◌, slice_get}
-use Rattle.std.specs.List.{AllByRecursion, list_any}
+use Rattle.std.specs.List.{AllByRecursion}
 use Rattle.std.specs.Ordering.{int_eq}
 use Rattle.std.proofs.lemmas.Bool.Decides.{nat_tests}
 use Rattle.spf_lemmas.proofs.Members.{some_is}
@@ -9,13 +9,13 @@ use Rattle.spf_region.specs.declared.bound.Bound.{Bound}
 use Rattle.spf_region.specs.declared.bound.Bound.TheVariants.{Known, Unknown}
 use Rattle.spf_region.specs.declared.range.Range.{Range}
 use Rattle.spf_region.specs.declared.range.Range.TheVariants.{Whole, Affine}
-use Rattle.spf_region.specs.Ranges.{Offsets, array_of, joined, has_offset, in_both, covers}
+use Rattle.spf_region.specs.Ranges.{Offsets, array_of, joined, has_offset, covers}
 use Rattle.spf_region.specs.Bounds.{is_small}
 use Rattle.spf_ast.specs.Syntax.{Expression, Number, Local, Len, Input, Load, Call, Neg, Binary, Arguments, no_more, argument, Condition, Compare, Both, Either, Not}
-use Rattle.spf_ast.specs.Syntax.{Statement, Let, Assign, Store, Fill, Emit, Fail, If, For, While, Do, Fold, Pair, Block, end, on_line, Function}
-use Rattle.spf_findings.specs.Found.{Found, Finds, finds_nothing, ◌then◌, perhaps, either, unless_covered, reads_element, writes_element, has_no_turn, Sweep, sweep_joined, sweeps_joined, swept, turns}
-use Rattle.spf_findings.specs.Forms.{Setting, Entered, expression_bound, argument_bounds, bounds_behind, bounds_at_end, bounds_in_turn, sweeps, expression_finds, arguments_find, condition_finds, statement_finds, block_finds, block_then}
-use Rattle.spf_findings.specs.Parts.{own_bounds, setting_in, entered, call_before}
+use Rattle.spf_ast.specs.Syntax.{Statement, Let, Assign, Store, Fill, Emit, Fail, If, For, While, Do, Fold, Pair, Break, Block, end, on_line, Function, By}
+use Rattle.spf_findings.specs.Found.{Found, Finds, finds_nothing, ◌then◌, perhaps, either, reads_element, writes_element, has_no_turn, Sweep, sweep_joined, sweeps_joined, swept, turns}
+use Rattle.spf_findings.specs.Forms.{Setting, Entered, expression_bound, argument_bounds, bounds_behind, bounds_at_end, bounds_in_turn, loop_sweeps, expression_finds, arguments_find, condition_finds, statement_finds, block_finds}
+use Rattle.spf_findings.specs.Parts.{guesses_find, own_bounds, setting_in, entered, call_before}
 
 -- ---- forms
 
@@ -202,6 +202,14 @@ mutual
 pub reads_only : (array : ℕ) (P : Range → Type 0) (g : Setting) (slots : List Bound) → CallsAreTame array g → (e : Expression) → avoids array e ≡ true → IsTame array P (expression_finds g slots e)
 reads_only array P g slots calls e h = tame-any array P (expression_finds g slots e) (expression-tame array g slots calls e h)
 
+-- the parts of a row
+pub row_reads_only : (array : ℕ) (P : Range → Type 0) (g : Setting) (slots : List Bound) → CallsAreTame array g → (row : Arguments) → avoid array row ≡ true → IsTame array P (arguments_find g slots row)
+row_reads_only array P g slots calls row h = tame-any array P (arguments_find g slots row) (arguments-tame array g slots calls row h)
+
+-- the guess of a row of one word, by an expression
+pub guess-tame : (array : ℕ) (g : Setting) (slots : List Bound) → CallsAreTame array g → (e : Expression) → avoids array e ≡ true → IsTame array NoWrite (guesses_find g slots (By e ∷ []))
+guess-tame array g slots calls e h = tame-then array NoWrite (expression_finds g slots e) finds_nothing (expression-tame array g slots calls e h) (tame-nothing array NoWrite)
+
 -- ---- statements
 
 -- only comparisons, and none reads the array
@@ -253,17 +261,18 @@ mutual
   statement-tame array P g slots calls (For slot low high body) h =
       let parts = both (avoids array low) (avoids array high) h.0 in
       let inner = block_finds g (bounds_in_turn g slots slot low high) body in
-      let loop = turns (expression_bound g slots low) (expression_bound g slots high) (sweeps slot body) inner in
+      let loop = turns (expression_bound g slots low) (expression_bound g slots high) (loop_sweeps slot body) inner in
       tame-then array P (expression_finds g slots low) (expression_finds g slots high then loop)
       (reads_only array P g slots calls low parts.0)
       (tame-then array P (expression_finds g slots high) loop
       (reads_only array P g slots calls high parts.1)
-      (tame-turns array P (expression_bound g slots low) (expression_bound g slots high) (sweeps slot body) inner
+      (tame-turns array P (expression_bound g slots low) (expression_bound g slots high) (loop_sweeps slot body) inner
       (block-tame array P g (bounds_in_turn g slots slot low high) calls body h.1)))
   statement-tame array P g slots calls (Fill other low high value) h = absurd h
   statement-tame array P g slots calls (Emit value) h = absurd h
   statement-tame array P g slots calls (While c most body) h = absurd h
   statement-tame array P g slots calls (Do f given) h = absurd h
+  statement-tame array P g slots calls Break h = absurd h
   statement-tame array P g slots calls (Fold head body) h = absurd h
   statement-tame array P g slots calls (Pair head producer consumer) h = absurd h
 
@@ -306,6 +315,7 @@ mutual
   quiet-stores array P g slots (Fail number) h = absurd cc
   quiet-stores array P g slots (While c most body) h = absurd cc
   quiet-stores array P g slots (Do f given) h = absurd cc
+  quiet-stores array P g slots Break h = absurd cc
   quiet-stores array P g slots (Fold head body) h = absurd cc
   quiet-stores array P g slots (Pair head producer consumer) h = absurd cc
 

@@ -112,8 +112,8 @@ bit size =
 fold_begins : (size : ℕ) → HasLines (fold_line (codes "  ") (spelled_fold names (head size))) (part 39 39 (text_lines size))
 fold_begins size =
     let guess = piece (codes "look") then between (codes "(") (last (begin size)) (codes ")") in
-    ended (piece (codes "  specfold s = ") then one_written then piece (codes " for k in ") then zero_written then piece (codes "..")
-    then block_count size then piece (codes " predict ") then guess then last (piece (codes " {"))).are (simp append_assoc)
+    ended (piece (codes "  specfold s = ") then last one_written then piece (codes " for k in ") then zero_written then piece (codes "..")
+    then block_count size then piece (codes " predict ") then last guess then last (piece (codes " {"))).are (simp append_assoc)
 
 cleared : (size : ℕ) → HasLines (statement_text (codes "    ") (spelled_statement names (Fill 1 (bits_begin size) (bits_end size) (number 0)))) (part 40 40 (text_lines size))
 cleared size =

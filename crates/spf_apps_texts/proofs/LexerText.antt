@@ -86,8 +86,8 @@ look size classes machine =
 fold_begins : (size classes machine : ℕ) → HasLines (fold_line (codes "  ") (spelled_fold names (head size machine))) (part 12 12 (text_lines size classes machine))
 fold_begins size classes machine =
     let guess = piece (codes "look") then between (codes "(") (last (begin size)) (codes ")") in
-    ended (piece (codes "  specfold s = ") then zero_written then piece (codes " for k in ") then zero_written then piece (codes "..")
-    then block_count size machine then piece (codes " predict ") then guess then last (piece (codes " {"))).are (simp append_assoc)
+    ended (piece (codes "  specfold s = ") then last zero_written then piece (codes " for k in ") then zero_written then piece (codes "..")
+    then block_count size machine then piece (codes " predict ") then last guess then last (piece (codes " {"))).are (simp append_assoc)
 
 cleared : (size classes machine : ℕ) → HasLines (statement_text (codes "    ") (spelled_statement names (Fill 0 (block_begin size) (block_end size) (number 0)))) (part 13 13 (text_lines size classes machine))
 cleared size classes machine =

@@ -32,8 +32,8 @@ the_array size h = ended (array_pieces (codes "rep") (codes "1") 0 size one_writ
 
 fold_begins : (size : ℕ) → HasLines (fold_line (codes "  ") (spelled_fold names (head size))) (part 3 3 (text_lines size))
 fold_begins size =
-    ended (piece (codes "  specfold s = ") then zero_written then piece (codes " for k in ") then zero_written then piece (codes "..")
-    then block_count size then piece (codes " predict ") then zero_written then last (piece (codes " {"))).are (simp append_assoc)
+    ended (piece (codes "  specfold s = ") then last zero_written then piece (codes " for k in ") then zero_written then piece (codes "..")
+    then block_count size then piece (codes " predict ") then last zero_written then last (piece (codes " {"))).are (simp append_assoc)
 
 cleared : (size : ℕ) → HasLines (statement_text (codes "    ") (spelled_statement names (Fill 0 (block_begin size) (block_end size) (number 0)))) (part 4 4 (text_lines size))
 cleared size =

@@ -1,7 +1,7 @@
 -- What is known of lawful programs: their functions hold no `emit`, and they have few constructs.
 use Rattle.std.proofs.Common.{◌≡◌, ◌≤◌, ℕ, false, Option, Some, None, length, refl, arith}
 use Rattle.std.specs.Prelude.{IfSome, slice_get}
-use Rattle.spf_ast.specs.Syntax.{Statement, Let, Assign, Store, Fill, Emit, Fail, If, For, While, Do, Fold, Pair, Block, end, on_line, Function, Program}
+use Rattle.spf_ast.specs.Syntax.{Statement, Let, Assign, Store, Fill, Emit, Fail, If, For, While, Do, Fold, Pair, Break, Block, end, on_line, Function, Program}
 use Rattle.spf_ast.specs.Construct.{constructs_in}
 use Rattle.spf_ast.specs.Lawful.{Names, Scope, IsLawfulStatement, IsLawfulBlock, IsLawfulFunction, IsScoped, IsLawful}
 use Rattle.spf_ast.specs.Silence.{FunctionIsSilent, FunctionsAreSilent}
@@ -23,6 +23,7 @@ mutual
   statement-silent names scope (Do f given) h = refl
   statement-silent names scope (Fold head body) h = block-silent names _ body h.6
   statement-silent names scope (Pair head producer consumer) h = either_fails (emits producer) (emits consumer) (block-silent names _ producer h.1) (block-silent names _ consumer h.4)
+  statement-silent names scope Break h = refl
 
   block-silent : (names : Names) (scope : Scope) (b : Block) → IsLawfulBlock names false scope b → emits b ≡ false
   block-silent names scope end h = refl

@@ -6,15 +6,16 @@ use Rattle.spf_ast.specs.declared.outcome.TrapKind.{TrapKind}
 use Rattle.spf_ast.specs.declared.outcome.TrapKind.TheVariants as trap
 use Rattle.spf_ast.specs.declared.syntax.Part.{Part}
 use Rattle.spf_ast.specs.declared.syntax.Part.TheVariants.{Body, Producer, Consumer, Predictor}
+use Rattle.spf_ast.specs.Carried.{Carried, no_row}
 use Rattle.spf_ast.specs.Word.{binary_words, sub_words}
-use Rattle.spf_ast.specs.Interaction.{Interaction, Answer, AskLoad, AskStore, AskTurn, bind, Ending, Value, Trapped, Meaning, after_ending, ◌>>=◌, ◌>>◌}
+use Rattle.spf_ast.specs.Interaction.{Interaction, Answer, AskLoad, AskStore, AskTurn, bind, Flow, Onward, Broken, Ending, Value, Trapped, Meaning, after_ending, ◌>>=◌, ◌>>◌, ◌>->◌, unless_broken, unless_ended}
 use Rattle.spf_ast.specs.Syntax.{Expression, Number, Local, Len, Input, Load, Call, Neg, Binary, Arguments, no_more, argument}
 use Rattle.spf_ast.specs.Syntax.{Condition, Compare, Both, Either, Not, FoldHead, By, Host}
 use Rattle.spf_ast.specs.Syntax as syntax
-use Rattle.spf_ast.specs.Syntax.{Statement, Let, Assign, Store, Fill, Emit, Fail, If, For, While, Do, Fold, Pair, Block, end, on_line, Function}
-use Rattle.spf_ast.specs.Meaning.{Extent, gives, traps, checked, reads, sets, turns, loads, stores, stores_each, extent_in, cell_of, byte_of, cells_of, compares, for_turns, while_turns, fold_blocks, fold_range, max_blocks, Environment, count_of, with_slots, in_own_slots}
+use Rattle.spf_ast.specs.Syntax.{Statement, Let, Assign, Store, Fill, Emit, Fail, If, For, While, Do, Fold, Pair, Break, Block, end, on_line, Function}
+use Rattle.spf_ast.specs.Meaning.{Extent, gives, traps, checked, reads, sets, sets_row, turns, loads, stores, stores_each, extent_in, cell_of, byte_of, cells_of, compares, for_turns, while_turns, fold_blocks, fold_range, max_blocks, Environment, count_of, with_slots, in_own_slots}
 use Rattle.spf_ast.specs.Meaning.{expression_means, arguments_mean, condition_means, statement_means, block_means, function_means, own_slots, callable_before, call_before, environment_before}
-use Rattle.spf_ast.specs.Construct.{Construct, fold, pair, part_means, guess_means, header_means}
+use Rattle.spf_ast.specs.Construct.{Construct, fold, pair, part_means, guess_means, guesses_mean, header_means}
 use Rattle.spf_ast.specs.Silence.{BlockIsSilent, FunctionIsSilent, FunctionsAreSilent, PartIsSilent, with_output, LeavesOutput}
 use Rattle.spf_ast.specs.Slots.{statement_emits, emits}
 use Rattle.spf_lemmas.proofs.Bools.{neither}
@@ -70,6 +71,22 @@ leaves-if false f g = g
 gives-leaves : {A : Type 0} (a : A) → LeavesOutput (gives a)
 gives-leaves a = record { same = λ slots output. refl }
 
+-- a statement, and then others
+leaves-on : {first next : Meaning Flow} → LeavesOutput first → LeavesOutput next → LeavesOutput (first >-> next)
+leaves-on {first} {next} f n = leaves-then f go
+  where
+    go : (flow : Flow) → LeavesOutput (unless_broken next flow)
+    go Onward = n
+    go Broken = gives-leaves Broken
+
+-- the body of a loop, and then its other turns
+leaves-turn : {body others : Meaning Flow} → LeavesOutput body → LeavesOutput others → LeavesOutput (body >>= unless_ended others)
+leaves-turn {body} {others} b n = leaves-then b go
+  where
+    go : (flow : Flow) → LeavesOutput (unless_ended others flow)
+    go Onward = n
+    go Broken = gives-leaves Onward
+
 traps-leaves : {A : Type 0} (why : TrapKind) (line : ℕ) → LeavesOutput {A = A} (traps why line)
 traps-leaves why line = record { same = λ slots output. refl }
 
@@ -83,6 +100,9 @@ reads-leaves slot = record { same = λ slots output. refl }
 sets-leaves : (slot : ℕ) (word : ℤ) → LeavesOutput (sets slot word)
 sets-leaves slot word = record { same = λ slots output. refl }
 
+sets_row-leaves : (slots : List ℕ) (row : Carried) → LeavesOutput (sets_row slots row)
+sets_row-leaves slots row = record { same = λ s output. refl }
+
 turns-leaves : LeavesOutput turns
 turns-leaves = record { same = λ slots output. refl }
 
@@ -93,7 +113,7 @@ stores-leaves : (cell : ℕ) (word : ℤ) → LeavesOutput (stores cell word)
 stores-leaves cell word = record { same = λ slots output. refl }
 
 stores_each-leaves : (first count : ℕ) (word : ℤ) → LeavesOutput (stores_each first count word)
-stores_each-leaves first zero word = gives-leaves tt
+stores_each-leaves first zero word = gives-leaves Onward
 stores_each-leaves first (suc count) word = leaves-then (stores-leaves first word) (λ u. stores_each-leaves (suc first) count word)
 
 -- a form over slots of its own
@@ -153,26 +173,26 @@ condition-leaves g calls line (Not c) = leaves-then (condition-leaves g calls li
 
 -- ---- loops
 
-for-leaves : (count : ℕ) (i : ℤ) (slot : ℕ) (body : Meaning (Unit {0})) → LeavesOutput body → LeavesOutput (for_turns count i slot body)
-for-leaves zero i slot body b = gives-leaves tt
+for-leaves : (count : ℕ) (i : ℤ) (slot : ℕ) (body : Meaning Flow) → LeavesOutput body → LeavesOutput (for_turns count i slot body)
+for-leaves zero i slot body b = gives-leaves Onward
 for-leaves (suc count) i slot body b =
-    leaves-then turns-leaves (λ u. leaves-then (sets-leaves slot i) (λ v. leaves-then b (λ w. for-leaves count (i +ℤ pos 1) slot body b)))
+    leaves-then turns-leaves (λ u. leaves-then (sets-leaves slot i) (λ v. leaves-turn b (for-leaves count (i +ℤ pos 1) slot body b)))
 
-while-leaves : (line most : ℕ) (test : Meaning Bool) (body : Meaning (Unit {0})) → LeavesOutput test → LeavesOutput body → LeavesOutput (while_turns line most test body)
-while-leaves line zero test body t b = leaves-then t (λ holds. leaves-if holds (traps-leaves trap.Turns line) (gives-leaves tt))
+while-leaves : (line most : ℕ) (test : Meaning Bool) (body : Meaning Flow) → LeavesOutput test → LeavesOutput body → LeavesOutput (while_turns line most test body)
+while-leaves line zero test body t b = leaves-then t (λ holds. leaves-if holds (traps-leaves trap.Turns line) (gives-leaves Onward))
 while-leaves line (suc most) test body t b =
-    leaves-then t (λ holds. leaves-if holds (leaves-then turns-leaves (λ u. leaves-then b (λ v. while-leaves line most test body t b))) (gives-leaves tt))
+    leaves-then t (λ holds. leaves-if holds (leaves-then turns-leaves (λ u. leaves-turn b (while-leaves line most test body t b))) (gives-leaves Onward))
 
-blocks-leave : (count : ℕ) (b : ℤ) (block carried : ℕ) (value : ℤ) (body : Meaning ℤ) → LeavesOutput body → LeavesOutput (fold_blocks count b block carried value body)
+blocks-leave : (count : ℕ) (b : ℤ) (block : ℕ) (carried : List ℕ) (value : Carried) (body : Meaning Carried) → LeavesOutput body → LeavesOutput (fold_blocks count b block carried value body)
 blocks-leave zero b block carried value body s = gives-leaves value
 blocks-leave (suc count) b block carried value body s =
     leaves-then turns-leaves
     (λ u. leaves-then (sets-leaves block b)
-    (λ v. leaves-then (sets-leaves carried value)
+    (λ v. leaves-then (sets_row-leaves carried value)
     (λ w. leaves-then s
     (λ next. blocks-leave count (b +ℤ pos 1) block carried next body s))))
 
-range-leaves : (line : ℕ) (head : FoldHead) (start low high : ℤ) (body : Meaning ℤ) → LeavesOutput body → LeavesOutput (fold_range line head start low high body)
+range-leaves : (line : ℕ) (head : FoldHead) (start : Carried) (low high : ℤ) (body : Meaning Carried) → LeavesOutput body → LeavesOutput (fold_range line head start low high body)
 range-leaves line head start low high body s =
     leaves-if (nat_lt max_blocks (int_gap low high)) (traps-leaves trap.Blocks line)
     (blocks-leave (int_gap low high) low head.block head.carried start body s)
@@ -205,26 +225,27 @@ mutual
       (λ j. for-leaves (int_gap i j) i slot (block_means g body) (block-leaves g calls body l)))
   statement-leaves g calls line (While test most body) l =
       while-leaves line most (condition_means g line test) (block_means g body) (condition-leaves g calls line test) (block-leaves g calls body l)
-  statement-leaves g calls line (Do f given) l = leaves-then (expression-leaves g calls line (Call f given)) (λ word. gives-leaves tt)
+  statement-leaves g calls line (Do f given) l = leaves-then (expression-leaves g calls line (Call f given)) (λ word. gives-leaves Onward)
   statement-leaves g calls line (Fold head body) l =
-      leaves-then (expression-leaves g calls line head.start)
+      leaves-then (arguments-leave g calls line head.start)
       (λ start. leaves-then (expression-leaves g calls line head.low)
       (λ low. leaves-then (expression-leaves g calls line head.high)
       (λ high. leaves-then
-      (range-leaves line head start low high (block_means g body >> expression_means g head.next_line head.next)
-      (leaves-then (block-leaves g calls body l) (λ u. expression-leaves g calls head.next_line head.next)))
-      (λ last. sets-leaves head.carried last))))
+      (range-leaves line head start low high (block_means g body >> arguments_mean g head.next_line head.next)
+      (leaves-then (block-leaves g calls body l) (λ u. arguments-leave g calls head.next_line head.next)))
+      (λ last. sets_row-leaves head.carried last))))
   statement-leaves g calls line (Pair head producer consumer) l =
       leaves-then (block-leaves g calls producer (neither (emits producer) (emits consumer) l).0)
-      (λ u. leaves-then (expression-leaves g calls head.give_line head.give)
-      (λ given. leaves-then (sets-leaves head.carried given)
-      (λ v. block-leaves g calls consumer (neither (emits producer) (emits consumer) l).1)))
+      (λ u. leaves-then (arguments-leave g calls head.give_line head.give)
+      (λ given. leaves-then (sets_row-leaves head.carried given)
+      (λ v. leaves-then (block-leaves g calls consumer (neither (emits producer) (emits consumer) l).1) (λ w. gives-leaves Onward))))
+  statement-leaves g calls line Break l = gives-leaves Broken
 
   pub block-leaves : (g : Environment) → CallsLeave g → (block : Block) → BlockIsSilent block → LeavesOutput (block_means g block)
-  block-leaves g calls end l = gives-leaves tt
+  block-leaves g calls end l = gives-leaves Onward
   block-leaves g calls (on_line line first rest) l =
-      leaves-then (statement-leaves g calls line first (neither (statement_emits first) (emits rest) l).0)
-      (λ u. block-leaves g calls rest (neither (statement_emits first) (emits rest) l).1)
+      leaves-on (statement-leaves g calls line first (neither (statement_emits first) (emits rest) l).0)
+      (block-leaves g calls rest (neither (statement_emits first) (emits rest) l).1)
 
 -- ---- functions
 
@@ -254,29 +275,35 @@ guess-leaves : (g : Environment) → CallsLeave g → (line : ℕ) (p : syntax.P
 guess-leaves g calls line (By guess) = expression-leaves g calls line guess
 guess-leaves g calls line (Host number) = gives-leaves (pos 0)
 
-pub part-leaves : (g : Environment) → CallsLeave g → (c : Construct) (part : Part) → PartIsSilent c part → (number carried : ℤ) → LeavesOutput (part_means g c part number carried)
+guesses-leave : (g : Environment) → CallsLeave g → (line : ℕ) (ps : List syntax.Predictor) → LeavesOutput (guesses_mean g line ps)
+guesses-leave g calls line [] = gives-leaves []
+guesses-leave g calls line (first ∷ rest) =
+    leaves-then (guess-leaves g calls line first)
+    (λ word. leaves-then (guesses-leave g calls line rest) (λ words. gives-leaves (word ∷ words)))
+
+pub part-leaves : (g : Environment) → CallsLeave g → (c : Construct) (part : Part) → PartIsSilent c part → (number : ℤ) (carried : Carried) → LeavesOutput (part_means g c part number carried)
 part-leaves g calls (fold line head body) Body l number carried =
     leaves-then (sets-leaves head.block number)
-    (λ u. leaves-then (sets-leaves head.carried carried)
+    (λ u. leaves-then (sets_row-leaves head.carried carried)
     (λ v. leaves-then (block-leaves g calls body l)
-    (λ w. expression-leaves g calls head.next_line head.next)))
+    (λ w. arguments-leave g calls head.next_line head.next)))
 part-leaves g calls (fold line head body) Predictor l number carried =
-    leaves-then (sets-leaves head.block number) (λ u. guess-leaves g calls line head.predict)
-part-leaves g calls (fold line head body) Producer l number carried = gives-leaves (pos 0)
-part-leaves g calls (fold line head body) Consumer l number carried = gives-leaves (pos 0)
+    leaves-then (sets-leaves head.block number) (λ u. guesses-leave g calls line head.predict)
+part-leaves g calls (fold line head body) Producer l number carried = gives-leaves (no_row (length head.carried))
+part-leaves g calls (fold line head body) Consumer l number carried = gives-leaves (no_row (length head.carried))
 part-leaves g calls (pair line head producer consumer) Producer l number carried =
-    leaves-then (block-leaves g calls producer l) (λ u. expression-leaves g calls head.give_line head.give)
+    leaves-then (block-leaves g calls producer l) (λ u. arguments-leave g calls head.give_line head.give)
 part-leaves g calls (pair line head producer consumer) Consumer l number carried =
-    leaves-then (sets-leaves head.carried carried)
+    leaves-then (sets_row-leaves head.carried carried)
     (λ u. leaves-then (block-leaves g calls consumer l) (λ v. gives-leaves carried))
-part-leaves g calls (pair line head producer consumer) Predictor l number carried = guess-leaves g calls line head.predict
-part-leaves g calls (pair line head producer consumer) Body l number carried = gives-leaves (pos 0)
+part-leaves g calls (pair line head producer consumer) Predictor l number carried = guesses-leave g calls line head.predict
+part-leaves g calls (pair line head producer consumer) Body l number carried = gives-leaves (no_row (length head.carried))
 
 -- a header
 pub header-leaves : (g : Environment) → CallsLeave g → (c : Construct) → LeavesOutput (header_means g c)
 header-leaves g calls (fold line head body) =
-    leaves-then (expression-leaves g calls line head.start)
+    leaves-then (arguments-leave g calls line head.start)
     (λ start. leaves-then (expression-leaves g calls line head.low)
     (λ low. leaves-then (expression-leaves g calls line head.high)
     (λ high. leaves-if (nat_lt max_blocks (int_gap low high)) (traps-leaves trap.Blocks line) (gives-leaves (record { low = low; blocks = int_gap low high; start = start })))))
-header-leaves g calls (pair line head producer consumer) = gives-leaves (record { low = pos 0; blocks = 2; start = pos 0 })
+header-leaves g calls (pair line head producer consumer) = gives-leaves (record { low = pos 0; blocks = 2; start = no_row (length head.carried) })

@@ -5,3 +5,5 @@ pub mod RawViews
 pub mod Leaving
 pub mod LawfulPrograms
 pub mod Unshared
+pub mod Rows
+pub mod GoingOn

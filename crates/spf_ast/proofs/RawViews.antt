@@ -1,5 +1,5 @@
 -- What is seen of a raw form that holds a vector of forms: that of the vector's list.
-use Rattle.std.proofs.Common.{◌≡◌, ℕ, refl, sym, ap, ◌∙◌}
+use Rattle.std.proofs.Common.{◌≡◌, ℕ, map, refl, sym, ap, ◌∙◌}
 use Rattle.std.specs.declared.vec.Vec.{Vec}
 use Rattle.std.specs.declared.boxed.Box.{Box}
 use Rattle.std.specs.declared.alloc.Global.{Global}
@@ -48,23 +48,23 @@ raw_statement-while test most body = ap (While (raw_expression test) most) (held
 raw_fold_statement-is : (fold : code_fold.RawFold) → raw_fold_statement fold ≡ Fold (raw_fold_head fold) (raw_block (out-RawFold fold).body.items)
 raw_fold_statement-is (struct-RawFold carried start blocks low high predict n body next next_line) =
     ap (Fold (record {
-      carried = name carried;
-      start = raw_expression start;
+      carried = map name carried.items;
+      start = raw_arguments start.items;
       block = name blocks;
       low = raw_expression low;
       high = raw_expression high;
-      predict = raw_predictor predict;
-      next = raw_expression next;
+      predict = map raw_predictor predict.items;
+      next = raw_arguments next.items;
       next_line = next_line;
     })) (row_raw_block-items body ∙ ap raw_block (sym (items_shown-the_row-RawStmt-0 n body)))
     ∙ ap (λ r. Fold (record {
-      carried = name r.carried;
-      start = raw_expression r.start;
+      carried = map name r.carried.items;
+      start = raw_arguments r.start.items;
       block = name r.block;
       low = raw_expression r.low;
       high = raw_expression r.high;
-      predict = raw_predictor r.predict;
-      next = raw_expression r.next;
+      predict = map raw_predictor r.predict.items;
+      next = raw_arguments r.next.items;
       next_line = r.next_line;
     }) (raw_block r.body.items)) (sym (outs-struct-RawFold carried start blocks low high predict n body next next_line))
 
@@ -75,8 +75,8 @@ raw_pair_statement-is : (pair : code_pair.RawPair) → raw_pair_statement pair �
 raw_pair_statement-is (struct-RawPair carried n producer give give_line predict m consumer) =
     (let p = row_raw_block-items producer ∙ ap raw_block (sym (items_shown-the_row-RawStmt-0 n producer)) in
     let q = row_raw_block-items consumer ∙ ap raw_block (sym (items_shown-the_row-RawStmt-0 m consumer)) in
-    λ i. Pair (record { carried = name carried; give = raw_expression give; give_line = give_line; predict = raw_predictor predict }) (p i) (q i))
-    ∙ ap (λ r. Pair (record { carried = name r.carried; give = raw_expression r.give; give_line = r.give_line; predict = raw_predictor r.predict }) (raw_block r.producer.items) (raw_block r.consumer.items)) (sym (outs-struct-RawPair carried n producer give give_line predict m consumer))
+    λ i. Pair (record { carried = map name carried.items; give = raw_arguments give.items; give_line = give_line; predict = map raw_predictor predict.items }) (p i) (q i))
+    ∙ ap (λ r. Pair (record { carried = map name r.carried.items; give = raw_arguments r.give.items; give_line = r.give_line; predict = map raw_predictor r.predict.items }) (raw_block r.producer.items) (raw_block r.consumer.items)) (sym (outs-struct-RawPair carried n producer give give_line predict m consumer))
 
 pub raw_statement-pair : (pair : Box code_pair.RawPair Global) → raw_statement (s.Pair pair) ≡ Pair (raw_pair_head pair.value) (raw_block (out-RawPair pair.value).producer.items) (raw_block (out-RawPair pair.value).consumer.items)
 raw_statement-pair pair = raw_pair_statement-is pair.value

@@ -1,5 +1,5 @@
 -- What is seen of a form that holds a vector of forms: that of the vector's list.
-use Rattle.std.proofs.Common.{◌≡◌, ℕ, refl, sym, ap, ◌∙◌}
+use Rattle.std.proofs.Common.{◌≡◌, ℕ, map, refl, sym, ap, ◌∙◌}
 use Rattle.std.specs.declared.vec.Vec.{Vec}
 use Rattle.std.specs.declared.boxed.Box.{Box}
 use Rattle.std.specs.declared.alloc.Global.{Global}
@@ -47,23 +47,23 @@ statement-while test most body = ap (While (condition test) most) (held_block bo
 fold_statement-is : (fold : code_fold.Fold) → fold_statement fold ≡ Fold (fold_head fold) (block (out-Fold fold).body.items)
 fold_statement-is (struct-Fold carried start blocks low high predict n body next next_line) =
     ap (Fold (record {
-      carried = carried;
-      start = expression start;
+      carried = carried.items;
+      start = arguments start.items;
       block = blocks;
       low = expression low;
       high = expression high;
-      predict = predictor predict;
-      next = expression next;
+      predict = map predictor predict.items;
+      next = arguments next.items;
       next_line = next_line;
     })) (row_block-items body ∙ ap block (sym (items_shown-the_row-Stmt-0 n body)))
     ∙ ap (λ r. Fold (record {
-      carried = r.carried;
-      start = expression r.start;
+      carried = r.carried.items;
+      start = arguments r.start.items;
       block = r.block;
       low = expression r.low;
       high = expression r.high;
-      predict = predictor r.predict;
-      next = expression r.next;
+      predict = map predictor r.predict.items;
+      next = arguments r.next.items;
       next_line = r.next_line;
     }) (block r.body.items)) (sym (outs-struct-Fold carried start blocks low high predict n body next next_line))
 
@@ -74,8 +74,8 @@ pair_statement-is : (pair : code_pair.Pair) → pair_statement pair ≡ Pair (pa
 pair_statement-is (struct-Pair carried n producer give give_line predict m consumer) =
     (let p = row_block-items producer ∙ ap block (sym (items_shown-the_row-Stmt-0 n producer)) in
     let q = row_block-items consumer ∙ ap block (sym (items_shown-the_row-Stmt-0 m consumer)) in
-    λ i. Pair (record { carried = carried; give = expression give; give_line = give_line; predict = predictor predict }) (p i) (q i))
-    ∙ ap (λ r. Pair (record { carried = r.carried; give = expression r.give; give_line = r.give_line; predict = predictor r.predict }) (block r.producer.items) (block r.consumer.items)) (sym (outs-struct-Pair carried n producer give give_line predict m consumer))
+    λ i. Pair (record { carried = carried.items; give = arguments give.items; give_line = give_line; predict = map predictor predict.items }) (p i) (q i))
+    ∙ ap (λ r. Pair (record { carried = r.carried.items; give = arguments r.give.items; give_line = r.give_line; predict = map predictor r.predict.items }) (block r.producer.items) (block r.consumer.items)) (sym (outs-struct-Pair carried n producer give give_line predict m consumer))
 
 pub statement-pair : (pair : Box code_pair.Pair Global) → statement (s.Pair pair) ≡ Pair (pair_head pair.value) (block (out-Pair pair.value).producer.items) (block (out-Pair pair.value).consumer.items)
 statement-pair pair = pair_statement-is pair.value

@@ -2,17 +2,16 @@
 use Rattle.std.specs.Prelude.{◌≡◌, ◌<◌, ℕ, List, [], length, Result, ℤ}
 use Rattle.std.specs.List.{All}
 use Rattle.spf_ast.specs.declared.syntax.Part.{Part}
-use Rattle.spf_ast.specs.declared.syntax.Part.TheVariants.{Predictor}
 use Rattle.spf_ast.specs.Event.{Event}
 use Rattle.spf_ast.specs.declared.outcome.Trap.{Trap}
 use Rattle.spf_ast.specs.Interaction.{Interaction, Ending, result_of}
-use Rattle.spf_ast.specs.Carried.{Carried, no_value}
+use Rattle.spf_ast.specs.Carried.{Carried}
 use Rattle.spf_ast.specs.Syntax.{Program}
-use Rattle.spf_ast.specs.Construct.{Construct, part_means}
+use Rattle.spf_ast.specs.Construct.{Construct, part_means, guess_part_means}
 use Rattle.spf_ast.specs.Plain.{IsPlainRun, unshared_answer}
 use Rattle.spf_ast.specs.Program.{environment_of}
 
--- what a run of a part starts from: the input, the slots of `main`, the output so far, a block number and a carried value
+-- what a run of a part starts from: the input, the slots of `main`, the output so far, a block number and a carried row
 pub record Setup : Type 0 where
   pub input : List ℕ
   pub slots : List ℤ
@@ -39,9 +38,14 @@ part_asks p construct part s =
 abbrev pub IsBlockRun : Program → Construct → Part → Setup → List ℤ → List Event → Ending Carried → Type 0
 IsBlockRun p construct part s memory events answer = IsPlainRun (part_asks p construct part s) memory events answer
 
--- What a predictor that is an expression comes to for a block number: its value or its trap, from the slots and the
--- memory at the entry of its construct. No cell is shared: a load gives the entry's word, also after a store. One
+-- what the guess of one part of a row asks of the memory
+abbrev pub guess_asks : Program → Construct → ℕ → List ℕ → List ℤ → ℤ → Interaction (Ending ℤ)
+guess_asks p construct place input slots number =
+    guess_part_means (environment_of p input) construct place number (record { slots = slots; output = [] })
+
+-- What the guess of a part that is an expression comes to for a block number: its value or its trap, from the slots and
+-- the memory at the entry of its construct. No cell is shared: a load gives the entry's word, also after a store. One
 -- that is handed in comes to no value.
-abbrev pub predicts : Program → List ℕ → Construct → List ℤ → List ℤ → ℤ → Result Carried Trap
-predicts p input construct slots memory number =
-    result_of (unshared_answer (part_asks p construct Predictor (block_setup input slots number no_value)) memory)
+abbrev pub predicts : Program → List ℕ → Construct → List ℤ → List ℤ → ℤ → ℕ → Result ℤ Trap
+predicts p input construct slots memory number place =
+    result_of (unshared_answer (guess_asks p construct place input slots number) memory)

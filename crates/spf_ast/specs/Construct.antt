@@ -1,14 +1,14 @@
 -- Top constructs: runs of single blocks, and the real values with which the blocks of a plain run begin.
-use Rattle.std.specs.Prelude.{ℕ, zero, suc, Bool, true, false, if◌then◌else◌, nat_lt, List, [], ◌∷◌, length, Option, Some, None, ℤ, pos, ◌+ℤ◌}
+use Rattle.std.specs.Prelude.{ℕ, zero, suc, Bool, true, false, if◌then◌else◌, nat_lt, List, [], ◌∷◌, length, Option, Some, None, ℤ, pos, ◌+ℤ◌, slice_get}
 use Rattle.std.specs.Int.{int_gap}
 use Rattle.spf_ast.specs.declared.outcome.TrapKind.TheVariants as trap
 use Rattle.spf_ast.specs.declared.syntax.Part.{Part}
 use Rattle.spf_ast.specs.declared.syntax.Part.TheVariants.{Body, Producer, Consumer, Predictor}
-use Rattle.spf_ast.specs.Carried.{Carried, no_value}
-use Rattle.spf_ast.specs.Interaction.{State, Ending, Value, Trapped, Meaning, ◌>>=◌, ◌>>◌}
+use Rattle.spf_ast.specs.Carried.{Carried, no_row}
+use Rattle.spf_ast.specs.Interaction.{Flow, State, Ending, Value, Trapped, Meaning, ◌>>=◌, ◌>>◌}
 use Rattle.spf_ast.specs.Syntax.{Program, Statement, Fold, Pair, Block, end, on_line, FoldHead, PairHead, By, Host}
 use Rattle.spf_ast.specs.Syntax as syntax
-use Rattle.spf_ast.specs.Meaning.{Environment, expression_means, statement_means, block_means, sets, gives, traps, max_blocks}
+use Rattle.spf_ast.specs.Meaning.{Environment, expression_means, arguments_mean, statement_means, block_means, sets, sets_row, gives, traps, max_blocks}
 use Rattle.spf_ast.specs.Plain.{plain_answer, plain_memory}
 use Rattle.spf_ast.specs.Program.{environment_of, start_of, zeros_of}
 
@@ -36,10 +36,19 @@ constructs_in (on_line line (Fold head body) rest) = fold line head body ∷ con
 constructs_in (on_line line (Pair head producer consumer) rest) = pair line head producer consumer ∷ constructs_in rest
 constructs_in (on_line line _ rest) = constructs_in rest
 
--- the slot of a construct's carried value
-abbrev pub carried_of : Construct → ℕ
+-- the slots of a construct's carried row
+abbrev pub carried_of : Construct → List ℕ
 carried_of (fold line head body) = head.carried
 carried_of (pair line head producer consumer) = head.carried
+
+-- the width of a construct: how many words its rows have
+abbrev pub width_of : Construct → ℕ
+width_of construct = length (carried_of construct)
+
+-- how the parts of a construct's row are guessed
+abbrev pub predictors_of : Construct → List syntax.Predictor
+predictors_of (fold line head body) = head.predict
+predictors_of (pair line head producer consumer) = head.predict
 
 -- ---- parts
 
@@ -50,36 +59,51 @@ statements_of (pair line head producer consumer) Producer = producer
 statements_of (pair line head producer consumer) Consumer = consumer
 statements_of _ _ = end
 
--- puts a carried value into its slot
-abbrev pub sets_carried : ℕ → Carried → Meaning (Unit {0})
-sets_carried slot value = sets slot value
-
--- a predictor's guess; one that is handed in gives none here
-abbrev pub guess_means : Environment → ℕ → syntax.Predictor → Meaning Carried
+-- a predictor's guess of one part of a row; one that is handed in gives none here
+abbrev pub guess_means : Environment → ℕ → syntax.Predictor → Meaning ℤ
 guess_means g line (By guess) = expression_means g line guess
-guess_means g line (Host number) = gives no_value
+guess_means g line (Host number) = gives (pos 0)
 
--- One performance of a part, given the block number and the carried value: a body gives its next value, a producer
--- what it gives, a consumer its carried value, and a predictor its guess. A part that the construct doesn't have
--- gives no value.
+-- the guesses of a row's parts, in order
+abbrev pub guesses_mean : Environment → ℕ → List syntax.Predictor → Meaning Carried
+guesses_mean g line [] = gives []
+guesses_mean g line (first ∷ rest) = do
+  word ← guess_means g line first
+  words ← guesses_mean g line rest
+  gives (word ∷ words)
+
+-- One performance of a part, given the block number and the carried row: a body gives its next row, a producer what
+-- it gives, a consumer its carried row, and a predictor its guesses. A part that the construct doesn't have gives
+-- zeros.
 abbrev pub part_means : Environment → Construct → Part → ℤ → Carried → Meaning Carried
 part_means g (fold line head body) Body number carried = do
   sets head.block number
-  sets_carried head.carried carried
+  sets_row head.carried carried
   block_means g body
-  expression_means g head.next_line head.next
+  arguments_mean g head.next_line head.next
 part_means g (fold line head body) Predictor number carried = do
   sets head.block number
-  guess_means g line head.predict
+  guesses_mean g line head.predict
 part_means g (pair line head producer consumer) Producer number carried = do
   block_means g producer
-  expression_means g head.give_line head.give
+  arguments_mean g head.give_line head.give
 part_means g (pair line head producer consumer) Consumer number carried = do
-  sets_carried head.carried carried
+  sets_row head.carried carried
   block_means g consumer
   gives carried
-part_means g (pair line head producer consumer) Predictor number carried = guess_means g line head.predict
-part_means g _ _ number carried = gives no_value
+part_means g (pair line head producer consumer) Predictor number carried = guesses_mean g line head.predict
+part_means g construct _ number carried = gives (no_row (width_of construct))
+
+-- the guess of one part of a row alone, given the block number; of a part that isn't there, none
+abbrev pub guess_at : Environment → ℕ → Option syntax.Predictor → Meaning ℤ
+guess_at g line None = gives (pos 0)
+guess_at g line (Some predictor) = guess_means g line predictor
+
+abbrev pub guess_part_means : Environment → Construct → ℕ → ℤ → Meaning ℤ
+guess_part_means g (fold line head body) place number = do
+  sets head.block number
+  guess_at g line (slice_get head.predict place)
+guess_part_means g (pair line head producer consumer) place number = guess_at g line (slice_get head.predict place)
 
 -- ---- real values
 
@@ -96,7 +120,7 @@ plainly form m = plain_answer (form m.state) m.memory
 abbrev pub moment_after : {A : Type 0} → Meaning A → Moment → State → Moment
 moment_after form m state = record { state = state; memory = plain_memory (form m.state) m.memory }
 
--- a header that is done: the first block number, the number of blocks, and the value at which block 0 begins
+-- a header that is done: the first block number, the number of blocks, and the row at which block 0 begins
 pub record Header : Type 0 where
   pub low : ℤ
   pub blocks : ℕ
@@ -111,11 +135,12 @@ fold_header line start low high =
 -- the header of a construct; that of a pair has two blocks, its producer and its consumer
 abbrev pub header_means : Environment → Construct → Meaning Header
 header_means g (fold line head body) = do
-  start ← expression_means g line head.start
+  start ← arguments_mean g line head.start
   low ← expression_means g line head.low
   high ← expression_means g line head.high
   fold_header line start low high
-header_means g (pair line head producer consumer) = gives (record { low = pos 0; blocks = 2; start = no_value })
+header_means g (pair line head producer consumer) =
+    gives (record { low = pos 0; blocks = 2; start = no_row (length head.carried) })
 
 -- the part that a block runs, by its index
 abbrev pub part_of : Construct → ℕ → Part
@@ -166,8 +191,8 @@ reached_here g None m later = later
 reached_here g (Some construct) m later = reached g construct (plainly (header_means g construct) m) m later
 
 -- goes on where a statement didn't trap
-abbrev pub unless_trapped : Ending (Unit {0}) → (State → List Reached) → List Reached
-unless_trapped (Value done state) later = later state
+abbrev pub unless_trapped : Ending Flow → (State → List Reached) → List Reached
+unless_trapped (Value flow state) later = later state
 unless_trapped (Trapped trap output) later = []
 
 -- the top constructs that a run reaches from this moment on

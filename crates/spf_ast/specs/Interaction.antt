@@ -84,6 +84,11 @@ pub record State : Type 0 where
   pub slots : List ℤ
   pub output : List ℕ
 
+-- how a statement that doesn't trap is left: the next one follows, or a `break` ends the innermost loop
+pub data Flow : Type 0 where
+  Onward : Flow
+  Broken : Flow
+
 -- how a form ends: with a value and the state after it, or with a trap and the output so far
 pub data Ending (A : Type 0) : Type 0 where
   Value : A → State → Ending A
@@ -112,3 +117,18 @@ abbrev pub ◌>>=◌ : {A B : Type 0} → Meaning A → (A → Meaning B) → Me
 infixl 10 ◌>>◌
 abbrev pub ◌>>◌ : {A B : Type 0} → Meaning A → Meaning B → Meaning B
 first >> next = first >>= λ _. next
+
+-- what follows a statement: the next ones, unless it broke off
+abbrev pub unless_broken : Meaning Flow → Flow → Meaning Flow
+unless_broken next Onward = next
+unless_broken next Broken = λ state. Answer (Value Broken state)
+
+-- one statement, and then the next ones, unless it broke off
+infixr 10 ◌>->◌
+abbrev pub ◌>->◌ : Meaning Flow → Meaning Flow → Meaning Flow
+first >-> next = first >>= unless_broken next
+
+-- what follows the body of a loop: its other turns, unless it broke off; the loop is done then
+abbrev pub unless_ended : Meaning Flow → Flow → Meaning Flow
+unless_ended others Onward = others
+unless_ended others Broken = λ state. Answer (Value Onward state)

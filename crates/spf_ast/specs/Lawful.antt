@@ -48,9 +48,10 @@ use Rattle.spf_ast.specs.Syntax.{
   By,
   Host,
 }
-use Rattle.spf_ast.specs.Syntax.{Statement, Let, Assign, Store, Fill, Emit, Fail, If, For, While, Do, Fold, Pair, Block, end, on_line, Array, Function, Program}
+use Rattle.spf_ast.specs.Syntax.{FoldHead, PairHead, Statement, Let, Assign, Store, Fill, Emit, Fail, If, For, While, Do, Fold, Pair, Break, Block, end, on_line, Array, Function, Program}
 use Rattle.spf_ast.specs.Meaning.{count_of}
 use Rattle.spf_ast.specs.Interaction.{State}
+use Rattle.spf_ast.specs.Carried.{IsWidth}
 use Rattle.spf_ast.specs.Size.{IsWithinLimits}
 
 -- ---- names and numbers
@@ -91,20 +92,23 @@ AreDifferent (x ∷ xs) = (Contains xs x → ⊥) × AreDifferent xs
 
 -- ---- scopes
 
--- what a form may name: how many arrays there are, the functions with the place before which they may be called, the
--- names of the arrays and functions, and the names of its own slots
+-- what a form may name: the version of the language, how many arrays there are, the functions with the place before
+-- which they may be called, the names of the arrays and functions, and the names of its own slots
 pub record Names : Type 0 where
+  pub version : ℕ
   pub arrays : ℕ
   pub functions : List Function
   pub place : ℕ
   pub taken : List (List ℕ)
   pub slots : List (List ℕ)
 
--- at a place of the text: the slots that may be used, those of them that may not be assigned, and the slot of the next declaration
+-- at a place of the text: the slots that may be used, those of them that may not be assigned, the slot of the next
+-- declaration, and whether a `break` may stand there: within a loop, and in the same part of the same construct
 pub record Scope : Type 0 where
   pub visible : List ℕ
   pub fixed : List ℕ
   pub next : ℕ
+  pub in_loop : Bool
 
 -- the scope after so many declarations that can't be used any more
 abbrev pub behind : ℕ → Scope → Scope
@@ -116,7 +120,19 @@ showing slot scope = record scope { visible = slot ∷ scope.visible }
 
 -- the scope in which this slot may be used besides, but not assigned
 abbrev pub showing_fixed : ℕ → Scope → Scope
-showing_fixed slot scope = record { visible = slot ∷ scope.visible; fixed = slot ∷ scope.fixed; next = scope.next }
+showing_fixed slot scope = record scope { visible = slot ∷ scope.visible; fixed = slot ∷ scope.fixed }
+
+-- the scope in which these slots may be used besides, but not assigned
+abbrev pub showing_all_fixed : List ℕ → Scope → Scope
+showing_all_fixed slots scope = record scope { visible = slots ++ scope.visible; fixed = slots ++ scope.fixed }
+
+-- the scope in a loop
+abbrev pub in_turn : Scope → Scope
+in_turn scope = record scope { in_loop = true }
+
+-- the scope in a part of a construct: no `break` of it ends a loop around the construct
+abbrev pub in_part : Scope → Scope
+in_part scope = record scope { in_loop = false }
 
 -- the slot's name is a name of its own: no array, no function and no slot that may be used here has it
 abbrev pub IsNew : Names → Scope → ℕ → Type 0
@@ -126,6 +142,16 @@ IsNew names scope slot =
 -- the next declaration has this slot, and its name is new
 abbrev pub Declares : Names → Scope → ℕ → Type 0
 Declares names scope slot = (slot ≡ scope.next) × IsNew names scope slot
+
+-- the next declarations have these slots, and the name of each is new
+abbrev pub DeclaresEach : Names → Scope → List ℕ → Type 0
+DeclaresEach names scope [] = Unit {0}
+DeclaresEach names scope (slot ∷ slots) = Declares names scope slot × DeclaresEach names (behind 1 (showing slot scope)) slots
+
+-- the scope behind these declarations, in which they may be used
+abbrev pub showing_each : List ℕ → Scope → Scope
+showing_each [] scope = scope
+showing_each (slot ∷ slots) scope = showing_each slots (behind 1 (showing slot scope))
 
 -- a function that stands before this place has so many parameters
 abbrev pub IsCallable : Names → ℕ → ℕ → Type 0
@@ -157,10 +183,28 @@ IsLawfulCondition names scope (Both c d) = IsLawfulCondition names scope c × Is
 IsLawfulCondition names scope (Either c d) = IsLawfulCondition names scope c × IsLawfulCondition names scope d
 IsLawfulCondition names scope (Not c) = IsLawfulCondition names scope c
 
--- a predictor
+-- a predictor of one part of a row
 abbrev pub IsLawfulPredictor : Names → Scope → Predictor → Type 0
 IsLawfulPredictor names scope (By guess) = IsLawfulExpression names scope guess
 IsLawfulPredictor names scope (Host number) = number < 2 ^ 63
+
+-- the predictors of a row's parts
+abbrev pub AreLawfulPredictors : Names → Scope → List Predictor → Type 0
+AreLawfulPredictors names scope [] = Unit {0}
+AreLawfulPredictors names scope (first ∷ rest) = IsLawfulPredictor names scope first × AreLawfulPredictors names scope rest
+
+-- the lists of a fold's parts are as long as its names, which are one to four
+pub record FoldHasOneWidth (head : FoldHead) : Type 0 where
+  pub width : IsWidth (length head.carried)
+  pub start : count_of head.start ≡ length head.carried
+  pub predict : length head.predict ≡ length head.carried
+  pub next : count_of head.next ≡ length head.carried
+
+-- and those of a pair's parts
+pub record PairHasOneWidth (head : PairHead) : Type 0 where
+  pub width : IsWidth (length head.carried)
+  pub give : count_of head.give ≡ length head.carried
+  pub predict : length head.predict ≡ length head.carried
 
 abbrev mutual
   -- how many slots a statement declares
@@ -169,8 +213,8 @@ abbrev mutual
   declared (If test a b) = declared_in a + declared_in b
   declared (For slot low high body) = 1 + declared_in body
   declared (While test most body) = declared_in body
-  declared (Fold head body) = 2 + declared_in body
-  declared (Pair head producer consumer) = 1 + declared_in producer + declared_in consumer
+  declared (Fold head body) = length head.carried + 1 + declared_in body
+  declared (Pair head producer consumer) = length head.carried + declared_in producer + declared_in consumer
   declared _ = 0
 
   -- how many slots a block declares
@@ -181,27 +225,34 @@ abbrev mutual
 -- the slots that may be used after a statement, and weren't before it
 abbrev pub shown_by : Statement → List ℕ
 shown_by (Let slot value) = slot ∷ []
-shown_by (Fold head body) = head.carried ∷ []
-shown_by (Pair head producer consumer) = head.carried ∷ []
+shown_by (Fold head body) = head.carried
+shown_by (Pair head producer consumer) = head.carried
 shown_by _ = []
 
 -- the scope after a statement
 abbrev pub scope_after : Scope → Statement → Scope
-scope_after scope s =
-    record { visible = shown_by s ++ scope.visible; fixed = scope.fixed; next = scope.next + declared s }
+scope_after scope s = record scope { visible = shown_by s ++ scope.visible; next = scope.next + declared s }
 
 -- the scope at the end of a block
 abbrev pub scope_at_end : Scope → Block → Scope
 scope_at_end scope end = scope
 scope_at_end scope (on_line line first rest) = scope_at_end (scope_after scope first) rest
 
--- the scope of a fold's predictor: its block number may be used
+-- the scope of a fold's predictors: its block number may be used
 abbrev pub in_predictor : Scope → ℕ → Scope
 in_predictor scope block = showing_fixed block scope
 
--- the scope of a fold's body: its block number and its carried value may be used, and neither may be assigned
-abbrev pub in_body : Scope → ℕ → ℕ → Scope
-in_body scope carried block = behind 2 (showing_fixed block (showing_fixed carried scope))
+-- the scope of a fold's body: its block number and its carried row may be used, and neither may be assigned
+abbrev pub in_body : Scope → List ℕ → ℕ → Scope
+in_body scope carried block = in_part (behind (length carried + 1) (showing_fixed block (showing_all_fixed carried scope)))
+
+-- the scope of a pair's producer, which doesn't see the carried row
+abbrev pub in_producer : Scope → List ℕ → Scope
+in_producer scope carried = in_part (behind (length carried) scope)
+
+-- the scope of a pair's consumer: the carried row may be used, and not assigned
+abbrev pub in_consumer : Scope → List ℕ → Block → Scope
+in_consumer scope carried producer = in_part (behind (length carried + declared_in producer) (showing_all_fixed carried scope))
 
 abbrev mutual
   -- a statement is lawful in a scope; only `main` may emit
@@ -219,25 +270,28 @@ abbrev mutual
       IsLawfulCondition names scope test × IsLawfulBlock names in_main scope a × IsLawfulBlock names in_main (behind (declared_in a) scope) b
   IsLawfulStatement names in_main scope (For slot low high body) =
       IsLawfulExpression names scope low × IsLawfulExpression names scope high × Declares names scope slot
-      × IsLawfulBlock names in_main (behind 1 (showing_fixed slot scope)) body
+      × IsLawfulBlock names in_main (in_turn (behind 1 (showing_fixed slot scope))) body
   IsLawfulStatement names in_main scope (While test most body) =
-      IsLawfulCondition names scope test × (most < 2 ^ 63) × IsLawfulBlock names in_main scope body
+      IsLawfulCondition names scope test × (most < 2 ^ 63) × IsLawfulBlock names in_main (in_turn scope) body
   IsLawfulStatement names in_main scope (Do f given) = IsCallable names f (count_of given) × AreLawfulArguments names scope given
   IsLawfulStatement names in_main scope (Fold head body) =
-      IsLawfulExpression names scope head.start
+      AreLawfulArguments names scope head.start
       × IsLawfulExpression names scope head.low
       × IsLawfulExpression names scope head.high
-      × Declares names scope head.carried
-      × Declares names (behind 1 (showing head.carried scope)) head.block
-      × IsLawfulPredictor names (in_predictor scope head.block) head.predict
+      × DeclaresEach names scope head.carried
+      × Declares names (showing_each head.carried scope) head.block
+      × AreLawfulPredictors names (in_predictor scope head.block) head.predict
       × IsLawfulBlock names in_main (in_body scope head.carried head.block) body
-      × IsLawfulExpression names (scope_at_end (in_body scope head.carried head.block) body) head.next
+      × AreLawfulArguments names (scope_at_end (in_body scope head.carried head.block) body) head.next
+      × FoldHasOneWidth head
   IsLawfulStatement names in_main scope (Pair head producer consumer) =
-      Declares names scope head.carried
-      × IsLawfulBlock names in_main (behind 1 scope) producer
-      × IsLawfulExpression names (scope_at_end (behind 1 scope) producer) head.give
-      × IsLawfulPredictor names scope head.predict
-      × IsLawfulBlock names in_main (behind (1 + declared_in producer) (showing_fixed head.carried scope)) consumer
+      DeclaresEach names scope head.carried
+      × IsLawfulBlock names in_main (in_producer scope head.carried) producer
+      × AreLawfulArguments names (scope_at_end (in_producer scope head.carried) producer) head.give
+      × AreLawfulPredictors names scope head.predict
+      × IsLawfulBlock names in_main (in_consumer scope head.carried producer) consumer
+      × PairHasOneWidth head
+  IsLawfulStatement names in_main scope Break = (names.version ≡ 2) × (scope.in_loop ≡ true)
 
   -- a block is lawful where each statement is, in the scope after the ones before it
   pub IsLawfulBlock : Names → Bool → Scope → Block → Type 0
@@ -254,11 +308,11 @@ names_taken p = map (λ (a : Array). a.name) p.arrays ++ map (λ (f : Function).
 -- what the function at this place, or `main` after all of them, may name
 abbrev pub names_at : Program → ℕ → List (List ℕ) → Names
 names_at p place slots =
-    record { arrays = length p.arrays; functions = p.functions; place = place; taken = names_taken p; slots = slots }
+    record { version = p.version; arrays = length p.arrays; functions = p.functions; place = place; taken = names_taken p; slots = slots }
 
 -- the scope in which a function's body begins: its parameters may be used, and assigned
 abbrev pub parameters : ℕ → Scope
-parameters count = record { visible = range_with_len 0 count; fixed = []; next = count }
+parameters count = record { visible = range_with_len 0 count; fixed = []; next = count; in_loop = false }
 
 -- the function at this place is lawful
 pub record IsLawfulFunction (p : Program) (place : ℕ) (f : Function) : Type 0 where
@@ -281,6 +335,7 @@ pub record IsScoped (p : Program) : Type 0 where
   pub slots_are_names : All IsName p.slots
   pub main : IsLawfulBlock (names_at p (length p.functions) p.slots) true nothing_declared p.main
   pub slots : length p.slots ≡ declared_in p.main
+  pub version : (p.version ≡ 1) ⊎ (p.version ≡ 2)
 
 -- a program is lawful: so it is, and it keeps the limits of the language
 pub record IsLawful (p : Program) : Type 0 where

@@ -7,7 +7,7 @@ use Rattle.spf_ast.specs.Carried.{Carried}
 use Rattle.spf_ast.specs.Construct.{Construct, constructs_in, part_means, header_means}
 use Rattle.spf_ast.specs.Lawful.{IsLawful}
 use Rattle.spf_ast.specs.Silence.{FunctionsAreSilent, PartIsSilent, LeavesOutput}
-use Rattle.spf_ast.specs.BlockRun.{Setup, part_asks, IsBlockRun}
+use Rattle.spf_ast.specs.BlockRun.{Setup, part_asks, IsBlockRun, guess_asks}
 use Rattle.spf_ast.specs.Syntax.{Expression, Condition, Block, Function, Program}
 use Rattle.spf_ast.specs.Meaning.{Extent, Environment, environment_before, expression_means, condition_means, block_means}
 use Rattle.spf_ast.specs.Plain.{plain_events, plain_answer, IsPlainRun, unshared_answer}
@@ -49,10 +49,10 @@ pub record HasOneUnsharedAnswer {A : Type 0} (tree : Interaction A) (memory : Li
   pub ends : perform no_cell memory None tree events ≡ Ended (unshared_answer tree memory) []
   pub only : (other : List Event) (answer : A) → perform no_cell memory None tree other ≡ Ended answer [] → answer ≡ unshared_answer tree memory
 
--- each part, so each predictor
-abbrev pub PartsHaveOneUnsharedAnswer : Type 0
-PartsHaveOneUnsharedAnswer = (p : Program) (construct : Construct) (part : Part) (s : Setup) (memory : List ℤ)
-    → HasOneUnsharedAnswer (part_asks p construct part s) memory
+-- the guess of each part of a row, for each block number
+abbrev pub GuessesHaveOneAnswer : Type 0
+GuessesHaveOneAnswer = (p : Program) (construct : Construct) (place : ℕ) (input : List ℕ) (slots : List ℤ) (number : ℤ) (memory : List ℤ)
+    → HasOneUnsharedAnswer (guess_asks p construct place input slots number) memory
 
 -- ---- lawful programs
 

@@ -44,10 +44,11 @@ use Rattle.spf_ast.specs.declared.outcome.TrapKind.TheVariants as trap
 use Rattle.spf_ast.specs.declared.syntax.Test.{Test}
 use Rattle.spf_ast.specs.declared.syntax.Test.TheVariants.{Eq, Ne, Lt, Le, Gt, Ge}
 use Rattle.spf_ast.specs.Word.{binary_words, sub_words}
-use Rattle.spf_ast.specs.Interaction.{Answer, AskLoad, AskStore, AskTurn, bind, Ending, Value, Trapped, Meaning, ◌>>=◌, ◌>>◌}
+use Rattle.spf_ast.specs.Interaction.{Answer, AskLoad, AskStore, AskTurn, bind, Flow, Onward, Broken, Ending, Value, Trapped, Meaning, ◌>>=◌, ◌>>◌, ◌>->◌, unless_ended}
+use Rattle.spf_ast.specs.Carried.{Carried, with_carried}
 use Rattle.spf_ast.specs.Syntax.{Expression, Number, Local, Len, Input, Load, Call, Neg, Binary, Arguments, no_more, argument}
 use Rattle.spf_ast.specs.Syntax.{Condition, Compare, Both, Either, Not, FoldHead}
-use Rattle.spf_ast.specs.Syntax.{Statement, Let, Assign, Store, Fill, Emit, Fail, If, For, While, Do, Fold, Pair, Block, end, on_line, Function}
+use Rattle.spf_ast.specs.Syntax.{Statement, Let, Assign, Store, Fill, Emit, Fail, If, For, While, Do, Fold, Pair, Break, Block, end, on_line, Function}
 
 -- ---- what every form is made of
 
@@ -56,8 +57,8 @@ abbrev pub gives : {A : Type 0} → A → Meaning A
 gives a s = Answer (Value a s)
 
 -- does nothing
-abbrev pub done : Meaning (Unit {0})
-done = gives tt
+abbrev pub done : Meaning Flow
+done = gives Onward
 
 -- traps at this line
 abbrev pub traps : {A : Type 0} → TrapKind → ℕ → Meaning A
@@ -73,8 +74,12 @@ abbrev pub reads : ℕ → Meaning ℤ
 reads slot s = Answer (Value (slice_index_or s.slots slot (pos 0)) s)
 
 -- puts a word into a slot
-abbrev pub sets : ℕ → ℤ → Meaning (Unit {0})
-sets slot word s = Answer (Value tt (record s { slots = slice_set s.slots slot word }))
+abbrev pub sets : ℕ → ℤ → Meaning Flow
+sets slot word s = Answer (Value Onward (record s { slots = slice_set s.slots slot word }))
+
+-- puts the parts of a row into slots
+abbrev pub sets_row : List ℕ → Carried → Meaning Flow
+sets_row slots row s = Answer (Value Onward (record s { slots = with_carried slots row s.slots }))
 
 -- makes one turn
 abbrev pub turns : Meaning (Unit {0})
@@ -85,11 +90,11 @@ abbrev pub loads : ℕ → Meaning ℤ
 loads cell s = AskLoad cell (λ word. Answer (Value word s))
 
 -- stores a word into a cell
-abbrev pub stores : ℕ → ℤ → Meaning (Unit {0})
-stores cell word s = AskStore cell word (Answer (Value tt s))
+abbrev pub stores : ℕ → ℤ → Meaning Flow
+stores cell word s = AskStore cell word (Answer (Value Onward s))
 
 -- stores a word into so many cells, in ascending order from the first one
-abbrev pub stores_each : ℕ → ℕ → ℤ → Meaning (Unit {0})
+abbrev pub stores_each : ℕ → ℕ → ℤ → Meaning Flow
 stores_each first zero word = done
 stores_each first (suc count) word = stores first word >> stores_each (suc first) count word
 
@@ -98,9 +103,9 @@ abbrev pub max_output : ℕ
 max_output = 67108864
 
 -- adds a byte to the output, where the number is one and the output has room for it
-abbrev pub emits : ℕ → ℤ → Meaning (Unit {0})
+abbrev pub emits : ℕ → ℤ → Meaning Flow
 emits line (pos n) s =
-    if nat_lt n 256 && nat_lt (length s.output) max_output then Answer (Value tt (record s { output = s.output ++ n ∷ [] }))
+    if nat_lt n 256 && nat_lt (length s.output) max_output then Answer (Value Onward (record s { output = s.output ++ n ∷ [] }))
     else traps trap.Emit line s
 emits line (negsuc n) s = traps trap.Emit line s
 
@@ -137,31 +142,30 @@ compares Le a b = int_le a b
 compares Gt a b = int_lt b a
 compares Ge a b = int_le b a
 
--- so many turns of a `for` from i upward: each is a turn, sets the slot and performs the body
-abbrev pub for_turns : ℕ → ℤ → ℕ → Meaning (Unit {0}) → Meaning (Unit {0})
+-- so many turns of a `for` from i upward: each is a turn, sets the slot and performs the body; there are no more where that breaks off
+abbrev pub for_turns : ℕ → ℤ → ℕ → Meaning Flow → Meaning Flow
 for_turns zero i slot body = done
 for_turns (suc count) i slot body = do
   turns
   sets slot i
-  body
-  for_turns count (i +ℤ pos 1) slot body
+  body >>= unless_ended (for_turns count (i +ℤ pos 1) slot body)
 
--- at most so many turns of a `while`; it traps where its condition holds once more
-abbrev pub while_turns : ℕ → ℕ → Meaning Bool → Meaning (Unit {0}) → Meaning (Unit {0})
+-- at most so many turns of a `while`; it traps where its condition holds once more, and there are no more where the body breaks off
+abbrev pub while_turns : ℕ → ℕ → Meaning Bool → Meaning Flow → Meaning Flow
 while_turns line zero test body = test >>= λ holds. if holds then traps trap.Turns line else done
-while_turns line (suc most) test body = test >>= λ holds. if holds then (do turns; body; while_turns line most test body) else done
+while_turns line (suc most) test body = test >>= λ holds. if holds then (turns >> (body >>= unless_ended (while_turns line most test body))) else done
 
 -- how many blocks a fold may have
 abbrev pub max_blocks : ℕ
 max_blocks = 4096
 
--- so many blocks of a fold from block number b upward: each is a turn, sets its number and the carried value, and gives the next one
-abbrev pub fold_blocks : ℕ → ℤ → ℕ → ℕ → ℤ → Meaning ℤ → Meaning ℤ
+-- so many blocks of a fold from block number b upward: each is a turn, sets its number and the carried row, and gives the next one
+abbrev pub fold_blocks : ℕ → ℤ → ℕ → List ℕ → Carried → Meaning Carried → Meaning Carried
 fold_blocks zero b block carried value body = gives value
 fold_blocks (suc count) b block carried value body = do
   turns
   sets block b
-  sets carried value
+  sets_row carried value
   next ← body
   fold_blocks count (b +ℤ pos 1) block carried next body
 
@@ -220,14 +224,14 @@ condition_means g line (Either c d) = condition_means g line c >>= λ holds. if 
 condition_means g line (Not c) = condition_means g line c >>= λ holds. gives (not holds)
 
 -- the blocks of a fold, from its start and over its range of block numbers; none where there are too many
-abbrev pub fold_range : ℕ → FoldHead → ℤ → ℤ → ℤ → Meaning ℤ → Meaning ℤ
+abbrev pub fold_range : ℕ → FoldHead → Carried → ℤ → ℤ → Meaning Carried → Meaning Carried
 fold_range line head start low high body =
     if nat_lt max_blocks (int_gap low high) then traps trap.Blocks line
     else fold_blocks (int_gap low high) low head.block head.carried start body
 
 -- a statement on this line, and statements in order
 abbrev mutual
-  pub statement_means : Environment → ℕ → Statement → Meaning (Unit {0})
+  pub statement_means : Environment → ℕ → Statement → Meaning Flow
   statement_means g line (Let slot value) = expression_means g line value >>= sets slot
   statement_means g line (Assign slot value) = expression_means g line value >>= sets slot
   statement_means g line (Store array index value) = do
@@ -252,20 +256,27 @@ abbrev mutual
   statement_means g line (While test most body) = while_turns line most (condition_means g line test) (block_means g body)
   statement_means g line (Do f given) = expression_means g line (Call f given) >> done
   statement_means g line (Fold head body) = do
-    start ← expression_means g line head.start
+    start ← arguments_mean g line head.start
     low ← expression_means g line head.low
     high ← expression_means g line head.high
-    last ← fold_range line head start low high (block_means g body >> expression_means g head.next_line head.next)
-    sets head.carried last
+    last ← fold_range line head start low high (block_means g body >> arguments_mean g head.next_line head.next)
+    sets_row head.carried last
   statement_means g line (Pair head producer consumer) = do
     block_means g producer
-    given ← expression_means g head.give_line head.give
-    sets head.carried given
+    given ← arguments_mean g head.give_line head.give
+    sets_row head.carried given
     block_means g consumer
+    done
+  statement_means g line Break = gives Broken
 
-  pub block_means : Environment → Block → Meaning (Unit {0})
+  pub block_means : Environment → Block → Meaning Flow
   block_means g end = done
-  block_means g (on_line line first rest) = statement_means g line first >> block_means g rest
+  block_means g (on_line line first rest) = statement_means g line first >-> block_means g rest
+
+-- the statements of `main`, one after another; a `break` outside of a loop, which no lawful program has, does nothing there
+abbrev pub main_means : Environment → Block → Meaning (Unit {0})
+main_means g end = gives tt
+main_means g (on_line line first rest) = statement_means g line first >> main_means g rest
 
 -- ---- functions
 

@@ -1,11 +1,11 @@
 -- The plain meaning of a whole program, in which predictors don't occur, and of single parts of it.
-use Rattle.std.specs.Prelude.{ℕ, ◌+◌, List, [], ◌∷◌, length, replicate, ℤ, pos, negsuc, ◌+ℤ◌, ◌*ℤ◌}
+use Rattle.std.specs.Prelude.{ℕ, ◌+◌, ◌==◌, if◌then◌else◌, List, [], ◌∷◌, length, replicate, ℤ, pos, negsuc, ◌+ℤ◌, ◌*ℤ◌}
 use Rattle.spf_ast.specs.declared.outcome.Trap.{Trap}
 use Rattle.spf_ast.specs.declared.outcome.Outcome as code
 use Rattle.spf_ast.specs.declared.outcome.Outcome.TheVariants as ended
 use Rattle.spf_ast.specs.Interaction.{Interaction, State, Ending, Value, Trapped}
 use Rattle.spf_ast.specs.Syntax.{Array, Program}
-use Rattle.spf_ast.specs.Meaning.{Extent, Environment, environment_before, block_means}
+use Rattle.spf_ast.specs.Meaning.{Extent, Environment, environment_before, main_means}
 use Rattle.spf_ast.specs.Plain.{plain_answer, plain_memory}
 
 -- ---- arrays
@@ -37,9 +37,17 @@ sizes len (a ∷ rest) = size_of len a + sizes len rest
 abbrev pub cell_count_of : Program → ℕ → ℕ
 cell_count_of p len = sizes len p.arrays
 
--- how many cells a run may have
-abbrev pub max_cells : ℕ
-max_cells = 4194304
+-- how many cells a run may have in a version of the language
+abbrev pub max_cells_in : ℕ → ℕ
+max_cells_in version = if version == 2 then 16777216 else 4194304
+
+-- no version allows more cells
+abbrev pub most_cells : ℕ
+most_cells = 16777216
+
+-- how many cells a run of a program may have
+abbrev pub max_cells : Program → ℕ
+max_cells p = max_cells_in p.version
 
 -- ---- runs of `main`
 
@@ -57,7 +65,7 @@ zeros_of p len = replicate (cell_count_of p len) (pos 0)
 
 -- what `main` asks
 abbrev pub main_asks : Program → List ℕ → Interaction (Ending (Unit {0}))
-main_asks p input = block_means (environment_of p input) p.main (start_of p)
+main_asks p input = main_means (environment_of p input) p.main (start_of p)
 
 -- how a whole program ends: with the cells of all arrays and the output, or with a trap and the output before it
 pub data Outcome : Type 0 where

@@ -20,33 +20,33 @@ mutual
     Either : RawExpression → RawExpression → RawExpression
     Not : RawExpression → RawExpression
 
-  -- the arguments of a call, in order
+  -- expressions in order: the arguments of a call, or the parts of a row
   pub data RawArguments : Type 0 where
     no_more : RawArguments
     argument : RawExpression → RawArguments → RawArguments
 
--- how a carried value is guessed: by an expression, or by a predictor that is handed in
+-- how a part of a carried row is guessed: by an expression, or by a predictor that is handed in
 pub data RawPredictor : Type 0 where
   By : RawExpression → RawPredictor
   Host : ℕ → RawPredictor
 
 -- the fields of a fold, but for its body
 pub record RawFoldHead : Type 0 where
-  pub carried : List ℕ
-  pub start : RawExpression
+  pub carried : List (List ℕ)
+  pub start : RawArguments
   pub block : List ℕ
   pub low : RawExpression
   pub high : RawExpression
-  pub predict : RawPredictor
-  pub next : RawExpression
+  pub predict : List RawPredictor
+  pub next : RawArguments
   pub next_line : ℕ
 
 -- the fields of a pair, but for its producer and its consumer
 pub record RawPairHead : Type 0 where
-  pub carried : List ℕ
-  pub give : RawExpression
+  pub carried : List (List ℕ)
+  pub give : RawArguments
   pub give_line : ℕ
-  pub predict : RawPredictor
+  pub predict : List RawPredictor
 
 mutual
   -- a statement
@@ -63,6 +63,7 @@ mutual
     Do : List ℕ → RawArguments → RawStatement
     Fold : RawFoldHead → RawBlock → RawStatement
     Pair : RawPairHead → RawBlock → RawBlock → RawStatement
+    Break : RawStatement
 
   -- statements in order, each with its line
   pub data RawBlock : Type 0 where
@@ -78,8 +79,9 @@ pub record RawFunction : Type 0 where
   pub answer_line : ℕ
   pub line : ℕ
 
--- a whole program, with the line of the word `main`
+-- a whole program, with the version of the language that it is written in, and the line of the word `main`
 pub record RawProgram : Type 0 where
+  pub version : ℕ
   pub arrays : List Array
   pub functions : List RawFunction
   pub main : RawBlock

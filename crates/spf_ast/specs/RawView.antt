@@ -35,7 +35,7 @@ use Rattle.spf_ast.specs.RawSyntax.{
   arguments_of,
 }
 use Rattle.spf_ast.specs.RawSyntax.{RawPredictor, By, Host, RawFoldHead, RawPairHead}
-use Rattle.spf_ast.specs.RawSyntax.{RawStatement, Let, Assign, Store, Fill, Emit, Fail, If, For, While, Do, Fold, Pair, RawBlock, end, on_line}
+use Rattle.spf_ast.specs.RawSyntax.{RawStatement, Let, Assign, Store, Fill, Emit, Fail, If, For, While, Do, Fold, Pair, Break, RawBlock, end, on_line}
 use Rattle.spf_ast.specs.RawSyntax.{RawFunction, RawProgram}
 
 -- an expression, and a row of expressions that are arguments
@@ -62,7 +62,7 @@ abbrev mutual
 abbrev pub raw_arguments : List RawExpr → RawArguments
 raw_arguments es = arguments_of (map raw_expression es)
 
--- how a carried value is guessed
+-- how a part of a carried row is guessed
 abbrev pub raw_predictor : RawPredict → RawPredictor
 raw_predictor (p.Expr guess) = By (raw_expression guess)
 raw_predictor (p.Host number) = Host number
@@ -82,27 +82,28 @@ abbrev mutual
   raw_statement (s.Call f given) = Do (name f) (raw_arguments given.items)
   raw_statement (s.Fold' place fold) = raw_fold_statement fold
   raw_statement (s.Pair' place pair) = raw_pair_statement pair
+  raw_statement s.Break = Break
 
   pub raw_fold_statement : code_fold.RawFold → RawStatement
   raw_fold_statement (struct-RawFold carried start block low high predict n body next next_line) =
       Fold (record {
-        carried = name carried;
-        start = raw_expression start;
+        carried = map name carried.items;
+        start = raw_arguments start.items;
         block = name block;
         low = raw_expression low;
         high = raw_expression high;
-        predict = raw_predictor predict;
-        next = raw_expression next;
+        predict = map raw_predictor predict.items;
+        next = raw_arguments next.items;
         next_line = next_line;
       }) (row_raw_block body)
 
   pub raw_pair_statement : code_pair.RawPair → RawStatement
   raw_pair_statement (struct-RawPair carried n producer give give_line predict m consumer) =
       Pair (record {
-        carried = name carried;
-        give = raw_expression give;
+        carried = map name carried.items;
+        give = raw_arguments give.items;
         give_line = give_line;
-        predict = raw_predictor predict;
+        predict = map raw_predictor predict.items;
       }) (row_raw_block producer) (row_raw_block consumer)
 
   pub row_raw_block : {n : _} → Row_of-RawStmt n → RawBlock
@@ -112,23 +113,23 @@ abbrev mutual
 -- the fields of a fold, but for its body
 abbrev pub raw_fold_head : code_fold.RawFold → RawFoldHead
 raw_fold_head f = record {
-  carried = name (out-RawFold f).carried;
-  start = raw_expression (out-RawFold f).start;
+  carried = map name (out-RawFold f).carried.items;
+  start = raw_arguments (out-RawFold f).start.items;
   block = name (out-RawFold f).block;
   low = raw_expression (out-RawFold f).low;
   high = raw_expression (out-RawFold f).high;
-  predict = raw_predictor (out-RawFold f).predict;
-  next = raw_expression (out-RawFold f).next;
+  predict = map raw_predictor (out-RawFold f).predict.items;
+  next = raw_arguments (out-RawFold f).next.items;
   next_line = (out-RawFold f).next_line;
 }
 
 -- the fields of a pair, but for its producer and its consumer
 abbrev pub raw_pair_head : code_pair.RawPair → RawPairHead
 raw_pair_head f = record {
-  carried = name (out-RawPair f).carried;
-  give = raw_expression (out-RawPair f).give;
+  carried = map name (out-RawPair f).carried.items;
+  give = raw_arguments (out-RawPair f).give.items;
   give_line = (out-RawPair f).give_line;
-  predict = raw_predictor (out-RawPair f).predict;
+  predict = map raw_predictor (out-RawPair f).predict.items;
 }
 
 -- a list of statements
@@ -150,6 +151,7 @@ raw_function f = record {
 -- a whole program
 abbrev pub raw_program : code_program.RawProgram → RawProgram
 raw_program p = record {
+  version = p.version;
   arrays = map array p.arrays.items;
   functions = map raw_function p.functions.items;
   main = raw_block p.main.items;

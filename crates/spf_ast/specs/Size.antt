@@ -1,5 +1,5 @@
 -- How large programs are, with calls unfolded, and how large they may be.
-use Rattle.std.specs.Prelude.{ℕ, zero, suc, ◌+◌, ◌≤◌, max, if◌then◌else◌, ◌==◌, List, length, Option, Some, None, slice_get}
+use Rattle.std.specs.Prelude.{ℕ, zero, suc, ◌+◌, ◌≤◌, max, if◌then◌else◌, ◌==◌, List, [], ◌∷◌, length, Option, Some, None, slice_get}
 use Rattle.spf_ast.specs.Syntax.{
   Expression,
   Number,
@@ -33,6 +33,7 @@ use Rattle.spf_ast.specs.Syntax.{
   Do,
   Fold,
   Pair,
+  Break,
   Block,
   end,
   on_line,
@@ -79,6 +80,11 @@ abbrev pub predictor_measure : Measure → Predictor → ℕ
 predictor_measure m (By guess) = expression_measure m guess
 predictor_measure m (Host number) = 0
 
+-- the predictors of a row's parts
+abbrev pub predictors_measure : Measure → List Predictor → ℕ
+predictors_measure m [] = 0
+predictors_measure m (first ∷ rest) = m.join (predictor_measure m first) (predictors_measure m rest)
+
 abbrev mutual
   -- a statement
   pub statement_measure : Measure → Statement → ℕ
@@ -97,13 +103,14 @@ abbrev mutual
   statement_measure m (Fold head body) =
       m.own
       + m.join
-      (m.join (expression_measure m head.start) (m.join (expression_measure m head.low) (expression_measure m head.high)))
-      (m.join (predictor_measure m head.predict) (m.join (block_measure m body) (expression_measure m head.next)))
+      (m.join (arguments_measure m head.start) (m.join (expression_measure m head.low) (expression_measure m head.high)))
+      (m.join (predictors_measure m head.predict) (m.join (block_measure m body) (arguments_measure m head.next)))
   statement_measure m (Pair head producer consumer) =
       m.own
       + m.join
-      (m.join (block_measure m producer) (expression_measure m head.give))
-      (m.join (predictor_measure m head.predict) (block_measure m consumer))
+      (m.join (block_measure m producer) (arguments_measure m head.give))
+      (m.join (predictors_measure m head.predict) (block_measure m consumer))
+  statement_measure m Break = m.own
 
   -- a block
   pub block_measure : Measure → Block → ℕ

@@ -1,8 +1,8 @@
 -- Which slots blocks and parts declare and assign, and whether they emit.
-use Rattle.std.specs.Prelude.{◌≡◌, ℕ, Bool, true, false, not, ◌==◌, ◌||◌, List, ℤ, slice_get}
+use Rattle.std.specs.Prelude.{◌≡◌, ℕ, Bool, true, false, not, ◌==◌, ◌||◌, List, [], ◌∷◌, ℤ, slice_get}
 use Rattle.spf_ast.specs.declared.syntax.Part.{Part}
 use Rattle.spf_ast.specs.declared.syntax.Part.TheVariants.{Body, Producer, Consumer, Predictor}
-use Rattle.spf_ast.specs.Syntax.{Statement, Let, Assign, Emit, If, For, While, Fold, Pair, Block, end, on_line}
+use Rattle.spf_ast.specs.Syntax.{Statement, Let, Assign, Emit, If, For, While, Fold, Pair, Break, Block, end, on_line}
 use Rattle.spf_ast.specs.Construct.{Construct, fold, pair, statements_of}
 
 -- Whether some statement is as asked, at any depth: the question is answered for a statement from the answer for the blocks within it.
@@ -30,12 +30,17 @@ statement_assigns test = in_statement (assigns_here test)
 abbrev pub assigns : (ℕ → Bool) → Block → Bool
 assigns test = in_block (assigns_here test)
 
+-- a slot is one of these
+abbrev pub is_among : ℕ → List ℕ → Bool
+is_among slot [] = false
+is_among slot (first ∷ rest) = (slot == first) || is_among slot rest
+
 -- this slot is declared, here or within
 abbrev declares_here : ℕ → Statement → Bool → Bool
 declares_here x (Let slot value) within = x == slot
 declares_here x (For slot low high body) within = (x == slot) || within
-declares_here x (Fold head body) within = (x == head.carried) || ((x == head.block) || within)
-declares_here x (Pair head producer consumer) within = (x == head.carried) || within
+declares_here x (Fold head body) within = is_among x head.carried || ((x == head.block) || within)
+declares_here x (Pair head producer consumer) within = is_among x head.carried || within
 declares_here x _ within = within
 
 abbrev pub statement_declares : ℕ → Statement → Bool
@@ -59,14 +64,26 @@ statement_emits = in_statement emits_here
 abbrev pub emits : Block → Bool
 emits = in_block emits_here
 
+-- a `break` stands here that ends a loop around: in the block itself or in its choices, and in no loop or construct of it
+abbrev breaks_here : Statement → Bool → Bool
+breaks_here Break within = true
+breaks_here (If c first second) within = within
+breaks_here _ within = false
+
+abbrev pub statement_breaks : Statement → Bool
+statement_breaks = in_statement breaks_here
+
+abbrev pub breaks : Block → Bool
+breaks = in_block breaks_here
+
 -- ---- parts
 
 -- a part declares the slot: in its statements, or as its block name or its carried name
 abbrev pub part_declares : Construct → Part → ℕ → Bool
-part_declares (fold line head body) Body slot = (slot == head.carried) || ((slot == head.block) || declares slot body)
+part_declares (fold line head body) Body slot = is_among slot head.carried || ((slot == head.block) || declares slot body)
 part_declares (fold line head body) Predictor slot = slot == head.block
 part_declares (pair line head producer consumer) Producer slot = declares slot producer
-part_declares (pair line head producer consumer) Consumer slot = (slot == head.carried) || declares slot consumer
+part_declares (pair line head producer consumer) Consumer slot = is_among slot head.carried || declares slot consumer
 part_declares _ _ slot = false
 
 -- a part assigns the slot

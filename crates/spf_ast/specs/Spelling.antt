@@ -1,5 +1,5 @@
 -- How programs are written: with names in place of the numbers of arrays, functions and slots.
-use Rattle.std.specs.Prelude.{ℕ, ◌<◌, ◌^◌, List, [], map, take, slice_index_or, pos}
+use Rattle.std.specs.Prelude.{◌≡◌, ◌⊎◌, Bool, true, false, ◌||◌, ℕ, suc, ◌<◌, ◌^◌, List, [], length, map, take, slice_index_or, pos}
 use Rattle.std.specs.List.{All}
 use Rattle.spf_ast.specs.Syntax as s
 use Rattle.spf_ast.specs.Syntax.{Expression, Arguments, Condition, Predictor, FoldHead, PairHead, Statement, Block, Array, Function, Program}
@@ -22,9 +22,10 @@ use Rattle.spf_ast.specs.RawSyntax.{
   argument,
 }
 use Rattle.spf_ast.specs.RawSyntax.{RawPredictor, By, Host, RawFoldHead, RawPairHead}
-use Rattle.spf_ast.specs.RawSyntax.{RawStatement, Let, Assign, Store, Fill, Emit, Fail, If, For, While, Do, Fold, Pair, RawBlock, end, on_line}
+use Rattle.spf_ast.specs.RawSyntax.{RawStatement, Let, Assign, Store, Fill, Emit, Fail, If, For, While, Do, Fold, Pair, Break, RawBlock, end, on_line}
 use Rattle.spf_ast.specs.RawSyntax.{RawFunction, RawProgram}
 use Rattle.spf_ast.specs.Lawful.{IsName, IsNumber}
+use Rattle.spf_ast.specs.Carried.{IsWidth}
 
 -- ---- the text of a resolved program
 
@@ -67,26 +68,30 @@ abbrev pub spelled_predictor : Vocabulary → Predictor → RawPredictor
 spelled_predictor v (s.By guess) = By (spelled_expression v guess)
 spelled_predictor v (s.Host number) = Host number
 
+-- the names of a row's slots
+abbrev pub spelled_names : Vocabulary → List ℕ → List (List ℕ)
+spelled_names v slots = map (name_at v.slots) slots
+
 -- the fields of a fold, but for its body
 abbrev pub spelled_fold : Vocabulary → FoldHead → RawFoldHead
 spelled_fold v f = record {
-  carried = name_at v.slots f.carried;
-  start = spelled_expression v f.start;
+  carried = spelled_names v f.carried;
+  start = spelled_arguments v f.start;
   block = name_at v.slots f.block;
   low = spelled_expression v f.low;
   high = spelled_expression v f.high;
-  predict = spelled_predictor v f.predict;
-  next = spelled_expression v f.next;
+  predict = map (spelled_predictor v) f.predict;
+  next = spelled_arguments v f.next;
   next_line = f.next_line;
 }
 
 -- the fields of a pair, but for its producer and its consumer
 abbrev pub spelled_pair : Vocabulary → PairHead → RawPairHead
 spelled_pair v p = record {
-  carried = name_at v.slots p.carried;
-  give = spelled_expression v p.give;
+  carried = spelled_names v p.carried;
+  give = spelled_arguments v p.give;
   give_line = p.give_line;
-  predict = spelled_predictor v p.predict;
+  predict = map (spelled_predictor v) p.predict;
 }
 
 abbrev mutual
@@ -106,6 +111,7 @@ abbrev mutual
   spelled_statement v (s.Do f given) = Do (name_at v.functions f) (spelled_arguments v given)
   spelled_statement v (s.Fold head body) = Fold (spelled_fold v head) (spelled_block v body)
   spelled_statement v (s.Pair head producer consumer) = Pair (spelled_pair v head) (spelled_block v producer) (spelled_block v consumer)
+  spelled_statement v s.Break = Break
 
   -- a block
   pub spelled_block : Vocabulary → Block → RawBlock
@@ -134,6 +140,7 @@ spelled_function p f = record {
 -- a whole program, whose word `main` is on this line
 abbrev pub spelled : ℕ → Program → RawProgram
 spelled main_line p = record {
+  version = p.version;
   arrays = p.arrays;
   functions = map (spelled_function p) p.functions;
   main = spelled_block (vocabulary p p.slots) p.main;
@@ -163,25 +170,32 @@ abbrev mutual
   AreWritableArguments no_more = Unit {0}
   AreWritableArguments (argument first rest) = IsWritableExpression first × AreWritableArguments rest
 
--- of a predictor
+-- how many there are
+abbrev pub raw_count : RawArguments → ℕ
+raw_count no_more = 0
+raw_count (argument first rest) = suc (raw_count rest)
+
+-- of a predictor of one part of a row
 abbrev pub IsWritablePredictor : RawPredictor → Type 0
 IsWritablePredictor (By guess) = IsWritableExpression guess
 IsWritablePredictor (Host number) = number < 2 ^ 63
 
--- of a fold, but for its body
+-- of a fold, but for its body; it has one to four carried names
 abbrev pub IsWritableFold : RawFoldHead → Type 0
 IsWritableFold f =
-    IsName f.carried
-    × IsWritableExpression f.start
+    All IsName f.carried
+    × AreWritableArguments f.start
     × IsName f.block
     × IsWritableExpression f.low
     × IsWritableExpression f.high
-    × IsWritablePredictor f.predict
-    × IsWritableExpression f.next
+    × All IsWritablePredictor f.predict
+    × AreWritableArguments f.next
+    × IsWidth (length f.carried)
 
--- of a pair, but for its producer and its consumer
+-- of a pair, but for its producer and its consumer; it has one to four carried names
 abbrev pub IsWritablePair : RawPairHead → Type 0
-IsWritablePair p = IsName p.carried × IsWritableExpression p.give × IsWritablePredictor p.predict
+IsWritablePair p =
+    All IsName p.carried × AreWritableArguments p.give × All IsWritablePredictor p.predict × IsWidth (length p.carried)
 
 abbrev mutual
   -- of a statement
@@ -200,6 +214,7 @@ abbrev mutual
   IsWritableStatement (Do f given) = IsName f × AreWritableArguments given
   IsWritableStatement (Fold head body) = IsWritableFold head × IsWritableBlock body
   IsWritableStatement (Pair head producer consumer) = IsWritablePair head × IsWritableBlock producer × IsWritableBlock consumer
+  IsWritableStatement Break = Unit {0}
 
   -- of a block
   pub IsWritableBlock : RawBlock → Type 0
@@ -214,8 +229,63 @@ IsWritableArray a = IsName a.name × IsNumber a.factor × IsNumber a.offset
 abbrev pub IsWritableFunction : RawFunction → Type 0
 IsWritableFunction f = IsName f.name × All IsName f.params × IsWritableBlock f.body × IsWritableExpression f.answer
 
--- all names of a raw program are names, and all its numbers are numbers that a text can hold
-pub record IsWritable (p : RawProgram) : Type 0 where
+abbrev mutual
+  -- a `break` stands in a statement, at any depth
+  pub has_break : RawStatement → Bool
+  has_break Break = true
+  has_break (If test a b) = holds_break a || holds_break b
+  has_break (For x low high body) = holds_break body
+  has_break (While test most body) = holds_break body
+  has_break (Fold head body) = holds_break body
+  has_break (Pair head producer consumer) = holds_break producer || holds_break consumer
+  has_break _ = false
+
+  -- in a block
+  pub holds_break : RawBlock → Bool
+  holds_break end = false
+  holds_break (on_line line first rest) = has_break first || holds_break rest
+
+-- `break` stands only in version 2
+pub record BreaksAreAllowed (p : RawProgram) : Type 0 where
+  pub main : (p.version ≡ 1) → holds_break p.main ≡ false
+  pub functions : (p.version ≡ 1) → All (λ (f : RawFunction). holds_break f.body ≡ false) p.functions
+
+-- A raw program is well-formed: its names are names, its numbers are numbers that a text can hold, its constructs have
+-- one to four carried names, and it is written in one of the two versions of the language.
+pub record IsWellFormed (p : RawProgram) : Type 0 where
+  pub version : (p.version ≡ 1) ⊎ (p.version ≡ 2)
+  pub breaks : BreaksAreAllowed p
   pub arrays : All IsWritableArray p.arrays
   pub functions : All IsWritableFunction p.functions
   pub main : IsWritableBlock p.main
+
+-- the parts of a fold, and those of a pair, are rows: one to four parts each
+pub record FoldHasRows (f : RawFoldHead) : Type 0 where
+  pub start : IsWidth (raw_count f.start)
+  pub predict : IsWidth (length f.predict)
+  pub next : IsWidth (raw_count f.next)
+
+pub record PairHasRows (p : RawPairHead) : Type 0 where
+  pub give : IsWidth (raw_count p.give)
+  pub predict : IsWidth (length p.predict)
+
+abbrev mutual
+  -- so it is with each construct in a statement, at any depth
+  pub HasRows : RawStatement → Type 0
+  HasRows (If test a b) = HoldRows a × HoldRows b
+  HasRows (For x low high body) = HoldRows body
+  HasRows (While test most body) = HoldRows body
+  HasRows (Fold head body) = FoldHasRows head × HoldRows body
+  HasRows (Pair head producer consumer) = PairHasRows head × HoldRows producer × HoldRows consumer
+  HasRows _ = Unit {0}
+
+  -- in a block
+  pub HoldRows : RawBlock → Type 0
+  HoldRows end = Unit {0}
+  HoldRows (on_line line first rest) = HasRows first × HoldRows rest
+
+-- a raw program can be written: it is well-formed, and its constructs have rows
+pub record IsWritable (p : RawProgram) : Type 0 where
+  pub well_formed : IsWellFormed p
+  pub functions : All (λ (f : RawFunction). HoldRows f.body) p.functions
+  pub main : HoldRows p.main

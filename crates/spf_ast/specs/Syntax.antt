@@ -15,7 +15,7 @@ mutual
     Neg : Expression → Expression
     Binary : Op → Expression → Expression → Expression
 
-  -- the arguments of a call, in order
+  -- expressions in order: the arguments of a call, or the parts of a row
   pub data Arguments : Type 0 where
     no_more : Arguments
     argument : Expression → Arguments → Arguments
@@ -27,28 +27,28 @@ pub data Condition : Type 0 where
   Either : Condition → Condition → Condition
   Not : Condition → Condition
 
--- how a carried value is guessed: by an expression, or by a predictor that is handed in
+-- how a part of a carried row is guessed: by an expression, or by a predictor that is handed in
 pub data Predictor : Type 0 where
   By : Expression → Predictor
   Host : ℕ → Predictor
 
 -- the fields of a fold, but for its body
 pub record FoldHead : Type 0 where
-  pub carried : ℕ
-  pub start : Expression
+  pub carried : List ℕ
+  pub start : Arguments
   pub block : ℕ
   pub low : Expression
   pub high : Expression
-  pub predict : Predictor
-  pub next : Expression
+  pub predict : List Predictor
+  pub next : Arguments
   pub next_line : ℕ
 
 -- the fields of a pair, but for its producer and its consumer
 pub record PairHead : Type 0 where
-  pub carried : ℕ
-  pub give : Expression
+  pub carried : List ℕ
+  pub give : Arguments
   pub give_line : ℕ
-  pub predict : Predictor
+  pub predict : List Predictor
 
 mutual
   -- a statement
@@ -65,6 +65,7 @@ mutual
     Do : ℕ → Arguments → Statement
     Fold : FoldHead → Block → Statement
     Pair : PairHead → Block → Block → Statement
+    Break : Statement
 
   -- statements in order, each with its line
   pub data Block : Type 0 where
@@ -88,8 +89,9 @@ pub record Function : Type 0 where
   pub answer_line : ℕ
   pub line : ℕ
 
--- a whole program, with the names of the slots of `main`
+-- a whole program, with the version of the language that it is written in, and the names of the slots of `main`
 pub record Program : Type 0 where
+  pub version : ℕ
   pub arrays : List Array
   pub functions : List Function
   pub slots : List (List ℕ)

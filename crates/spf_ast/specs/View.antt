@@ -20,7 +20,7 @@ use Rattle.spf_ast.specs.declared.syntax.StmtKind as s
 use Rattle.spf_ast.specs.declared.syntax.StmtKind.TheBlock.{struct-Fold, struct-Pair, Row_of-Stmt, end_of-Stmt, more_of-Stmt}
 use Rattle.spf_ast.specs.Syntax.{Expression, Number, Local, Len, Input, Load, Call, Neg, Binary, Arguments, no_more, argument, arguments_of}
 use Rattle.spf_ast.specs.Syntax.{Condition, Compare, Both, Either, Not, Predictor, By, Host, FoldHead, PairHead}
-use Rattle.spf_ast.specs.Syntax.{Statement, Let, Assign, Store, Fill, Emit, Fail, If, For, While, Do, Fold, Pair, Block, end, on_line}
+use Rattle.spf_ast.specs.Syntax.{Statement, Let, Assign, Store, Fill, Emit, Fail, If, For, While, Do, Fold, Pair, Break, Block, end, on_line}
 use Rattle.spf_ast.specs.Syntax.{Array, Function, Program}
 
 -- an expression, and a row of expressions that are arguments
@@ -50,7 +50,7 @@ condition (c.Both' place left other right) = Both (condition left) (condition ri
 condition (c.Either' place left other right) = Either (condition left) (condition right)
 condition (c.Not' place inner) = Not (condition inner)
 
--- how a carried value is guessed
+-- how a part of a carried row is guessed
 abbrev pub predictor : Predict → Predictor
 predictor (p.Expr guess) = By (expression guess)
 predictor (p.Host number) = Host number
@@ -70,27 +70,28 @@ abbrev mutual
   statement (s.Call f given) = Do f (arguments given.items)
   statement (s.Fold' place fold) = fold_statement fold
   statement (s.Pair' place pair) = pair_statement pair
+  statement s.Break = Break
 
   pub fold_statement : code_fold.Fold → Statement
   fold_statement (struct-Fold carried start block low high predict n body next next_line) =
       Fold (record {
-        carried = carried;
-        start = expression start;
+        carried = carried.items;
+        start = arguments start.items;
         block = block;
         low = expression low;
         high = expression high;
-        predict = predictor predict;
-        next = expression next;
+        predict = map predictor predict.items;
+        next = arguments next.items;
         next_line = next_line;
       }) (row_block body)
 
   pub pair_statement : code_pair.Pair → Statement
   pair_statement (struct-Pair carried n producer give give_line predict m consumer) =
       Pair (record {
-        carried = carried;
-        give = expression give;
+        carried = carried.items;
+        give = arguments give.items;
         give_line = give_line;
-        predict = predictor predict;
+        predict = map predictor predict.items;
       }) (row_block producer) (row_block consumer)
 
   pub row_block : {n : _} → Row_of-Stmt n → Block
@@ -100,23 +101,23 @@ abbrev mutual
 -- the fields of a fold, but for its body
 abbrev pub fold_head : code_fold.Fold → FoldHead
 fold_head f = record {
-  carried = (out-Fold f).carried;
-  start = expression (out-Fold f).start;
+  carried = (out-Fold f).carried.items;
+  start = arguments (out-Fold f).start.items;
   block = (out-Fold f).block;
   low = expression (out-Fold f).low;
   high = expression (out-Fold f).high;
-  predict = predictor (out-Fold f).predict;
-  next = expression (out-Fold f).next;
+  predict = map predictor (out-Fold f).predict.items;
+  next = arguments (out-Fold f).next.items;
   next_line = (out-Fold f).next_line;
 }
 
 -- the fields of a pair, but for its producer and its consumer
 abbrev pub pair_head : code_pair.Pair → PairHead
 pair_head f = record {
-  carried = (out-Pair f).carried;
-  give = expression (out-Pair f).give;
+  carried = (out-Pair f).carried.items;
+  give = arguments (out-Pair f).give.items;
   give_line = (out-Pair f).give_line;
-  predict = predictor (out-Pair f).predict;
+  predict = map predictor (out-Pair f).predict.items;
 }
 
 -- a list of statements
@@ -147,6 +148,7 @@ function f = record {
 -- a whole program
 abbrev pub program : code_program.Program → Program
 program p = record {
+  version = p.version;
   arrays = map array p.arrays.items;
   functions = map function p.functions.items;
   slots = map name p.slots.items;

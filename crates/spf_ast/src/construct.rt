@@ -1,11 +1,11 @@
 // The top constructs of a program.
 
 ghost use Rattle.std.specs.Prelude.{◌≡◌, ◌^◌, ◌<◌, length, map, slice_get, MatchOption, IfOk, Some, None};
-ghost use Rattle.spf_ast.specs.View.{block as seen_block, statement as seen_statement, program as seen_program};
-ghost use Rattle.spf_ast.specs.Construct.{construct_of, constructs_in, carried_of, part_of as part_run, is_construct as is_construct_form};
+ghost use Rattle.spf_ast.specs.View.{block as seen_block, predictor as seen_predictor, statement as seen_statement, program as seen_program};
+ghost use Rattle.spf_ast.specs.Construct.{construct_of, constructs_in, carried_of, predictors_of, part_of as part_run, is_construct as is_construct_form};
 ghost use Rattle.spf_ast.specs.ConstructView.{construct as seen_construct};
 
-use crate::syntax::{Fold, Pair, Part, Program, Stmt, StmtKind};
+use crate::syntax::{Fold, Pair, Part, Predict, Program, Stmt, StmtKind};
 use std::alloc::{AllocError, Global};
 
 /// A top construct: a fold or a pair that is a direct statement of `main`.
@@ -25,13 +25,23 @@ pub enum ConstructKind<'a> {
 }
 
 impl<'a> TopConstruct<'a> {
-    /// The slot of the carried value.
-    pub fn carried_slot(self) -> u32
-        ensures { result ≡ carried_of (seen_construct self.entry) }
+    /// The slots of the carried row.
+    pub fn carried_slots(self) -> &'a [u32]
+        ensures { result.now ≡ carried_of (seen_construct self.entry) }
     {
         match self.kind {
-            ConstructKind::Fold(fold) => fold.carried,
-            ConstructKind::Pair(pair) => pair.carried,
+            ConstructKind::Fold(fold) => &fold.carried,
+            ConstructKind::Pair(pair) => &pair.carried,
+        }
+    }
+
+    /// How the parts of a row are guessed.
+    pub fn predictors(self) -> &'a [Predict]
+        ensures { map seen_predictor result.now ≡ predictors_of (seen_construct self.entry) }
+    {
+        match self.kind {
+            ConstructKind::Fold(fold) => &fold.predict,
+            ConstructKind::Pair(pair) => &pair.predict,
         }
     }
 

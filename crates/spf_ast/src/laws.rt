@@ -5,12 +5,13 @@ ghost use Rattle.spf_ast.specs.Laws.{
   ConditionsHaveOnePlainRun,
   BlocksHaveOnePlainRun,
   PartsHaveOneBlockRun,
-  PartsHaveOneUnsharedAnswer,
+  GuessesHaveOneAnswer,
   LawfulFunctionsAreSilent,
   LawfulProgramsHaveFewConstructs,
   SilentPartsLeaveTheOutput,
   HeadersLeaveTheOutput,
 };
+ghost use Rattle.spf_ast.specs.GoingOn.{BlocksWithoutBreakGoOn, LawfulBlocksKeepTheirBreaks, LawfulProgramsAreOrderly};
 
 /// A form, a state and a memory have exactly one list of events that is consistent with the memory, polls nothing, and is performed to its end.
 pub fn each_form_has_one_plain_run()
@@ -20,9 +21,10 @@ pub fn each_form_has_one_plain_run()
     ensures parts { PartsHaveOneBlockRun }
 {}
 
-/// With no shared cell a part has exactly one answer on a memory, whatever it stores: so a guess is a function of the memory at the construct's entry.
+/// With no shared cell the guess of a part of a row has exactly one answer on a memory, whatever it stores: it is a function of the
+/// memory at the construct's entry.
 pub fn each_guess_has_one_answer()
-    ensures guesses { PartsHaveOneUnsharedAnswer }
+    ensures guesses { GuessesHaveOneAnswer }
 {}
 
 /// The functions of a lawful program emit nothing, and it has fewer than 2^32 top constructs.
@@ -36,4 +38,11 @@ pub fn lawful_programs_are_quiet_and_small()
 pub fn silent_forms_leave_the_output()
     ensures parts { SilentPartsLeaveTheOutput }
     ensures headers { HeadersLeaveTheOutput }
+{}
+
+/// A block that holds no `break` of a loop around it never breaks off, and no lawful block outside of loops holds one.
+pub fn breaks_stay_in_their_loops()
+    ensures go_on { BlocksWithoutBreakGoOn }
+    ensures lawful { LawfulBlocksKeepTheirBreaks }
+    ensures programs { LawfulProgramsAreOrderly }
 {}

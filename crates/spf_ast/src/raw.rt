@@ -58,9 +58,11 @@ pub enum RawStmtKind {
     Call(Name, Vec<RawExpr>),
     Fold(Box<RawFold>),
     Pair(Box<RawPair>),
+    /// Ends the innermost loop.
+    Break,
 }
 
-/// How a block's carried value is guessed.
+/// How one part of a block's carried row is guessed.
 #[derive(Drop)]
 pub enum RawPredict {
     /// By an expression.
@@ -73,26 +75,26 @@ pub enum RawPredict {
 #[derive(Drop)]
 #[cycle(raw)]
 pub struct RawFold {
-    pub carried: Name,
-    pub start: RawExpr,
+    pub carried: Vec<Name>,
+    pub start: Vec<RawExpr>,
     pub block: Name,
     pub low: RawExpr,
     pub high: RawExpr,
-    pub predict: RawPredict,
+    pub predict: Vec<RawPredict>,
     pub body: Vec<RawStmt>,
-    pub next: RawExpr,
+    pub next: Vec<RawExpr>,
     pub next_line: u32,
 }
 
-/// `spec`: a producer, and a consumer of the value that it gives.
+/// `spec`: a producer, and a consumer of the row that it gives.
 #[derive(Drop)]
 #[cycle(raw)]
 pub struct RawPair {
-    pub carried: Name,
+    pub carried: Vec<Name>,
     pub producer: Vec<RawStmt>,
-    pub give: RawExpr,
+    pub give: Vec<RawExpr>,
     pub give_line: u32,
-    pub predict: RawPredict,
+    pub predict: Vec<RawPredict>,
     pub consumer: Vec<RawStmt>,
 }
 
@@ -110,6 +112,8 @@ pub struct RawFunction {
 /// A whole program. `main_line` is the line of the word `main`.
 #[derive(Drop)]
 pub struct RawProgram {
+    /// The version of the language, 1 or 2.
+    pub version: u32,
     pub arrays: Vec<Array>,
     pub functions: Vec<RawFunction>,
     pub main: Vec<RawStmt>,

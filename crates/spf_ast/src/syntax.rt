@@ -103,9 +103,11 @@ pub enum StmtKind {
     Call(u32, Vec<Expr>),
     Fold(Box<Fold>),
     Pair(Box<Pair>),
+    /// Ends the innermost loop.
+    Break,
 }
 
-/// How a block's carried value is guessed.
+/// How one part of a block's carried row is guessed.
 #[derive(Drop)]
 pub enum Predict {
     /// By an expression.
@@ -118,26 +120,26 @@ pub enum Predict {
 #[derive(Drop)]
 #[cycle(stmt)]
 pub struct Fold {
-    pub carried: u32,
-    pub start: Expr,
+    pub carried: Vec<u32>,
+    pub start: Vec<Expr>,
     pub block: u32,
     pub low: Expr,
     pub high: Expr,
-    pub predict: Predict,
+    pub predict: Vec<Predict>,
     pub body: Vec<Stmt>,
-    pub next: Expr,
+    pub next: Vec<Expr>,
     pub next_line: u32,
 }
 
-/// `spec`: a producer, and a consumer of the value that it gives.
+/// `spec`: a producer, and a consumer of the row that it gives.
 #[derive(Drop)]
 #[cycle(stmt)]
 pub struct Pair {
-    pub carried: u32,
+    pub carried: Vec<u32>,
     pub producer: Vec<Stmt>,
-    pub give: Expr,
+    pub give: Vec<Expr>,
     pub give_line: u32,
-    pub predict: Predict,
+    pub predict: Vec<Predict>,
     pub consumer: Vec<Stmt>,
 }
 
@@ -156,6 +158,8 @@ pub struct Function {
 /// A whole program. `slots` has the names of the slots of `main`, in the order of their declarations.
 #[derive(Drop)]
 pub struct Program {
+    /// The version of the language, 1 or 2.
+    pub version: u32,
     pub arrays: Vec<Array>,
     pub functions: Vec<Function>,
     pub slots: Vec<Name>,

@@ -84,8 +84,9 @@ pub fn two_functions(
     Ok(vec![in alloc; first, second?]?)
 }
 
-/// A program.
+/// A program in this version of the language.
 pub fn program(
+    version: u32,
     arrays: Result<Vec<Array>, AllocError>,
     functions: Result<Vec<Function>, AllocError>,
     slots: Result<Vec<Name>, AllocError>,
@@ -94,12 +95,13 @@ pub fn program(
     ensures { (a : List ArrayForm) (f : List FunctionForm) (s : List (List ℕ)) (b : Block)
         → IfOk arrays (λ v. map seen_array v.items ≡ a) → IfOk functions (λ v. map seen_function v.items ≡ f)
         → IfOk slots (λ v. map seen_name v.items ≡ s) → IfOk main (λ v. block v.items ≡ b)
-        → IfOk result (λ p. seen_program p ≡ program_form a f s b) }
+        → IfOk result (λ p. seen_program p ≡ program_form version a f s b) }
 {
     let arrays = arrays?;
     let functions = functions?;
     let slots = slots?;
     Ok(Program {
+        version,
         arrays,
         functions,
         slots,

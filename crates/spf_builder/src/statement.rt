@@ -18,7 +18,7 @@ ghost use Rattle.spf_ast.specs.Syntax.{
   on_line as on_line_form,
 };
 ghost use Rattle.spf_ast.specs.View.{expression, condition, statement, block};
-ghost use Rattle.spf_builder.specs.Built.{head_of};
+ghost use Rattle.spf_builder.specs.Built.{RowsForm, rows as seen_rows, one_word, head_of};
 
 use crate::expression::literal;
 use spf_ast::syntax::{Cond, Expr, Fold, Predict, Stmt, StmtKind};
@@ -143,7 +143,19 @@ pub fn on_line(
     Ok(block)
 }
 
-/// The value that a fold carries: its slot, what it starts as, the slot with the next one, and the line that says so.
+/// The rows of a fold: the slots that carry them, the first row, how each part is guessed, the next
+/// row, and the line that says so.
+#[derive(Drop)]
+pub struct Rows {
+    pub carried: Vec<u32>,
+    pub start: Vec<Expr>,
+    pub predict: Vec<Predict>,
+    pub next: Vec<Expr>,
+    pub next_line: u32,
+}
+
+/// A row of one word that a fold carries: its slot, what it starts as, the slot with the next one,
+/// and the line that says so.
 #[derive(Clone, Copy)]
 pub struct Carried {
     pub slot: u32,
@@ -152,32 +164,54 @@ pub struct Carried {
     pub next_line: u32,
 }
 
-/// A fold whose blocks are numbered from 0, and whose block number is declared after its carried value.
-pub fn fold(
+/// Rows of one word that is guessed by an expression.
+pub fn rows_of_one(
     alloc: Global,
     carried: Carried,
-    count: Result<Expr, AllocError>,
     guess: Result<Expr, AllocError>,
+) -> Result<Rows, AllocError>
+    requires { carried.start < 2 ^ 63 }
+    ensures { (a : Expression) → IfOk guess (λ e. expression e ≡ a)
+        → IfOk result (λ r. seen_rows r ≡ one_word carried a) }
+{
+    let predict = vec![in alloc; Predict::Expr(guess?)]?;
+    let start = vec![in alloc; literal(carried.start)]?;
+    let next = vec![in alloc; Expr::Local(carried.next)]?;
+    let slots = vec![in alloc; carried.slot]?;
+    Ok(Rows {
+        carried: slots,
+        start,
+        predict,
+        next,
+        next_line: carried.next_line,
+    })
+}
+
+/// A fold whose blocks are numbered from 0, with the slot of the block's number.
+pub fn fold(
+    alloc: Global,
+    rows: Result<Rows, AllocError>,
+    slot: u32,
+    count: Result<Expr, AllocError>,
     body: Result<Vec<Stmt>, AllocError>,
 ) -> Result<StmtKind, AllocError>
-    requires slot { carried.slot < 1000 }
-    requires start { carried.start < 2 ^ 63 }
-    ensures { (a b : Expression) (c : Block) → IfOk count (λ e. expression e ≡ a) → IfOk guess (λ e. expression e ≡ b)
-        → IfOk body (λ v. block v.items ≡ c) → IfOk result (λ s. statement s ≡ fold_form (head_of carried a b) c) }
+    ensures { (r : RowsForm) (a : Expression) (b : Block)
+        → IfOk rows (λ x. seen_rows x ≡ r)
+        → IfOk count (λ e. expression e ≡ a) → IfOk body (λ v. block v.items ≡ b)
+        → IfOk result (λ s. statement s ≡ fold_form (head_of r slot a) b) }
 {
+    let rows = rows?;
     let body = body?;
-    let high = count?;
-    let predict = Predict::Expr(guess?);
     let fold = Fold {
-        carried: carried.slot,
-        start: literal(carried.start),
-        block: carried.slot + 1,
+        carried: rows.carried,
+        start: rows.start,
+        block: slot,
         low: Expr::Number(0),
-        high,
-        predict,
+        high: count?,
+        predict: rows.predict,
         body,
-        next: Expr::Local(carried.next),
-        next_line: carried.next_line,
+        next: rows.next,
+        next_line: rows.next_line,
     };
     Ok(StmtKind::Fold(Box::new(alloc, fold)?))
 }

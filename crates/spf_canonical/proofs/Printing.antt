@@ -1,5 +1,5 @@
 -- Text that was added for a form that holds a vector.
-use Rattle.std.proofs.Common.{length, map, ◌≡◌, ◌++◌, ◌∷◌, [], codes, ℕ, List, refl, sym, ap, ◌∙◌, append_assoc, ◌<◌, ◌≤◌, false, arith}
+use Rattle.std.proofs.Common.{length, map, ◌≡◌, ◌++◌, ◌∷◌, [], codes, ℕ, suc, List, refl, sym, ap, ◌∙◌, append_assoc, ◌<◌, ◌≤◌, false, arith}
 use Rattle.std.specs.Prelude.{nat_lt}
 use Rattle.std.proofs.lemmas.Bool.{lt-ltb}
 use Rattle.std.proofs.lemmas.Bool.Decides.{nat_tests}
@@ -13,7 +13,7 @@ use Rattle.spf_ast.specs.declared.syntax.Function as code_function
 use Rattle.spf_ast.specs.Syntax.{Call, Statement, Array, Function}
 use Rattle.spf_ast.specs.declared.syntax.Stmt.{Stmt}
 use Rattle.spf_ast.specs.View.{name, expression, arguments, statement, block, array, function}
-use Rattle.spf_ast.specs.Spelling.{Vocabulary, name_at, spelled_expression, spelled_arguments, spelled_statement, spelled_block}
+use Rattle.spf_ast.specs.Spelling.{Vocabulary, name_at, spelled_expression, spelled_arguments, spelled_statement, spelled_block, raw_count}
 use Rattle.spf_canonical.specs.Canonical.{joined, enclosed, line, deeper, expression_text, arguments_text, statement_text, block_text, otherwise_text}
 use Rattle.spf_ast.proofs.Views.{expression-call}
 
@@ -37,6 +37,18 @@ in_parentheses found level least text is low = rw (sym is, lt-ltb found least lo
 
 pub with_no_parentheses : (found level least : ℕ) (text : List ℕ) → found ≡ level → least ≤ found → enclosed (nat_lt level least) text ≡ text
 with_no_parentheses found level least text is high = let no : nat_lt found least ≡ false = grind (arith, nat_tests, high) in rw (sym is, no) refl
+
+-- a row of several parts, and one of at most one
+pub in_several : {A : Type 0} (parts : List A) (text : List ℕ) → 1 < length parts → enclosed (nat_lt 1 (length parts)) text ≡ joined (codes "(" ∷ text ∷ codes ")" ∷ [])
+in_several parts text many = in_parentheses 1 1 (length parts) text refl many
+
+pub in_one : {A : Type 0} (parts : List A) (text : List ℕ) → length parts ≤ 1 → enclosed (nat_lt 1 (length parts)) text ≡ text
+in_one parts text few = with_no_parentheses 1 1 (length parts) text refl few
+
+-- how many arguments are written
+pub written_count : (v : Vocabulary) (given : List Expr) → raw_count (spelled_arguments v (arguments given)) ≡ length given
+written_count v [] = refl
+written_count v (e ∷ rest) = ap suc (written_count v rest)
 
 -- a block that has a statement is written after `else`
 pub otherwise_is : (v : Vocabulary) (indent : List ℕ) (statements : List Stmt) → (length statements ≡ 0 → ⊥) → line indent (codes "} else {" ∷ []) ++ block_text (deeper indent) (spelled_block v (block statements)) ++ line indent (codes "}" ∷ []) ≡ otherwise_text indent (spelled_block v (block statements))

@@ -1,5 +1,5 @@
 -- The canonical text of a program: each statement on lines of its own, indented by its blocks, and no parentheses but those that are needed.
-use Rattle.std.specs.Prelude.{ℕ, zero, ◌+◌, Bool, true, false, nat_lt, List, [], ◌∷◌, ◌++◌, codes, ℤ, pos}
+use Rattle.std.specs.Prelude.{ℕ, zero, ◌+◌, Bool, true, false, nat_eq, nat_lt, if◌then◌else◌, length, List, [], ◌∷◌, ◌++◌, codes, ℤ, pos}
 use Rattle.std.specs.Fmt.{decimal, signed_decimal}
 use Rattle.spf_ast.specs.declared.syntax.Op.{Op}
 use Rattle.spf_ast.specs.declared.syntax.Op.TheVariants as op
@@ -25,8 +25,9 @@ use Rattle.spf_ast.specs.RawSyntax.{
   argument,
 }
 use Rattle.spf_ast.specs.RawSyntax.{RawPredictor, By, Host, RawFoldHead}
-use Rattle.spf_ast.specs.RawSyntax.{RawStatement, Let, Assign, Store, Fill, Emit, Fail, If, For, While, Do, Fold, Pair, RawBlock, end, on_line}
+use Rattle.spf_ast.specs.RawSyntax.{RawStatement, Let, Assign, Store, Fill, Emit, Fail, If, For, While, Do, Fold, Pair, Break, RawBlock, end, on_line}
 use Rattle.spf_ast.specs.RawSyntax.{RawFunction, RawProgram}
+use Rattle.spf_ast.specs.Spelling.{raw_count}
 
 -- ---- pieces and lines
 
@@ -132,19 +133,50 @@ abbrev mutual
   further_arguments_text no_more = []
   further_arguments_text (argument first rest) = codes ", " ++ expression_text first ++ further_arguments_text rest
 
+-- names, each after a comma and a space
+abbrev pub further_names_text : List (List ℕ) → List ℕ
+further_names_text [] = []
+further_names_text (x ∷ xs) = codes ", " ++ x ++ further_names_text xs
+
+-- names, with a comma and a space between two
+abbrev pub names_text : List (List ℕ) → List ℕ
+names_text [] = []
+names_text (x ∷ xs) = x ++ further_names_text xs
+
 -- a predictor
 abbrev pub predictor_text : RawPredictor → List ℕ
 predictor_text (By guess) = expression_text guess
 predictor_text (Host number) = joined (codes "host " ∷ decimal number ∷ [])
+
+-- predictors, each after a comma and a space
+abbrev pub further_predictors_text : List RawPredictor → List ℕ
+further_predictors_text [] = []
+further_predictors_text (g ∷ gs) = codes ", " ++ predictor_text g ++ further_predictors_text gs
+
+-- predictors, with a comma and a space between two
+abbrev pub predictors_text : List RawPredictor → List ℕ
+predictors_text [] = []
+predictors_text (g ∷ gs) = predictor_text g ++ further_predictors_text gs
+
+-- ---- rows: in parentheses, where there are several parts
+
+abbrev pub carried_text : List (List ℕ) → List ℕ
+carried_text xs = enclosed (nat_lt 1 (length xs)) (names_text xs)
+
+abbrev pub row_text : RawArguments → List ℕ
+row_text given = enclosed (nat_lt 1 (raw_count given)) (arguments_text given)
+
+abbrev pub guess_text : List RawPredictor → List ℕ
+guess_text gs = enclosed (nat_lt 1 (length gs)) (predictors_text gs)
 
 -- ---- statements
 
 -- the line that begins a fold
 abbrev pub fold_line : List ℕ → RawFoldHead → List ℕ
 fold_line indent head =
-    line indent (codes "specfold " ∷ head.carried ∷ codes " = " ∷ expression_text head.start ∷ codes " for "
+    line indent (codes "specfold " ∷ carried_text head.carried ∷ codes " = " ∷ row_text head.start ∷ codes " for "
     ∷ head.block ∷ codes " in " ∷ expression_text head.low ∷ codes ".." ∷ expression_text head.high
-    ∷ codes " predict " ∷ predictor_text head.predict ∷ codes " {" ∷ [])
+    ∷ codes " predict " ∷ guess_text head.predict ∷ codes " {" ∷ [])
 
 abbrev mutual
   -- the lines of a statement, after an indentation
@@ -172,15 +204,16 @@ abbrev mutual
   statement_text indent (Fold head body) =
       fold_line indent head
       ++ block_text (deeper indent) body
-      ++ line (deeper indent) (codes "next " ∷ expression_text head.next ∷ codes ";" ∷ [])
+      ++ line (deeper indent) (codes "next " ∷ row_text head.next ∷ codes ";" ∷ [])
       ++ line indent (codes "}" ∷ [])
   statement_text indent (Pair head producer consumer) =
-      line indent (codes "spec " ∷ head.carried ∷ codes " = {" ∷ [])
+      line indent (codes "spec " ∷ carried_text head.carried ∷ codes " = {" ∷ [])
       ++ block_text (deeper indent) producer
-      ++ line (deeper indent) (codes "give " ∷ expression_text head.give ∷ codes ";" ∷ [])
-      ++ line indent (codes "} predict " ∷ predictor_text head.predict ∷ codes " {" ∷ [])
+      ++ line (deeper indent) (codes "give " ∷ row_text head.give ∷ codes ";" ∷ [])
+      ++ line indent (codes "} predict " ∷ guess_text head.predict ∷ codes " {" ∷ [])
       ++ block_text (deeper indent) consumer
       ++ line indent (codes "}" ∷ [])
+  statement_text indent Break = line indent (codes "break;" ∷ [])
 
   -- the end of an `if`, with its other block where that has a statement
   pub otherwise_text : List ℕ → RawBlock → List ℕ
@@ -208,16 +241,6 @@ size_text factor offset = joined (signed_decimal factor ∷ codes "*len + " ∷ 
 abbrev pub array_text : Array → List ℕ
 array_text a = line [] (codes "array " ∷ a.name ∷ codes "[" ∷ size_text a.factor a.offset ∷ codes "];" ∷ [])
 
--- names, each after a comma and a space
-abbrev pub further_names_text : List (List ℕ) → List ℕ
-further_names_text [] = []
-further_names_text (x ∷ xs) = codes ", " ++ x ++ further_names_text xs
-
--- names, with a comma and a space between two
-abbrev pub names_text : List (List ℕ) → List ℕ
-names_text [] = []
-names_text (x ∷ xs) = x ++ further_names_text xs
-
 -- a function
 abbrev pub function_text : RawFunction → List ℕ
 function_text f =
@@ -239,6 +262,10 @@ functions_text (f ∷ rest) = function_text f ++ functions_text rest
 abbrev pub main_text : RawBlock → List ℕ
 main_text body = line [] (codes "main {" ∷ []) ++ block_text (deeper []) body ++ line [] (codes "}" ∷ [])
 
+-- the line that begins a program of version 2; of version 1 there is none
+abbrev pub header_text : ℕ → List ℕ
+header_text version = if nat_eq version 2 then line [] (codes "version 2;" ∷ []) else []
+
 -- a whole program
 abbrev pub canonical_text : RawProgram → List ℕ
-canonical_text p = arrays_text p.arrays ++ functions_text p.functions ++ main_text p.main
+canonical_text p = header_text p.version ++ arrays_text p.arrays ++ functions_text p.functions ++ main_text p.main

@@ -1,9 +1,9 @@
 // Expressions, conditions and predictors, added to a text.
 
-ghost use Rattle.std.specs.Prelude.{◌≡◌, ◌++◌, ◌∷◌, [], codes, IfOk, nat_lt};
+ghost use Rattle.std.specs.Prelude.{◌≡◌, ◌++◌, ◌∷◌, [], codes, IfOk, nat_lt, map};
 ghost use Rattle.spf_ast.specs.View.{expression, arguments, condition, predictor};
 ghost use Rattle.spf_ast.specs.Spelling.{Vocabulary, name_at, spelled_expression, spelled_arguments, spelled_condition, spelled_predictor};
-ghost use Rattle.spf_canonical.specs.Canonical.{enclosed, level as level_of, joined, op_level as op_level_of, expression_text, arguments_text, predictor_text};
+ghost use Rattle.spf_canonical.specs.Canonical.{enclosed, level as level_of, joined, op_level as op_level_of, expression_text, arguments_text, row_text, predictor_text, predictors_text, guess_text};
 ghost use Rattle.spf_canonical.specs.Printing.{vocabulary_of};
 
 use crate::pieces::{
@@ -124,6 +124,27 @@ pub fn push_index(
     push(text, b"]")
 }
 
+/// Adds arguments, with a comma and a space between two.
+#[cycle(expression)]
+fn push_list(
+    alloc: Global,
+    text: &mut Vec<u8>,
+    names: &Names,
+    given: &[Expr],
+) -> Result<(), AllocError>
+    ensures { IfOk result (λ _. text.new.items ≡ text.old.items
+        ++ arguments_text (spelled_arguments (vocabulary_of names.now) (arguments given.now))) }
+{
+    if let Some((first, others)) = given.split_first() {
+        push_expression(alloc, text, names, first)?;
+        for other in others {
+            push(text, b", ")?;
+            push_expression(alloc, text, names, other)?;
+        }
+    }
+    Ok(())
+}
+
 /// Adds arguments in their parentheses.
 #[cycle(expression)]
 pub fn push_arguments(
@@ -137,14 +158,25 @@ pub fn push_arguments(
         ∷ codes ")" ∷ [])) }
 {
     push(text, b"(")?;
-    if let Some((first, others)) = given.split_first() {
-        push_expression(alloc, text, names, first)?;
-        for other in others {
-            push(text, b", ")?;
-            push_expression(alloc, text, names, other)?;
-        }
-    }
+    push_list(alloc, text, names, given)?;
     push(text, b")")
+}
+
+/// Adds a row, in parentheses where it has several parts.
+pub fn push_row(
+    alloc: Global,
+    text: &mut Vec<u8>,
+    names: &Names,
+    parts: &[Expr],
+) -> Result<(), AllocError>
+    ensures { IfOk result (λ _. text.new.items ≡ text.old.items
+        ++ row_text (spelled_arguments (vocabulary_of names.now) (arguments parts.now))) }
+{
+    if parts.len() > 1 {
+        push_arguments(alloc, text, names, parts)
+    } else {
+        push_list(alloc, text, names, parts)
+    }
 }
 
 /// How tight a condition binds.
@@ -268,18 +300,57 @@ pub fn push_slice(
     push(text, b"]")
 }
 
-/// Adds the end of a line that begins a block, with its predictor.
+/// Adds predictors, with a comma and a space between two.
+fn push_predictors(
+    alloc: Global,
+    text: &mut Vec<u8>,
+    names: &Names,
+    parts: &[Predict],
+) -> Result<(), AllocError>
+    ensures { IfOk result (λ _. text.new.items ≡ text.old.items
+        ++ predictors_text (map (spelled_predictor (vocabulary_of names.now)) (map predictor parts.now))) }
+{
+    if let Some((first, others)) = parts.split_first() {
+        push_predictor(alloc, text, names, first)?;
+        for other in others {
+            push(text, b", ")?;
+            push_predictor(alloc, text, names, other)?;
+        }
+    }
+    Ok(())
+}
+
+/// Adds a guess, in parentheses where it has several parts.
+fn push_guess(
+    alloc: Global,
+    text: &mut Vec<u8>,
+    names: &Names,
+    parts: &[Predict],
+) -> Result<(), AllocError>
+    ensures { IfOk result (λ _. text.new.items ≡ text.old.items
+        ++ guess_text (map (spelled_predictor (vocabulary_of names.now)) (map predictor parts.now))) }
+{
+    if parts.len() > 1 {
+        push(text, b"(")?;
+        push_predictors(alloc, text, names, parts)?;
+        push(text, b")")
+    } else {
+        push_predictors(alloc, text, names, parts)
+    }
+}
+
+/// Adds the end of a line that begins a block, with its guess.
 pub fn push_predict(
     alloc: Global,
     text: &mut Vec<u8>,
     names: &Names,
-    predict: &Predict,
+    predict: &[Predict],
 ) -> Result<(), AllocError>
     ensures { IfOk result (λ _. text.new.items ≡ text.old.items
-        ++ joined (codes " predict " ∷ predictor_text
-        (spelled_predictor (vocabulary_of names.now) (predictor predict.now)) ∷ codes " {" ∷ []) ++ 10 ∷ []) }
+        ++ joined (codes " predict " ∷ guess_text
+        (map (spelled_predictor (vocabulary_of names.now)) (map predictor predict.now)) ∷ codes " {" ∷ []) ++ 10 ∷ []) }
 {
     push(text, b" predict ")?;
-    push_predictor(alloc, text, names, predict)?;
+    push_guess(alloc, text, names, predict)?;
     push(text, b" {\n")
 }

@@ -4,7 +4,7 @@ ghost use Rattle.std.specs.Prelude.{◌≡◌, ◌++◌, ◌∷◌, [], codes, I
 ghost use Rattle.std.specs.Fmt.{decimal, signed_decimal};
 ghost use Rattle.spf_ast.specs.View.{name as seen_name, program as seen_program};
 ghost use Rattle.spf_ast.specs.Spelling.{name_at, vocabulary};
-ghost use Rattle.spf_canonical.specs.Canonical.{line, deeper as deeper_of, op_sign as op_sign_of, test_sign as test_sign_of};
+ghost use Rattle.spf_canonical.specs.Canonical.{line, names_text, carried_text, deeper as deeper_of, op_sign as op_sign_of, test_sign as test_sign_of};
 ghost use Rattle.spf_canonical.specs.Printing.{vocabulary_of};
 
 use crate::expressions::level;
@@ -61,6 +61,35 @@ pub fn slot_name(slots: &[Name], place: u32) -> &[u8]
     match slots.get(place as usize) {
         Some(name) => &name.bytes,
         None => &[],
+    }
+}
+
+/// Adds the names of slots, with a comma and a space between two.
+fn push_slots(text: &mut Vec<u8>, names: &[Name], slots: &[u32]) -> Result<(), AllocError>
+    ensures { IfOk result (λ _. text.new.items ≡ text.old.items
+        ++ names_text (map (name_at (map seen_name names.now)) slots.now)) }
+{
+    if let Some((first, others)) = slots.split_first() {
+        push(text, slot_name(names, *first))?;
+        for other in others {
+            push(text, b", ")?;
+            push(text, slot_name(names, *other))?;
+        }
+    }
+    Ok(())
+}
+
+/// Adds the names of a row's slots, in parentheses where it has several parts.
+pub fn push_carried(text: &mut Vec<u8>, names: &[Name], slots: &[u32]) -> Result<(), AllocError>
+    ensures { IfOk result (λ _. text.new.items ≡ text.old.items
+        ++ carried_text (map (name_at (map seen_name names.now)) slots.now)) }
+{
+    if slots.len() > 1 {
+        push(text, b"(")?;
+        push_slots(text, names, slots)?;
+        push(text, b")")
+    } else {
+        push_slots(text, names, slots)
     }
 }
 

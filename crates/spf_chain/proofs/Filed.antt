@@ -1,5 +1,5 @@
 -- What stays of a chain when a report is filed, and how many reports were filed then.
-use Rattle.std.proofs.Common.{◌≡◌, ℕ, ap, ◌∙◌}
+use Rattle.std.proofs.Common.{◌≡◌, ap, ◌∙◌}
 use Rattle.spf_edge.specs.Faults.{one_more}
 use Rattle.spf_ticket.specs.declared.ticket.Report.{Report}
 use Rattle.spf_chain.specs.declared.chain.Filed.{Filed}

@@ -1,5 +1,5 @@
 -- What an ended chain comes to.
-use Rattle.std.proofs.Common.{◌≡◌, ◌≢◌, ◌⊎◌, ℕ, ◌+◌, ◌<◌, zero, suc, List, [], ◌∷◌, ◌++◌, length, take, refl, sym, ap, ◌∙◌, subst, inl, inr, Option, Some, None, ℤ, arith, slice_get}
+use Rattle.std.proofs.Common.{◌≡◌, ◌≢◌, ◌⊎◌, ℕ, ◌+◌, ◌<◌, zero, suc, List, [], ◌∷◌, ◌++◌, length, take, refl, sym, ap, ◌∙◌, subst, inl, inr, Option, Some, None, arith, slice_get}
 use mathlib.Core.Option.{some, some-ne-none, some-injective}
 use lib.ListN.{get_elem?}
 use Rattle.spf_ast.specs.declared.outcome.Trap.{Trap}
@@ -96,7 +96,7 @@ logs-same e guess logs others same {n} {v} (gave_trap trap output low real later
     gave_trap trap output low (subst (λ l. IsRealLog e guess n v l (Trapped trap output)) (same n low) real)
     (λ k from below. subst (IsGuessedLog e guess k) (same k below) (later k from below))
 
-guessed-ready : (e : Entry) (guess : ℕ → Carried) (n a : ℕ) (w : ℤ) (all before log : List Event) (s : Stop) → ((v : ℤ) → slice_get (plain_blocks e).values n ≢ Some v) → IsReady e guess n a w before → all ≡ before ++ log
+guessed-ready : (e : Entry) (guess : ℕ → Carried) (n a : ℕ) (w : Carried) (all before log : List Event) (s : Stop) → ((v : Carried) → slice_get (plain_blocks e).values n ≢ Some v) → IsReady e guess n a w before → all ≡ before ++ log
     → EndsAs (attempted e n w a log) s → IsGuessedLog e guess n all
 guessed-ready e guess n a w all before log s none (first a-is w-is empty) grown is =
     let same : all ≡ log = grown ∙ ap (λ l. l ++ log) empty in
@@ -104,7 +104,7 @@ guessed-ready e guess n a w all before log s none (first a-is w-is empty) grown 
     subst HasReadAll (sym at) (read-all (attempted e n w a log) s is)
 guessed-ready e guess n a w all before log s none (second a-is ne r att) grown is = absurd (none w r)
 
-guessed-home : (e : Entry) (guess : ℕ → Carried) (c : CellsValue) (n : ℕ) (r : Report) → ((v : ℤ) → slice_get (plain_blocks e).values n ≢ Some v) → IsHome e guess c n r → IsGuessedLog e guess n (events r.ticket.lane.log)
+guessed-home : (e : Entry) (guess : ℕ → Carried) (c : CellsValue) (n : ℕ) (r : Report) → ((v : Carried) → slice_get (plain_blocks e).values n ≢ Some v) → IsHome e guess c n r → IsGuessedLog e guess n (events r.ticket.lane.log)
 guessed-home e guess c n r none home =
     let l = home.lawful in
     guessed-ready e guess n r.ticket.attempt r.ticket.carried (events r.ticket.lane.log) l.before l.log r.stop none
@@ -121,7 +121,7 @@ pub record CameOut (a : Inside) : Type 0 where
   pub values : reals a.validation.count a.validation.blocks.items ≡ (plain_blocks (entry_at a.site.value)).values
   pub result : (plain_blocks (entry_at a.site.value)).result ≡ result_as a.validation.settled
 
-came-carried : PrefixesComplete → (a : Inside) → IsKept a → (v : ℤ) → a.validation.settled ≡ settled.Carried v → a.validation.count ≡ a.site.value.blocks → CameOut a
+came-carried : PrefixesComplete → (a : Inside) → IsKept a → (v : Carried) → a.validation.settled ≡ settled.Carried v → a.validation.count ≡ a.site.value.blocks → CameOut a
 came-carried law a h v is last =
     let e = entry_at a.site.value in
     let g = guess_at a.site.value in
@@ -143,7 +143,7 @@ came-trapped a h all t is =
     let later : (k : ℕ) → f.last < k → k < e.header.blocks → IsGuessedLog e g k (log_in a.homes.items k) = λ k above low.
     let x = at-index a.homes.items k (omega (arith, low, h.stands.blocks)) in
     let r = is-home-at a.homes.items all k x.0 x.1 in
-    let none : (v : ℤ) → slice_get (plain_blocks e).values k ≢ Some v = λ v there.
+    let none : (v : Carried) → slice_get (plain_blocks e).values k ≢ Some v = λ v there.
     values-end vs k v (omega (arith, f.count, above, f.after)) (ap (λ l. slice_get l k) (sym f.ends.plain_values) ∙ there) in
     subst (IsGuessedLog e g k) (ap home_log (sym r.1)) (guessed-home e g (cells_inside a) k r.0 none (h.homes k r.0 r.1)) in
     record {

@@ -24,7 +24,7 @@ map-get [] n b at = absurd cc
 map-get (x ∷ xs) zero b at = let e : x ≡ b = cc in ap (λ (z : Validated). Some z.real) e
 map-get (x ∷ xs) (suc n) b at = map-get xs n b at
 
-first-get : (xs ys : List ℤ) (n : ℕ) (v : ℤ) → slice_get xs n ≡ Some v → slice_get (xs ++ ys) n ≡ Some v
+first-get : (xs ys : List (List ℤ)) (n : ℕ) (v : List ℤ) → slice_get xs n ≡ Some v → slice_get (xs ++ ys) n ≡ Some v
 first-get [] ys n v at = absurd cc
 first-get (x ∷ xs) ys zero v at = at
 first-get (x ∷ xs) ys (suc n) v at = first-get xs ys n v at
@@ -35,8 +35,8 @@ take-get (suc k) [] n b at = absurd cc
 take-get (suc k) (x ∷ xs) zero b at = at
 take-get (suc k) (x ∷ xs) (suc n) b at = take-get k xs n b at
 
--- the real values of the validated blocks are the first ones of the plain run
-plain-first : (a : Inside) (h : IsKept a) (s : Settled) → a.validation.settled ≡ s → (later : List ℤ) × ((plain_blocks (entry_at a.site.value)).values ≡ reals a.validation.count a.validation.blocks.items ++ later)
+-- the real rows of the validated blocks are the first ones of the plain run
+plain-first : (a : Inside) (h : IsKept a) (s : Settled) → a.validation.settled ≡ s → (later : List (List ℤ)) × ((plain_blocks (entry_at a.site.value)).values ≡ reals a.validation.count a.validation.blocks.items ++ later)
 plain-first a h (settled.Carried v) is =
     let e = entry_at a.site.value in
     let vs = reals a.validation.count a.validation.blocks.items in

@@ -1,7 +1,6 @@
 -- What a chain keeps when a report comes home and when a ticket goes out.
-use Rattle.std.proofs.Common.{◌≡◌, ◌≢◌, ℕ, ◌<◌, ◌≤◌, suc, Bool, true, List, [], ◌∷◌, ◌++◌, length, set, refl, sym, ap, ◌∙◌, subst, inl, inr, Option, Some, None, ℤ, arith, slice_get, if◌then◌else◌}
+use Rattle.std.proofs.Common.{◌≡◌, ◌≢◌, ℕ, ◌<◌, ◌≤◌, suc, Bool, true, List, [], ◌∷◌, ◌++◌, length, set, refl, sym, ap, ◌∙◌, subst, inl, inr, Option, Some, None, arith, slice_get, if◌then◌else◌}
 use Rattle.std.specs.List.{Contains}
-use Rattle.std.proofs.lemmas.Bool.Decides.{Decides-int_eq}
 use Rattle.std.proofs.lemmas.List.{length-set, length-take-le}
 use Rattle.std.proofs.lemmas.Option.{slice_get_within}
 use Rattle.spf_ast.specs.declared.outcome.Trap.{Trap}
@@ -19,6 +18,7 @@ use Rattle.spf_cells.specs.declared.view.LogEntry.TheVariants as entry
 use Rattle.spf_cells.specs.Log.{events, ArePossibleTurns}
 use Rattle.spf_cells.specs.Values.{CellsValue, LaneValue, WardenValue, with_lane}
 use Rattle.spf_ast.specs.Carried.{Carried, same_carried}
+use Rattle.spf_entry.proofs.Rows.{Decides-same_carried}
 use Rattle.spf_entry.specs.Entry.{Entry, number_of, begins_at, plain_blocks}
 use Rattle.spf_entry.specs.Attempts.{attempted, IsAttempt, TurnsAreBelow}
 use Rattle.spf_speculation.specs.Prefixes.{EndsAt, PrefixesHaveRealValues, PrefixesDependOnEarlierLogs}
@@ -43,14 +43,14 @@ use Rattle.spf_chain.proofs.Lists.{some-same}
 
 -- ---- what stands, with other logs after the validated ones
 
-ends-earlier : (e : Entry) (guess : ℕ → Carried) (logs others : ℕ → List Event) (n : ℕ) (values : List ℤ) (t : Trap) → EndsAt e guess logs n values t → ((k : ℕ) → k < suc n → logs k ≡ others k) → EndsAt e guess others n values t
+ends-earlier : (e : Entry) (guess : ℕ → Carried) (logs others : ℕ → List Event) (n : ℕ) (values : List Carried) (t : Trap) → EndsAt e guess logs n values t → ((k : ℕ) → k < suc n → logs k ≡ others k) → EndsAt e guess others n values t
 ends-earlier e guess logs others n values t h same = record {
   plain_values = h.plain_values;
   plain_result = h.plain_result;
   come = λ more is later. h.come more (λ k low. is k low ∙ sym (same k low)) later;
 }
 
-stands-earlier : PrefixesDependOnEarlierLogs → (e : Entry) (guess : ℕ → Carried) (logs others : ℕ → List Event) (n : ℕ) (values : List ℤ) (s : Settled) → StandsAt e guess logs n values s → ((k : ℕ) → k < n → logs k ≡ others k) → StandsAt e guess others n values s
+stands-earlier : PrefixesDependOnEarlierLogs → (e : Entry) (guess : ℕ → Carried) (logs others : ℕ → List Event) (n : ℕ) (values : List Carried) (s : Settled) → StandsAt e guess logs n values s → ((k : ℕ) → k < n → logs k ≡ others k) → StandsAt e guess others n values s
 stands-earlier law e guess logs others n values (settled.Carried v) h same = record { memory = h.memory; prefix = law e guess logs others n values v h.memory h.prefix same }
 stands-earlier law e guess logs others n values (settled.Trapped t) h same = record {
   last = h.last;
@@ -92,7 +92,7 @@ not-less k i h = grind (arith, h)
 pub out-above : (e : Entry) (guess : ℕ → Carried) (homes : List (Option Report)) (x : Validation) (i : ℕ) → StandsOver e guess homes x → slice_get homes i ≡ Some None → x.count ≤ i
 out-above e guess homes x i h out = not-less x.count i (λ low. let r = h.home i low in both-at homes i r.0 out r.1)
 
--- ---- a report at the real value isn't cancelled
+-- ---- a report at the real row isn't cancelled
 
 below-one : (k : Setting) (n : ℕ) (log : List LogEntry) → (Contains k.raisable n → ⊥) → ArePossibleTurns k n log → TurnsAreBelow 1 (events log)
 below-one k n [] not h = tt
@@ -109,13 +109,13 @@ below-after a (Load c w ∷ es) fs h = below-after a es fs h
 below-after a (Store c w ∷ es) fs h = below-after a es fs h
 below-after a (Turn m ∷ es) fs h = below-after a es fs h.1
 
-not-stopped : UnstoppedAttemptsAreWhole → (e : Entry) (n a seen : ℕ) (v : ℤ) (all before log : List Event) → TurnsAreBelow a all → all ≡ before ++ log → attempted e n v a log ≡ Stopped seen [] → ⊥
+not-stopped : UnstoppedAttemptsAreWhole → (e : Entry) (n a seen : ℕ) (v : Carried) (all before log : List Event) → TurnsAreBelow a all → all ≡ before ++ log → attempted e n v a log ≡ Stopped seen [] → ⊥
 not-stopped law e n a seen v all before log low grown is =
     let whole = law e n v a log (subst HasReadAll (sym is) refl) (below-after a before log (subst (TurnsAreBelow a) grown low)) in
     let both : Stopped seen [] ≡ Ended whole.0 [] = sym is ∙ whole.1 in absurd cc
 
--- a lawful report of a block at its real value came to an answer
-ready-not : UnstoppedAttemptsAreWhole → LanesStopNoSecondAttempt → (e : Entry) (guess : ℕ → Carried) (k : Setting) (n a seen : ℕ) (v : ℤ) (all : List LogEntry) (before log : List Event) → RaisesMispredicted e guess k → ArePossibleTurns k n all
+-- a lawful report of a block at its real row came to an answer
+ready-not : UnstoppedAttemptsAreWhole → LanesStopNoSecondAttempt → (e : Entry) (guess : ℕ → Carried) (k : Setting) (n a seen : ℕ) (v : Carried) (all : List LogEntry) (before log : List Event) → RaisesMispredicted e guess k → ArePossibleTurns k n all
     → slice_get (plain_blocks e).values n ≡ Some v → IsReady e guess n a v before → events all ≡ before ++ log → attempted e n v a log ≡ Stopped seen [] → ⊥
 ready-not law lanes e guess k n a seen v all before log may turns real (first a-is v-is none) grown is =
     let not : Contains k.raisable n → ⊥ = λ i. may.only n i (real ∙ ap (λ x. Some x) v-is) in
@@ -128,13 +128,13 @@ cancelled-not (stop.Ended v) h = absurd cc
 cancelled-not (stop.Trapped t) h = absurd cc
 cancelled-not (stop.Cancelled seen) h = (seen, refl)
 
-unknown : (v : ℤ) (r : Report) → known_at v (Some r) ≡ None → r.ticket.carried ≡ v → result_of r.stop ≡ None
+unknown : (v : Carried) (r : Report) → known_at v (Some r) ≡ None → r.ticket.carried ≡ v → result_of r.stop ≡ None
 unknown v r h is =
-    let t : same_carried r.ticket.carried v ≡ true = (Decides-int_eq r.ticket.carried v).1 is in
+    let t : same_carried r.ticket.carried v ≡ true = (Decides-same_carried r.ticket.carried v).1 is in
     ap (λ b. if b then result_of r.stop else None) (sym t) ∙ h
 
--- the next block's report of which nothing is known was run at another value
-pub wrong-home : UnstoppedAttemptsAreWhole → LanesStopNoSecondAttempt → (e : Entry) (guess : ℕ → Carried) (c : CellsValue) (n : ℕ) (v : ℤ) (r : Report) → RaisesMispredicted e guess c.setting → IsHome e guess c n r
+-- the next block's report of which nothing is known was run at another row
+pub wrong-home : UnstoppedAttemptsAreWhole → LanesStopNoSecondAttempt → (e : Entry) (guess : ℕ → Carried) (c : CellsValue) (n : ℕ) (v : Carried) (r : Report) → RaisesMispredicted e guess c.setting → IsHome e guess c n r
     → slice_get (plain_blocks e).values n ≡ Some v → known_at v (Some r) ≡ None → r.ticket.carried ≢ v
 wrong-home law lanes e guess c n v r may home real none is =
     let l = home.lawful in
@@ -156,7 +156,7 @@ read-all came (stop.Ended v) h = subst HasReadAll (sym h.1) refl
 read-all came (stop.Trapped t) h = subst HasReadAll (sym h) refl
 read-all came (stop.Cancelled seen) h = subst HasReadAll (sym h) refl
 
-first-ready : (e : Entry) (guess : ℕ → Carried) (n a : ℕ) (v w : ℤ) (all before log : List Event) (s : Stop) → slice_get (plain_blocks e).values n ≡ Some v → w ≢ v → IsReady e guess n a w before → all ≡ before ++ log
+first-ready : (e : Entry) (guess : ℕ → Carried) (n a : ℕ) (v w : Carried) (all before log : List Event) (s : Stop) → slice_get (plain_blocks e).values n ≡ Some v → w ≢ v → IsReady e guess n a w before → all ≡ before ++ log
     → EndsAs (attempted e n w a log) s → (a ≡ 1) × (w ≡ begins_at e guess n) × IsAttempt e n (begins_at e guess n) 1 all
 first-ready e guess n a v w all before log s real wrong (first a-is w-is none) grown is =
     let same : all ≡ log = grown ∙ ap (λ l. l ++ log) none in
@@ -165,7 +165,7 @@ first-ready e guess n a v w all before log s real wrong (first a-is w-is none) g
 first-ready e guess n a v w all before log s real wrong (second a-is ne r att) grown is =
     absurd (wrong (some-same w v (sym r ∙ real)))
 
-pub first-home : (e : Entry) (guess : ℕ → Carried) (c : CellsValue) (n : ℕ) (v : ℤ) (r : Report) → IsHome e guess c n r → slice_get (plain_blocks e).values n ≡ Some v → r.ticket.carried ≢ v → IsFirstAt e guess n r
+pub first-home : (e : Entry) (guess : ℕ → Carried) (c : CellsValue) (n : ℕ) (v : Carried) (r : Report) → IsHome e guess c n r → slice_get (plain_blocks e).values n ≡ Some v → r.ticket.carried ≢ v → IsFirstAt e guess n r
 first-home e guess c n v r home real wrong =
     let l = home.lawful in
     let f = first-ready e guess n r.ticket.attempt v r.ticket.carried (events r.ticket.lane.log) l.before l.log r.stop real wrong
@@ -203,8 +203,8 @@ pub next-is : (a : Inside) (v : ChainValue) → IsKept a → chain_value a ≡ v
 next-is a v h is =
     ap next_block (sym is) ∙ length-take-le a.validation.count a.validation.blocks.items (omega (arith, h.within, h.size))
 
--- the real value at the next_block
-pub next-value : PrefixesHaveRealValues → (a : Inside) → IsKept a → (v : ℤ) → a.validation.settled ≡ settled.Carried v → a.validation.count < length a.homes.items → slice_get (plain_blocks (entry_at a.site.value)).values a.validation.count ≡ Some v
+-- the real row at the next_block
+pub next-value : PrefixesHaveRealValues → (a : Inside) → IsKept a → (v : Carried) → a.validation.settled ≡ settled.Carried v → a.validation.count < length a.homes.items → slice_get (plain_blocks (entry_at a.site.value)).values a.validation.count ≡ Some v
 next-value law a h v is low =
     let e = entry_at a.site.value in
     let f : PrefixAt e (guess_at a.site.value) (log_in a.homes.items) a.validation.count (reals a.validation.count a.validation.blocks.items) v =
@@ -213,12 +213,12 @@ next-value law a h v is low =
 
 -- ---- the next block's second attempt
 
--- what a second attempt has for its value
+-- what a second attempt has for its row
 second-real : (e : Entry) (guess : ℕ → Carried) (n a : ℕ) (v : Carried) (before : List Event) → a ≡ 2 → IsReady e guess n a v before → slice_get (plain_blocks e).values n ≡ Some v
 second-real e guess n a v before two (first a-is v-is none) = absurd (omega (arith, two, a-is))
 second-real e guess n a v before two (second a-is ne real att) = real
 
--- a block has no real value after a trap
+-- a block has no real row after a trap
 no-real : (xs : List Carried) (n : ℕ) (v : Carried) → length xs ≤ n → slice_get xs n ≡ Some v → ⊥
 no-real xs n v past at = let low = slice_get_within xs n v at in omega (arith, low, past)
 
@@ -251,7 +251,7 @@ second-known real whole lanes a h r at two none = by-settled a.validation.settle
 
 -- ---- the next block's second ticket
 
-pub again-fresh : (e : Entry) (guess : ℕ → Carried) (k : CellsValue) (n : ℕ) (v : ℤ) (r : Report) (t : Ticket) → IsHome e guess k n r → IsFirstAt e guess n r → slice_get (plain_blocks e).values n ≡ Some v → r.ticket.carried ≢ v
+pub again-fresh : (e : Entry) (guess : ℕ → Carried) (k : CellsValue) (n : ℕ) (v : Carried) (r : Report) (t : Ticket) → IsHome e guess k n r → IsFirstAt e guess n r → slice_get (plain_blocks e).values n ≡ Some v → r.ticket.carried ≢ v
     → t.block ≡ r.ticket.block → t.number ≡ r.ticket.number → t.attempt ≡ 2 → t.carried ≡ v → t.lane ≡ r.ticket.lane → t.frame ≡ r.ticket.frame → IsFresh e guess k t
 again-fresh e guess k n v r t home f real wrong block number attempt carried lane frame =
     let at = home.lawful.at in

@@ -3,10 +3,10 @@ use Rattle.std.proofs.Common.{◌≡◌, ◌≢◌, ◌⊎◌, ℕ, ◌<◌, zer
 use Rattle.std.specs.Prelude.{if◌then◌else◌, slice_index_or}
 use Rattle.std.specs.List.{Contains}
 use Rattle.std.specs.Prelude.{not}
-use Rattle.std.proofs.lemmas.Bool.Decides.{Decides-int_eq}
 use Rattle.spf_cells.specs.declared.view.Setting.{Setting}
 use Rattle.spf_entry.specs.declared.site.Site.{Site}
 use Rattle.spf_entry.specs.Sites.{entry_at, guess_at, RaisesMispredicted}
+use Rattle.spf_entry.proofs.Rows.{Decides-same_carried}
 use Rattle.spf_chain.specs.Mispredicted.{is_other, mispredicted_at, those_below, mispredicted_blocks}
 use Rattle.spf_ast.specs.Carried.{same_carried}
 use Rattle.spf_chain.proofs.Lists.{some-same, less-or-same, true-or-false, not-both}
@@ -53,13 +53,13 @@ those-all f (suc k) n low h = elim (less-or-same n k (omega (arith, low))) [
     keep true r = contains-later k n (those_below f k) r
     keep false r = r
 
-other-is : (o : Option ℤ) (v : ℤ) → is_other o v ≡ true → o ≢ Some v
+other-is : (o : Option (List ℤ)) (v : List ℤ) → is_other o v ≡ true → o ≢ Some v
 other-is None v h e = absurd cc
-other-is (Some w) v h e = not-both (not (same_carried w v)) h (ap not ((Decides-int_eq w v).1 (some-same w v e)))
+other-is (Some w) v h e = not-both (not (same_carried w v)) h (ap not ((Decides-same_carried w v).1 (some-same w v e)))
 
-is-other : (o : Option ℤ) (v : ℤ) → o ≢ Some v → is_other o v ≡ true
+is-other : (o : Option (List ℤ)) (v : List ℤ) → o ≢ Some v → is_other o v ≡ true
 is-other None v h = refl
-is-other (Some w) v h = elim (true-or-false (same_carried w v)) [ inl t ↦ absurd (h (ap (λ x. Some x) ((Decides-int_eq w v).0 t))) | inr f ↦ ap not f ]
+is-other (Some w) v h = elim (true-or-false (same_carried w v)) [ inl t ↦ absurd (h (ap (λ x. Some x) ((Decides-same_carried w v).0 t))) | inr f ↦ ap not f ]
 
 pub may-raise : (s : Site) (k : Setting) → k.raisable ≡ mispredicted_blocks s → RaisesMispredicted (entry_at s) (guess_at s) k
 may-raise s k is = record {

@@ -67,7 +67,7 @@ warden-of P c w x own g = (ap (λ (z : WardenValue). z.table) g.same ∙ own.0, 
 -- ---- of a chain
 
 -- after a trap the plain run comes to no block that isn't validated
-pub values-end : (xs : List ℤ) (n : ℕ) (v : ℤ) → length xs ≤ n → slice_get xs n ≢ Some v
+pub values-end : (xs : List (List ℤ)) (n : ℕ) (v : List ℤ) → length xs ≤ n → slice_get xs n ≢ Some v
 values-end xs n v past at = let low = slice_get_within xs n v at in omega (arith, low, past)
 
 pub trapped-raisable : (a : Inside) (t : Trap) → IsKept a → a.validation.settled ≡ Trapped t → (n : ℕ) → a.validation.count ≤ n → n < length a.homes.items → Contains a.warden.setting.raisable n
@@ -78,12 +78,12 @@ trapped-raisable a t h is n above low =
     h.ground.raisable.all n (omega (arith, low, h.stands.blocks))
     (λ there. values-end vs n (begins_at e (guess_at a.site.value) n) (omega (arith, at.count, above)) (ap (λ l. slice_get l n) (sym at.ends.plain_values) ∙ there))
 
-next-raisable : PrefixesHaveRealValues → (a : Inside) (v : ℤ) → IsKept a → a.validation.settled ≡ Carried v → a.validation.count < length a.homes.items → begins_at (entry_at a.site.value) (guess_at a.site.value) a.validation.count ≢ v → Contains a.warden.setting.raisable a.validation.count
+next-raisable : PrefixesHaveRealValues → (a : Inside) (v : List ℤ) → IsKept a → a.validation.settled ≡ Carried v → a.validation.count < length a.homes.items → begins_at (entry_at a.site.value) (guess_at a.site.value) a.validation.count ≢ v → Contains a.warden.setting.raisable a.validation.count
 next-raisable law a v h is low wrong =
     h.ground.raisable.all a.validation.count (omega (arith, low, h.stands.blocks))
     (λ there. wrong (some-same _ v (sym there ∙ next-value law a h v is low)))
 
-pub not-both-settled : (s : Settled) (v : ℤ) (t : Trap) → s ≡ Carried v → s ≡ Trapped t → ⊥
+pub not-both-settled : (s : Settled) (v : List ℤ) (t : Trap) → s ≡ Carried v → s ≡ Trapped t → ⊥
 not-both-settled s v t c d = let e : Carried v ≡ Trapped t = sym c ∙ d in absurd cc
 
 pub kept-with : (a : Inside) (w : WardenValue) → IsKept a → w.table ≡ a.warden.table → w.setting ≡ a.warden.setting → w.view.taken ≡ a.warden.view.taken → length w.view.flags ≡ length a.warden.view.flags → IsKept (record a { warden = w })
@@ -108,7 +108,7 @@ kept-raised P a w h g = kept-with a w h (ap (λ (z : WardenValue). z.table) g.sa
 -- ---- which flags
 
 -- the next block, where it is out with its first attempt
-pub next-raise : (a : Inside) (v : ChainValue) (real : ℤ) (b : Validated) → IsKept a → chain_value a ≡ v → v.settled ≡ Carried real → a.again ≡ false → slice_get a.homes.items a.validation.count ≡ Some None
+pub next-raise : (a : Inside) (v : ChainValue) (real : List ℤ) (b : Validated) → IsKept a → chain_value a ≡ v → v.settled ≡ Carried real → a.again ≡ false → slice_get a.homes.items a.validation.count ≡ Some None
     → slice_get a.validation.blocks.items a.validation.count ≡ Some b → (b.real ≢ real → IsToRaise v (next_block v)) × (IsToRaise v (next_block v) → b.real ≢ real)
 next-raise a v real b h is carried off out at =
     let first : b.real ≡ begins_at (entry_at a.site.value) (guess_at a.site.value) a.validation.count = (h.listed a.validation.count b at).first (omega arith) in
@@ -125,17 +125,17 @@ next-raise a v real b h is carried off out at =
           ],
     )
   where
-    same-carried : (x y : ℤ) → Carried x ≡ Carried y → x ≡ y
+    same-carried : (x y : List ℤ) → Carried x ≡ Carried y → x ≡ y
     same-carried x y e = cc
 
--- only the flag of the next block is, where its real value is known
-only-next : (v : ChainValue) (real : ℤ) (n : ℕ) → v.settled ≡ Carried real → IsToRaise v n → n ≡ next_block v
+-- only the flag of the next block is, where its real row is known
+only-next : (v : ChainValue) (real : List ℤ) (n : ℕ) → v.settled ≡ Carried real → IsToRaise v n → n ≡ next_block v
 only-next v real n carried q = elim q.why [
   | inl w ↦ w.0
   | inr t ↦ absurd (not-both-settled v.settled real t.trap carried t.trapped)
 ]
 
-pub to-raise-raisable : PrefixesHaveRealValues → (a : Inside) (v : ChainValue) (real : ℤ) → IsKept a → chain_value a ≡ v → v.settled ≡ Carried real → IsToRaise v (next_block v) → Contains a.warden.setting.raisable a.validation.count
+pub to-raise-raisable : PrefixesHaveRealValues → (a : Inside) (v : ChainValue) (real : List ℤ) → IsKept a → chain_value a ≡ v → v.settled ≡ Carried real → IsToRaise v (next_block v) → Contains a.warden.setting.raisable a.validation.count
 to-raise-raisable law a v real h is carried r =
     let q : IsToRaise (chain_value a) (next_block (chain_value a)) = subst (λ (w : ChainValue). IsToRaise w (next_block w)) (sym is) r in
     let f : next_block (chain_value a) ≡ a.validation.count = next-is a (chain_value a) h refl in
@@ -154,7 +154,7 @@ to-raise-inside a v h is q =
     let p = h.ground.made.blocks in
     omega (arith, low, f, size, b, p)
 
-pub next-raised : (a : Inside) (v : ChainValue) (real : ℤ) (w : WardenValue) → IsKept a → chain_value a ≡ v → v.settled ≡ Carried real → IsToRaise v (next_block v) → w ≡ with_flag a.warden a.validation.count 1
+pub next-raised : (a : Inside) (v : ChainValue) (real : List ℤ) (w : WardenValue) → IsKept a → chain_value a ≡ v → v.settled ≡ Carried real → IsToRaise v (next_block v) → w ≡ with_flag a.warden a.validation.count 1
     → Raises v (record (chain_value a) { warden = w })
 next-raised a v real w h is carried r one =
     let f : next_block v ≡ a.validation.count = next-is a v h is in
@@ -169,7 +169,7 @@ next-raised a v real w h is carried r one =
           (λ n q ne. ne (only-next v real n carried q ∙ f)) (λ n p. absurd p) (subst (IsToRaise v) f r) (λ p. p));
     }
 
-pub none-next : (a : Inside) (v : ChainValue) (real : ℤ) → chain_value a ≡ v → v.settled ≡ Carried real → (IsToRaise v (next_block v) → ⊥) → Raises v v
+pub none-next : (a : Inside) (v : ChainValue) (real : List ℤ) → chain_value a ≡ v → v.settled ≡ Carried real → (IsToRaise v (next_block v) → ⊥) → Raises v v
 none-next a v real is carried not = record {
   warden = v.warden;
   same = refl;

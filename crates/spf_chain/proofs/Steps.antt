@@ -1,7 +1,6 @@
 -- A block is validated.
-use Rattle.std.proofs.Common.{◌≡◌, ◌⊎◌, ℕ, ◌+◌, ◌<◌, ◌≤◌, suc, Bool, true, false, List, [], ◌∷◌, ◌++◌, length, length-append, take, set, get_or, refl, sym, ap, ◌∙◌, subst, inl, inr, Option, Some, None, ℤ, arith, slice_get, if◌then◌else◌}
+use Rattle.std.proofs.Common.{◌≡◌, ◌⊎◌, ℕ, ◌+◌, ◌<◌, ◌≤◌, suc, Bool, true, false, List, [], ◌∷◌, ◌++◌, length, length-append, take, set, get_or, refl, sym, ap, ◌∙◌, subst, inl, inr, Option, Some, None, arith, slice_get, if◌then◌else◌}
 use Rattle.std.specs.Prelude.{map}
-use Rattle.std.proofs.lemmas.Bool.Decides.{Decides-int_eq}
 use Rattle.std.proofs.lemmas.List.{take_more_set, length-set}
 use Rattle.std.proofs.lemmas.Option.{slice_get-get_or, slice_get_past}
 use Rattle.spf_ast.specs.Event.{Event, IsConsistent}
@@ -16,6 +15,7 @@ use Rattle.spf_chain.proofs.Lists.{set_cases, set_other}
 use Rattle.spf_cells.specs.Log.{events}
 use Rattle.spf_cells.specs.Values.{CellsValue}
 use Rattle.spf_ast.specs.Carried.{Carried, same_carried}
+use Rattle.spf_entry.proofs.Rows.{Decides-same_carried}
 use Rattle.spf_entry.specs.Entry.{Entry, IsEntry}
 use Rattle.spf_entry.specs.Attempts.{attempted, IsWhole}
 use Rattle.spf_speculation.specs.Runs.{IsRealLog, at_once, again}
@@ -32,10 +32,10 @@ chose-then : {X : Type 0} (c : Bool) (x y : Option X) (o : X) → (if c then x e
 chose-then true x y o h = (refl, h)
 chose-then false x y o h = absurd cc
 
-pub known-home : (v : ℤ) (r : Report) (o : Settled) → known_at v (Some r) ≡ Some o → (r.ticket.carried ≡ v) × (result_of r.stop ≡ Some o)
+pub known-home : (v : Carried) (r : Report) (o : Settled) → known_at v (Some r) ≡ Some o → (r.ticket.carried ≡ v) × (result_of r.stop ≡ Some o)
 known-home v r o h =
     let c = chose-then (same_carried r.ticket.carried v) (result_of r.stop) None o h in
-    ((Decides-int_eq r.ticket.carried v).0 c.0, c.1)
+    ((Decides-same_carried r.ticket.carried v).0 c.0, c.1)
 
 -- an ending comes to this, whatever is in the slots then
 abbrev pub EndsWith : Ending Carried → Settled → Type 0
@@ -57,14 +57,14 @@ whole-as came (stop.Trapped t) o h is =
     record { ending = Trapped t []; whole = is; ends = subst (EndsWith (Trapped t [])) same refl }
 whole-as came (stop.Cancelled seen) o h is = absurd cc
 
--- the log of a block at its real value, which comes to this
+-- the log of a block at its real row, which comes to this
 record RealLogTo (e : Entry) (guess : ℕ → Carried) (n : ℕ) (v : Carried) (log : List Event) (o : Settled) : Type 0 where
   ending : Ending Carried
   real : IsRealLog e guess n v log ending
   ends : EndsWith ending o
 
 -- a whole attempt after what was before it
-ready-log : (e : Entry) (guess : ℕ → Carried) (n a : ℕ) (v : ℤ) (all before log : List Event) (ending : Ending ℤ) → IsReady e guess n a v before → all ≡ before ++ log → IsWhole e n v a log ending → IsRealLog e guess n v all ending
+ready-log : (e : Entry) (guess : ℕ → Carried) (n a : ℕ) (v : Carried) (all before log : List Event) (ending : Ending Carried) → IsReady e guess n a v before → all ≡ before ++ log → IsWhole e n v a log ending → IsRealLog e guess n v all ending
 ready-log e guess n a v all before log ending (first a-is v-is none) grown whole =
     let same : all ≡ log = grown ∙ ap (λ l. l ++ log) none in
     at_once (sym v-is) (subst (λ l. IsWhole e n v 1 l ending) (sym same) (subst (λ x. IsWhole e n v x log ending) a-is whole))
@@ -83,11 +83,11 @@ home-log e guess c n v r o h carried known =
 
 -- ---- one block more
 
--- a block with its real value
+-- a block with its real row
 abbrev pub with_real : Validated → Carried → Validated
 with_real b v = record { block = b.block; guess = b.guess; real = v }
 
-known-somewhere : (homes : List (Option Report)) (k : ℕ) (v : ℤ) (o : Settled) (x : Option (Option Report)) → slice_get homes k ≡ x → known_in v x ≡ Some o
+known-somewhere : (homes : List (Option Report)) (k : ℕ) (v : Carried) (o : Settled) (x : Option (Option Report)) → slice_get homes k ≡ x → known_in v x ≡ Some o
     → (r : Report) × (slice_get homes k ≡ Some (Some r)) × (r.ticket.carried ≡ v) × (result_of r.stop ≡ Some o)
 known-somewhere homes k v o None at h = absurd cc
 known-somewhere homes k v o (Some None) at h = absurd cc
@@ -107,7 +107,7 @@ stands-on grow end e guess homes k v values (settled.Trapped t) h low f real is 
   ends = end e guess (log_in homes) k values v f.memory t [] h f.prefix low (subst (IsRealLog e guess k v (log_in homes k)) real.ends real.real) is;
 }
 
-pub one-more : PrefixesGrow → PrefixesEnd → (e : Entry) (guess : ℕ → Carried) (c : CellsValue) (homes : List (Option Report)) (bs : List Validated) (k : ℕ) (v : ℤ) (o : Settled) (b : Validated)
+pub one-more : PrefixesGrow → PrefixesEnd → (e : Entry) (guess : ℕ → Carried) (c : CellsValue) (homes : List (Option Report)) (bs : List Validated) (k : ℕ) (v : Carried) (o : Settled) (b : Validated)
     → IsEntry e → AreHomes e guess c homes → length homes ≡ e.header.blocks → length bs ≡ length homes → k < length homes
     → PrefixAt e guess (log_in homes) k (reals k bs) v → known_in v (slice_get homes k) ≡ Some o
     → StandsAt e guess (log_in homes) (k + 1) (reals (k + 1) (set bs k (with_real b v))) o
@@ -128,7 +128,7 @@ pub there : (homes : List (Option Report)) (i : ℕ) (home : Option Report) → 
 there homes i home low read = slice_get-get_or homes i home low ∙ ap (λ x. Some x) (sym read)
 
 -- the same, as code does it
-pub one-more-at : PrefixesGrow → PrefixesEnd → (e : Entry) (guess : ℕ → Carried) (c : CellsValue) (homes : List (Option Report)) (bs : List Validated) (k i : ℕ) (s o : Settled) (v w : ℤ) (b : Validated) (home : Option Report)
+pub one-more-at : PrefixesGrow → PrefixesEnd → (e : Entry) (guess : ℕ → Carried) (c : CellsValue) (homes : List (Option Report)) (bs : List Validated) (k i : ℕ) (s o : Settled) (v w : Carried) (b : Validated) (home : Option Report)
     → IsEntry e → AreHomes e guess c homes → length homes ≡ e.header.blocks → length bs ≡ length homes
     → StandsAt e guess (log_in homes) k (reals k bs) s → k ≡ i → s ≡ settled.Carried v → w ≡ v → i < length homes → home ≡ get_or homes i home → Some o ≡ known_at w home
     → StandsAt e guess (log_in homes) (i + 1) (reals (i + 1) (set bs i (with_real b w))) o
@@ -143,7 +143,7 @@ less-or-same : (n i : ℕ) → n < i + 1 → (n < i) ⊎ (n ≡ i)
 less-or-same n i h = grind (arith, h)
 
 -- a block whose result is known is home
-pub is-home : (homes : List (Option Report)) (i : ℕ) (w : ℤ) (o : Settled) (home : Option Report) → i < length homes → home ≡ get_or homes i home → Some o ≡ known_at w home → (r : Report) × (slice_get homes i ≡ Some (Some r))
+pub is-home : (homes : List (Option Report)) (i : ℕ) (w : Carried) (o : Settled) (home : Option Report) → i < length homes → home ≡ get_or homes i home → Some o ≡ known_at w home → (r : Report) × (slice_get homes i ≡ Some (Some r))
 is-home homes i w o home low read known =
     let r = known-somewhere homes i w o (slice_get homes i) refl (ap (known_in w) (there homes i home low read) ∙ sym known) in (r.0, r.1)
 
@@ -155,11 +155,11 @@ home-below homes k i is below here n low = elim (less-or-same n i low) [
 ]
 
 -- past the end nothing is known
-pub past-none : (homes : List (Option Report)) (k : ℕ) (v : ℤ) → length homes ≤ k → known_in v (slice_get homes k) ≡ None
+pub past-none : (homes : List (Option Report)) (k : ℕ) (v : Carried) → length homes ≤ k → known_in v (slice_get homes k) ≡ None
 past-none homes k v h = ap (known_in v) (slice_get_past homes k h)
 
 -- one more of the listed blocks was validated
-pub grows-more : (k : ℕ) (xs : List Validated) (j i : ℕ) (ys : List Validated) (b : Validated) (w : ℤ) → Grows k xs j ys → j ≡ i → slice_get ys i ≡ Some b → Grows k xs (i + 1) (set ys i (with_real b w))
+pub grows-more : (k : ℕ) (xs : List Validated) (j i : ℕ) (ys : List Validated) (b : Validated) (w : Carried) → Grows k xs j ys → j ≡ i → slice_get ys i ≡ Some b → Grows k xs (i + 1) (set ys i (with_real b w))
 grows-more k xs j i ys b w g is at = record {
   further = omega (arith, g.further, is);
   size = length-set ys i (with_real b w) ∙ g.size;

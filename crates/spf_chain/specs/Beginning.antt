@@ -20,17 +20,17 @@ use Rattle.spf_chain.specs.Chains.{ChainValue, cells_of}
 abbrev pub guesses_for : List Guess → List (Option carried.Carried)
 guesses_for gs = None ∷ map (λ g. Some g.value) gs
 
--- the value at which a block is attempted first: its guess, or the start value where it has none
+-- the row at which a block is attempted first: its guess, or the start row where it has none
 abbrev pub first_value : carried.Carried → Option carried.Carried → carried.Carried
 first_value start None = start
 first_value start (Some guess) = guess
 
--- each block from n on with its guess and the value of its first attempt
+-- each block from n on with its guess and the row of its first attempt
 abbrev pub unvalidated : ℕ → carried.Carried → List (Option carried.Carried) → List Validated
 unvalidated n start [] = []
 unvalidated n start (g ∷ gs) = record { block = n; guess = g; real = first_value start g } ∷ unvalidated (n + 1) start gs
 
--- the warden's cells were made for the site, which has this start value and these guesses; the warden has all flags and took nothing over
+-- the warden's cells were made for the site, which has this start row and these guesses; the warden has all flags and took nothing over
 pub record IsBegin (s : Site) (w : WardenValue) (start : carried.Carried) (guesses : List Guess) : Type 0 where
   pub ground : IsGround s (record { table = w.table; setting = w.setting })
   pub flags : s.blocks ≤ length w.view.flags
@@ -57,7 +57,7 @@ site_of i construct h frame entry guesses = record {
   guesses = map (λ g. g.value) guesses;
 }
 
--- the ticket of the first attempt of block n: at the block's first value, with this lane and this frame
+-- the ticket of the first attempt of block n: at the block's first row, with this lane and this frame
 pub record IsFirstTicket (lane : LaneValue) (low : ℤ) (blocks : List Validated) (frame : List ℤ) (n : ℕ) (t : Ticket) : Type 0 where
   pub block : t.block ≡ n
   pub number : t.number ≡ low +ℤ pos n

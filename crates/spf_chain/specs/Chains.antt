@@ -40,7 +40,7 @@ use Rattle.spf_ast.specs.Carried as carried
 use Rattle.spf_chain.specs.Homes.{known_in}
 
 -- the site, the warden, the reports that are home, whether the second attempt of the next block to be validated is
--- out, the validated blocks, the real value of the next block or the trap of the last one, and how many reports were
+-- out, the validated blocks, the real row of the next block or the trap of the last one, and how many reports were
 -- filed
 pub record ChainValue : Type 0 where
   pub site : Site
@@ -77,7 +77,7 @@ pub record HasTrapped (c : ChainValue) : Type 0 where
 
 -- ---- what is to be done
 
--- the next block's first attempt is home, and it wasn't at the real value
+-- the next block's first attempt is home, and it wasn't at the real row
 pub record NeedsRerun (c : ChainValue) (real : carried.Carried) (r : Report) : Type 0 where
   pub home : slice_get c.homes (next_block c) ≡ Some (Some r)
   pub first : r.ticket.attempt ≡ 1
@@ -98,7 +98,7 @@ pub record HasEnded (c : ChainValue) : Type 0 where
 -- ---- flags
 
 -- the flag of the block is to be raised: its first attempt is out, and it is the next one to be validated, with
--- another real value than its guess, or a block before it trapped
+-- another real row than its guess, or a block before it trapped
 pub record IsToRaise (c : ChainValue) (n : ℕ) : Type 0 where
   pub out : IsOutFirst c n
   pub why : ((n ≡ next_block c) × (real : carried.Carried) × (c.settled ≡ Carried real)
@@ -136,14 +136,14 @@ came_home c r = record c {
 abbrev pub sent_again : ChainValue → ChainValue
 sent_again c = record c { homes = slice_set c.homes (next_block c) None; again = true }
 
--- blocks that are home and were run at their real values are validated in order, and no further block can be
+-- blocks that are home and were run at their real rows are validated in order, and no further block can be
 pub record Validates (before after : ChainValue) : Type 0 where
   pub same : after ≡ record before { history = after.history; settled = after.settled }
   pub more : List Validated
   pub grown : after.history ≡ before.history ++ more
   pub done : (v : carried.Carried) → after.settled ≡ Carried v → known_in v (slice_get after.homes (next_block after)) ≡ None
 
--- the ticket runs the next block again, at its real value
+-- the ticket runs the next block again, at its real row
 pub record IsAgain (c : ChainValue) (real : carried.Carried) (t : Ticket) : Type 0 where
   pub fresh : IsFresh (entry_at c.site) (guess_at c.site) (cells_of c) t
   pub block : t.block ≡ next_block c

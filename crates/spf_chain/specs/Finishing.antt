@@ -27,13 +27,13 @@ result_as (Carried v) = Ok v
 result_as (Trapped t) = Err t
 
 -- every merging of these logs of the blocks that keeps the order of each log is a speculative run, with the chain's
--- guesses, its history's real values and what it came to
+-- guesses, its history's real rows and what it came to
 abbrev pub EveryMergingRuns : ChainValue → (ℕ → List Event) → Type 0
 EveryMergingRuns c logs = (steps : List Step) → Merges c.site.blocks logs steps
     → IsSpeculativeRun (entry_at c.site) (guess_at c.site) steps (map (λ b. b.real) c.history) (result_as c.settled)
 
 -- The chain came to this, with these logs, and its lanes were written back to a memory. The plain run of the site's
--- blocks has the same real values and the same result, and where none traps and the memory was that of the entry, the
+-- blocks has the same real rows and the same result, and where none traps and the memory was that of the entry, the
 -- same memory. The trace has one log for each block, and every merging of them that keeps the order of each log is a
 -- speculative run.
 pub record IsFinished (c : ChainValue) (s : Settled) (trace : List (List LogEntry)) (before after : List ℤ) : Type 0 where

@@ -7,7 +7,7 @@ use Rattle.spf_ticket.specs.declared.ticket.Report.{Report}
 use Rattle.spf_chain.specs.declared.validated.Validated.{Validated}
 use Rattle.spf_chain.specs.Chains.{ChainValue, next_block, IsOut, NeedsRerun, WaitsFor, HasEnded}
 
--- block n is validated with the guess that was given for it, at its real value in the plain run
+-- block n is validated with the guess that was given for it, at its real row in the plain run
 pub record IsValidated (c : ChainValue) (n : ℕ) (b : Validated) : Type 0 where
   pub block : b.block ≡ n
   pub guess : b.guess ≡ guess_given c.site n

@@ -12,13 +12,13 @@ use Rattle.spf_ticket.specs.declared.ticket.Report.{Report}
 use Rattle.spf_chain.specs.declared.validated.Settled.{Settled}
 use Rattle.spf_chain.specs.declared.validated.Settled.TheVariants as settled
 
--- what an attempt came to: the next carried value, or its trap; one that was cancelled came to nothing
+-- what an attempt came to: the next carried row, or its trap; one that was cancelled came to nothing
 abbrev pub result_of : Stop → Option Settled
 result_of (stop.Ended value) = Some (settled.Carried value)
 result_of (stop.Trapped trap) = Some (settled.Trapped trap)
 result_of (stop.Cancelled seen) = None
 
--- what a block came to at a value, where its report is home and its attempt was at this value
+-- what a block came to at a row, where its report is home and its attempt was at this row
 abbrev pub known_at : Carried → Option Report → Option Settled
 known_at v None = None
 known_at v (Some r) = if same_carried r.ticket.carried v then result_of r.stop else None

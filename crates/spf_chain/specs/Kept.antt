@@ -29,14 +29,14 @@ chain_value a = record {
 abbrev pub cells_inside : Inside → CellsValue
 cells_inside a = record { table = a.warden.table; setting = a.warden.setting }
 
--- each block has its index and the guess that was given for it, and where it isn't validated the value of its first attempt
+-- each block has its index and the guess that was given for it, and where it isn't validated the row of its first attempt
 pub record IsListed (s : Site) (count n : ℕ) (b : Validated) : Type 0 where
   pub block : b.block ≡ n
   pub guess : b.guess ≡ guess_given s n
   pub first : count ≤ n → b.real ≡ begins_at (entry_at s) (guess_at s) n
 
 -- its cells are those of its site, no lane was taken over, the reports that are home are lawful, and blocks are
--- validated over them; a second attempt is out only where the next block has a real value and is out
+-- validated over them; a second attempt is out only where the next block has a real row and is out
 pub record IsKept (a : Inside) : Type 0 where
   pub ground : IsGround a.site.value (cells_inside a)
   pub flags : length a.homes.items ≤ length a.warden.view.flags

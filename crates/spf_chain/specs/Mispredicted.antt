@@ -5,7 +5,7 @@ use Rattle.spf_entry.specs.declared.site.Site.{Site}
 use Rattle.spf_entry.specs.Entry.{plain_blocks, begins_at}
 use Rattle.spf_entry.specs.Sites.{entry_at, guess_at}
 
--- the real value, where there is one, isn't this
+-- the real row, where there is one, isn't this
 abbrev pub is_other : Option Carried → Carried → Bool
 is_other None v = true
 is_other (Some w) v = not (same_carried w v)

@@ -27,7 +27,7 @@ ghost use Rattle.spf_edge.specs.Faults.{one_more};
 
 use crate::chain::{Chain, Filed};
 use crate::validated::Settled;
-use spf_ast::carried::{Carried, is_same};
+use spf_ast::row::Row;
 use spf_cells::cells::Cells;
 use spf_cells::warden::Warden;
 use spf_lane_runs::lanes_make_speculative_runs;
@@ -104,8 +104,8 @@ impl Chain {
         self.validation.advance(&self.homes);
     }
 
-    // What is to be done where the next block's real value is known.
-    fn answer_next(&mut self, real: Carried) -> Filed
+    // What is to be done where the next block's real row is known.
+    fn answer_next(&mut self, real: Row) -> Filed
         requires carried { self.old.settled ≡ Gave real }
         requires done { known_in real (slice_get self.old.homes (next_block self.old)) ≡ None }
         ensures { IsAnswer self.old result self.new }
@@ -167,14 +167,15 @@ impl Chain {
         ensures exact { IsExact self.old result }
     {
         self.answers_are_exact();
-        match self.validation.settled {
+        let settled = self.validation.settled;
+        match settled {
             Settled::Carried(real) => self.answer_next(real),
             Settled::Trapped(_) => self.answer_trapped(),
         }
     }
 
-    // Whether the next block's flag is to be raised, where its real value is known.
-    fn is_next_mispredicted(&self, real: Carried) -> bool
+    // Whether the next block's flag is to be raised, where its real row is known.
+    fn is_next_mispredicted(&self, real: Row) -> bool
         requires { self.now.settled ≡ Gave real }
         ensures { IsTrue result ↔ IsToRaise self.now (next_block self.now) }
     {
@@ -188,11 +189,11 @@ impl Chain {
         if !is_out(&self.homes, next_block) {
             return false;
         }
-        !is_same(self.validation.blocks[next_block].real, real)
+        !self.validation.blocks[next_block].real.is_same(&real)
     }
 
     // Raises the next block's flag where that is to be done.
-    fn raise_next(&mut self, cells: &Cells, real: Carried)
+    fn raise_next(&mut self, cells: &Cells, real: Row)
         requires own { cells.now ≡ cells_of self.old }
         requires carried { self.old.settled ≡ Gave real }
         ensures { Raises self.old self.new }
@@ -218,13 +219,14 @@ impl Chain {
         requires own { cells.now ≡ cells_of self.old }
         ensures { Raises self.old self.new }
     {
-        match self.validation.settled {
+        let settled = self.validation.settled;
+        match settled {
             Settled::Carried(real) => self.raise_next(cells, real),
             Settled::Trapped(_) => self.raise_rest(cells),
         }
     }
 
-    /// Files a report: its ticket comes home, the next blocks that are home and were run at their real values are validated, and the
+    /// Files a report: its ticket comes home, the next blocks that are home and were run at their real rows are validated, and the
     /// flags of attempts that can't be of use are raised. Says what is to be done next. One report more was filed then. Takes no memory.
     pub fn file(&mut self, cells: &Cells, report: Report) -> Filed
         requires own { cells.now ≡ cells_of self.old }

@@ -36,7 +36,7 @@ fn lanes_of(room: Vec<Lane>, mut homes: Vec<Option<Report>>) -> Vec<Lane>
 
 impl Chain {
     /// Each order in which the events of an ended chain's lanes may have happened is a speculative run, and the history has all real
-    /// values of the plain run.
+    /// rows of the plain run.
     pub fn merged_logs_are_speculative_runs(&self)
         requires ended { HasEnded self.now }
         ensures merging { EveryMergingRuns self.now (log_in self.now.homes) }
@@ -47,7 +47,7 @@ impl Chain {
         let _ = &self.again;
     }
 
-    /// What the blocks came to: the value after the last one, or the trap of the last validated one. `into`, which is as long as the
+    /// What the blocks came to: the row after the last one, or the trap of the last validated one. `into`, which is as long as the
     /// memory at the entry, takes the lanes' contents, and the trace has their logs. It takes no memory.
     pub fn finish(self, cells: Cells, into: &mut [i64]) -> (Settled, Trace)
         requires ended { HasEnded self }

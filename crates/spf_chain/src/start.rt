@@ -16,7 +16,7 @@ use crate::cells::cells_for;
 use crate::chain::Chain;
 use crate::validated::{Guess, Settled, Validated};
 use crate::validation::Validation;
-use spf_ast::carried::Carried;
+use spf_ast::row::Row;
 use spf_cells::cells::Cells;
 use spf_cells::lane::Lane;
 use spf_cells::laws::ascending_plans_are_disjoint;
@@ -36,7 +36,7 @@ use std::alloc::{AllocError, Global};
 fn key_of_site(
     instance: &Instance,
     construct: u32,
-    header: Header,
+    header: &Header,
     frame: &Frame,
     entry: &[i64],
     guesses: &[Guess],
@@ -62,8 +62,8 @@ fn are_bytes(input: &[u8])
     }
 }
 
-/// Each block with its guess and the value of its first attempt.
-fn blocks_of(alloc: Global, start: Carried, guesses: &[Guess]) -> Result<Vec<Validated>, AllocError>
+/// Each block with its guess and the row of its first attempt.
+fn blocks_of(alloc: Global, start: Row, guesses: &[Guess]) -> Result<Vec<Validated>, AllocError>
     requires { length guesses.now ≤ 4095 }
     ensures { IfOk result (λ r. r.items ≡ unvalidated 0 start (guesses_for guesses.now)) }
 {
@@ -153,7 +153,7 @@ impl Chain {
         alloc: Global,
         site: GhostKey<Site>,
         warden: Warden,
-        start: Carried,
+        start: Row,
         guesses: &[Guess],
     ) -> Result<Chain, AllocError>
         requires { IsBegin site.value warden start guesses.now }
@@ -183,7 +183,7 @@ impl Chain {
     /// the ticket of each block in the order of blocks.
     ///
     /// `construct` is its number among the top constructs; `frame` and `entry` are the slots and the memory at its entry; there is a
-    /// guess for each block but the first. The ticket of block 0 begins at the header's start value, that of any other block at its
+    /// guess for each block but the first. The ticket of block 0 begins at the header's start row, that of any other block at its
     /// guess. The mispredicted blocks are those that may be raised; which they are no code tells. All memory is taken here.
     ///
     /// # Errors
@@ -212,7 +212,7 @@ impl Chain {
         ascending_plans_are_disjoint();
         are_bytes(instance.input());
         let _program = checked.program();
-        let site = key_of_site(instance, construct, header, frame, entry, guesses);
+        let site = key_of_site(instance, construct, &header, frame, entry, guesses);
         let layout = instance.layout();
         let plan = checked.plan(alloc, construct, layout, header.low, header.blocks)?;
         let (cells, warden, lanes) = cells_for(alloc, &site, entry, &plan)?;

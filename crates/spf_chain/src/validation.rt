@@ -16,16 +16,16 @@ use spf_ticket::ticket::Report;
 /// How far the blocks of a chain are validated.
 #[derive(Drop)]
 pub(crate) struct Validation {
-    // each block with its guess: the first `count` with their real values, the others with those of their first attempts
+    // each block with its guess: the first `count` with their real rows, the others with those of their first attempts
     pub(crate) blocks: Vec<Validated>,
     // how many blocks are validated
     pub(crate) count: usize,
-    // the real value of the next block, or the trap of the last validated one
+    // the real row of the next block, or the trap of the last validated one
     pub(crate) settled: Settled,
 }
 
 impl Validation {
-    // Validates blocks while the next one is home and was run at its real value.
+    // Validates blocks while the next one is home and was run at its real row.
     pub(crate) fn advance(&mut self, homes: &[Option<Report>])
         requires size { length self.old.blocks.items ≡ length homes.now }
         requires within { self.old.count ≤ length homes.now }
@@ -40,7 +40,8 @@ impl Validation {
     {
         prefixes_grow();
         for block in self.count..homes.len() {
-            let Settled::Carried(real) = self.settled else {
+            let settled = self.settled;
+            let Settled::Carried(real) = settled else {
                 return;
             };
             let Some(result) = result_at(&homes[block], real) else {

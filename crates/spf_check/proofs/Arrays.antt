@@ -7,8 +7,8 @@ use Rattle.spf_ast.specs.declared.syntax.Part.TheVariants.{Body, Producer, Consu
 use Rattle.spf_ast.specs.Syntax.{Expression, Number, Local, Len, Input, Load, Call, Neg, Binary, Arguments, no_more, argument}
 use Rattle.spf_ast.specs.Syntax.{Condition, Compare, Both, Either, Not, By, Host}
 use Rattle.spf_ast.specs.Syntax as syntax
-use Rattle.spf_ast.specs.Syntax.{Statement, Let, Assign, Store, Fill, Emit, Fail, If, For, While, Do, Fold, Pair, Block, end, on_line, Function, Program}
-use Rattle.spf_ast.specs.Lawful.{Names, Scope, IsLawfulExpression, AreLawfulArguments, IsLawfulCondition, IsLawfulPredictor, IsLawfulStatement, IsLawfulBlock, IsLawfulFunction, IsScoped, names_at}
+use Rattle.spf_ast.specs.Syntax.{Statement, Let, Assign, Store, Fill, Emit, Fail, If, For, While, Do, Fold, Pair, Break, Block, end, on_line, Function, Program}
+use Rattle.spf_ast.specs.Lawful.{Names, Scope, IsLawfulExpression, AreLawfulArguments, IsLawfulCondition, IsLawfulPredictor, AreLawfulPredictors, IsLawfulStatement, IsLawfulBlock, IsLawfulFunction, IsScoped, names_at}
 use Rattle.spf_ast.specs.Construct.{Construct, fold, pair, constructs_in}
 use Rattle.spf_region.specs.declared.bound.Bound.{Bound}
 use Rattle.spf_region.specs.declared.bound.Bound.TheVariants.{Known, Unknown}
@@ -18,8 +18,8 @@ use Rattle.spf_region.specs.Ranges.{Offsets, array_of, has_offset}
 use Rattle.spf_region.proofs.Bools.{or-cases}
 use Rattle.spf_region.proofs.Covers.{has-parts}
 use Rattle.spf_findings.specs.Found.{Finds, finds_nothing, ◌then◌, perhaps, either, reads_element, writes_element, may_write_whole, may_write_between, surely_writes_between, writes_range, has_no_turn, Sweep, turns, nowhere}
-use Rattle.spf_findings.specs.Forms.{Entered, Setting, expression_bound, argument_bounds, bounds_behind, bounds_at_end, bounds_in_turn, sweeps, expression_finds, arguments_find, condition_finds, statement_finds, block_finds}
-use Rattle.spf_findings.specs.Parts.{setting_in, own_bounds, entered, call_before, main_setting, outside, within_fold, guess_finds, part_finds}
+use Rattle.spf_findings.specs.Forms.{Entered, Setting, expression_bound, argument_bounds, bounds_behind, bounds_at_end, bounds_in_turn, loop_sweeps, expression_finds, arguments_find, condition_finds, statement_finds, block_finds}
+use Rattle.spf_findings.specs.Parts.{setting_in, own_bounds, entered, call_before, main_setting, outside, within_fold, guess_finds, guesses_find, part_finds}
 use Rattle.spf_rollback.specs.Rules.{HasArray, may_write}
 use Rattle.spf_lemmas.proofs.Members.{cases}
 use Rattle.spf_effect_soundness.proofs.Parts.{Stands, main_names, stands}
@@ -153,22 +153,23 @@ mutual
   statement-below names m scope g calls slots (For slot low high body) l =
       below-then (expression-below names scope g calls slots low l.0)
       (below-then (expression-below names scope g calls slots high l.1)
-      (below-turns (expression_bound g slots low) (expression_bound g slots high) (sweeps slot body) (block-below names m _ g calls (bounds_in_turn g slots slot low high) body l.3)))
+      (below-turns (expression_bound g slots low) (expression_bound g slots high) (loop_sweeps slot body) (block-below names m _ g calls (bounds_in_turn g slots slot low high) body l.3)))
   statement-below names m scope g calls slots (While c most body) l =
       below-then (condition-below names scope g calls slots c l.0) (below-perhaps (block-below names m _ g calls slots body l.2))
   statement-below names m scope g calls slots (Do f given) l =
       below-then (arguments-below names scope g calls slots given l.1) (calls f (argument_bounds g slots given))
   statement-below names m scope g calls slots (Fold head body) l =
-      below-then (expression-below names scope g calls slots head.start l.0)
+      below-then (arguments-below names scope g calls slots head.start l.0)
       (below-then (expression-below names scope g calls slots head.low l.1)
       (below-then (expression-below names scope g calls slots head.high l.2)
       (below-turns (expression_bound g slots head.low) (expression_bound g slots head.high) []
       (below-then (block-below names m _ g calls (bounds_in_turn g slots head.block head.low head.high) body l.6)
-      (expression-below names _ g calls (bounds_at_end g (bounds_in_turn g slots head.block head.low head.high) body) head.next l.7)))))
+      (arguments-below names _ g calls (bounds_at_end g (bounds_in_turn g slots head.block head.low head.high) body) head.next l.7)))))
   statement-below names m scope g calls slots (Pair head producer consumer) l =
       below-then (block-below names m _ g calls slots producer l.1)
-      (below-then (expression-below names _ g calls (bounds_at_end g slots producer) head.give l.2)
+      (below-then (arguments-below names _ g calls (bounds_at_end g slots producer) head.give l.2)
       (block-below names m _ g calls slots consumer l.4))
+  statement-below names m scope g calls slots Break l = below-nothing
 
   block-below : (names : Names) (in_main : Bool) (scope : Scope) (g : Setting) → CallsBelow names.arrays g → (slots : List Bound) (b : Block) → IsLawfulBlock names in_main scope b → Below names.arrays (block_finds g slots b)
   block-below names m scope g calls slots end l = below-nothing
@@ -202,25 +203,30 @@ guess-below : (names : Names) (scope : Scope) (g : Setting) → CallsBelow names
 guess-below names scope g calls slots (By guess) l = expression-below names scope g calls slots guess l
 guess-below names scope g calls slots (Host number) l = below-nothing
 
+guesses-below : (names : Names) (scope : Scope) (g : Setting) → CallsBelow names.arrays g → (slots : List Bound) (all : List syntax.Predictor) → AreLawfulPredictors names scope all → Below names.arrays (guesses_find g slots all)
+guesses-below names scope g calls slots [] l = below-nothing
+guesses-below names scope g calls slots (first ∷ rest) l =
+    below-then (guess-below names scope g calls slots first l.0) (guesses-below names scope g calls slots rest l.1)
+
 part-below : (p : Program) → IsScoped p → (k : Construct) → Stands p k → (part : Part) → Below (length p.arrays) (part_finds p k part)
 part-below p s (fold line head body) at Body =
     let g = main_setting p in
     let calls : CallsBelow (length p.arrays) g = calls-below p s (length p.functions) in
     below-then (block-below (main_names p) true _ g calls (within_fold p head) body at.is.6)
-    (expression-below (main_names p) _ g calls (bounds_at_end g (within_fold p head) body) head.next at.is.7)
+    (arguments-below (main_names p) _ g calls (bounds_at_end g (within_fold p head) body) head.next at.is.7)
 part-below p s (fold line head body) at Predictor =
-    guess-below (main_names p) _ (main_setting p) (calls-below p s (length p.functions)) (within_fold p head) head.predict at.is.5
+    guesses-below (main_names p) _ (main_setting p) (calls-below p s (length p.functions)) (within_fold p head) head.predict at.is.5
 part-below p s (fold line head body) at Producer = below-nothing
 part-below p s (fold line head body) at Consumer = below-nothing
 part-below p s (pair line head producer consumer) at Producer =
     let g = main_setting p in
     let calls : CallsBelow (length p.arrays) g = calls-below p s (length p.functions) in
     below-then (block-below (main_names p) true _ g calls (outside p) producer at.is.1)
-    (expression-below (main_names p) _ g calls (bounds_at_end g (outside p) producer) head.give at.is.2)
+    (arguments-below (main_names p) _ g calls (bounds_at_end g (outside p) producer) head.give at.is.2)
 part-below p s (pair line head producer consumer) at Consumer =
     block-below (main_names p) true _ (main_setting p) (calls-below p s (length p.functions)) (outside p) consumer at.is.4
 part-below p s (pair line head producer consumer) at Predictor =
-    guess-below (main_names p) _ (main_setting p) (calls-below p s (length p.functions)) (outside p) head.predict at.is.3
+    guesses-below (main_names p) _ (main_setting p) (calls-below p s (length p.functions)) (outside p) head.predict at.is.3
 part-below p s (pair line head producer consumer) at Body = below-nothing
 
 -- each array that a part of a top construct of a lawful program may write is one of the program

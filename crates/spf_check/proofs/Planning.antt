@@ -8,7 +8,7 @@ use Rattle.std.specs.declared.alloc.Global.{Global}
 use Rattle.spf_ast.specs.Syntax.{Array, Program}
 use Rattle.spf_ast.specs.Lawful.{IsLawful}
 use Rattle.spf_ast.specs.Construct.{Construct, fold, pair, constructs_in, part_of}
-use Rattle.spf_ast.specs.Program.{size_of, sizes, extents_from, extents_of, cell_count_of, max_cells}
+use Rattle.spf_ast.specs.Program.{size_of, sizes, extents_from, extents_of, cell_count_of, max_cells_in, max_cells, most_cells}
 use Rattle.spf_region.specs.declared.range.Range.{Range}
 use Rattle.spf_region.specs.declared.range.Range.TheVariants.{Whole, Affine}
 use Rattle.spf_region.specs.declared.span.Span.{Span}
@@ -99,8 +99,19 @@ lies-within len base [] i d h = absurd (omega (arith, h))
 lies-within len base (x ∷ rest) zero d h = omega arith
 lies-within len base (x ∷ rest) (suc i) d h = let r = lies-within len (base + size_of len x) rest i d (omega (arith, h)) in omega (arith, r)
 
-pub extents-fit : (p : Program) (len : ℕ) → cell_count_of p len ≤ max_cells → All (λ (e : Extent). e.0 + e.1 < 2 ^ 64) (extents_of p len)
-extents-fit p len few i d h = let r = lies-within len 0 p.arrays i d h in omega (arith, r, few)
+-- no version allows more
+few-cells : (version : ℕ) → max_cells_in version ≤ most_cells
+few-cells version = go (version == 2)
+  where
+    go : (b : Bool) → (if b then 16777216 else 4194304) ≤ most_cells
+    go true = omega arith
+    go false = omega arith
+
+pub extents-fit : (p : Program) (len : ℕ) → cell_count_of p len ≤ max_cells p → All (λ (e : Extent). e.0 + e.1 < 2 ^ 64) (extents_of p len)
+extents-fit p len few i d h =
+    let r = lies-within len 0 p.arrays i d h in
+    let most = few-cells p.version in
+    omega (arith, r, few, most)
 
 -- ---- cells by entries
 

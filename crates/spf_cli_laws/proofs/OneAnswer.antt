@@ -149,7 +149,7 @@ same_hosts (Some host) next f = same_said (host_missing host)
 
 same_runs : (said : Outcome → Stats → Answer) (options : Options) (given : Handed) (p : Program) (input : List ℕ) → AtMostOne (RunsTo said options given p input)
 same_runs said options given p input =
-    same_either _ _ (nat_le (cell_count_of p (length input)) max_cells) (same_hosts (host_wanted options given p) _ (same_said _)) (same_said _)
+    same_either _ _ (nat_le (cell_count_of p (length input)) (max_cells p)) (same_hosts (host_wanted options given p) _ (same_said _)) (same_said _)
 
 same_runs_on : (files : List Entry) (options : Options) (given : Handed) (input : List ℕ) (p : Program) → AtMostOne (Over files (RunsOn options given input p))
 same_runs_on files options given input p =
@@ -288,7 +288,7 @@ some_hosts (Some host) next one = (host_missing host, refl)
 
 some_runs : (said : Outcome → Stats → Answer) (options : Options) (given : Handed) (p : Program) (input : List ℕ) → HasOne (RunsTo said options given p input)
 some_runs said options given p input =
-    some_either _ _ (nat_le (cell_count_of p (length input)) max_cells) (some_hosts (host_wanted options given p) _ (_, refl)) (_, refl)
+    some_either _ _ (nat_le (cell_count_of p (length input)) (max_cells p)) (some_hosts (host_wanted options given p) _ (_, refl)) (_, refl)
 
 some_run : (files : List Entry) (options : Options) (given : Handed) (input : List ℕ) (p : Program) → HasOne (Over files (RunsOn options given input p))
 some_run files options given input p =

@@ -156,7 +156,7 @@ module _ (laws : TextLaws) (text : List ℕ) where
   ]
     where
       with_program : (raw : RawProgram) → IsProgramOf text raw → ⊥
-      with_program raw i = elim (laws.resolves raw (laws.writable text raw i)) [
+      with_program raw i = elim (laws.resolves raw (laws.writable text raw i).well_formed) [
         | inl p ↦ never (Says p.0) (raw, i, p.1)
         | inr r ↦ never (Refuses (on_line r.0 r.1)) (raw, i, r.2)
       ]

@@ -1,10 +1,13 @@
 -- The steps of a run over bytes at hand.
-use Rattle.std.proofs.Common.{◌≡◌, ◌∙◌, ℕ, List, [], arith, refl, sym, ap, subst, append-nil}
+use Rattle.std.proofs.Common.{◌≡◌, inl, inr, ◌∙◌, ℕ, List, [], arith, refl, sym, ap, subst, append-nil}
 use Rattle.std.specs.Prelude.{Result, Err}
 use Rattle.spf_ast.specs.Syntax.{Program}
 use Rattle.spf_commands.specs.Answer.{Answer, ran}
-use Rattle.spf_commands.specs.Answering.{seen_answer, IsReadExit, IsRuleExit, AnswersWith, IsRunToItsEnd}
+use Rattle.spf_commands.specs.Answering.{seen_answer, IsReadExit, IsRuleExit, IsNotRun, AnswersWith, IsRunToItsEnd}
 use Rattle.spf_commands.specs.Reading.{Verdict, Says, Refuses, Refusal, IsVerdict}
+use Rattle.spf_layout.specs.declared.layout.RunError.{RunError}
+use Rattle.spf_layout.specs.declared.layout.RunError.TheVariants as run_error
+use Rattle.spf_layout.specs.declared.layout.RunError.TheVariants.{TooManyCells}
 use Rattle.spf_check.specs.Accepting.{IsAccepted}
 use Rattle.spf_commands.specs.Laws.{RuleLaws}
 use Rattle.spf_words.specs.Only.{IsOnly}
@@ -110,3 +113,12 @@ other_status n m answer said e is differs s = absurd (differs (sym s ∙ ap (λ 
 pub ran_status : {A : Type 0} (options : Options) (p : Program) (len : ℕ) (o : Outcome) (stats : Stats) (answer : Answer) → answer ≡ ran options p len o stats → answer.status ≡ 7 → A
 ran_status options p len (Done cells output) stats answer e s = other_status 7 0 answer _ e refl (λ z. omega (arith, z)) s
 ran_status options p len (Stopped trap output) stats answer e s = other_status 7 1 answer _ e refl (λ z. omega (arith, z)) s
+
+-- a program that wasn't run, since it has too many cells, wasn't run to its end
+pub unrun_told : (P : Type 0) (p : Program) (error : RunError) (left : Exit) → IsNotRun p error left → AnswersWith (λ a. IsRunToItsEnd a → P) (Err left)
+unrun_told P p (TooManyCells count) (Answered a) h = λ ended. elim ended [
+  | inl e ↦ absurd (omega (arith, e, ap (λ (b : Answer). b.status) h))
+  | inr e ↦ absurd (omega (arith, e, ap (λ (b : Answer). b.status) h))
+]
+unrun_told P p run_error.OutOfMemory (Answered a) h = absurd h
+unrun_told P p error NoMemory h = tt

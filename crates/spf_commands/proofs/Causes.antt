@@ -71,10 +71,10 @@ either_common false P Q a f g h = g h
 runs_common : (said : Outcome → Stats → Answer) → ((o : Outcome) (stats : Stats) (a : Answer) → a ≡ said o stats → IsCommon a)
     → (options : Options) (given : Handed) (p : Program) (input : List ℕ) (a : Answer) → RunsTo said options given p input a → IsCommon a
 runs_common said f options given p input a h =
-    either_common (nat_le (cell_count_of p (length input)) max_cells)
-    (WithHosts (host_wanted options given p) (Is (said (outcome p input) (stats_of options given p input)))) (Is (too_many_cells (counted (cell_count_of p (length input))))) a
+    either_common (nat_le (cell_count_of p (length input)) (max_cells p))
+    (WithHosts (host_wanted options given p) (Is (said (outcome p input) (stats_of options given p input)))) (Is (too_many_cells (counted (cell_count_of p (length input))) (max_cells p))) a
     (hosts_common (host_wanted options given p) (said (outcome p input) (stats_of options given p input)) a (f (outcome p input) (stats_of options given p input) a))
-    (λ e. over_limit a (too_many_cells (counted (cell_count_of p (length input)))) e refl) h
+    (λ e. over_limit a (too_many_cells (counted (cell_count_of p (length input))) (max_cells p)) e refl) h
 
 run_common : (options : Options) (given : Handed) (p : Program) (input : List ℕ) (a : Answer) → Runs options given p input a → IsCommon a
 run_common options given p input a h = runs_common (ran options p (length input)) (ran_common options p (length input)) options given p input a h

@@ -37,11 +37,11 @@ within : (a b : ℕ) → a ≤ b → nat_le a b ≡ true
 within a b l = grind arith
 
 -- what a decoder is answered, whose cells are within their limit and which names no host
-run_so : (options : DecodeOptions) (p : Program) (input : List ℕ) (a : Answer) → cell_count_of p (length input) ≤ max_cells → missing_host 0 (constructs_in p.main) ≡ None → Decodes options p input a
+run_so : (options : DecodeOptions) (p : Program) (input : List ℕ) (a : Answer) → cell_count_of p (length input) ≤ max_cells p → missing_host 0 (constructs_in p.main) ≡ None → Decodes options p input a
     → a ≡ ran (run_options options) p (length input) (outcome p input) (stats_of (run_options options) (handed []) p input)
 run_so options p input a few none h =
     subst (λ w. WithHosts w (Is (ran (run_options options) p (length input) (outcome p input) (stats_of (run_options options) (handed []) p input))) a) none
-    (passed _ _ (nat_le (cell_count_of p (length input)) max_cells) a (within (cell_count_of p (length input)) max_cells few) h)
+    (passed _ _ (nat_le (cell_count_of p (length input)) (max_cells p)) a (within (cell_count_of p (length input)) (max_cells p) few) h)
 
 -- the statistics of a decoder's run
 abbrev stats_for : DecodeOptions → Program → List ℕ → Stats

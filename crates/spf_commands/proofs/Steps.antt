@@ -62,8 +62,8 @@ if_ok (Err e) P Q f h = tt
 -- ---- runs
 
 -- cells that aren't too many
-fits : (cells : ℕ) → (max_cells < cells → ⊥) → nat_le cells max_cells ≡ true
-fits cells few = go cells max_cells few
+fits : (cells limit : ℕ) → (limit < cells → ⊥) → nat_le cells limit ≡ true
+fits cells limit few = go cells limit few
   where
     go : (a b : ℕ) → (b < a → ⊥) → nat_le a b ≡ true
     go a b few = grind (arith, few)
@@ -76,20 +76,20 @@ without_hosts : (wanted : Option ℕ) (host : ℕ) (next : Wanted) → wanted �
 without_hosts wanted host next some = subst (λ w. IsOnly (WithHosts w next) (host_missing host)) (sym some) (only_this (host_missing host))
 
 -- a program was run, whose cells aren't too many and whose hosts are handed in
-pub run_done : (said : Outcome → Stats → Answer) (options : Options) (given : Handed) (p : Program) (input : List ℕ) (a : Answer) → (max_cells < cell_count_of p (length input) → ⊥) → host_wanted options given p ≡ None
+pub run_done : (said : Outcome → Stats → Answer) (options : Options) (given : Handed) (p : Program) (input : List ℕ) (a : Answer) → (max_cells p < cell_count_of p (length input) → ⊥) → host_wanted options given p ≡ None
     → a ≡ said (outcome p input) (stats_of options given p input) → IsOnly (RunsTo said options given p input) a
 run_done said options given p input a few none e =
     let done = said (outcome p input) (stats_of options given p input) in
     subst (IsOnly (RunsTo said options given p input)) (sym e)
-    (either_first _ _ (nat_le (cell_count_of p (length input)) max_cells) done (fits (cell_count_of p (length input)) few)
+    (either_first _ _ (nat_le (cell_count_of p (length input)) (max_cells p)) done (fits (cell_count_of p (length input)) (max_cells p) few)
     (with_hosts (host_wanted options given p) (Is done) done none (only_this done)))
 
 -- a program wasn't run, since a host is missing
-pub host_left : (said : Outcome → Stats → Answer) (options : Options) (given : Handed) (p : Program) (input : List ℕ) (host : ℕ) (a : Answer) → (max_cells < cell_count_of p (length input) → ⊥) → host_wanted options given p ≡ Some host
+pub host_left : (said : Outcome → Stats → Answer) (options : Options) (given : Handed) (p : Program) (input : List ℕ) (host : ℕ) (a : Answer) → (max_cells p < cell_count_of p (length input) → ⊥) → host_wanted options given p ≡ Some host
     → a ≡ host_missing host → IsOnly (RunsTo said options given p input) a
 host_left said options given p input host a few some e =
     subst (IsOnly (RunsTo said options given p input)) (sym e)
-    (either_first _ _ (nat_le (cell_count_of p (length input)) max_cells) (host_missing host) (fits (cell_count_of p (length input)) few)
+    (either_first _ _ (nat_le (cell_count_of p (length input)) (max_cells p)) (host_missing host) (fits (cell_count_of p (length input)) (max_cells p) few)
     (without_hosts (host_wanted options given p) host _ some))
 
 -- ---- courses

@@ -60,9 +60,9 @@ file_failed name = refused 5 (failed_line name)
 abbrev pub file_too_long : List ℕ → ℕ → Answer
 file_too_long name limit = refused 7 (long_line name limit)
 
--- the arrays have too many cells
-abbrev pub too_many_cells : ℕ → Answer
-too_many_cells count = refused 7 (too_many_line count)
+-- the arrays have so many cells, which are over the limit
+abbrev pub too_many_cells : (count limit : ℕ) → Answer
+too_many_cells count limit = refused 7 (too_many_line count limit)
 
 -- a host that the program names isn't handed in
 abbrev pub host_missing : ℕ → Answer

@@ -1,6 +1,7 @@
 -- What the steps to an answer leave.
 use Rattle.std.specs.Prelude.{◌≡◌, ◌⊎◌, ℕ, List, [], ◌∷◌, Option, Result, Ok, Err, Vec}
 use Rattle.std.specs.declared.alloc.Global.{Global}
+use Rattle.spf_ast.specs.Program.{max_cells}
 use Rattle.spf_ast.specs.Syntax.{Program}
 use Rattle.spf_ast.specs.View.{program}
 use Rattle.spf_region.specs.declared.range.Range.{Range}
@@ -57,10 +58,10 @@ IsNotAccepted (not_accepted.OutOfMemory p) (Answered a) = ⊥
 IsNotAccepted error NoMemory = Unit {0}
 
 -- the arrays have too many cells, or memory ran out
-abbrev pub IsNotRun : RunError → Exit → Type 0
-IsNotRun (TooManyCells count) (Answered a) = seen_answer a ≡ too_many_cells count
-IsNotRun run_error.OutOfMemory (Answered a) = ⊥
-IsNotRun error NoMemory = Unit {0}
+abbrev pub IsNotRun : Program → RunError → Exit → Type 0
+IsNotRun p (TooManyCells count) (Answered a) = seen_answer a ≡ too_many_cells count (max_cells p)
+IsNotRun p run_error.OutOfMemory (Answered a) = ⊥
+IsNotRun p error NoMemory = Unit {0}
 
 -- the course was followed: these fetches were made, and this is the one answer to what they gave
 pub record IsFollowed (course : Course) (old new : FilesState) (answer : said.Answer) : Type 0 where

@@ -45,9 +45,9 @@ failed_line name = line (codes "file " ∷ name ∷ codes " failed" ∷ [])
 abbrev pub long_line : List ℕ → ℕ → List ℕ
 long_line name limit = line (codes "file " ∷ name ∷ codes " over " ∷ decimal limit ∷ codes " bytes" ∷ [])
 
--- `cells N over 4194304`
-abbrev pub too_many_line : ℕ → List ℕ
-too_many_line count = line (codes "cells " ∷ decimal count ∷ codes " over 4194304" ∷ [])
+-- `cells N over LIMIT`
+abbrev pub too_many_line : (count limit : ℕ) → List ℕ
+too_many_line count limit = line (codes "cells " ∷ decimal count ∷ codes " over " ∷ decimal limit ∷ [])
 
 -- `host N not handed in`
 abbrev pub host_line : ℕ → List ℕ
@@ -88,6 +88,7 @@ fault_name fault.Kind = codes "wrong kind"
 fault_name fault.CallsLater = codes "calls later function"
 fault_name fault.TooLarge = codes "too large"
 fault_name fault.Misplaced = codes "misplaced emit"
+fault_name fault.MisplacedBreak = codes "misplaced break"
 
 -- `line N: FAULT`
 abbrev pub fault_line : TypeFault → ℕ → List ℕ

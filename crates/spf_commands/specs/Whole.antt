@@ -102,9 +102,9 @@ WithHosts (Some host) next = Is (host_missing host)
 -- a program is run on an input, and this is said of how it ended and of its statistics
 abbrev pub RunsTo : (Outcome → Stats → Answer) → Options → Handed → Program → List ℕ → Wanted
 RunsTo said options given p input =
-    Either (nat_le (cell_count_of p (length input)) max_cells)
+    Either (nat_le (cell_count_of p (length input)) (max_cells p))
     (WithHosts (host_wanted options given p) (Is (said (outcome p input) (stats_of options given p input))))
-    (Is (too_many_cells (counted (cell_count_of p (length input)))))
+    (Is (too_many_cells (counted (cell_count_of p (length input))) (max_cells p)))
 
 -- a program is run on an input
 abbrev pub Runs : Options → Handed → Program → List ℕ → Wanted

@@ -49,6 +49,7 @@ use crate::message::{
 };
 use crate::reading::{Unread, read_program, refusal_line};
 use crate::status::Status;
+use spf_ast::laws::breaks_stay_in_their_loops;
 use spf_ast::outcome::Outcome;
 use spf_ast::syntax::{Array, Program};
 use spf_check::check::check;
@@ -59,6 +60,7 @@ use spf_edge::{FetchError, Files, Gate};
 use spf_engine::run::run_instance;
 use spf_exec::plain_run;
 use spf_guess::stats::Stats;
+use spf_layout::arrays::max_cells_of;
 use spf_layout::instance::Instance;
 use spf_layout::layout::RunError;
 use spf_predictors::Predictor;
@@ -305,12 +307,12 @@ fn ran(
     }
 }
 
-/// The answer where the arrays have too many cells, or memory runs out.
-pub(crate) fn not_run(alloc: Global, error: RunError) -> Exit
-    ensures { IsNotRun error result }
+/// The answer where the arrays of a program have too many cells, or memory runs out.
+pub(crate) fn not_run(alloc: Global, program: &Program, error: RunError) -> Exit
+    ensures { IsNotRun (seen_program program.now) error result }
 {
     match error {
-        RunError::TooManyCells { count } => match too_many(alloc, count) {
+        RunError::TooManyCells { count } => match too_many(alloc, count, max_cells_of(program)) {
             Ok(given) => Exit::Answered(given),
             Err(_) => Exit::NoMemory,
         },
@@ -318,11 +320,15 @@ pub(crate) fn not_run(alloc: Global, error: RunError) -> Exit
     }
 }
 
-/// The answer where the arrays have so many cells, which are too many.
-fn too_many(alloc: Global, count: u128) -> Result<Answer, AllocError>
-    ensures { IfOk result (λ a. seen_answer a ≡ too_many_cells count) }
+/// The answer where the arrays have so many cells, which are over the limit.
+fn too_many(alloc: Global, count: u128, limit: u32) -> Result<Answer, AllocError>
+    ensures { IfOk result (λ a. seen_answer a ≡ too_many_cells count limit) }
 {
-    refused(alloc, Status::OverLimit, too_many_line(alloc, count)?)
+    refused(
+        alloc,
+        Status::OverLimit,
+        too_many_line(alloc, count, limit)?,
+    )
 }
 
 /// The answer where a host isn't handed in.
@@ -343,9 +349,10 @@ fn run_plainly(
     requires plain { options.plain ≡ true }
     ensures { (handed : Handed) → AnswersWith (IsOnly (Runs (seen_options options) handed (seen_program program.now) input.now)) result }
 {
+    breaks_stay_in_their_loops();
     let instance = match Instance::make(alloc, program, input) {
         Ok(instance) => instance,
-        Err(error) => return Err(not_run(alloc, error)),
+        Err(error) => return Err(not_run(alloc, program, error)),
     };
     let outcome = plain_run::run_instance(alloc, &instance)?;
     Ok(ran(alloc, options, &instance, outcome, Stats::none())?)
@@ -381,9 +388,10 @@ pub(crate) fn run_by_blocks<R: Threads + Wait + Sync, G: Gate + Sync>(
         (handed_in (map (λ h. answer h) hosts.new.items))) result }
 {
     let program = checked.program();
+    breaks_stay_in_their_loops();
     let instance = match Instance::make(alloc, program, input) {
         Ok(instance) => instance,
-        Err(error) => return Err(not_run(alloc, error)),
+        Err(error) => return Err(not_run(alloc, program, error)),
     };
     if let Some(host) = first_missing(program, hosts.len() as u64) {
         return Ok(without_host(alloc, host)?);

@@ -46,6 +46,7 @@ use crate::laws::decoders_keep_their_formats;
 use crate::message::{not_huf1_line, not_lex1_line, sum_line, trap_line};
 use crate::status::Status;
 use spf_apps::{huffman, lexer, packbits};
+use spf_ast::laws::breaks_stay_in_their_loops;
 use spf_ast::outcome::Outcome;
 use spf_ast::syntax::Program;
 use spf_check::check::check;
@@ -277,9 +278,10 @@ fn demonstrate<R: Threads + Wait + Sync, G: Gate + Sync>(
     ensures { AnswersWith (IsOnly (RunsTo shown_answer by_blocks (handed []) (seen_program checked.now) input.now)) result }
 {
     let program = checked.program();
+    breaks_stay_in_their_loops();
     let instance = match Instance::make(alloc, program, input) {
         Ok(instance) => instance,
-        Err(error) => return Err(not_run(alloc, error)),
+        Err(error) => return Err(not_run(alloc, program, error)),
     };
     if let Some(host) = first_missing(program, 0) {
         return Ok(without_host(alloc, host)?);

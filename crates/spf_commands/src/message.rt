@@ -62,11 +62,11 @@ pub(crate) fn long_line(alloc: Global, name: &str, limit: u64) -> Result<String,
     format!(in alloc; "file {name} over {limit} bytes\n")
 }
 
-/// `cells N over 4194304`.
-pub(crate) fn too_many_line(alloc: Global, count: u128) -> Result<String, AllocError>
-    ensures { IfOk result (λ text. string_bytes text ≡ too_many_line_of count) }
+/// `cells N over LIMIT`.
+pub(crate) fn too_many_line(alloc: Global, count: u128, limit: u32) -> Result<String, AllocError>
+    ensures { IfOk result (λ text. string_bytes text ≡ too_many_line_of count limit) }
 {
-    format!(in alloc; "cells {count} over 4194304\n")
+    format!(in alloc; "cells {count} over {limit}\n")
 }
 
 /// `host N not handed in`.
@@ -122,6 +122,7 @@ fn fault_name(fault: TypeFault) -> &'static str
         TypeFault::CallsLater => "calls later function",
         TypeFault::TooLarge => "too large",
         TypeFault::Misplaced => "misplaced emit",
+        TypeFault::MisplacedBreak => "misplaced break",
     }
 }
 

@@ -3,7 +3,7 @@
 ghost use Rattle.std.specs.Prelude.{◌≡◌, IfOk, IfErr, string_bytes};
 ghost use Rattle.spf_ast.specs.View.{program as seen_program};
 ghost use Rattle.spf_ast.specs.RawView.{raw_program};
-ghost use Rattle.spf_ast.specs.Spelling.{IsWritable};
+ghost use Rattle.spf_ast.specs.Spelling.{IsWellFormed};
 ghost use Rattle.spf_grammar.specs.Texts.{IsProgramOf};
 ghost use Rattle.spf_commands.specs.Reading.{IsVerdict, Says, refusal_line as refusal_line_of};
 ghost use Rattle.spf_commands.specs.Unread.{seen_refusal, IsUnread, HasNoByteFault, IsRefusalOf};
@@ -55,7 +55,7 @@ fn from_error(error: ParseError) -> Unread
 /// The raw program of a text.
 fn read_raw(alloc: Global, text: &[u8]) -> Result<RawProgram, Unread>
     ensures program { IfOk result (λ raw. IsOnly (IsProgramOf text.now) (raw_program raw)) }
-    ensures writable { IfOk result (λ raw. IsWritable (raw_program raw)) }
+    ensures well_formed { IfOk result (λ raw. IsWellFormed (raw_program raw)) }
     ensures faultless { IfOk result (λ raw. HasNoByteFault text.now) }
     ensures unread { IfErr result (IsUnread text.now) }
 {

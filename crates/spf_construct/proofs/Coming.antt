@@ -29,7 +29,7 @@ use Rattle.spf_guess.specs.Statistics.{statistics_with}
 use Rattle.spf_construct.specs.declared.guesses.Stand.{Stand}
 use Rattle.spf_construct.specs.Guesses.{seen_guess, guesses_from, paired, counts_of, real_values}
 use Rattle.spf_construct.specs.Coming.{IsAtConstruct, entry_of, ComesTo}
-use Rattle.spf_construct.proofs.Counting.{counts-are, guess-at}
+use Rattle.spf_construct.proofs.Counting.{counts-are, row-at}
 
 -- the entry of the chain's site is the construct's
 pub entry-is : (at : Stand) (h : Header) (guesses : List code_guess.Guess) → slice_get (constructs_in (program_of at.instance.now).main) at.index ≡ Some (seen_construct at.construct)
@@ -49,7 +49,7 @@ same-guesses : (guess : ℕ → Guess) (at : Stand) (h : Header) (guesses : List
 same-guesses guess at h guesses taken zero above below = absurd (omega (arith, above))
 same-guesses guess at h guesses taken (suc n) above below =
     let one_more : 1 + n ≡ suc n = omega arith in
-    guess-at guesses guess 1 (h.blocks - 1) n taken (omega (arith, below)) ∙ ap (λ k. (guess k).value) one_more
+    row-at guesses guess 1 (h.blocks - 1) n taken (omega (arith, below)) ∙ ap (λ k. (guess k).value) one_more
 
 pub comes : (guess : ℕ → Guess) (p : Program) (at : Stand) (h : Header) (guesses : List code_guess.Guess) → IsAtConstruct p at h
     → (c : ChainValue) → c.site ≡ site_of at.instance.now at.index h at.frame.now at.cells.now guesses

@@ -1,7 +1,8 @@
 -- Guesses one after another, and counts of validated blocks.
-use Rattle.std.proofs.Common.{◌≡◌, ℕ, zero, suc, ◌+◌, ◌<◌, ◌≤◌, Bool, true, false, List, [], ◌∷◌, ◌++◌, length, map, drop, get_or, ℤ, refl, ap, ◌∙◌, arith}
-use Rattle.std.specs.Prelude.{if◌then◌else◌, slice_index_or}
-use Rattle.spf_ast.specs.Carried.{no_value}
+use Rattle.std.proofs.Common.{◌≡◌, ℕ, zero, suc, ◌+◌, ◌<◌, ◌≤◌, Bool, true, false, List, [], ◌∷◌, ◌++◌, length, map, drop, ℤ, pos, ◌+ℤ◌, refl, sym, ap, ◌∙◌, arith}
+use Rattle.std.proofs.lemmas.Int.{ints}
+use Rattle.std.specs.Prelude.{if◌then◌else◌, slice_index_or, ◌≤ℤ◌}
+use Rattle.spf_ast.specs.Carried.{Carried}
 use Rattle.spf_chain.specs.declared.validated.Guess as code_guess
 use Rattle.spf_chain.specs.declared.validated.Validated.{Validated}
 use Rattle.spf_guess.specs.Guess.{Guess}
@@ -38,11 +39,12 @@ guesses-append guess place (suc first) second =
 
 -- the block at a place with its guess
 pub pair-step : (gs : List code_guess.Guess) (bs : List Validated) (place : ℕ) (g : code_guess.Guess) (b : Validated) → place < length gs → place < length bs
-    → paired (drop place (map seen_guess gs)) (drop place (real_values bs)) ≡ record { guess = seen_guess (get_or gs place g); real = (get_or bs place b).real } ∷ paired (drop (suc place) (map seen_guess gs)) (drop (suc place) (real_values bs))
-pair-step [] bs place g b l k = absurd (omega (arith, l))
-pair-step (x ∷ gs) [] place g b l k = absurd (omega (arith, k))
-pair-step (x ∷ gs) (y ∷ bs) zero g b l k = refl
-pair-step (x ∷ gs) (y ∷ bs) (suc place) g b l k = pair-step gs bs place g b (omega (arith, l)) (omega (arith, k))
+    → g ≡ slice_index_or gs place g → b ≡ slice_index_or bs place b
+    → paired (drop place (map seen_guess gs)) (drop place (real_values bs)) ≡ record { guess = seen_guess g; real = b.real } ∷ paired (drop (suc place) (map seen_guess gs)) (drop (suc place) (real_values bs))
+pair-step [] bs place g b l k read_g read_b = absurd (omega (arith, l))
+pair-step (x ∷ gs) [] place g b l k read_g read_b = absurd (omega (arith, k))
+pair-step (x ∷ gs) (y ∷ bs) zero g b l k read_g read_b = λ i. record { guess = seen_guess (sym read_g i); real = (sym read_b i).real } ∷ paired (map seen_guess gs) (real_values bs)
+pair-step (x ∷ gs) (y ∷ bs) (suc place) g b l k read_g read_b = pair-step gs bs place g b (omega (arith, l)) (omega (arith, k)) read_g read_b
 
 -- one more is counted
 pub add-step : (new old one more was total : ℕ) → new ≡ old + one → was ≡ one + more → old + was ≡ total → new + more ≡ total
@@ -63,11 +65,11 @@ pub paired-nothing : (gs : List Guess) → paired gs [] ≡ []
 paired-nothing [] = refl
 paired-nothing (g ∷ gs) = refl
 
-pub paired-none : (gs : List Guess) (rs : List ℤ) (place : ℕ) → length rs ≤ place → paired (drop place gs) (drop place rs) ≡ []
+pub paired-none : (gs : List Guess) (rs : List Carried) (place : ℕ) → length rs ≤ place → paired (drop place gs) (drop place rs) ≡ []
 paired-none gs rs place h = ap (paired (drop place gs)) (none-left rs place h) ∙ paired-nothing (drop place gs)
 
 -- the guesses for blocks from a place on, with the blocks
-pub paired-is : (guess : ℕ → Guess) (place count : ℕ) (rs : List ℤ) → length rs ≤ count → paired (guesses_from guess place count) rs ≡ guessed_from guess place rs
+pub paired-is : (guess : ℕ → Guess) (place count : ℕ) (rs : List Carried) → length rs ≤ count → paired (guesses_from guess place count) rs ≡ guessed_from guess place rs
 paired-is guess place zero [] h = refl
 paired-is guess place zero (r ∷ rs) h = absurd (omega (arith, h))
 paired-is guess place (suc count) [] h = refl
@@ -79,7 +81,7 @@ at-most-more new old n true e h = omega (arith, e, h)
 at-most-more new old n false e h = omega (arith, e, h)
 
 -- the counts of blocks are their statistics
-pub counts-are : (guess : ℕ → Guess) (count : ℕ) (values : List ℤ) → length values ≤ count + 1 → counts_of (length values) (paired (guesses_from guess 1 count) (drop 1 values)) ≡ statistics_with guess values
+pub counts-are : (guess : ℕ → Guess) (count : ℕ) (values : List Carried) → length values ≤ count + 1 → counts_of (length values) (paired (guesses_from guess 1 count) (drop 1 values)) ≡ statistics_with guess values
 counts-are guess count [] h = ap (counts_of 0) (paired-nothing (guesses_from guess 1 count))
 counts-are guess count (v ∷ others) h = ap (counts_of (length (v ∷ others))) (paired-is guess 1 count others (omega (arith, h)))
 
@@ -90,19 +92,40 @@ guess-count (x ∷ items) guess place zero h = cc
 guess-count [] guess place (suc count) h = cc
 guess-count (x ∷ items) guess place (suc count) h = ap suc (guess-count items guess (suc place) count (ap (drop 1) h))
 
--- the value of the guess for a block
-pub guess-at : (items : List code_guess.Guess) (guess : ℕ → Guess) (place count n : ℕ) → map seen_guess items ≡ guesses_from guess place count → n < count
-    → slice_index_or (map (λ (g : code_guess.Guess). g.value) items) n no_value ≡ (guess (place + n)).value
-guess-at [] guess place zero n h low = absurd (omega (arith, low))
-guess-at (x ∷ items) guess place zero n h low = absurd (omega (arith, low))
-guess-at [] guess place (suc count) n h low = cc
-guess-at (x ∷ items) guess place (suc count) zero h low =
+-- the guess for a block
+pub guess-at : (items : List code_guess.Guess) (guess : ℕ → Guess) (place count n : ℕ) (g : code_guess.Guess) → map seen_guess items ≡ guesses_from guess place count → n < count
+    → g ≡ slice_index_or items n g → seen_guess g ≡ guess (place + n)
+guess-at [] guess place zero n g h low read = absurd (omega (arith, low))
+guess-at (x ∷ items) guess place zero n g h low read = absurd (omega (arith, low))
+guess-at [] guess place (suc count) n g h low read = cc
+guess-at (x ∷ items) guess place (suc count) zero g h low read =
     let here : place ≡ place + 0 = omega arith in
-    ap (λ l. head-value l) h ∙ ap (λ k. (guess k).value) here
+    ap seen_guess read ∙ ap (head_or (seen_guess x)) h ∙ ap guess here
   where
-    head-value : List Guess → ℤ
-    head-value [] = no_value
-    head-value (g ∷ gs) = g.value
-guess-at (x ∷ items) guess place (suc count) (suc n) h low =
+    head_or : Guess → List Guess → Guess
+    head_or d [] = d
+    head_or d (g ∷ gs) = g
+guess-at (x ∷ items) guess place (suc count) (suc n) g h low read =
     let there : suc place + n ≡ place + suc n = omega arith in
-    guess-at items guess (suc place) count n (ap (drop 1) h) (omega (arith, low)) ∙ ap (λ k. (guess k).value) there
+    guess-at items guess (suc place) count n g (ap (drop 1) h) (omega (arith, low)) read ∙ ap guess there
+
+-- the row of the guess for a block
+pub row-at : (items : List code_guess.Guess) (guess : ℕ → Guess) (place count n : ℕ) → map seen_guess items ≡ guesses_from guess place count → n < count
+    → slice_index_or (map (λ (g : code_guess.Guess). g.value) items) n [] ≡ (guess (place + n)).value
+row-at [] guess place zero n h low = absurd (omega (arith, low))
+row-at (x ∷ items) guess place zero n h low = absurd (omega (arith, low))
+row-at [] guess place (suc count) n h low = cc
+row-at (x ∷ items) guess place (suc count) zero h low =
+    let here : place ≡ place + 0 = omega arith in
+    ap head-value h ∙ ap (λ k. (guess k).value) here
+  where
+    head-value : List Guess → Carried
+    head-value [] = []
+    head-value (g ∷ gs) = g.value
+row-at (x ∷ items) guess place (suc count) (suc n) h low =
+    let there : suc place + n ≡ place + suc n = omega arith in
+    row-at items guess (suc place) count n (ap (drop 1) h) (omega (arith, low)) ∙ ap (λ k. (guess k).value) there
+
+-- what fits with many blocks fits with few
+pub fewer-fit : (low most : ℤ) (few many : ℕ) → few ≤ many → (low +ℤ pos many) ≤ℤ most → (low +ℤ pos few) ≤ℤ most
+fewer-fit low most few many h fits = grind (arith, ints, h, fits)

@@ -3,7 +3,7 @@ use denote.Hole.{as_row}
 use denote.Param.Send.{IsSync, sendable, view_sync}
 use denote.Param.SendFields.{declared_sync}
 use denote.Ref.{NamedLft}
-use Rattle.std.proofs.Common.{◌≡◌, ◌<◌, ℕ, zero, suc, List, [], ◌∷◌, length, Result, Ok, Err, arith}
+use Rattle.std.proofs.Common.{◌<◌, ℕ, zero, suc, List, [], ◌∷◌, length, Result, Ok, Err, arith}
 use Rattle.std.proofs.Crossing.{crosses}
 use Rattle.std.specs.Prelude.{IfOk, IfSome, slice_get, slice_index_or}
 use Rattle.spf_exec.specs.contracts.frame.Frame

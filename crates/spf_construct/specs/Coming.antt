@@ -47,7 +47,7 @@ entry_of at header = record {
 }
 
 -- The blocks from this entry came to this, and left this memory: the result is that of their plain run, and where
--- none traps, so is the memory. The statistics compare the guesses with the real values. The trace has one log for each
+-- none traps, so is the memory. The statistics compare the guesses with the real rows. The trace has one log for each
 -- block, and every merging of them that keeps the order of each log is a speculative run from these guesses.
 pub record ComesTo (e : Entry) (guess : ℕ → Guess) (report : ConstructReport) (memory : List ℤ) : Type 0 where
   pub result : (plain_blocks e).result ≡ result_as report.settled

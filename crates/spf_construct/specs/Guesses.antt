@@ -1,40 +1,23 @@
 -- The guesses for a construct's blocks, and how good they were.
-use Rattle.std.specs.Prelude.{◌≡◌, ◌<◌, ◌≤◌, ◌+◌, ◌-◌, ◌*◌, min, ℕ, zero, suc, not, false, List, [], ◌∷◌, map, ℤ, pos, ◌+ℤ◌}
-use Rattle.spf_ast.specs.BlockRun.{predicts}
+use Rattle.std.specs.Prelude.{◌≤◌, ◌+◌, ◌-◌, ◌*◌, min, ℕ, zero, suc, not, List, [], ◌∷◌, map, Result, ℤ, pos, ◌+ℤ◌}
+use Rattle.spf_ast.specs.declared.outcome.Trap.{Trap}
 use Rattle.spf_ast.specs.Carried.{Carried}
-use Rattle.spf_ast.specs.Construct.{Construct}
+use Rattle.spf_ast.specs.Construct.{Construct, predictors_of}
 use Rattle.spf_ast.specs.ConstructView.{construct as seen_construct}
-use Rattle.spf_ast.specs.Syntax.{Host}
 use Rattle.spf_exec.specs.declared.pieces.Header.{Header}
 use Rattle.spf_layout.specs.Frame.{main_slots}
 use Rattle.spf_layout.specs.Instance.{program_of}
 use Rattle.spf_chain.specs.declared.validated.Guess as code_guess
 use Rattle.spf_chain.specs.declared.validated.Validated.{Validated}
 use Rattle.spf_guess.specs.declared.stats.Stats.{Stats}
-use Rattle.spf_guess.specs.Guess.{Guess, guess_of, Hosts, Telling, told_to, predictor_of, guess_for}
+use Rattle.spf_guess.specs.Guess.{Guess, Hosts, no_hosts, Telling, told_to, guess_for}
 use Rattle.spf_guess.specs.Statistics.{Guessed, is_hit, how_many}
+use Rattle.spf_predictors.specs.Missing.{AreAllHandedIn}
 use Rattle.spf_construct.specs.declared.guesses.Stand.{Stand}
 
 -- a guess, as definitions see it
 abbrev pub seen_guess : code_guess.Guess → Guess
 seen_guess guess = record { value = guess.value; blind = guess.blind }
-
--- what the construct's predictor comes to for a block number where the run stands, an expression
-abbrev pub predicted : Stand → ℤ → Guess
-predicted at number = guess_of (predicts (program_of at.instance.now) at.instance.now.input
-    (seen_construct at.construct) (main_slots (program_of at.instance.now) at.frame.now) at.cells.now number)
-
--- the same for a block of a construct with this header, by the block's index
-abbrev pub predicted_at : Stand → Header → ℕ → Guess
-predicted_at at header n = predicted at (header.low +ℤ pos n)
-
--- what one of these hosts, which were told so much, answers for a block number
-abbrev pub answered : Hosts → List Telling → ℕ → ℤ → Guess
-answered hosts telling host number = record { value = hosts host (told_to host telling) number; blind = false }
-
--- the same for a block of a construct with this header, by the block's index
-abbrev pub answered_at : Hosts → List Telling → ℕ → Header → ℕ → Guess
-answered_at hosts telling host header n = answered hosts telling host (header.low +ℤ pos n)
 
 -- the guess there for a block number, where these hosts were told so much
 abbrev pub guess_there : Hosts → List Telling → Stand → ℤ → Guess
@@ -45,9 +28,25 @@ guess_there hosts telling at number = guess_for hosts telling (program_of at.ins
 abbrev pub block_guess : Hosts → List Telling → Stand → Header → ℕ → Guess
 block_guess hosts telling at header n = guess_there hosts telling at (header.low +ℤ pos n)
 
--- the host that a construct names is one of so many
+-- the guess there of the expressions alone: a part that a host guesses is 0
+abbrev pub predicted : Stand → ℤ → Guess
+predicted at number = guess_there no_hosts [] at number
+
+-- the same for a block of a construct with this header, by the block's index
+abbrev pub predicted_at : Stand → Header → ℕ → Guess
+predicted_at at header n = predicted at (header.low +ℤ pos n)
+
+-- the word that a host answers for a block number, where these hosts were told so much
+abbrev pub answered : Hosts → List Telling → ℤ → ℕ → ℤ
+answered hosts telling number host = hosts host (told_to host telling) number
+
+-- what the expression of each part comes to, by the part's place
+abbrev pub Results : Type 0
+Results = ℕ → Result ℤ Trap
+
+-- the hosts that a construct names are among so many
 abbrev pub IsHandedIn : ℕ → Construct → Type 0
-IsHandedIn count construct = (host : ℕ) → predictor_of construct ≡ Host host → host < count
+IsHandedIn count construct = AreAllHandedIn count (predictors_of construct)
 
 -- the guesses for so many blocks from an index on
 abbrev pub guesses_from : (ℕ → Guess) → ℕ → ℕ → List Guess
@@ -64,7 +63,7 @@ piece_of guess count size i = guesses_from guess (1 + i * size) (min size (count
 
 -- ---- counts
 
--- the real values of validated blocks
+-- the real rows of validated blocks
 abbrev pub real_values : List Validated → List Carried
 real_values history = map (λ b. b.real) history
 

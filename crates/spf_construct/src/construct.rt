@@ -16,7 +16,7 @@ use crate::counts::count_blocks;
 use crate::guesses::{Stand, take_guesses};
 use crate::telling::tell_history;
 use spf_alike::speculative_runs_see_visible_slots_alone;
-use spf_ast::laws::lawful_programs_are_quiet_and_small;
+use spf_ast::laws::{breaks_stay_in_their_loops, lawful_programs_are_quiet_and_small};
 use spf_cells::cells::Cells;
 use spf_cells::finish::Trace;
 use spf_chain::chain::Chain;
@@ -37,7 +37,7 @@ use std::thread::Threads;
 /// What the blocks of a construct came to.
 #[derive(Drop)]
 pub struct ConstructReport {
-    /// The carried value after the last block, or the trap.
+    /// The carried row after the last block, or the trap.
     pub settled: Settled,
     /// How good the guesses were.
     pub stats: Stats,
@@ -56,23 +56,24 @@ pub struct Blocks {
     pub stats: Stats,
 }
 
-/// Runs the blocks on so many workers, each block from its guess, and again from its real value where the guess was wrong, until all
+/// Runs the blocks on so many workers, each block from its guess, and again from its real row where the guess was wrong, until all
 /// are validated or one has trapped.
 fn run_from<R: Threads + Wait + Sync, G: Gate + Sync>(
     rt: &R,
     alloc: Global,
     checked: &Checked,
     at: Stand,
-    header: Header,
+    header: &Header,
     guesses: &[Guess],
     workers: u64,
     gate: &G,
 ) -> Result<(Chain, Cells), AllocError>
     requires workers { (0 < workers) × (workers ≤ 64) }
-    requires there { IsAtConstruct (seen_program checked.now) at header }
-    requires fits { (header.low +ℤ pos header.blocks) ≤ℤ i64.MAX }
-    requires guesses { length guesses.now + 1 ≡ header.blocks }
-    ensures site { IfOk result (λ r. r.0.site ≡ site_of at.entry.instance.now at.entry.index header at.entry.frame.now at.entry.cells.now guesses.now) }
+    requires there { IsAtConstruct (seen_program checked.now) at header.now }
+    requires fits { (header.now.low +ℤ pos header.now.blocks) ≤ℤ i64.MAX }
+    requires guesses { length guesses.now + 1 ≡ header.now.blocks }
+    ensures site { IfOk result (λ r. r.0.site
+        ≡ site_of at.entry.instance.now at.entry.index header.now at.entry.frame.now at.entry.cells.now guesses.now) }
     ensures ended { IfOk result (λ r. HasEnded r.0) }
     ensures own { IfOk result (λ r. r.1 ≡ cells_of r.0) }
 {
@@ -83,7 +84,7 @@ fn run_from<R: Threads + Wait + Sync, G: Gate + Sync>(
         checked,
         at.instance,
         at.index,
-        header,
+        *header,
         at.frame,
         at.cells,
         guesses,
@@ -98,9 +99,10 @@ fn run_from<R: Threads + Wait + Sync, G: Gate + Sync>(
     run_crew(rt, alloc, chain, cells, tickets, mates, job, gate)
 }
 
-/// Runs the blocks of a top construct whose header is done. `at` is where the run stands. There are 1 to 64 workers, each in a thread of its own, but not more than blocks. Before the first attempt
-/// a host is asked for each block but the first, in order, or the workers compute what an expression guesses for them. A host is told
-/// their real values, in order, when all is run.
+/// Runs the blocks of a top construct whose header is done. `at` is where the run stands. There are 1 to 64 workers, each in a thread
+/// of its own, but not more than blocks. Before the first attempt the workers compute what expressions guess, and a host is asked once
+/// for each part that names it of each block but the first, in the order of blocks and then of parts. A host is told these parts of
+/// the real rows, in that order, when all is run.
 ///
 /// # Errors
 ///
@@ -110,23 +112,24 @@ pub fn run_blocks<R: Threads + Wait + Sync, G: Gate + Sync>(
     alloc: Global,
     checked: &Checked,
     at: Stand,
-    header: Header,
+    header: &Header,
     workers: u64,
     hosts: &mut Vec<Box<dyn Predictor>>,
     gate: &G,
 ) -> Result<Blocks, AllocError>
     requires workers { (0 < workers) × (workers ≤ 64) }
-    requires there { IsAtConstruct (seen_program checked.now) at header }
-    requires fits { (header.low +ℤ pos header.blocks) ≤ℤ i64.MAX }
+    requires there { IsAtConstruct (seen_program checked.now) at header.now }
+    requires fits { (header.now.low +ℤ pos header.now.blocks) ≤ℤ i64.MAX }
     requires host { IsHandedIn (length hosts.old.items) (seen_construct at.construct) }
     ensures ready { IfOk result IsReady }
     ensures size { IfOk result (λ b. length b.chain.site.memory ≡ length at.entry.cells.now) }
     ensures came { IfOk result (λ b. (before : Hosts) (telling : List Telling)
         → WereTold before telling (handed_in (map (λ h. answer h) hosts.old.items))
-        → ComeTo (entry_of at.entry header) (block_guess before telling at.entry header) b) }
+        → ComeTo (entry_of at.entry header.now) (block_guess before telling at.entry header.now) b) }
     ensures told { IfOk result (λ b. (before : Hosts) (telling : List Telling)
         → WereTold before telling (handed_in (map (λ h. answer h) hosts.old.items))
-        → WereTold before (telling ++ tells (seen_construct at.entry.construct) (seen_header header) (plain_blocks (entry_of at.entry header)).values)
+        → WereTold before (telling ++ tells (seen_construct at.entry.construct) (seen_header header.now)
+        (plain_blocks (entry_of at.entry header.now)).values)
         (handed_in (map (λ h. answer h) hosts.new.items))) }
     ensures nothing_told { IfErr result (λ why. (before : Hosts) (telling : List Telling)
         → WereTold before telling (handed_in (map (λ h. answer h) hosts.old.items))
@@ -136,6 +139,7 @@ pub fn run_blocks<R: Threads + Wait + Sync, G: Gate + Sync>(
 {
     speculative_runs_see_visible_slots_alone();
     lawful_programs_are_quiet_and_small();
+    breaks_stay_in_their_loops();
     let _program = checked.program();
     let guesses = take_guesses(rt, alloc, at, header, workers, hosts)?;
     let (chain, cells) = run_from(rt, alloc, checked, at, header, &guesses, workers, gate)?;

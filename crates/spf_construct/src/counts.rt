@@ -1,9 +1,8 @@
 //! How good the guesses were.
 ghost use Rattle.std.specs.Prelude.{◌≡◌, ◌≤◌, ◌+◌, length, map, drop, not, if◌then◌else◌};
-ghost use Rattle.std.specs.Ordering.{int_eq};
+ghost use Rattle.spf_ast.specs.Carried.{same_carried};
 ghost use Rattle.spf_construct.specs.Guesses.{seen_guess, real_values, paired, counts_of, AreAtMost};
 
-use spf_ast::carried::is_same;
 use spf_chain::validated::{Guess, Validated};
 use spf_guess::stats::Stats;
 
@@ -15,14 +14,16 @@ fn one_if(so: bool) -> u64
 }
 
 /// The statistics with the counts of one more guess.
-fn with_guess(stats: Stats, guess: Guess, block: Validated) -> Stats
+fn with_guess(stats: Stats, guess: &Guess, block: &Validated) -> Stats
     requires room { AreAtMost stats 4096 }
     ensures blocks { result.blocks ≡ stats.blocks }
-    ensures hits { result.hits ≡ stats.hits + (if int_eq guess.value block.real then 1 else 0) }
-    ensures misses { result.misses ≡ stats.misses + (if not (int_eq guess.value block.real) then 1 else 0) }
-    ensures blind { result.blind ≡ stats.blind + (if guess.blind then 1 else 0) }
+    ensures hits { result.hits
+        ≡ stats.hits + (if same_carried guess.now.value block.now.real then 1 else 0) }
+    ensures misses { result.misses
+        ≡ stats.misses + (if not (same_carried guess.now.value block.now.real) then 1 else 0) }
+    ensures blind { result.blind ≡ stats.blind + (if guess.now.blind then 1 else 0) }
 {
-    let hit = is_same(guess.value, block.real);
+    let hit = guess.value.is_same(&block.real);
     Stats {
         blocks: stats.blocks,
         hits: stats.hits + one_if(hit),
@@ -44,7 +45,7 @@ pub(crate) fn count_blocks(history: &[Validated], guesses: &[Guess]) -> Stats
         return stats;
     };
     for place in 0..others.len() {
-        stats = with_guess(stats, guesses[place], others[place]);
+        stats = with_guess(stats, &guesses[place], &others[place]);
     }
     stats
 }

@@ -1,6 +1,7 @@
-//! The guesses of a predictor that is an expression, in pieces that the workers compute.
+//! The guesses of predictors that are expressions, in pieces that the workers compute.
 ghost use Rattle.std.specs.Prelude.{◌≡◌, ◌<◌, ◌≤◌, ◌-◌, ◌+◌, ◌*◌, ◌+ℤ◌, ◌≤ℤ◌, ℕ, length, map, min, pos, slice_get, Some, IfOk, IfSome};
-ghost use Rattle.spf_ast.specs.Construct.{constructs_in};
+ghost use Rattle.spf_ast.specs.Carried.{IsWidth};
+ghost use Rattle.spf_ast.specs.Construct.{constructs_in, predictors_of};
 ghost use Rattle.spf_ast.specs.ConstructView.{construct as seen_construct};
 ghost use Rattle.spf_ast.specs.Program.{cell_count_of};
 ghost use Rattle.spf_ast.specs.Silence.{FunctionsAreSilent};
@@ -35,22 +36,24 @@ fn piece_count(guesses: u64, size: u64) -> u64
     guesses.div_ceil(size)
 }
 
-/// The guesses for so many blocks from an index on, in order.
+/// The guesses of expressions for so many blocks from an index on, in order.
 fn predict_piece(
     alloc: Global,
     at: Stand,
-    header: Header,
+    header: &Header,
     from: u64,
     count: u64,
 ) -> Result<Vec<Guess>, AllocError>
     requires construct { slice_get (constructs_in (program_of at.instance.now).main) at.index ≡ Some (seen_construct at.construct) }
+    requires width { IsWidth (length (predictors_of (seen_construct at.construct))) }
     requires functions { FunctionsAreSilent (program_of at.instance.now).functions }
     requires own_frame { length at.frame.now ≡ frame_size (program_of at.instance.now) }
     requires own_cells { length at.cells.now ≡ cell_count_of (program_of at.instance.now) (length at.instance.now.input) }
-    requires inside { from + count ≤ header.blocks }
-    requires few { header.blocks ≤ 4096 }
-    requires fits { (header.low +ℤ pos header.blocks) ≤ℤ i64.MAX }
-    ensures guesses { IfOk result (λ r. map seen_guess r.items ≡ guesses_from (predicted_at at.entry header) from count) }
+    requires inside { from + count ≤ header.now.blocks }
+    requires few { header.now.blocks ≤ 4096 }
+    requires fits { (header.now.low +ℤ pos header.now.blocks) ≤ℤ i64.MAX }
+    ensures guesses { IfOk result (λ r. map seen_guess r.items
+        ≡ guesses_from (predicted_at at.entry header.now) from count) }
 {
     let mut frame = at.frame.copy(alloc)?;
     let mut guesses = Vec::with_capacity(alloc, count as usize)?;
@@ -60,26 +63,28 @@ fn predict_piece(
     Ok(guesses)
 }
 
-/// The guesses for all blocks but the first, in pieces of a size, of which the last may be shorter. Each piece is computed in a thread
-/// of its own, where one can be started.
+/// The guesses of expressions for all blocks but the first, in pieces of a size, of which the last may be shorter. Each piece is
+/// computed in a thread of its own, where one can be started.
 fn predict_pieces<R: Threads + Sync>(
     rt: &R,
     alloc: Global,
     at: Stand,
-    header: Header,
+    header: &Header,
     size: u64,
 ) -> Result<Vec<Result<Vec<Guess>, AllocError>>, AllocError>
     requires construct { slice_get (constructs_in (program_of at.instance.now).main) at.index ≡ Some (seen_construct at.construct) }
+    requires width { IsWidth (length (predictors_of (seen_construct at.construct))) }
     requires functions { FunctionsAreSilent (program_of at.instance.now).functions }
     requires own_frame { length at.frame.now ≡ frame_size (program_of at.instance.now) }
     requires own_cells { length at.cells.now ≡ cell_count_of (program_of at.instance.now) (length at.instance.now.input) }
     requires size { 0 < size }
-    requires some { 1 ≤ header.blocks }
-    requires few { header.blocks ≤ 4096 }
-    requires fits { (header.low +ℤ pos header.blocks) ≤ℤ i64.MAX }
+    requires some { 1 ≤ header.now.blocks }
+    requires few { header.now.blocks ≤ 4096 }
+    requires fits { (header.now.low +ℤ pos header.now.blocks) ≤ℤ i64.MAX }
     ensures pieces { IfOk result (λ v. (i : ℕ) → IfSome (slice_get v.items i)
-        (λ piece. IfOk piece (λ r. map seen_guess r.items ≡ piece_of (predicted_at at.entry header) (header.blocks - 1) size i))) }
-    ensures all { IfOk result (λ v. header.blocks - 1 ≤ length v.items * size) }
+        (λ piece. IfOk piece (λ r. map seen_guess r.items
+        ≡ piece_of (predicted_at at.entry header.now) (header.now.blocks - 1) size i))) }
+    ensures all { IfOk result (λ v. header.now.blocks - 1 ≤ length v.items * size) }
 {
     let count = header.blocks - 1;
     map_indices(
@@ -88,14 +93,16 @@ fn predict_pieces<R: Threads + Sync>(
         piece_count(count, size) as usize,
         &|i: usize| -> Result<Vec<Guess>, AllocError>
             requires construct { slice_get (constructs_in (program_of at.instance.now).main) at.index ≡ Some (seen_construct at.construct) }
+            requires width { IsWidth (length (predictors_of (seen_construct at.construct))) }
             requires functions { FunctionsAreSilent (program_of at.instance.now).functions }
             requires own_frame { length at.frame.now ≡ frame_size (program_of at.instance.now) }
             requires own_cells { length at.cells.now ≡ cell_count_of (program_of at.instance.now) (length at.instance.now.input) }
-            requires some { (1 ≤ header.blocks) × (count ≡ header.blocks - 1) }
+            requires some { (1 ≤ header.now.blocks) × (count ≡ header.now.blocks - 1) }
             requires begun { i * size < count }
-            requires few { header.blocks ≤ 4096 }
-            requires fits { (header.low +ℤ pos header.blocks) ≤ℤ i64.MAX }
-            ensures { IfOk result (λ r. map seen_guess r.items ≡ piece_of (predicted_at at.entry header) (header.blocks - 1) size i) }
+            requires few { header.now.blocks ≤ 4096 }
+            requires fits { (header.now.low +ℤ pos header.now.blocks) ≤ℤ i64.MAX }
+            ensures { IfOk result (λ r. map seen_guess r.items
+                ≡ piece_of (predicted_at at.entry header.entry.now) (header.entry.now.blocks - 1) size i) }
         {
             let done = i as u64 * size;
             predict_piece(alloc, at, header, 1 + done, size.min(count - done))
@@ -125,7 +132,7 @@ fn join_pieces(
     Ok(guesses)
 }
 
-/// What the construct's predictor, an expression, comes to for all blocks but the first, in order. There are at most as many threads as
+/// The guesses of the construct's expressions for all blocks but the first, in order. There are at most as many threads as
 /// workers, and where the guesses are few, the calling thread computes them alone.
 ///
 /// # Errors
@@ -135,18 +142,20 @@ pub(crate) fn predict_all<R: Threads + Sync>(
     rt: &R,
     alloc: Global,
     at: Stand,
-    header: Header,
+    header: &Header,
     workers: u64,
 ) -> Result<Vec<Guess>, AllocError>
     requires workers { 0 < workers }
     requires construct { slice_get (constructs_in (program_of at.instance.now).main) at.index ≡ Some (seen_construct at.construct) }
+    requires width { IsWidth (length (predictors_of (seen_construct at.construct))) }
     requires functions { FunctionsAreSilent (program_of at.instance.now).functions }
     requires own_frame { length at.frame.now ≡ frame_size (program_of at.instance.now) }
     requires own_cells { length at.cells.now ≡ cell_count_of (program_of at.instance.now) (length at.instance.now.input) }
-    requires some { 1 ≤ header.blocks }
-    requires few { header.blocks ≤ 4096 }
-    requires fits { (header.low +ℤ pos header.blocks) ≤ℤ i64.MAX }
-    ensures guesses { IfOk result (λ r. map seen_guess r.items ≡ guesses_from (predicted_at at.entry header) 1 (header.blocks - 1)) }
+    requires some { 1 ≤ header.now.blocks }
+    requires few { header.now.blocks ≤ 4096 }
+    requires fits { (header.now.low +ℤ pos header.now.blocks) ≤ℤ i64.MAX }
+    ensures guesses { IfOk result (λ r. map seen_guess r.items
+        ≡ guesses_from (predicted_at at.entry header.now) 1 (header.now.blocks - 1)) }
 {
     let count = header.blocks - 1;
     let size = piece_size(count, workers);

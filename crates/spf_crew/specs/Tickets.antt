@@ -22,7 +22,7 @@ abbrev pub IsLawfulOf : CrewSetting → Report → Type 0
 IsLawfulOf k r = IsLawfulReport (entry_at k.site) (guess_at k.site) k.cells r
 
 -- one attempt by this fresh ticket: the lane's log went on with the attempt's log, the stop is what it came to, and
--- block, attempt and carried value are the ticket's
+-- block, attempt and carried row are the ticket's
 pub record IsAttemptBy (k : CrewSetting) (t : Ticket) (r : Report) : Type 0 where
   pub fresh : IsFreshOf k t
   pub ran : Ran (entry_at k.site) t r

@@ -6,17 +6,17 @@ use Rattle.std.proofs.Math.Nat.{mul-suc}
 use Rattle.spf_lemmas.proofs.Members.{cases}
 use Rattle.spf_ast.specs.declared.syntax.Op.TheVariants.{Add, Mul}
 use Rattle.spf_ast.specs.Word.{exact}
-use Rattle.spf_ast.specs.Interaction.{State, Meaning, ◌>>=◌}
-use Rattle.spf_ast.specs.Syntax.{Local, Len, Compare, Let, Fill, If, end, on_line}
+use Rattle.spf_ast.specs.Interaction.{Flow, State, Meaning, ◌>>◌}
+use Rattle.spf_ast.specs.Syntax.{argument, no_more, Local, Len, Compare, Let, Fill, If, end, on_line}
 use Rattle.spf_ast.specs.declared.syntax.Test.TheVariants.{Lt}
-use Rattle.spf_ast.specs.Meaning.{Environment, block_means, statement_means, expression_means, extent_in}
+use Rattle.spf_ast.specs.Meaning.{arguments_mean, Environment, block_means, statement_means, extent_in}
 use Rattle.spf_laws.proofs.Plainly.{comes-then}
 use Rattle.spf_programs.specs.Writing.{number, only}
 use Rattle.spf_programs.specs.PackBits.{block_begin, block_end, block_bytes, one_byte, body}
 use Rattle.spf_decoding.proofs.Bytes.{times_of}
 use Rattle.spf_decoding.proofs.Places.{left_at, times_before, memory_at, left_inside, left_outside, times_inside, times_outside, times_count, left_small, set_next, keep_next, zero_behind}
 use Rattle.spf_decoding.proofs.Body.{at, stored, place-inside, place-outside}
-use Rattle.spf_decoding.proofs.Steps.{Gives, gives-number, gives-local, gives-binary, comes-let, comes-fill, zeros-stay, with_slot, Reaches, Yields, reached, reaches-on, reaches-end, reaches-for, for-reaches, word-ok}
+use Rattle.spf_decoding.proofs.Steps.{gives-row, Gives, gives-number, gives-local, gives-binary, comes-let, comes-fill, zeros-stay, with_slot, Reaches, Yields, reached, reaches-on, reaches-end, reaches-for, for-reaches, word-ok}
 
 -- where the program runs: its one array is as long as the input and a block, and its cells are few
 pub record Runs (g : Environment) (size : ℕ) : Type 0 where
@@ -45,7 +45,7 @@ stored-next before r p (pos zero) e = keep_next before r
 stored-next before r p (pos (suc n)) e = ap (λ q. slice_set (before ++ replicate (suc r) (pos 0)) q (pos 1)) (sym e) ∙ set_next before r (pos 1)
 stored-next before r p (negsuc n) e = ap (λ q. slice_set (before ++ replicate (suc r) (pos 0)) q (pos (suc n))) (sym e) ∙ set_next before r (pos (suc n))
 
-abbrev place_form : Environment → Meaning (Unit {0})
+abbrev place_form : Environment → Meaning Flow
 place_form g = block_means g (only 7 (If (Compare Lt (Local 3) Len) one_byte end))
 
 inside-turn : (g : Environment) (size p : ℕ) (c k i b x y : ℤ) → Runs g size → p < length g.input → Reaches (place_form g) (At g size (suc p)) (at c k (left_at g.input p) (pos p) b x y) (memory_at g.input (length g.input + size) p)
@@ -114,7 +114,7 @@ gives-end g line size k s m e h =
 
 -- a block of the file
 pub block-yields : (g : Environment) (size k : ℕ) → Runs g size → size * k < length g.input → (s : State) (m : List ℤ) → BlockAt g size k s m
-    → Yields (block_means g (body size) >>= λ _. expression_means g 27 (Local 2)) (left_at g.input (size * suc k)) (BlockAt g size (suc k)) (with_slot 0 (left_at g.input (size * k)) (with_slot 1 (pos k) s)) m
+    → Yields (block_means g (body size) >> arguments_mean g 27 (argument (Local 2) no_more)) (left_at g.input (size * suc k)) (BlockAt g size (suc k)) (with_slot 0 (left_at g.input (size * k)) (with_slot 1 (pos k) s)) m
 block-yields g size k d there s m h =
     let input = g.input in
     let all = length input + size in
@@ -147,7 +147,7 @@ block-yields g size k d there s m h =
     record {
       state = r.state;
       memory = r.memory;
-      comes = comes-then (λ _. expression_means g 27 (Local 2)) r.comes (gives-local g 27 2 r.state r.memory (left_at input (size * suc k)) (ap (λ (z : State). slice_index_or z.slots 2 (pos 0)) at_end.s_is ∙ ap (left_at input) next));
+      comes = comes-then (λ _. arguments_mean g 27 (argument (Local 2) no_more)) r.comes (gives-row g 27 (Local 2) r.state r.memory (left_at input (size * suc k)) (gives-local g 27 2 r.state r.memory (left_at input (size * suc k)) (ap (λ (z : State). slice_index_or z.slots 2 (pos 0)) at_end.s_is ∙ ap (left_at input) next)));
       holds = record {
         carried = at_end.carried;
         number = at_end.number;

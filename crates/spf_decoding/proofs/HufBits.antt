@@ -13,7 +13,7 @@ use Rattle.spf_ast.specs.declared.outcome.TrapKind.TheVariants.{Shift}
 use Rattle.spf_ast.specs.declared.syntax.Op.TheVariants.{Add, Sub, Mul, Shr, And}
 use Rattle.spf_ast.specs.declared.syntax.Test.TheVariants.{Ne, Gt}
 use Rattle.spf_ast.specs.Word.{exact, binary_words}
-use Rattle.spf_ast.specs.Interaction.{State, Value}
+use Rattle.spf_ast.specs.Interaction.{Onward, State, Value}
 use Rattle.spf_ast.specs.Syntax.{Condition, Block, Local, Load, Compare, Assign, Store, If, end, on_line}
 use Rattle.spf_ast.specs.Meaning.{Environment, block_means, statement_means, extent_in}
 use Rattle.spf_laws.proofs.Plainly.{Comes}
@@ -106,11 +106,11 @@ gives-entry g room a s m n e n_is small word =
 
 -- the end of a code word, or not
 word-comes : (g : Environment) (size room : ℕ) → Arrays g room → (v t y c : ℤ) (k i j n e : ℕ) (b : ℤ) (m : List ℤ) → Inside size k i j room → n < 65536 → slice_index_or m n (pos 0) ≡ pos e
-    → Comes (block_means g (word_end size)) (at v t y c (pos k) (pos n) (pos i) b (pos j)) m (Value tt (at v t y c (pos k) (pos (kept e n)) (pos i) b (pos j))) (stored e (bit_place size k i j) m)
+    → Comes (block_means g (word_end size)) (at v t y c (pos k) (pos n) (pos i) b (pos j)) m (Value Onward (at v t y c (pos k) (pos (kept e n)) (pos i) b (pos j))) (stored e (bit_place size k i j) m)
 word-comes g size room a v t y c k i j n zero b m d small word =
     let s = at v t y c (pos k) (pos n) (pos i) b (pos j) in
     comes-only g 40 (If is_whole (whole size) end) s s m m
-    (comes-else_branch g 40 is_whole (whole size) end s m m (Value tt s)
+    (comes-else_branch g 40 is_whole (whole size) end s m m (Value Onward s)
     (tells g 40 Ne (Load 0 (Local 5)) (number 0) s m (pos 0) (pos 0) false (gives-entry g room a s m n 0 refl small word) (gives-number g 40 (pos 0) s m) refl)
     (comes-end g s m))
 word-comes g size room a v t y c k i j n (suc e) b m d small word =
@@ -122,11 +122,11 @@ word-comes g size room a v t y c k i j n (suc e) b m d small word =
     let cell : base + p ≡ 65536 + p = let f = a.sym_first in omega (arith, f) in
     let other : not (int_eq (pos (suc e)) (pos 0)) ≡ true = ap not (let o : int_eq (pos (suc e)) (pos 0) ≡ false = grind (arith, ints) in o) in
     let loaded = gives-entry g room a s m n (suc e) refl small word in
-    subst (λ q. Comes (block_means g (word_end size)) s m (Value tt u) (slice_set m q (pos (suc e)))) cell
+    subst (λ q. Comes (block_means g (word_end size)) s m (Value Onward u) (slice_set m q (pos (suc e)))) cell
     (comes-only g 40 (If is_whole (whole size) end) s u m after
-    (comes-then_branch g 40 is_whole (whole size) end s m after (Value tt u)
+    (comes-then_branch g 40 is_whole (whole size) end s m after (Value Onward u)
     (tells g 40 Ne (Load 0 (Local 5)) (number 0) s m (pos (suc e)) (pos 0) true loaded (gives-number g 40 (pos 0) s m) other)
-    (comes-on g 40 (Store 1 (sym_place size) (Load 0 (Local 5))) (only 40 (Assign 5 (number 1))) s s m after after (Value tt u)
+    (comes-on g 40 (Store 1 (sym_place size) (Load 0 (Local 5))) (only 40 (Assign 5 (number 1))) s s m after after (Value Onward u)
     (comes-store g 40 1 (sym_place size) (Load 0 (Local 5)) s m p (pos (suc e)) (gives-place g 40 size k i j room s m refl refl refl d) loaded (let r = a.sym_room in let there = d.there in omega (arith, r, there)))
     (comes-only g 40 (Assign 5 (number 1)) s u after after (comes-assign g 40 5 (number 1) s after (pos 1) (gives-number g 40 (pos 1) s after))))))
 
@@ -139,13 +139,13 @@ too_long = only 39 (Assign 5 (number 0))
 -- the number with one bit more
 long-comes : (g : Environment) (size room : ℕ) → Arrays g room → (v t y c : ℤ) (k i j n : ℕ) (b : ℤ) (m : List ℤ) (code : List ℕ) → Inside size k i j room → ((q : ℕ) → q < 65536 → slice_index_or m q (pos 0) ≡ pos (slice_index code q)) → (holds : Bool) → nat_lt 65535 n ≡ holds
     → Comes (statement_means g 39 (If is_long too_long (word_end size))) (at v t y c (pos k) (pos n) (pos i) b (pos j)) m
-    (Value tt (at v t y c (pos k) (pos (if holds then 0 else kept (slice_index code n) n)) (pos i) b (pos j))) (stored (if holds then 0 else slice_index code n) (bit_place size k i j) m)
+    (Value Onward (at v t y c (pos k) (pos (if holds then 0 else kept (slice_index code n) n)) (pos i) b (pos j))) (stored (if holds then 0 else slice_index code n) (bit_place size k i j) m)
 long-comes g size room a v t y c k i j n b m code d words true e =
     let s = at v t y c (pos k) (pos n) (pos i) b (pos j) in
     let u = at v t y c (pos k) (pos 0) (pos i) b (pos j) in
     let above : 65535 < n = grind (arith, nat_tests, e) in
     let long : int_lt (pos 65535) (pos n) ≡ true = grind (arith, ints, above) in
-    comes-then_branch g 39 is_long too_long (word_end size) s m m (Value tt u)
+    comes-then_branch g 39 is_long too_long (word_end size) s m m (Value Onward u)
     (tells g 39 Gt (Local 5) (number 65535) s m (pos n) (pos 65535) true (gives-local g 39 5 s m (pos n) refl) (gives-number g 39 (pos 65535) s m) long)
     (comes-only g 39 (Assign 5 (number 0)) s u m m (comes-assign g 39 5 (number 0) s m (pos 0) (gives-number g 39 (pos 0) s m)))
 long-comes g size room a v t y c k i j n b m code d words false e =
@@ -155,7 +155,7 @@ long-comes g size room a v t y c k i j n b m code d words false e =
     let below : n ≤ 65535 = grind (arith, nat_tests, e) in
     let long : int_lt (pos 65535) (pos n) ≡ false = grind (arith, ints, below) in
     let small : n < 65536 = omega (arith, below) in
-    comes-else_branch g 39 is_long too_long (word_end size) s m (stored e2 (bit_place size k i j) m) (Value tt u)
+    comes-else_branch g 39 is_long too_long (word_end size) s m (stored e2 (bit_place size k i j) m) (Value Onward u)
     (tells g 39 Gt (Local 5) (number 65535) s m (pos n) (pos 65535) false (gives-local g 39 5 s m (pos n) refl) (gives-number g 39 (pos 65535) s m) long)
     (word-comes g size room a v t y c k i j n e2 b m d small (words n small))
 
@@ -167,11 +167,11 @@ longer size = on_line 38 (Assign 5 (with_bit 5 7 8)) (only 39 (If is_long too_lo
 
 pub bit-comes : (g : Environment) (size room : ℕ) → Arrays g room → (v t y c : ℤ) (k i j h b : ℕ) (x : Bool) (m : List ℤ) (code : List ℕ) → Inside size k i j room → ((q : ℕ) → q < 65536 → slice_index_or m q (pos 0) ≡ pos (slice_index code q)) → h < 65536 → j < 8 → x ≡ (b / 2 ^ (7 - j) % 2 == 1)
     → Comes (block_means g (one_bit size)) (at v t y c (pos k) (pos h) (pos i) (pos b) (pos j)) m
-    (Value tt (at v t y c (pos k) (pos (next_number code h x)) (pos i) (pos b) (pos j))) (stored (entry_at code h x) (bit_place size k i j) m)
+    (Value Onward (at v t y c (pos k) (pos (next_number code h x)) (pos i) (pos b) (pos j))) (stored (entry_at code h x) (bit_place size k i j) m)
 bit-comes g size room a v t y c k i j zero b x m code d words small few e =
     let s = at v t y c (pos k) (pos 0) (pos i) (pos b) (pos j) in
     comes-only g 37 (If is_begun (longer size) end) s s m m
-    (comes-else_branch g 37 is_begun (longer size) end s m m (Value tt s)
+    (comes-else_branch g 37 is_begun (longer size) end s m m (Value Onward s)
     (tells g 37 Ne (Local 5) (number 0) s m (pos 0) (pos 0) false (gives-local g 37 5 s m (pos 0) refl) (gives-number g 37 (pos 0) s m) refl)
     (comes-end g s m))
 bit-comes g size room a v t y c k i j (suc h) b x m code d words small few e =
@@ -183,9 +183,9 @@ bit-comes g size room a v t y c k i j (suc h) b x m code d words small few e =
     let after = stored (if holds then 0 else slice_index code n) (bit_place size k i j) m in
     let other : not (int_eq (pos (suc h)) (pos 0)) ≡ true = ap not (let o : int_eq (pos (suc h)) (pos 0) ≡ false = grind (arith, ints) in o) in
     comes-only g 37 (If is_begun (longer size) end) s z m after
-    (comes-then_branch g 37 is_begun (longer size) end s m after (Value tt z)
+    (comes-then_branch g 37 is_begun (longer size) end s m after (Value Onward z)
     (tells g 37 Ne (Local 5) (number 0) s m (pos (suc h)) (pos 0) true (gives-local g 37 5 s m (pos (suc h)) refl) (gives-number g 37 (pos 0) s m) other)
-    (comes-on g 38 (Assign 5 (with_bit 5 7 8)) (only 39 (If is_long too_long (word_end size))) s u m m after (Value tt z)
+    (comes-on g 38 (Assign 5 (with_bit 5 7 8)) (only 39 (If is_long too_long (word_end size))) s u m m after (Value Onward z)
     (comes-assign g 38 5 (with_bit 5 7 8) s m (pos n) (gives-with_bit g 38 s m (suc h) b j x refl refl refl small few e))
     (comes-only g 39 (If is_long too_long (word_end size)) u z m after
     (long-comes g size room a v t y c k i j n (pos b) m code d words holds refl))))

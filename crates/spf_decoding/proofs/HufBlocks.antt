@@ -6,9 +6,9 @@ use Rattle.std.proofs.Math.Nat.{mul-suc, mul_assoc}
 use Rattle.spf_lemmas.proofs.Members.{cases}
 use Rattle.spf_ast.specs.declared.syntax.Op.TheVariants.{Add, Sub, Mul}
 use Rattle.spf_ast.specs.declared.syntax.Test.TheVariants.{Lt}
-use Rattle.spf_ast.specs.Interaction.{State, Value, ◌>>=◌}
-use Rattle.spf_ast.specs.Syntax.{Condition, Local, Len, Input, Compare, Let, Fill, If, For, end, on_line}
-use Rattle.spf_ast.specs.Meaning.{Environment, block_means, statement_means, expression_means, condition_means, extent_in}
+use Rattle.spf_ast.specs.Interaction.{Onward, State, Value, ◌>>◌}
+use Rattle.spf_ast.specs.Syntax.{argument, no_more, Condition, Local, Len, Input, Compare, Let, Fill, If, For, end, on_line}
+use Rattle.spf_ast.specs.Meaning.{arguments_mean, Environment, block_means, statement_means, condition_means, extent_in}
 use Rattle.spf_laws.proofs.Plainly.{Comes, comes-then}
 use Rattle.spf_formats.specs.Huffman.{bits_of}
 use Rattle.spf_programs.specs.Writing.{number, plus, only}
@@ -19,7 +19,7 @@ use Rattle.spf_decoding.proofs.HufTable.{room_for, Decoding}
 use Rattle.spf_decoding.proofs.HufBits.{at, bit_place, less_ok, stored, stored-next, bit-comes}
 use Rattle.spf_decoding.proofs.LexBody.{sum_ok, product_ok}
 use Rattle.spf_decoding.proofs.Blocks.{in_or_out}
-use Rattle.spf_decoding.proofs.Steps.{Gives, gives-number, gives-local, gives-len, gives-input, gives-binary, tells, comes-let, comes-fill, comes-only, comes-end, comes-else_branch, zeros-stay, with_slot, Reaches, Yields, reached, reaches-on, reaches-end, reaches-for, reaches-then_branch, for-reaches}
+use Rattle.spf_decoding.proofs.Steps.{gives-row, Gives, gives-number, gives-local, gives-len, gives-input, gives-binary, tells, comes-let, comes-fill, comes-only, comes-end, comes-else_branch, zeros-stay, with_slot, Reaches, Yields, reached, reaches-on, reaches-end, reaches-for, reaches-then_branch, for-reaches}
 
 -- the first place of a byte
 abbrev byte_place : (size k i : ℕ) → ℕ
@@ -185,7 +185,7 @@ byte-outside g size lengths content d code k i v t y c b z within there out =
     let stays = stays_outside code all room low 8 (omega (arith, out, bits_long content, eight)) (omega (arith, there, within, eight)) in
     reached (block_means g (one_byte size)) (ByteAt size code content k (suc i)) s s m m
     (comes-only g 34 (If (is_inside size) (byte_bits size) end) s s m m
-    (comes-else_branch g 34 (is_inside size) (byte_bits size) end s m m (Value tt s)
+    (comes-else_branch g 34 (is_inside size) (byte_bits size) end s m m (Value Onward s)
     (inside_tells g size lengths content d k i s m false refl refl (omega (arith, there, within, few)) inside)
     (comes-end g s m)))
     (record {
@@ -224,7 +224,7 @@ pub record BlockAt (size : ℕ) (code content : List ℕ) (k : ℕ) (s : State) 
   pub s_is : s ≡ at v t y carried block h place byte turn
   pub m_is : m ≡ cells_at code (bits_of content) (room_for size content) ((8 * size) * k)
 
--- the carried value at a block
+-- the carried word at a block
 abbrev pub carried_at : (size : ℕ) (code content : List ℕ) (k : ℕ) → ℤ
 carried_at size code content k = pos (number_at code (bits_of content) ((8 * size) * k))
 
@@ -238,7 +238,7 @@ gives-end g line size k s m e h =
 
 -- the cells of a block are 0 before it
 block-filled : (g : Environment) (size : ℕ) (lengths content : List ℕ) → Decoding g size lengths content → (code : List ℕ) → length code ≡ 65536 → (k : ℕ) (s : State) (m : List ℤ) → size * k < length content → slice_index_or s.slots 4 (pos 0) ≡ pos k → m ≡ cells_at code (bits_of content) (room_for size content) ((8 * size) * k)
-    → Comes (statement_means g 31 (Fill 1 (bits_begin size) (bits_end size) (number 0))) s m (Value tt s) m
+    → Comes (statement_means g 31 (Fill 1 (bits_begin size) (bits_end size) (number 0))) s m (Value Onward s) m
 block-filled g size lengths content d code long k s m there k_is m_is =
     let all = bits_of content in
     let room = room_for size content in
@@ -254,7 +254,7 @@ block-filled g size lengths content d code long k s m there k_is m_is =
 
 -- a block of the content
 pub block-yields : (g : Environment) (size : ℕ) (lengths content : List ℕ) → Decoding g size lengths content → (code : List ℕ) → length code ≡ 65536 → (k : ℕ) → size * k < length content → (s : State) (m : List ℤ) → BlockAt size code content k s m
-    → Yields (block_means g (body size) >>= λ _. expression_means g 45 (Local 5)) (carried_at size code content (suc k)) (BlockAt size code content (suc k)) (with_slot 3 (carried_at size code content k) (with_slot 4 (pos k) s)) m
+    → Yields (block_means g (body size) >> arguments_mean g 45 (argument (Local 5) no_more)) (carried_at size code content (suc k)) (BlockAt size code content (suc k)) (with_slot 3 (carried_at size code content k) (with_slot 4 (pos k) s)) m
 block-yields g size lengths content d code long k there s m h =
     let all = bits_of content in
     let room = room_for size content in
@@ -297,7 +297,7 @@ block-yields g size lengths content d code long k there s m h =
     record {
       state = r.state;
       memory = r.memory;
-      comes = comes-then (λ _. expression_means g 45 (Local 5)) r.comes (gives-local g 45 5 r.state r.memory (carried_at size code content (suc k)) (ap (λ (z : State). slice_index_or z.slots 5 (pos 0)) at_end.s_is ∙ ap (λ n. pos (number_at code all n)) next));
+      comes = comes-then (λ _. arguments_mean g 45 (argument (Local 5) no_more)) r.comes (gives-row g 45 (Local 5) r.state r.memory (carried_at size code content (suc k)) (gives-local g 45 5 r.state r.memory (carried_at size code content (suc k)) (ap (λ (z : State). slice_index_or z.slots 5 (pos 0)) at_end.s_is ∙ ap (λ n. pos (number_at code all n)) next)));
       holds = record {
         v = at_end.v;
         t = at_end.t;

@@ -9,7 +9,7 @@ use Rattle.spf_ast.specs.Event.{word_at}
 use Rattle.spf_ast.specs.declared.outcome.TrapKind.TheVariants as trap
 use Rattle.spf_ast.specs.declared.syntax.Op.TheVariants.{Add, Sub, Mul}
 use Rattle.spf_ast.specs.declared.syntax.Test.TheVariants.{Ne, Lt}
-use Rattle.spf_ast.specs.Interaction.{State, Ending, Value, Trapped}
+use Rattle.spf_ast.specs.Interaction.{unless_broken, Flow, Onward, State, Ending, Value, Trapped}
 use Rattle.spf_ast.specs.Program.{Done, Stopped, outcome_from}
 use Rattle.spf_ast.specs.Syntax.{Expression, Condition, Block, Local, Input, Load, Compare, Assign, Emit, Fail, If, end, on_line}
 use Rattle.spf_ast.specs.Meaning.{Environment, block_means, statement_means, condition_means, extent_in}
@@ -25,7 +25,7 @@ use Rattle.spf_decoding.proofs.HufBlocks.{gives-content}
 use Rattle.spf_decoding.proofs.LexBody.{sum_ok, product_ok}
 use Rattle.spf_decoding.proofs.Output.{comes-emit}
 use Rattle.spf_decoding.proofs.Blocks.{in_or_out}
-use Rattle.spf_decoding.proofs.Steps.{below_differs, Gives, gives-number, gives-local, gives-input, gives-load, gives-binary, tells, comes-assign, comes-on, comes-only, comes-end, comes-then_branch, comes-else_branch, with_slot, Reaches, reached, reaches-for, for-reaches, Ends}
+use Rattle.spf_decoding.proofs.Steps.{main_ending, IsOnward, below_differs, Gives, gives-number, gives-local, gives-input, gives-load, gives-binary, tells, comes-assign, comes-on, comes-only, comes-end, comes-then_branch, comes-else_branch, with_slot, Reaches, reached, reaches-for, for-reaches, Ends}
 
 -- ---- how many symbols are wanted
 
@@ -131,25 +131,25 @@ wanted_tells : (g : Environment) (p e want line : ℕ) (s : State) (m : List ℤ
 wanted_tells g p e want line s m holds got want_is is = tells g line Lt (Local 10) (Local 9) s m (pos (length s.output)) (pos want) holds (gives-local g line 10 s m (pos (length s.output)) got) (gives-local g line 9 s m (pos want) want_is) is
 
 -- no symbol ends at the place
-none-comes : (g : Environment) (p want : ℕ) (s : State) (m : List ℤ) → Stands g p 0 want s m → Comes (block_means g symbol_out) s m (Value tt s) m
+none-comes : (g : Environment) (p want : ℕ) (s : State) (m : List ℤ) → Stands g p 0 want s m → Comes (block_means g symbol_out) s m (Value Onward s) m
 none-comes g p want s m d =
     comes-only g 50 (If is_symbol put_wanted end) s s m m
-    (comes-else_branch g 50 is_symbol put_wanted end s m m (Value tt s) (symbol_tells g p 0 want s m false d refl) (comes-end g s m))
+    (comes-else_branch g 50 is_symbol put_wanted end s m m (Value Onward s) (symbol_tells g p 0 want s m false d refl) (comes-end g s m))
 
 some_word : (y : ℕ) → not (int_eq (pos (suc y)) (pos 0)) ≡ true
 some_word y = ap not (let o : int_eq (pos (suc y)) (pos 0) ≡ false = grind (arith, ints) in o)
 
 -- a symbol that isn't wanted
-left-comes : (g : Environment) (p y want : ℕ) (s : State) (m : List ℤ) → Stands g p (suc y) want s m → want ≤ length s.output → Comes (block_means g symbol_out) s m (Value tt s) m
+left-comes : (g : Environment) (p y want : ℕ) (s : State) (m : List ℤ) → Stands g p (suc y) want s m → want ≤ length s.output → Comes (block_means g symbol_out) s m (Value Onward s) m
 left-comes g p y want s m d enough =
     let low : int_lt (pos (length s.output)) (pos want) ≡ false = grind (arith, ints, enough) in
     comes-only g 50 (If is_symbol put_wanted end) s s m m
-    (comes-then_branch g 50 is_symbol put_wanted end s m m (Value tt s) (symbol_tells g p (suc y) want s m true d (some_word y))
+    (comes-then_branch g 50 is_symbol put_wanted end s m m (Value Onward s) (symbol_tells g p (suc y) want s m true d (some_word y))
     (comes-only g 50 (If is_wanted put end) s s m m
-    (comes-else_branch g 50 is_wanted put end s m m (Value tt s) (wanted_tells g p (suc y) want 50 s m false d.got_is d.want_is low) (comes-end g s m))))
+    (comes-else_branch g 50 is_wanted put end s m m (Value Onward s) (wanted_tells g p (suc y) want 50 s m false d.got_is d.want_is low) (comes-end g s m))))
 
 -- and one that is
-put-comes : (g : Environment) (p y want : ℕ) (s : State) (m : List ℤ) → Stands g p (suc y) want s m → length s.output < want → y < 256 → Comes (block_means g symbol_out) s m (Value tt (wrote y s)) m
+put-comes : (g : Environment) (p y want : ℕ) (s : State) (m : List ℤ) → Stands g p (suc y) want s m → length s.output < want → y < 256 → Comes (block_means g symbol_out) s m (Value Onward (wrote y s)) m
 put-comes g p y want s m d more byte =
     let few = d.few in
     let t : State = record s { output = s.output ++ y ∷ [] } in
@@ -157,10 +157,10 @@ put-comes g p y want s m d more byte =
     let low : int_lt (pos (length s.output)) (pos want) ≡ true = grind (arith, ints, more) in
     let later : length s.output + 1 ≡ suc (length s.output) = omega arith in
     comes-only g 50 (If is_symbol put_wanted end) s u m m
-    (comes-then_branch g 50 is_symbol put_wanted end s m m (Value tt u) (symbol_tells g p (suc y) want s m true d (some_word y))
+    (comes-then_branch g 50 is_symbol put_wanted end s m m (Value Onward u) (symbol_tells g p (suc y) want s m true d (some_word y))
     (comes-only g 50 (If is_wanted put end) s u m m
-    (comes-then_branch g 50 is_wanted put end s m m (Value tt u) (wanted_tells g p (suc y) want 50 s m true d.got_is d.want_is low)
-    (comes-on g 50 (Emit (minus (Load 1 (Local 11)) (number 1))) (only 50 (Assign 10 (plus (Local 10) (number 1)))) s t m m m (Value tt u)
+    (comes-then_branch g 50 is_wanted put end s m m (Value Onward u) (wanted_tells g p (suc y) want 50 s m true d.got_is d.want_is low)
+    (comes-on g 50 (Emit (minus (Load 1 (Local 11)) (number 1))) (only 50 (Assign 10 (plus (Local 10) (number 1)))) s t m m m (Value Onward u)
     (comes-emit g 50 (minus (Load 1 (Local 11)) (number 1)) s m y
     (gives-binary g 50 Sub (Load 1 (Local 11)) (number 1) s m (pos (suc y)) (pos 1) (pos y) d.cell (gives-number g 50 (pos 1) s m) (less_ok (suc y) 1 y (omega arith) (omega (arith, byte))))
     byte (omega (arith, few)))
@@ -259,9 +259,10 @@ symbols-written g size lengths content code d long table far want s m enough h =
 -- ---- the end
 
 -- the program ended with this output; where it has fewer symbols than are wanted, by a trap
-pub record Ended (output : List ℕ) (want : ℕ) (e : Ending (Unit {0})) (m : List ℤ) : Type 0 where
-  pub whole : (length output < want → ⊥) → outcome_from e m ≡ Done m output
-  pub short : length output < want → outcome_from e m ≡ Stopped (record { kind = trap.Fail 1; line = 53 }) output
+pub record Ended (output : List ℕ) (want : ℕ) (e : Ending Flow) (m : List ℤ) : Type 0 where
+  pub onward : IsOnward e
+  pub whole : (length output < want → ⊥) → outcome_from (main_ending e) m ≡ Done m output
+  pub short : length output < want → outcome_from (main_ending e) m ≡ Stopped (record { kind = trap.Fail 1; line = 53 }) output
 
 abbrev fails : Block
 fails = only 53 (Fail 1)
@@ -277,6 +278,7 @@ few-ends g code all cells want p s m h =
       memory = m;
       comes = stops (comes-then_branch g 52 is_wanted fails end s m m (Trapped (record { kind = trap.Fail 1; line = 53 }) s.output) (wanted_tells g p 0 want 52 s m true h.got_is h.want_is low) failed);
       holds = record {
+        onward = tt;
         whole = λ k. absurd (k (omega (arith, few, ap (λ (l : List ℕ). length l) h.output_is)));
         short = λ k. ap (Stopped (record { kind = trap.Fail 1; line = 53 })) h.output_is;
       };
@@ -284,14 +286,15 @@ few-ends g code all cells want p s m h =
     (λ enough.
     let low : int_lt (pos (length s.output)) (pos want) ≡ false = grind (arith, ints, enough) in
     record {
-      ending = Value tt s;
+      ending = Value Onward s;
       memory = m;
-      comes = comes-only g 52 too_few s s m m (comes-else_branch g 52 is_wanted fails end s m m (Value tt s) (wanted_tells g p 0 want 52 s m false h.got_is h.want_is low) (comes-end g s m));
+      comes = comes-only g 52 too_few s s m m (comes-else_branch g 52 is_wanted fails end s m m (Value Onward s) (wanted_tells g p 0 want 52 s m false h.got_is h.want_is low) (comes-end g s m));
       holds = record {
+        onward = tt;
         whole = λ k. ap (Done m) h.output_is;
         short = λ k. absurd (omega (arith, k, enough, ap (λ (l : List ℕ). length l) h.output_is));
       };
     })
   where
     stops : Comes (statement_means g 52 too_few) s m (Trapped (record { kind = trap.Fail 1; line = 53 }) s.output) m → Comes (block_means g (only 52 too_few)) s m (Trapped (record { kind = trap.Fail 1; line = 53 }) s.output) m
-    stops c = comes-trap (λ _. block_means g end) c
+    stops c = comes-trap (unless_broken (block_means g end)) c

@@ -14,7 +14,7 @@ use Rattle.spf_ast.specs.declared.outcome.TrapKind.TheVariants.{Shift}
 use Rattle.spf_ast.specs.declared.syntax.Op.TheVariants.{Add, Mul, Shl}
 use Rattle.spf_ast.specs.declared.syntax.Test.TheVariants.{Eq}
 use Rattle.spf_ast.specs.Word.{exact, binary_words}
-use Rattle.spf_ast.specs.Interaction.{State, Value}
+use Rattle.spf_ast.specs.Interaction.{Onward, State, Value}
 use Rattle.spf_ast.specs.Syntax.{Expression, Condition, Block, Local, Input, Binary, Compare, Assign, Store, If, For, end, on_line}
 use Rattle.spf_ast.specs.Meaning.{Environment, block_means, statement_means, condition_means, extent_in}
 use Rattle.spf_laws.proofs.Plainly.{Comes}
@@ -187,15 +187,15 @@ entry_tells g size lengths content d v n y m holds small e =
     (gives-local g 26 1 s m (pos n) refl) e
 
 entry-stored : (g : Environment) (size : ℕ) (lengths content : List ℕ) → Decoding g size lengths content → (v n y : ℕ) (m : List ℤ) → y < 256 → n ≤ 15 → 2 ^ n + v < 65536
-    → Comes (block_means g entry_set) (begun_at (pos v) (pos n) (pos y)) m (Value tt (begun_at (pos (suc v)) (pos n) (pos y))) (slice_set m (2 ^ n + v) (pos (suc y)))
+    → Comes (block_means g entry_set) (begun_at (pos v) (pos n) (pos y)) m (Value Onward (begun_at (pos (suc v)) (pos n) (pos y))) (slice_set m (2 ^ n + v) (pos (suc y)))
 entry-stored g size lengths content d v n y m small short inside =
     let s = begun_at (pos v) (pos n) (pos y) in
     let t = begun_at (pos (suc v)) (pos n) (pos y) in
     let base = (extent_in g.extents 0).0 in
     let cell : base + (2 ^ n + v) ≡ 2 ^ n + v = let f = d.arrays.code_first in omega (arith, f) in
     let after = slice_set m (base + (2 ^ n + v)) (pos (suc y)) in
-    subst (λ q. Comes (block_means g entry_set) s m (Value tt t) (slice_set m q (pos (suc y)))) cell
-    (comes-on g 26 (Store 0 place (plus (Local 2) (number 1))) (only 26 (Assign 0 (plus (Local 0) (number 1)))) s s m after after (Value tt t)
+    subst (λ q. Comes (block_means g entry_set) s m (Value Onward t) (slice_set m q (pos (suc y)))) cell
+    (comes-on g 26 (Store 0 place (plus (Local 2) (number 1))) (only 26 (Assign 0 (plus (Local 0) (number 1)))) s s m after after (Value Onward t)
     (comes-store g 26 0 place (plus (Local 2) (number 1)) s m (2 ^ n + v) (pos (suc y))
     (gives-binary g 26 Add (Binary Shl (number 1) (Local 1)) (Local 0) s m (pos (2 ^ n)) (pos v) (pos (2 ^ n + v))
     (gives-binary g 26 Shl (number 1) (Local 1) s m (pos 1) (pos n) (pos (2 ^ n)) (gives-number g 26 (pos 1) s m) (gives-local g 26 1 s m (pos n) refl) (power_ok n short))
@@ -239,7 +239,7 @@ word_turn g size lengths content d n y code some short small f is =
     let next : suc v ≡ next_word lengths n (suc y) = omega (arith, counted, ap (λ k. count_by (λ l. l == n) (take k lengths)) later) in
     reached (block_means g table_entry) (TableAt lengths room n (suc y)) s t m (slice_set m (2 ^ n + v) (pos (suc y)))
     (comes-only g 26 (If is_entry entry_set end) s t m (slice_set m (2 ^ n + v) (pos (suc y)))
-    (comes-then_branch g 26 is_entry entry_set end s m (slice_set m (2 ^ n + v) (pos (suc y))) (Value tt t)
+    (comes-then_branch g 26 is_entry entry_set end s m (slice_set m (2 ^ n + v) (pos (suc y))) (Value Onward t)
     (entry_tells g size lengths content d (pos v) n y m true small equal)
     (entry-stored g size lengths content d v n y m small short inside)))
     (record {
@@ -263,7 +263,7 @@ other_turn g size lengths content d n y code small f other =
     let next : v ≡ next_word lengths n (suc y) = omega (arith, counted, ap (λ k. count_by (λ l. l == n) (take k lengths)) later) in
     reached (block_means g table_entry) (TableAt lengths room n (suc y)) s s m m
     (comes-only g 26 (If is_entry entry_set end) s s m m
-    (comes-else_branch g 26 is_entry entry_set end s m m (Value tt s)
+    (comes-else_branch g 26 is_entry entry_set end s m m (Value Onward s)
     (entry_tells g size lengths content d (pos v) n y m false small (unequal (slice_index lengths y) n other))
     (comes-end g s m)))
     (record {

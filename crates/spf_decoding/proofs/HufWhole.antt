@@ -10,9 +10,9 @@ use Rattle.std.proofs.Math.Nat.{div-le_self, mul_assoc}
 use Rattle.spf_ast.specs.declared.outcome.TrapKind.TheVariants as trap
 use Rattle.spf_ast.specs.declared.syntax.Op.TheVariants.{Add, Div}
 use Rattle.spf_ast.specs.Word.{exact}
-use Rattle.spf_ast.specs.Interaction.{State, Value, ◌>>=◌}
-use Rattle.spf_ast.specs.Syntax.{Local, Let, Fold, on_line}
-use Rattle.spf_ast.specs.Meaning.{Environment, block_means, statement_means, expression_means, sets, fold_range, fold_blocks, max_blocks, traps}
+use Rattle.spf_ast.specs.Interaction.{State, Value, ◌>>=◌, ◌>>◌}
+use Rattle.spf_ast.specs.Syntax.{argument, no_more, Local, Let, Fold, on_line}
+use Rattle.spf_ast.specs.Meaning.{arguments_mean, sets_row, Environment, block_means, statement_means, expression_means, fold_range, fold_blocks, max_blocks, traps}
 use Rattle.spf_ast.specs.Program.{environment_of, start_of, zeros_of, cell_count_of, size_or_none, outcome, outcome_from}
 use Rattle.spf_laws.proofs.Plainly.{Comes, comes-then}
 use Rattle.spf_formats.specs.Huffman.{bits_of}
@@ -30,7 +30,7 @@ use Rattle.spf_decoding.proofs.HufTable.{room_for, Arrays, Decoding, begun_at, S
 use Rattle.spf_decoding.proofs.HufBlocks.{BlockAt, carried_at, gives-content, block-yields}
 use Rattle.spf_decoding.proofs.HufOutput.{four_bytes, gives-wanted, Written, symbols-written, Ended, few-ends}
 use Rattle.spf_decoding.proofs.LexBody.{sum_ok}
-use Rattle.spf_decoding.proofs.Steps.{below_differs, Gives, gives-number, gives-binary, comes-let, with_slot, Reaches, reached, fold-yields, gap-is, word-ok, comes-sets, Ends, ends-on}
+use Rattle.spf_decoding.proofs.Steps.{gives-row, comes-sets_row, main_ending, main-comes, below_differs, Gives, gives-number, gives-binary, comes-let, with_slot, Reaches, reached, fold-yields, gap-is, word-ok, Ends, ends-on}
 
 -- ---- the fold
 
@@ -52,7 +52,7 @@ fold-comes g size lengths content d code long limit s m h =
     let n = length content in
     let count = blocks_of n size in
     let values : ℕ → ℤ = carried_at size code content in
-    let form = block_means g (body size) >>= λ _. expression_means g 45 (Local 5) in
+    let form = block_means g (body size) >> arguments_mean g 45 (argument (Local 5) no_more) in
     let none : (8 * size) * 0 ≡ 0 = omega arith in
     let first : values 0 ≡ pos 1 = ap (λ k. pos (number_at code (bits_of content) k)) none in
     let all : 0 + count ≡ count = omega arith in
@@ -61,19 +61,19 @@ fold-comes g size lengths content d code long limit s m h =
     let enough : nat_lt max_blocks count ≡ false = let few = blocks_few n size some limit in grind (arith, nat_tests, few) in
     let y = fold-yields 4 3 form values (BlockAt size code content) 0 count (λ k t x low high q. block-yields g size lengths content d code long k (block_inside n size k some (omega (arith, high))) t x q) s m h in
     let last = values (0 + count) in
-    let blocks : Comes (fold_blocks count (pos 0) 4 3 (pos 1) form) s m (Value last y.state) y.memory =
-    subst (λ v. Comes (fold_blocks count (pos 0) 4 3 v form) s m (Value last y.state) y.memory) first y.comes in
+    let blocks : Comes (fold_blocks count (pos 0) 4 (3 ∷ []) (pos 1 ∷ []) form) s m (Value (last ∷ []) y.state) y.memory =
+    subst (λ v. Comes (fold_blocks count (pos 0) 4 (3 ∷ []) (v ∷ []) form) s m (Value (last ∷ []) y.state) y.memory) first y.comes in
     let top = head size in
-    let range : Comes (fold_range 30 top (pos 1) (pos 0) (pos count) form) s m (Value last y.state) y.memory =
-    subst (λ c. Comes (if nat_lt max_blocks c then traps trap.Blocks 30 else fold_blocks c (pos 0) 4 3 (pos 1) form) s m (Value last y.state) y.memory) (sym gap)
-    (subst (λ t. Comes (if t then traps trap.Blocks 30 else fold_blocks count (pos 0) 4 3 (pos 1) form) s m (Value last y.state) y.memory) (sym enough) blocks) in
+    let range : Comes (fold_range 30 top (pos 1 ∷ []) (pos 0) (pos count) form) s m (Value (last ∷ []) y.state) y.memory =
+    subst (λ c. Comes (if nat_lt max_blocks c then traps trap.Blocks 30 else fold_blocks c (pos 0) 4 (3 ∷ []) (pos 1 ∷ []) form) s m (Value (last ∷ []) y.state) y.memory) (sym gap)
+    (subst (λ t. Comes (if t then traps trap.Blocks 30 else fold_blocks count (pos 0) 4 (3 ∷ []) (pos 1 ∷ []) form) s m (Value (last ∷ []) y.state) y.memory) (sym enough) blocks) in
     let counted = blocks_for code_bytes size in
     let at_end = y.holds in
     reached (statement_means g 30 (Fold top (body size))) (BlockAt size code content count) s (with_slot 3 last y.state) m y.memory
-    (comes-then (λ start. expression_means g 30 (number 0) >>= λ low. expression_means g 30 counted >>= λ high. fold_range 30 top start low high form >>= sets 3) (gives-number g 30 (pos 1) s m)
-    (comes-then (λ low. expression_means g 30 counted >>= λ high. fold_range 30 top (pos 1) low high form >>= sets 3) (gives-number g 30 (pos 0) s m)
-    (comes-then (λ high. fold_range 30 top (pos 1) (pos 0) high form >>= sets 3) (gives-blocks g size lengths content d s m)
-    (comes-then (sets 3) range (comes-sets 3 last y.state y.memory)))))
+    (comes-then (λ start. expression_means g 30 (number 0) >>= λ low. expression_means g 30 counted >>= λ high. fold_range 30 top start low high form >>= sets_row (3 ∷ [])) (gives-row g 30 (number 1) s m (pos 1) (gives-number g 30 (pos 1) s m))
+    (comes-then (λ low. expression_means g 30 counted >>= λ high. fold_range 30 top (pos 1 ∷ []) low high form >>= sets_row (3 ∷ [])) (gives-number g 30 (pos 0) s m)
+    (comes-then (λ high. fold_range 30 top (pos 1 ∷ []) (pos 0) high form >>= sets_row (3 ∷ [])) (gives-blocks g size lengths content d s m)
+    (comes-then (sets_row (3 ∷ [])) range (comes-sets_row 3 last y.state y.memory)))))
     (record {
       v = at_end.v;
       t = at_end.t;
@@ -242,8 +242,11 @@ decodes size file written h huf1 is cells many =
     (main-ends g size lengths content is.symbols d bytes (omega (arith, long, few_blocks)) found want (count_is file header) cells many)
 
 outcome_is : (size : ℕ) (file written : List ℕ) (want : ℕ) → (e : Ends (block_means (environment_of (huffman_program size) file) (main size)) (Ended written want) (start_of (huffman_program size)) (zeros_of (huffman_program size) (length file)))
-    → outcome (huffman_program size) file ≡ outcome_from e.ending e.memory
-outcome_is size file written want e = λ i. outcome_from (e.comes.answer i) (e.comes.memory i)
+    → outcome (huffman_program size) file ≡ outcome_from (main_ending e.ending) e.memory
+outcome_is size file written want e =
+    let p = huffman_program size in
+    let c = main-comes (environment_of p file) (main size) (start_of p) (zeros_of p (length file)) e.memory e.ending e.comes e.holds.onward in
+    λ i. outcome_from (c.answer i) (c.memory i)
 
 pub huffman : HuffmanDecodes
 huffman = record {

@@ -3,9 +3,9 @@ use Rattle.std.proofs.Common.{◌≡◌, ℕ, suc, ◌+◌, ◌-◌, ◌*◌, �
 use Rattle.std.specs.Prelude.{slice_index, slice_set, slice_index_or}
 use Rattle.std.proofs.Math.Nat.{mul-suc}
 use Rattle.spf_lemmas.proofs.Members.{cases}
-use Rattle.spf_ast.specs.Interaction.{State, Meaning, ◌>>=◌}
-use Rattle.spf_ast.specs.Syntax.{Local, Let, Fill, For, end, on_line}
-use Rattle.spf_ast.specs.Meaning.{Environment, block_means, statement_means, expression_means, extent_in}
+use Rattle.spf_ast.specs.Interaction.{Flow, State, Meaning, ◌>>◌}
+use Rattle.spf_ast.specs.Syntax.{argument, no_more, Local, Let, Fill, For, end, on_line}
+use Rattle.spf_ast.specs.Meaning.{arguments_mean, Environment, block_means, statement_means, extent_in}
 use Rattle.spf_laws.proofs.Plainly.{comes-then}
 use Rattle.spf_programs.specs.Writing.{number, only}
 use Rattle.spf_programs.specs.Lexer.{block_begin, block_end, one_byte, body}
@@ -14,7 +14,7 @@ use Rattle.spf_decoding.proofs.LexPlaces.{state_at, marks_before, marks_at, stat
 use Rattle.spf_decoding.proofs.LexBody.{Lexes, at, place-inside, place-outside}
 use Rattle.spf_decoding.proofs.Places.{set_next, keep_next, zero_behind}
 use Rattle.spf_decoding.proofs.Blocks.{gives-begin, gives-end, in_or_out}
-use Rattle.spf_decoding.proofs.Steps.{gives-number, gives-local, comes-let, comes-fill, zeros-stay, with_slot, Reaches, Yields, reached, reaches-on, reaches-end, reaches-for, for-reaches}
+use Rattle.spf_decoding.proofs.Steps.{gives-row, gives-number, gives-local, comes-let, comes-fill, zeros-stay, with_slot, Reaches, Yields, reached, reaches-on, reaches-end, reaches-for, for-reaches}
 
 -- how many cells there are
 abbrev pub cells_for : (size : ℕ) (machine content : List ℕ) → ℕ
@@ -32,7 +32,7 @@ record At (size : ℕ) (machine content : List ℕ) (p : ℕ) (s : State) (m : L
   s_is : s ≡ at carried number (pos (state_at machine content p)) place entry out
   m_is : m ≡ marks_at machine content (cells_for size machine content) p
 
-abbrev place_form : Environment → ℕ → ℕ → Meaning (Unit {0})
+abbrev place_form : Environment → ℕ → ℕ → Meaning Flow
 place_form g classes machine = block_means g (one_byte classes machine)
 
 inside-turn : (g : Environment) (size states classes : ℕ) (machine content : List ℕ) → Lexes g size states classes machine content → (p : ℕ) (c k e x : ℤ) → p < length content → Reaches (place_form g classes (length machine)) (At size machine content (suc p)) (at c k (pos (state_at machine content p)) (pos p) e x) (marks_at machine content (cells_for size machine content) p)
@@ -84,7 +84,7 @@ pub record BlockAt (size : ℕ) (machine content : List ℕ) (k : ℕ) (s : Stat
   pub m_is : m ≡ marks_at machine content (cells_for size machine content) (size * k)
 
 pub block-yields : (g : Environment) (size states classes : ℕ) (machine content : List ℕ) → Lexes g size states classes machine content → (k : ℕ) → size * k < length content → (s : State) (m : List ℤ) → BlockAt size machine content k s m
-    → Yields (block_means g (body size classes (length machine)) >>= λ _. expression_means g 20 (Local 2)) (pos (state_at machine content (size * suc k))) (BlockAt size machine content (suc k)) (with_slot 0 (pos (state_at machine content (size * k))) (with_slot 1 (pos k) s)) m
+    → Yields (block_means g (body size classes (length machine)) >> arguments_mean g 20 (argument (Local 2) no_more)) (pos (state_at machine content (size * suc k))) (BlockAt size machine content (suc k)) (with_slot 0 (pos (state_at machine content (size * k))) (with_slot 1 (pos k) s)) m
 block-yields g size states classes machine content d k there s m h =
     let all = cells_for size machine content in
     let low = size * k in
@@ -118,7 +118,7 @@ block-yields g size states classes machine content d k there s m h =
     record {
       state = r.state;
       memory = r.memory;
-      comes = comes-then (λ _. expression_means g 20 (Local 2)) r.comes (gives-local g 20 2 r.state r.memory (pos (state_at machine content (size * suc k))) (ap (λ (z : State). slice_index_or z.slots 2 (pos 0)) at_end.s_is ∙ ap (λ n. pos (state_at machine content n)) next));
+      comes = comes-then (λ _. arguments_mean g 20 (argument (Local 2) no_more)) r.comes (gives-row g 20 (Local 2) r.state r.memory (pos (state_at machine content (size * suc k))) (gives-local g 20 2 r.state r.memory (pos (state_at machine content (size * suc k))) (ap (λ (z : State). slice_index_or z.slots 2 (pos 0)) at_end.s_is ∙ ap (λ n. pos (state_at machine content n)) next)));
       holds = record {
         carried = at_end.carried;
         number = at_end.number;

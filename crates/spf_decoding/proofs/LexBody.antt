@@ -7,7 +7,7 @@ use Rattle.std.proofs.lemmas.List.{get_or-append-add, get_or_append_left}
 use Rattle.spf_ast.specs.declared.syntax.Op.TheVariants.{Add, Sub, Mul}
 use Rattle.spf_ast.specs.declared.syntax.Test.TheVariants.{Lt}
 use Rattle.spf_ast.specs.Word.{exact, binary_words}
-use Rattle.spf_ast.specs.Interaction.{State, Value}
+use Rattle.spf_ast.specs.Interaction.{Onward, State, Value}
 use Rattle.spf_ast.specs.Syntax.{Condition, Local, Len, Input, Compare, Let, Assign, Store, If, end, on_line}
 use Rattle.spf_ast.specs.Meaning.{Environment, block_means, extent_in, condition_means}
 use Rattle.spf_laws.proofs.Plainly.{Comes}
@@ -101,7 +101,7 @@ inside_tells g size states classes machine content d c k q e x p m holds t =
 
 -- a place in the content
 pub place-inside : (g : Environment) (size states classes : ℕ) (machine content : List ℕ) → Lexes g size states classes machine content → (c k e x : ℤ) (q p : ℕ) (m : List ℤ) → q < states → p < length content
-    → Comes (block_means g (one_byte classes (length machine))) (at c k (pos q) (pos p) e x) m (Value tt (at c k (pos (next_state machine q (slice_index content p))) (pos p) (pos (262 + 2 * entry_number machine classes q (slice_index content p))) x)) (slice_set m p (pos (mark machine q (slice_index content p))))
+    → Comes (block_means g (one_byte classes (length machine))) (at c k (pos q) (pos p) e x) m (Value Onward (at c k (pos (next_state machine q (slice_index content p))) (pos p) (pos (262 + 2 * entry_number machine classes q (slice_index content p))) x)) (slice_set m p (pos (mark machine q (slice_index content p))))
 place-inside g size states classes machine content d c k e x q p m inside there =
     let b = slice_index content p in
     let entry = 262 + 2 * entry_number machine classes q b in
@@ -125,19 +125,19 @@ place-inside g size states classes machine content d c k e x q p m inside there 
     let next : Gives g 17 (Input (Local 4)) u after (pos (next_state machine q b)) =
     subst (λ v. Gives g 17 (Input (Local 4)) u after (pos v)) (from_machine g size states classes machine content d entry (omega (arith, mark_there)) ∙ ap (slice_index machine) (sym is))
     (gives-input g 17 (Local 4) u after entry (gives-local g 17 4 u after (pos entry) refl) (omega (arith, mark_there, long))) in
-    subst (λ n. Comes (block_means g (one_byte classes (length machine))) s m (Value tt t) (slice_set m n (pos (mark machine q b)))) cell
+    subst (λ n. Comes (block_means g (one_byte classes (length machine))) s m (Value Onward t) (slice_set m n (pos (mark machine q b)))) cell
     (comes-only g 14 (If (is_inside (length machine)) (step classes (length machine)) end) s t m after
-    (comes-then_branch g 14 (is_inside (length machine)) (step classes (length machine)) end s m after (Value tt t) (inside_tells g size states classes machine content d c k (pos q) e x p m true low)
-    (comes-on g 15 (Let 4 (entry_at classes (length machine) 2 3)) (on_line 16 (Store 0 (Local 3) (Input (plus (Local 4) (number 1)))) (only 17 (Assign 2 (Input (Local 4))))) s u m m after (Value tt t)
+    (comes-then_branch g 14 (is_inside (length machine)) (step classes (length machine)) end s m after (Value Onward t) (inside_tells g size states classes machine content d c k (pos q) e x p m true low)
+    (comes-on g 15 (Let 4 (entry_at classes (length machine) 2 3)) (on_line 16 (Store 0 (Local 3) (Input (plus (Local 4) (number 1)))) (only 17 (Assign 2 (Input (Local 4))))) s u m m after (Value Onward t)
     (comes-let g 15 4 (entry_at classes (length machine) 2 3) s m (pos entry) (gives-entry g size states classes machine content d 15 2 3 q p s m refl refl inside there))
-    (comes-on g 16 (Store 0 (Local 3) (Input (plus (Local 4) (number 1)))) (only 17 (Assign 2 (Input (Local 4)))) u u m after after (Value tt t)
+    (comes-on g 16 (Store 0 (Local 3) (Input (plus (Local 4) (number 1)))) (only 17 (Assign 2 (Input (Local 4)))) u u m after after (Value Onward t)
     (comes-store g 16 0 (Local 3) (Input (plus (Local 4) (number 1))) u m p (pos (mark machine q b)) (gives-local g 16 3 u m (pos p) refl) marked (omega (arith, there, d.room)))
     (comes-only g 17 (Assign 2 (Input (Local 4))) u t after after (comes-assign g 17 2 (Input (Local 4)) u after (pos (next_state machine q b)) next))))))
 
 -- a place after the content
-pub place-outside : (g : Environment) (size states classes : ℕ) (machine content : List ℕ) → Lexes g size states classes machine content → (c k q e x : ℤ) (p : ℕ) (m : List ℤ) → length content ≤ p → Comes (block_means g (one_byte classes (length machine))) (at c k q (pos p) e x) m (Value tt (at c k q (pos p) e x)) m
+pub place-outside : (g : Environment) (size states classes : ℕ) (machine content : List ℕ) → Lexes g size states classes machine content → (c k q e x : ℤ) (p : ℕ) (m : List ℤ) → length content ≤ p → Comes (block_means g (one_byte classes (length machine))) (at c k q (pos p) e x) m (Value Onward (at c k q (pos p) e x)) m
 place-outside g size states classes machine content d c k q e x p m out =
     let s = at c k q (pos p) e x in
     let low : int_lt (pos p) (pos (length content)) ≡ false = grind (arith, ints, out) in
     comes-only g 14 (If (is_inside (length machine)) (step classes (length machine)) end) s s m m
-    (comes-else_branch g 14 (is_inside (length machine)) (step classes (length machine)) end s m m (Value tt s) (inside_tells g size states classes machine content d c k q e x p m false low) (comes-end g s m))
+    (comes-else_branch g 14 (is_inside (length machine)) (step classes (length machine)) end s m m (Value Onward s) (inside_tells g size states classes machine content d c k q e x p m false low) (comes-end g s m))

@@ -12,7 +12,7 @@ use Rattle.spf_ast.specs.Event.{word_at}
 use Rattle.spf_ast.specs.declared.syntax.Op.TheVariants.{Sub, Shr, And}
 use Rattle.spf_ast.specs.declared.syntax.Test.TheVariants.{Ne}
 use Rattle.spf_ast.specs.Word.{exact, binary_words}
-use Rattle.spf_ast.specs.Interaction.{State, Value}
+use Rattle.spf_ast.specs.Interaction.{Onward, State, Value}
 use Rattle.spf_ast.specs.Syntax.{Condition, Block, Local, Len, Load, Compare, Emit, If, end, on_line}
 use Rattle.spf_ast.specs.Meaning.{Environment, block_means, statement_means, extent_in, max_output}
 use Rattle.spf_laws.proofs.Plainly.{Comes}
@@ -59,7 +59,7 @@ one_longer o b n h = omega (arith, h, length-append o (b ∷ []))
 
 -- a token
 token-comes : (g : Environment) (p kind : ℕ) (s : State) (m : List ℤ) → slice_index_or s.slots 5 (pos 0) ≡ pos p → p < 4194304 → p < (extent_in g.extents 0).1 → word_at m ((extent_in g.extents 0).0 + p) ≡ pos (suc kind) → suc kind < 256 → length s.output + 5 ≤ max_output
-    → Comes (block_means g lexer.token) s m (Value tt (wrote (s.output ++ token (suc kind) p) s)) m
+    → Comes (block_means g lexer.token) s m (Value Onward (wrote (s.output ++ token (suc kind) p) s)) m
 token-comes g p kind s m e small room word byte long =
     let o0 = s.output in
     let b3 = byte_at 3 p in
@@ -80,17 +80,17 @@ token-comes g p kind s m e small room word byte long =
     let line27 = on_line 27 (lexer.place_byte 8) line28 in
     let line26 = on_line 26 (lexer.place_byte 16) line27 in
     let line25 = on_line 25 (Emit (shifted_right (Local 5) (number 24))) line26 in
-    subst (λ o. Comes (block_means g lexer.token) s m (Value tt (wrote o s)) m) (five o0 (suc kind) b3 b2 b1 b0)
-    (comes-on g 24 (Emit (Load 0 (Local 5))) line25 s (wrote o1 s) m m m (Value tt (wrote o5 s))
+    subst (λ o. Comes (block_means g lexer.token) s m (Value Onward (wrote o s)) m) (five o0 (suc kind) b3 b2 b1 b0)
+    (comes-on g 24 (Emit (Load 0 (Local 5))) line25 s (wrote o1 s) m m m (Value Onward (wrote o5 s))
     (comes-emit g 24 (Load 0 (Local 5)) s m (suc kind) (subst (λ v. Gives g 24 (Load 0 (Local 5)) s m v) word (gives-load g 24 0 (Local 5) s m p (gives-local g 24 5 s m (pos p) e) room)) byte (omega (arith, long)))
-    (comes-on g 25 (Emit (shifted_right (Local 5) (number 24))) line26 (wrote o1 s) (wrote o2 s) m m m (Value tt (wrote o5 s))
+    (comes-on g 25 (Emit (shifted_right (Local 5) (number 24))) line26 (wrote o1 s) (wrote o2 s) m m m (Value Onward (wrote o5 s))
     (comes-emit g 25 (shifted_right (Local 5) (number 24)) (wrote o1 s) m b3
     (subst (λ v. Gives g 25 (shifted_right (Local 5) (number 24)) (wrote o1 s) m (pos v)) high
     (gives-binary g 25 Shr (Local 5) (number 24) (wrote o1 s) m (pos p) (pos 24) (pos (p / 2 ^ 24)) (gives-local g 25 5 (wrote o1 s) m (pos p) e) (gives-number g 25 (pos 24) (wrote o1 s) m) refl))
     (byte_lt (p / 2 ^ 24)) (omega (arith, l1)))
-    (comes-on g 26 (lexer.place_byte 16) line27 (wrote o2 s) (wrote o3 s) m m m (Value tt (wrote o5 s))
+    (comes-on g 26 (lexer.place_byte 16) line27 (wrote o2 s) (wrote o3 s) m m m (Value Onward (wrote o5 s))
     (comes-emit g 26 (masked (shifted_right (Local 5) (number 16)) (number 255)) (wrote o2 s) m b2 (gives-byte g 26 16 p (wrote o2 s) m e small refl) (byte_lt (p / 2 ^ 16)) (omega (arith, l2)))
-    (comes-on g 27 (lexer.place_byte 8) line28 (wrote o3 s) (wrote o4 s) m m m (Value tt (wrote o5 s))
+    (comes-on g 27 (lexer.place_byte 8) line28 (wrote o3 s) (wrote o4 s) m m m (Value Onward (wrote o5 s))
     (comes-emit g 27 (masked (shifted_right (Local 5) (number 8)) (number 255)) (wrote o3 s) m b1 (gives-byte g 27 8 p (wrote o3 s) m e small refl) (byte_lt (p / 2 ^ 8)) (omega (arith, l3)))
     (comes-only g 28 (Emit (masked (Local 5) (number 255))) (wrote o4 s) (wrote o5 s) m m
     (comes-emit g 28 (masked (Local 5) (number 255)) (wrote o4 s) m b0
@@ -113,15 +113,15 @@ place_out = only 23 (If is_token lexer.token end)
 
 -- where a token begins, or not
 kind-comes : (g : Environment) (p kind : ℕ) (s : State) (m : List ℤ) → slice_index_or s.slots 5 (pos 0) ≡ pos p → p < 4194304 → p < (extent_in g.extents 0).1 → word_at m ((extent_in g.extents 0).0 + p) ≡ pos kind → kind < 256 → length s.output + 5 ≤ max_output
-    → Comes (statement_means g 23 (If is_token lexer.token end)) s m (Value tt (wrote (s.output ++ token kind p) s)) m
+    → Comes (statement_means g 23 (If is_token lexer.token end)) s m (Value Onward (wrote (s.output ++ token kind p) s)) m
 kind-comes g p zero s m e small room word byte long =
-    subst (λ o. Comes (statement_means g 23 (If is_token lexer.token end)) s m (Value tt (wrote o s)) m) (sym (append-nil s.output))
-    (comes-else_branch g 23 is_token lexer.token end s m m (Value tt s)
+    subst (λ o. Comes (statement_means g 23 (If is_token lexer.token end)) s m (Value Onward (wrote o s)) m) (sym (append-nil s.output))
+    (comes-else_branch g 23 is_token lexer.token end s m m (Value Onward s)
     (tells g 23 Ne (Load 0 (Local 5)) (number 0) s m (pos 0) (pos 0) false (subst (λ v. Gives g 23 (Load 0 (Local 5)) s m v) word (gives-load g 23 0 (Local 5) s m p (gives-local g 23 5 s m (pos p) e) room)) (gives-number g 23 (pos 0) s m) refl)
     (comes-end g s m))
 kind-comes g p (suc kind) s m e small room word byte long =
     let other : not (int_eq (pos (suc kind)) (pos 0)) ≡ true = ap not (let n : int_eq (pos (suc kind)) (pos 0) ≡ false = grind (arith, ints) in n) in
-    comes-then_branch g 23 is_token lexer.token end s m m (Value tt (wrote (s.output ++ token (suc kind) p) s))
+    comes-then_branch g 23 is_token lexer.token end s m m (Value Onward (wrote (s.output ++ token (suc kind) p) s))
     (tells g 23 Ne (Load 0 (Local 5)) (number 0) s m (pos (suc kind)) (pos 0) true (subst (λ v. Gives g 23 (Load 0 (Local 5)) s m v) word (gives-load g 23 0 (Local 5) s m p (gives-local g 23 5 s m (pos p) e) room)) (gives-number g 23 (pos 0) s m) other)
     (token-comes g p kind s m e small room word byte long)
 

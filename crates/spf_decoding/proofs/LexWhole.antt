@@ -1,5 +1,5 @@
 -- The program that runs a machine, from its start to its end.
-use Rattle.std.proofs.Common.{◌≡◌, ℕ, ◌+◌, ◌-◌, ◌*◌, ◌<◌, ◌≤◌, false, List, ◌++◌, length, replicate, Err, ℤ, pos, refl, ap, sym, ◌∙◌, subst, arith, length-append}
+use Rattle.std.proofs.Common.{◌≡◌, ℕ, ◌+◌, ◌-◌, ◌*◌, ◌<◌, ◌≤◌, false, List, [], ◌∷◌, ◌++◌, length, replicate, Err, ℤ, pos, refl, ap, sym, ◌∙◌, subst, arith, length-append}
 use Rattle.std.specs.Prelude.{nat_lt, if◌then◌else◌, ◌+ℤ◌, ◌-ℤ◌, ◌*ℤ◌, int_div}
 use Rattle.std.specs.List.{AllByRecursion}
 use Rattle.std.specs.Int.{int_gap}
@@ -10,10 +10,10 @@ use Rattle.std.proofs.Math.Nat.{div-le_self}
 use Rattle.spf_ast.specs.declared.outcome.TrapKind.TheVariants as trap
 use Rattle.spf_ast.specs.declared.syntax.Op.TheVariants.{Add, Sub, Div}
 use Rattle.spf_ast.specs.Word.{exact}
-use Rattle.spf_ast.specs.Interaction.{State, Value, ◌>>=◌}
-use Rattle.spf_ast.specs.Syntax.{Local, Len, Fold, end}
-use Rattle.spf_ast.specs.Meaning.{Environment, block_means, statement_means, expression_means, sets, fold_range, fold_blocks, max_blocks, traps}
-use Rattle.spf_ast.specs.Program.{environment_of, start_of, zeros_of, cell_count_of, size_or_none, outcome, outcome_from, Done, max_cells}
+use Rattle.spf_ast.specs.Interaction.{Onward, State, Value, ◌>>=◌, ◌>>◌}
+use Rattle.spf_ast.specs.Syntax.{argument, no_more, Local, Len, Fold, end}
+use Rattle.spf_ast.specs.Meaning.{arguments_mean, sets_row, Environment, block_means, statement_means, expression_means, fold_range, fold_blocks, max_blocks, traps}
+use Rattle.spf_ast.specs.Program.{environment_of, start_of, zeros_of, cell_count_of, size_or_none, outcome, outcome_from, Done, max_cells_in}
 use Rattle.spf_laws.proofs.Plainly.{Comes, comes-then}
 use Rattle.spf_formats.specs.Lex1.{IsLex1}
 use Rattle.spf_formats.specs.Tokens.{tokens}
@@ -27,7 +27,7 @@ use Rattle.spf_decoding.proofs.LexBlocks.{cells_for, BlockAt, block-yields}
 use Rattle.spf_decoding.proofs.LexOutput.{Written, output-written}
 use Rattle.spf_decoding.proofs.Places.{bytes_small}
 use Rattle.spf_decoding.proofs.Whole.{blocks_of, blocks_few, block_inside, blocks_enough}
-use Rattle.spf_decoding.proofs.Steps.{Gives, gives-number, gives-len, gives-binary, with_slot, Reaches, reached, reaches-on, reaches-end, fold-yields, gap-is, word-ok, comes-sets}
+use Rattle.spf_decoding.proofs.Steps.{gives-row, comes-sets_row, main-comes, Gives, gives-number, gives-len, gives-binary, with_slot, Reaches, reached, reaches-on, reaches-end, fold-yields, gap-is, word-ok}
 
 gives-blocks : (g : Environment) (size states classes : ℕ) (machine content : List ℕ) → Lexes g size states classes machine content → length g.input ≡ length machine + length content → (s : State) (m : List ℤ) → Gives g 10 (blocks_for (lexer.content (length machine)) size) s m (pos (blocks_of (length content) size))
 gives-blocks g size states classes machine content d long s m =
@@ -52,7 +52,7 @@ fold-comes g size states classes machine content d long limit s m h =
     let n = length content in
     let count = blocks_of n size in
     let values : ℕ → ℤ = λ k. pos (state_at machine content (size * k)) in
-    let form = block_means g (body size classes (length machine)) >>= λ _. expression_means g 20 (Local 2) in
+    let form = block_means g (body size classes (length machine)) >> arguments_mean g 20 (argument (Local 2) no_more) in
     let none : size * 0 ≡ 0 = omega arith in
     let first : values 0 ≡ pos 0 = ap (λ k. pos (state_at machine content k)) none in
     let all : 0 + count ≡ count = omega arith in
@@ -60,19 +60,19 @@ fold-comes g size states classes machine content d long limit s m h =
     let enough : nat_lt max_blocks count ≡ false = let few = blocks_few n size d.some limit in grind (arith, nat_tests, few) in
     let y = fold-yields 1 0 form values (BlockAt size machine content) 0 count (λ k t x low high q. block-yields g size states classes machine content d k (block_inside n size k d.some (omega (arith, high))) t x q) s m h in
     let last = values (0 + count) in
-    let blocks : Comes (fold_blocks count (pos 0) 1 0 (pos 0) form) s m (Value last y.state) y.memory =
-    subst (λ v. Comes (fold_blocks count (pos 0) 1 0 v form) s m (Value last y.state) y.memory) first y.comes in
+    let blocks : Comes (fold_blocks count (pos 0) 1 (0 ∷ []) (pos 0 ∷ []) form) s m (Value (last ∷ []) y.state) y.memory =
+    subst (λ v. Comes (fold_blocks count (pos 0) 1 (0 ∷ []) (v ∷ []) form) s m (Value (last ∷ []) y.state) y.memory) first y.comes in
     let top = head size (length machine) in
-    let range : Comes (fold_range 10 top (pos 0) (pos 0) (pos count) form) s m (Value last y.state) y.memory =
-    subst (λ c. Comes (if nat_lt max_blocks c then traps trap.Blocks 10 else fold_blocks c (pos 0) 1 0 (pos 0) form) s m (Value last y.state) y.memory) (sym gap)
-    (subst (λ t. Comes (if t then traps trap.Blocks 10 else fold_blocks count (pos 0) 1 0 (pos 0) form) s m (Value last y.state) y.memory) (sym enough) blocks) in
+    let range : Comes (fold_range 10 top (pos 0 ∷ []) (pos 0) (pos count) form) s m (Value (last ∷ []) y.state) y.memory =
+    subst (λ c. Comes (if nat_lt max_blocks c then traps trap.Blocks 10 else fold_blocks c (pos 0) 1 (0 ∷ []) (pos 0 ∷ []) form) s m (Value (last ∷ []) y.state) y.memory) (sym gap)
+    (subst (λ t. Comes (if t then traps trap.Blocks 10 else fold_blocks count (pos 0) 1 (0 ∷ []) (pos 0 ∷ []) form) s m (Value (last ∷ []) y.state) y.memory) (sym enough) blocks) in
     let counted = blocks_for (lexer.content (length machine)) size in
     let at_end = y.holds in
     reached (statement_means g 10 (Fold top (body size classes (length machine)))) (BlockAt size machine content count) s (with_slot 0 last y.state) m y.memory
-    (comes-then (λ start. expression_means g 10 (number 0) >>= λ low. expression_means g 10 counted >>= λ high. fold_range 10 top start low high form >>= sets 0) (gives-number g 10 (pos 0) s m)
-    (comes-then (λ low. expression_means g 10 counted >>= λ high. fold_range 10 top (pos 0) low high form >>= sets 0) (gives-number g 10 (pos 0) s m)
-    (comes-then (λ high. fold_range 10 top (pos 0) (pos 0) high form >>= sets 0) (gives-blocks g size states classes machine content d long s m)
-    (comes-then (sets 0) range (comes-sets 0 last y.state y.memory)))))
+    (comes-then (λ start. expression_means g 10 (number 0) >>= λ low. expression_means g 10 counted >>= λ high. fold_range 10 top start low high form >>= sets_row (0 ∷ [])) (gives-row g 10 (number 0) s m (pos 0) (gives-number g 10 (pos 0) s m))
+    (comes-then (λ low. expression_means g 10 counted >>= λ high. fold_range 10 top (pos 0 ∷ []) low high form >>= sets_row (0 ∷ [])) (gives-number g 10 (pos 0) s m)
+    (comes-then (λ high. fold_range 10 top (pos 0 ∷ []) (pos 0) high form >>= sets_row (0 ∷ [])) (gives-blocks g size states classes machine content d long s m)
+    (comes-then (sets_row (0 ∷ [])) range (comes-sets_row 0 last y.state y.memory)))))
     (record {
       carried = last;
       number = at_end.number;
@@ -104,7 +104,7 @@ main-reaches g size states classes machine content d long limit s m h =
 cells_are : (n size : ℕ) → size_or_none (pos 1 *ℤ pos n +ℤ pos size) ≡ n + size
 cells_are n size = ap size_or_none (let sum : pos 1 *ℤ pos n +ℤ pos size ≡ pos (n + size) = omega (arith, ints) in sum)
 
-sized-finds : (size states classes : ℕ) (machine content : List ℕ) → IsBlockSize size → IsLex1 machine states classes → AllByRecursion (λ b. b < 256) machine → AllByRecursion (λ b. b < 256) content → (length machine + length content) + size ≤ max_cells → length content ≤ max_blocks * size
+sized-finds : (size states classes : ℕ) (machine content : List ℕ) → IsBlockSize size → IsLex1 machine states classes → AllByRecursion (λ b. b < 256) machine → AllByRecursion (λ b. b < 256) content → (length machine + length content) + size ≤ max_cells_in 1 → length content ≤ max_blocks * size
     → (cells : List ℤ) × (outcome (program_for size classes (length machine)) (machine ++ content) ≡ Done cells (tokens machine content))
 sized-finds size states classes machine content h lex1 machine_small content_small cells blocks =
     let p = program_for size classes (length machine) in
@@ -127,9 +127,10 @@ sized-finds size states classes machine content h lex1 machine_small content_sma
     ∙ ap (λ k. marks_at machine content (cells_for size machine content) k) (let e : 0 ≡ size * 0 = omega arith in e) in
     let begun : BlockAt size machine content 0 (start_of p) (zeros_of p (length input)) = record { carried = pos 0; number = pos 0; state = pos 0; place = pos 0; entry = pos 0; out = pos 0; s_is = refl; m_is = zeros } in
     let r = main-reaches g size states classes machine content d long blocks (start_of p) (zeros_of p (length input)) begun in
-    (r.memory, (λ i. outcome_from (r.comes.answer i) (r.comes.memory i)) ∙ ap (Done r.memory) (r.holds.output_is ∙ tokens_all machine content))
+    let c = main-comes g p.main (start_of p) (zeros_of p (length input)) r.memory (Value Onward r.state) r.comes tt in
+    (r.memory, (λ i. outcome_from (c.answer i) (c.memory i)) ∙ ap (Done r.memory) (r.holds.output_is ∙ tokens_all machine content))
 
-pub finds_tokens : (size states classes : ℕ) (machine content : List ℕ) → IsBlockSize size → IsLex1 machine states classes → AllByRecursion (λ b. b < 256) machine → AllByRecursion (λ b. b < 256) content → (length machine + length content) + size ≤ max_cells → length content ≤ max_blocks * size
+pub finds_tokens : (size states classes : ℕ) (machine content : List ℕ) → IsBlockSize size → IsLex1 machine states classes → AllByRecursion (λ b. b < 256) machine → AllByRecursion (λ b. b < 256) content → (length machine + length content) + size ≤ max_cells_in 1 → length content ≤ max_blocks * size
     → (cells : List ℤ) × (outcome (lexer_program size states classes) (machine ++ content) ≡ Done cells (tokens machine content))
 finds_tokens size states classes machine content h lex1 machine_small content_small cells blocks =
     subst (λ n. (l : List ℤ) × (outcome (program_for size classes n) (machine ++ content) ≡ Done l (tokens machine content))) lex1.classed.sized.size

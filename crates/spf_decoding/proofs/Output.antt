@@ -5,7 +5,7 @@ use Rattle.std.proofs.lemmas.Bool.{lt-ltb}
 use Rattle.std.proofs.lemmas.List.{length-set, length-replicate}
 use Rattle.spf_lemmas.proofs.Members.{cases}
 use Rattle.spf_ast.specs.Event.{word_at}
-use Rattle.spf_ast.specs.Interaction.{State, Value, Answer}
+use Rattle.spf_ast.specs.Interaction.{Onward, State, Value, Answer}
 use Rattle.spf_ast.specs.Plain.{plain_answer, plain_memory}
 use Rattle.spf_ast.specs.Syntax.{Expression, Local, Len, Input, Load, Emit, For, Block, end}
 use Rattle.spf_ast.specs.Meaning.{Environment, block_means, statement_means, extent_in, emits, max_output, traps}
@@ -18,13 +18,13 @@ use Rattle.spf_decoding.proofs.Places.{left_at, times_at, times_before, written_
 use Rattle.spf_decoding.proofs.Blocks.{Runs}
 use Rattle.spf_decoding.proofs.Steps.{Gives, gives-number, gives-local, gives-len, gives-input, gives-load, with_slot, Reaches, reached, reaches-on, reaches-end, reaches-for, for-reaches, comes-only}
 
-pub comes-emit : (g : Environment) (line : ℕ) (e : Expression) (s : State) (m : List ℤ) (b : ℕ) → Gives g line e s m (pos b) → b < 256 → length s.output < max_output → Comes (statement_means g line (Emit e)) s m (Value tt (record s { output = s.output ++ b ∷ [] })) m
+pub comes-emit : (g : Environment) (line : ℕ) (e : Expression) (s : State) (m : List ℤ) (b : ℕ) → Gives g line e s m (pos b) → b < 256 → length s.output < max_output → Comes (statement_means g line (Emit e)) s m (Value Onward (record s { output = s.output ++ b ∷ [] })) m
 comes-emit g line e s m b p small room = comes-then (emits line) p put
   where
-    put : Comes (emits line (pos b)) s m (Value tt (record s { output = s.output ++ b ∷ [] })) m
+    put : Comes (emits line (pos b)) s m (Value Onward (record s { output = s.output ++ b ∷ [] })) m
     put = record {
-      answer = λ i. plain_answer (if lt-ltb b 256 small i && lt-ltb (length s.output) max_output room i then Answer (Value tt (record s { output = s.output ++ b ∷ [] })) else traps trap.Emit line s) m;
-      memory = λ i. plain_memory (if lt-ltb b 256 small i && lt-ltb (length s.output) max_output room i then Answer (Value tt (record s { output = s.output ++ b ∷ [] })) else traps trap.Emit line s) m;
+      answer = λ i. plain_answer (if lt-ltb b 256 small i && lt-ltb (length s.output) max_output room i then Answer (Value Onward (record s { output = s.output ++ b ∷ [] })) else traps trap.Emit line s) m;
+      memory = λ i. plain_memory (if lt-ltb b 256 small i && lt-ltb (length s.output) max_output room i then Answer (Value Onward (record s { output = s.output ++ b ∷ [] })) else traps trap.Emit line s) m;
     }
 
 -- the cell of a place that was read

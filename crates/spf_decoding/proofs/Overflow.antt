@@ -9,9 +9,9 @@ use Rattle.spf_lemmas.proofs.Members.{cases}
 use Rattle.spf_ast.specs.Event.{word_at}
 use Rattle.spf_ast.specs.declared.outcome.Trap.{Trap}
 use Rattle.spf_ast.specs.declared.outcome.TrapKind.TheVariants as trap
-use Rattle.spf_ast.specs.Interaction.{State, Value, Trapped, Answer}
+use Rattle.spf_ast.specs.Interaction.{unless_broken, Onward, State, Value, Trapped, Answer}
 use Rattle.spf_ast.specs.Plain.{plain_answer, plain_memory}
-use Rattle.spf_ast.specs.Program.{environment_of, start_of, zeros_of, cell_count_of, outcome, outcome_from, Stopped, max_cells}
+use Rattle.spf_ast.specs.Program.{environment_of, start_of, zeros_of, cell_count_of, outcome, outcome_from, Stopped, max_cells_in}
 use Rattle.spf_ast.specs.Syntax.{Local, Len, Load, For, Fold, end}
 use Rattle.spf_ast.specs.Meaning.{Environment, block_means, statement_means, extent_in, emits, traps, max_output, max_blocks}
 use Rattle.spf_laws.proofs.Plainly.{Comes, comes-then, comes-trap}
@@ -24,7 +24,7 @@ use Rattle.spf_decoding.proofs.Places.{left_at, times_before, memory_at, written
 use Rattle.spf_decoding.proofs.Blocks.{Runs, BlockAt, in_or_out}
 use Rattle.spf_decoding.proofs.Output.{times_word, Repeats, Written, emit-turn, emitted, repeated}
 use Rattle.spf_decoding.proofs.Whole.{blocks_of, blocks_enough, fold-comes, cells_are}
-use Rattle.spf_decoding.proofs.Steps.{below_differs, Gives, gives-number, gives-local, gives-len, gives-input, gives-load, with_slot, Halts, Goes, goes-on, for-goes, goes-for, comes-on}
+use Rattle.spf_decoding.proofs.Steps.{main-comes, below_differs, Gives, gives-number, gives-local, gives-len, gives-input, gives-load, with_slot, Halts, Goes, goes-on, for-goes, goes-for, comes-on}
 
 abbrev full : Trap
 full = record { kind = trap.Emit; line = 31 }
@@ -82,8 +82,8 @@ no_room n most h = grind (arith, nat_tests, h)
 -- a byte for which the output has no room
 traps_full : (b : ℕ) (s : State) (m : List ℤ) → b < 256 → max_output ≤ length s.output → Comes (emits 31 (pos b)) s m (Trapped full s.output) m
 traps_full b s m small many = record {
-  answer = λ i. plain_answer (if lt-ltb b 256 small i && no_room (length s.output) max_output many i then Answer (Value tt (record s { output = s.output ++ b ∷ [] })) else traps trap.Emit 31 s) m;
-  memory = λ i. plain_memory (if lt-ltb b 256 small i && no_room (length s.output) max_output many i then Answer (Value tt (record s { output = s.output ++ b ∷ [] })) else traps trap.Emit 31 s) m;
+  answer = λ i. plain_answer (if lt-ltb b 256 small i && no_room (length s.output) max_output many i then Answer (Value Onward (record s { output = s.output ++ b ∷ [] })) else traps trap.Emit 31 s) m;
+  memory = λ i. plain_memory (if lt-ltb b 256 small i && no_room (length s.output) max_output many i then Answer (Value Onward (record s { output = s.output ++ b ∷ [] })) else traps trap.Emit 31 s) m;
 }
 
 emit-goes : (g : Environment) (size : ℕ) (cells : List ℤ) (p n : ℕ) (s : State) (m : List ℤ) → Runs g size → p < length g.input → n < times_of (left_at g.input p) → RepeatsWithin g cells p n s m
@@ -108,7 +108,7 @@ emit-goes g size cells p n s m d there few h =
     inr (record {
       memory = m;
       comes = subst (λ o. Comes (block_means g emitted) t m (Trapped full o) m) is
-          (comes-trap (λ _. block_means g end) (comes-then (emits 31) (gives-input g 31 (Local 5) t m p (gives-local g 31 5 t m (pos p) place) there) (traps_full b t m (d.bytes p) enough)));
+          (comes-trap (unless_broken (block_means g end)) (comes-then (emits 31) (gives-input g 31 (Local 5) t m p (gives-local g 31 5 t m (pos p) place) there) (traps_full b t m (d.bytes p) enough)));
     }))
   where
     sizes : (k : ℕ) → length (written_before g.input p ++ replicate k (slice_index g.input p)) ≡ length (written_before g.input p) + k
@@ -185,10 +185,10 @@ main-halts g size s m d limit beyond h =
     let k = output-halts g size far behind r.state r.memory d (blocks_enough (length g.input) size d.some) beyond begun in
     record {
       memory = k.memory;
-      comes = comes-on g 3 (Fold (head size) (body size)) (only 29 output) s r.state m r.memory k.memory (Trapped full (first_bytes g.input)) r.comes (comes-trap (λ _. block_means g end) k.comes);
+      comes = comes-on g 3 (Fold (head size) (body size)) (only 29 output) s r.state m r.memory k.memory (Trapped full (first_bytes g.input)) r.comes (comes-trap (unless_broken (block_means g end)) k.comes);
     }
 
-pub stops : (size : ℕ) (file output : List ℕ) → IsBlockSize size → AllByRecursion (λ b. b < 256) file → length file + size ≤ max_cells → length file ≤ max_blocks * size → Unpacks file output → max_output < length output
+pub stops : (size : ℕ) (file output : List ℕ) → IsBlockSize size → AllByRecursion (λ b. b < 256) file → length file + size ≤ max_cells_in 1 → length file ≤ max_blocks * size → Unpacks file output → max_output < length output
     → outcome (packbits_program size) file ≡ Stopped (record { kind = trap.Emit; line = 31 }) (take max_output output)
 stops size file written h small cells blocks u beyond =
     let p = packbits_program size in
@@ -200,7 +200,8 @@ stops size file written h small cells blocks u beyond =
     ∙ ap (λ k. memory_at file (length file + size) k) (let e : 0 ≡ size * 0 = omega arith in e) in
     let begun : BlockAt g size 0 (start_of p) (zeros_of p (length file)) = record { carried = pos 0; number = pos 0; left = pos 0; place = pos 0; byte = pos 0; out = pos 0; turn = pos 0; s_is = refl; m_is = zeros } in
     let r = main-halts g size (start_of p) (zeros_of p (length file)) d blocks (omega (arith, beyond, ap (λ (l : List ℕ). length l) is)) begun in
-    (λ i. outcome_from (r.comes.answer i) (r.comes.memory i)) ∙ ap (λ l. Stopped full (take max_output l)) is
+    let c = main-comes g p.main (start_of p) (zeros_of p (length file)) r.memory (Trapped full (first_bytes file)) r.comes tt in
+    (λ i. outcome_from (c.answer i) (c.memory i)) ∙ ap (λ l. Stopped full (take max_output l)) is
   where
     cell_count : cell_count_of (packbits_program size) (length file) ≡ length file + size
     cell_count = let e = cells_are (length file) size in omega (arith, e)

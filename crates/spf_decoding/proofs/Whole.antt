@@ -1,5 +1,5 @@
 -- The program that unpacks PackBits, from its start to its end.
-use Rattle.std.proofs.Common.{◌≡◌, ℕ, suc, ◌+◌, ◌-◌, ◌*◌, ◌/◌, ◌<◌, ◌≤◌, false, List, length, replicate, Err, ℤ, pos, refl, ap, sym, ◌∙◌, subst, arith}
+use Rattle.std.proofs.Common.{◌≡◌, ℕ, suc, ◌+◌, ◌-◌, ◌*◌, ◌/◌, ◌<◌, ◌≤◌, false, List, [], ◌∷◌, length, replicate, Err, ℤ, pos, refl, ap, sym, ◌∙◌, subst, arith}
 use Rattle.std.specs.Prelude.{nat_lt, if◌then◌else◌, ◌+ℤ◌, ◌*ℤ◌, int_div}
 use Rattle.std.specs.List.{AllByRecursion}
 use Rattle.std.specs.Int.{int_gap}
@@ -11,10 +11,10 @@ use Rattle.std.proofs.Math.Nat.{lt-div-mul-add, div-mul-le_self, div-le_self, mu
 use Rattle.spf_ast.specs.declared.outcome.TrapKind.TheVariants as trap
 use Rattle.spf_ast.specs.declared.syntax.Op.TheVariants.{Add, Div}
 use Rattle.spf_ast.specs.Word.{exact}
-use Rattle.spf_ast.specs.Interaction.{State, Value, ◌>>=◌}
-use Rattle.spf_ast.specs.Syntax.{Local, Len, Fold, end}
-use Rattle.spf_ast.specs.Meaning.{Environment, block_means, statement_means, expression_means, sets, fold_range, fold_blocks, max_blocks, max_output, traps}
-use Rattle.spf_ast.specs.Program.{environment_of, start_of, zeros_of, cell_count_of, size_or_none, outcome, outcome_from, Done, max_cells}
+use Rattle.spf_ast.specs.Interaction.{Onward, State, Value, ◌>>=◌, ◌>>◌}
+use Rattle.spf_ast.specs.Syntax.{argument, no_more, Local, Len, Fold, end}
+use Rattle.spf_ast.specs.Meaning.{arguments_mean, sets_row, Environment, block_means, statement_means, expression_means, fold_range, fold_blocks, max_blocks, max_output, traps}
+use Rattle.spf_ast.specs.Program.{environment_of, start_of, zeros_of, cell_count_of, size_or_none, outcome, outcome_from, Done, max_cells_in}
 use Rattle.spf_laws.proofs.Plainly.{Comes, comes-then}
 use Rattle.spf_formats.specs.PackBits.{Unpacks}
 use Rattle.spf_programs.specs.Laws.{IsBlockSize}
@@ -24,7 +24,7 @@ use Rattle.spf_decoding.proofs.Bytes.{read_on, file_read}
 use Rattle.spf_decoding.proofs.Places.{left_at, memory_at, written_all, bytes_small}
 use Rattle.spf_decoding.proofs.Blocks.{Runs, BlockAt, block-yields}
 use Rattle.spf_decoding.proofs.Output.{Written, output-written}
-use Rattle.spf_decoding.proofs.Steps.{Gives, gives-number, gives-len, gives-binary, with_slot, Reaches, reached, reaches-on, reaches-end, fold-yields, gap-is, word-ok, comes-sets}
+use Rattle.spf_decoding.proofs.Steps.{gives-row, comes-sets_row, main-comes, Gives, gives-number, gives-len, gives-binary, with_slot, Reaches, reached, reaches-on, reaches-end, fold-yields, gap-is, word-ok}
 
 -- ---- how many blocks there are
 
@@ -68,7 +68,7 @@ fold-comes g size s m d limit h =
     let n = length g.input in
     let count = blocks_of n size in
     let values : ℕ → ℤ = λ k. left_at g.input (size * k) in
-    let form = block_means g (body size) >>= λ _. expression_means g 27 (Local 2) in
+    let form = block_means g (body size) >> arguments_mean g 27 (argument (Local 2) no_more) in
     let none : size * 0 ≡ 0 = omega arith in
     let first : values 0 ≡ pos 0 = ap (left_at g.input) none in
     let all : 0 + count ≡ count = omega arith in
@@ -76,17 +76,17 @@ fold-comes g size s m d limit h =
     let enough : nat_lt max_blocks count ≡ false = let few = blocks_few n size d.some limit in grind (arith, nat_tests, few) in
     let y = fold-yields 1 0 form values (BlockAt g size) 0 count (λ k t x low high q. block-yields g size k d (block_inside n size k d.some (omega (arith, high))) t x q) s m h in
     let last = values (0 + count) in
-    let blocks : Comes (fold_blocks count (pos 0) 1 0 (pos 0) form) s m (Value last y.state) y.memory =
-    subst (λ v. Comes (fold_blocks count (pos 0) 1 0 v form) s m (Value last y.state) y.memory) first y.comes in
-    let range : Comes (fold_range 3 (head size) (pos 0) (pos 0) (pos count) form) s m (Value last y.state) y.memory =
-    subst (λ c. Comes (if nat_lt max_blocks c then traps trap.Blocks 3 else fold_blocks c (pos 0) 1 0 (pos 0) form) s m (Value last y.state) y.memory) (sym gap)
-    (subst (λ t. Comes (if t then traps trap.Blocks 3 else fold_blocks count (pos 0) 1 0 (pos 0) form) s m (Value last y.state) y.memory) (sym enough) blocks) in
+    let blocks : Comes (fold_blocks count (pos 0) 1 (0 ∷ []) (pos 0 ∷ []) form) s m (Value (last ∷ []) y.state) y.memory =
+    subst (λ v. Comes (fold_blocks count (pos 0) 1 (0 ∷ []) (v ∷ []) form) s m (Value (last ∷ []) y.state) y.memory) first y.comes in
+    let range : Comes (fold_range 3 (head size) (pos 0 ∷ []) (pos 0) (pos count) form) s m (Value (last ∷ []) y.state) y.memory =
+    subst (λ c. Comes (if nat_lt max_blocks c then traps trap.Blocks 3 else fold_blocks c (pos 0) 1 (0 ∷ []) (pos 0 ∷ []) form) s m (Value (last ∷ []) y.state) y.memory) (sym gap)
+    (subst (λ t. Comes (if t then traps trap.Blocks 3 else fold_blocks count (pos 0) 1 (0 ∷ []) (pos 0 ∷ []) form) s m (Value (last ∷ []) y.state) y.memory) (sym enough) blocks) in
     let at_end = y.holds in
     reached (statement_means g 3 (Fold (head size) (body size))) (BlockAt g size count) s (with_slot 0 last y.state) m y.memory
-    (comes-then (λ start. expression_means g 3 (number 0) >>= λ low. expression_means g 3 (blocks_for Len size) >>= λ high. fold_range 3 (head size) start low high form >>= sets 0) (gives-number g 3 (pos 0) s m)
-    (comes-then (λ low. expression_means g 3 (blocks_for Len size) >>= λ high. fold_range 3 (head size) (pos 0) low high form >>= sets 0) (gives-number g 3 (pos 0) s m)
-    (comes-then (λ high. fold_range 3 (head size) (pos 0) (pos 0) high form >>= sets 0) (gives-blocks g size s m d.some d.few)
-    (comes-then (sets 0) range (comes-sets 0 last y.state y.memory)))))
+    (comes-then (λ start. expression_means g 3 (number 0) >>= λ low. expression_means g 3 (blocks_for Len size) >>= λ high. fold_range 3 (head size) start low high form >>= sets_row (0 ∷ [])) (gives-row g 3 (number 0) s m (pos 0) (gives-number g 3 (pos 0) s m))
+    (comes-then (λ low. expression_means g 3 (blocks_for Len size) >>= λ high. fold_range 3 (head size) (pos 0 ∷ []) low high form >>= sets_row (0 ∷ [])) (gives-number g 3 (pos 0) s m)
+    (comes-then (λ high. fold_range 3 (head size) (pos 0 ∷ []) (pos 0) high form >>= sets_row (0 ∷ [])) (gives-blocks g size s m d.some d.few)
+    (comes-then (sets_row (0 ∷ [])) range (comes-sets_row 0 last y.state y.memory)))))
     (record {
       carried = last;
       number = at_end.number;
@@ -118,7 +118,7 @@ main-reaches g size s m d limit room h =
 pub cells_are : (n size : ℕ) → size_or_none (pos 1 *ℤ pos n +ℤ pos size) ≡ n + size
 cells_are n size = ap size_or_none (let sum : pos 1 *ℤ pos n +ℤ pos size ≡ pos (n + size) = omega (arith, ints) in sum)
 
-pub unpacks : (size : ℕ) (file output : List ℕ) → IsBlockSize size → AllByRecursion (λ b. b < 256) file → length file + size ≤ max_cells → length file ≤ max_blocks * size → Unpacks file output → length output ≤ max_output
+pub unpacks : (size : ℕ) (file output : List ℕ) → IsBlockSize size → AllByRecursion (λ b. b < 256) file → length file + size ≤ max_cells_in 1 → length file ≤ max_blocks * size → Unpacks file output → length output ≤ max_output
     → (cells : List ℤ) × (outcome (packbits_program size) file ≡ Done cells output)
 unpacks size file written h small cells blocks u room =
     let p = packbits_program size in
@@ -130,7 +130,8 @@ unpacks size file written h small cells blocks u room =
     ∙ ap (λ k. memory_at file (length file + size) k) (let e : 0 ≡ size * 0 = omega arith in e) in
     let begun : BlockAt g size 0 (start_of p) (zeros_of p (length file)) = record { carried = pos 0; number = pos 0; left = pos 0; place = pos 0; byte = pos 0; out = pos 0; turn = pos 0; s_is = refl; m_is = zeros } in
     let r = main-reaches g size (start_of p) (zeros_of p (length file)) d blocks (subst (λ (l : List ℕ). length l ≤ max_output) (sym is) room) begun in
-    (r.memory, (λ i. outcome_from (r.comes.answer i) (r.comes.memory i)) ∙ ap (Done r.memory) (r.holds.output_is ∙ written_all file ∙ is))
+    let c = main-comes g p.main (start_of p) (zeros_of p (length file)) r.memory (Value Onward r.state) r.comes tt in
+    (r.memory, (λ i. outcome_from (c.answer i) (c.memory i)) ∙ ap (Done r.memory) (r.holds.output_is ∙ written_all file ∙ is))
   where
     cell_count : cell_count_of (packbits_program size) (length file) ≡ length file + size
     cell_count = let e = cells_are (length file) size in omega (arith, e)

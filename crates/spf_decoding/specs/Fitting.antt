@@ -1,7 +1,7 @@
--- When a decoder's program has room for its input: its cells and its blocks are within their limits.
+-- When a decoder's program, which is written in version 1, has room for its input: its cells and its blocks are within their limits.
 use Rattle.std.specs.Prelude.{ℕ, ◌+◌, ◌*◌, ◌<◌, ◌≤◌, List, length}
 use Rattle.std.specs.List.{AllByRecursion}
-use Rattle.spf_ast.specs.Program.{max_cells}
+use Rattle.spf_ast.specs.Program.{max_cells_in}
 use Rattle.spf_ast.specs.Meaning.{max_blocks}
 use Rattle.spf_programs.specs.Laws.{IsBlockSize}
 
@@ -9,7 +9,7 @@ use Rattle.spf_programs.specs.Laws.{IsBlockSize}
 pub record FitsPackBits (size : ℕ) (file : List ℕ) : Type 0 where
   pub block : IsBlockSize size
   pub bytes : AllByRecursion (λ b. b < 256) file
-  pub cells : length file + size ≤ max_cells
+  pub cells : length file + size ≤ max_cells_in 1
   pub blocks : length file ≤ max_blocks * size
 
 -- a file of bytes fits the program that decodes HUF1 by blocks of this size.
@@ -18,7 +18,7 @@ pub record FitsPackBits (size : ℕ) (file : List ℕ) : Type 0 where
 pub record FitsHuffman (size : ℕ) (file : List ℕ) : Type 0 where
   pub block : IsBlockSize size
   pub bytes : AllByRecursion (λ b. b < 256) file
-  pub cells : 65536 + (8 * length file + 8 * size) ≤ max_cells
+  pub cells : 65536 + (8 * length file + 8 * size) ≤ max_cells_in 1
   pub blocks : length file ≤ 264 + max_blocks * size
 
 -- a machine and a content, both of bytes, fit the program that runs the machine by blocks of this size;
@@ -27,5 +27,5 @@ pub record FitsLexer (size : ℕ) (machine content : List ℕ) : Type 0 where
   pub block : IsBlockSize size
   pub machine_bytes : AllByRecursion (λ b. b < 256) machine
   pub content_bytes : AllByRecursion (λ b. b < 256) content
-  pub cells : (length machine + length content) + size ≤ max_cells
+  pub cells : (length machine + length content) + size ≤ max_cells_in 1
   pub blocks : length content ≤ max_blocks * size

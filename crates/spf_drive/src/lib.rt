@@ -127,7 +127,7 @@ fn drive_all<R: Threads + Wait + Sync, G: Gate + Sync>(
 }
 
 /// Runs the blocks of a construct whose chain has just started, by 1 to 64 workers, each in a thread of its own. Where a thread can't be
-/// started, the calling thread does its work. Each block is attempted from its guess, and again from its real value where the guess was
+/// started, the calling thread does its work. Each block is attempted from its guess, and again from its real row where the guess was
 /// wrong; afterwards the chain has ended. `job` is the construct with the memory at its entry. The gate is called before and after each
 /// attempt. It waits until all workers have ended.
 ///

@@ -19,6 +19,8 @@ use Rattle.spf_findings.specs.Parts as parts
 use Rattle.spf_effect_soundness.proofs.Ways.{keeps-bind}
 use Rattle.spf_effect_soundness.proofs.Meeting.{IsWithin, bound_at, IsAmong, EndsWith, Meets, AreWithin, EachWithin, IsKnown}
 use Rattle.spf_effect_soundness.proofs.Meets.{meets-then, meets-post, meets-value}
+use Rattle.spf_effect_soundness.proofs.Leaves.{meets-onward}
+use Rattle.spf_ast.proofs.GoingOn.{block-goes, lawful-keeps}
 use Rattle.spf_effect_soundness.proofs.Expressions.{expression-meets}
 use Rattle.spf_effect_soundness.proofs.Slots.{IsScope}
 use Rattle.spf_effect_soundness.proofs.Statements.{block-meets}
@@ -84,7 +86,7 @@ function-meets p place g k calls f lawful known bounds values s count within =
     let len : size ≤ length own = simp (length-append, length-replicate) (room size (length values)) in
     let fits : f.params + declared_in f.body ≤ size = omega (arith, lawful.slots) in
     own-meets g.extents k _ _ s.slots _
-    (meets-then (block-meets g v k (names_at p place f.slots) false size known f.body (parameters f.params) env lawful.body (λ x e. e) scope fits (record { slots = own; output = s.output }) len (parameters-within k v.is_assigned 0 (size - length bounds) bounds values _ within))
+    (meets-then (meets-onward (block-goes g f.body (lawful-keeps (names_at p place f.slots) false (parameters f.params) f.body lawful.body refl) (record { slots = own; output = s.output })) (block-meets g v k (names_at p place f.slots) false size known f.body (parameters f.params) env lawful.body (λ x e. e) scope fits (record { slots = own; output = s.output }) len (parameters-within k v.is_assigned 0 (size - length bounds) bounds values _ within)))
     (λ u e d h. meets-post (λ z e' d' r. r.1) (expression-meets g v k (names_at p place f.slots) (scope_at_end (parameters f.params) f.body) (bounds_at_end v env f.body) f.answer_line known f.answer lawful.answer e h.0)))
 
 -- ---- all functions

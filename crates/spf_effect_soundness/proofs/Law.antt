@@ -2,6 +2,7 @@
 use Rattle.std.proofs.Common.{◌≡◌, inl, inr, ℕ, ◌+◌, ◌<◌, ◌≤◌, true, List, [], ◌∷◌, length, ℤ, pos, refl, arith}
 use Rattle.std.specs.Prelude.{◌-ℤ◌, nat_le, nat_lt}
 use Rattle.std.proofs.lemmas.Int.{ints}
+use Rattle.spf_ast.specs.Carried.{Carried}
 use Rattle.spf_ast.specs.Interaction.{Ending, Value, Trapped}
 use Rattle.spf_ast.specs.Meaning.{extent_in}
 use Rattle.spf_ast.specs.Program.{extents_of}
@@ -57,6 +58,6 @@ keeps-to-its-effects p n construct part s lawful e setup =
     (cells-at g k found.may) (cells-at g k found.uncovered) ending (part_asks p construct part s) [] (λ c h. h)
     (met.holds nowhere [] (stored-nothing g k []))
   where
-    ending : (a : Ending ℤ) (d : List ℕ) → Grows [] d → EndsWith (extents_of p (length s.input)) s.number (part_finds p construct part nowhere).written AnyEnd a d → keeping.HasStored p construct part s a d
+    ending : (a : Ending Carried) (d : List ℕ) → Grows [] d → EndsWith (extents_of p (length s.input)) s.number (part_finds p construct part nowhere).written AnyEnd a d → keeping.HasStored p construct part s a d
     ending (Value z state) d grows h = λ array place factor offset written at below. h.0 array factor offset ((extent_in (extents_of p (length s.input)) array).0 + place) place written (record { inside = below; is = refl }) at
     ending (Trapped trap output) d grows h = tt

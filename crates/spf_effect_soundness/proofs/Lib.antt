@@ -1,6 +1,7 @@
 pub mod Ways
 pub mod Meeting
 pub mod Meets
+pub mod Leaves
 pub mod Products
 pub mod Within
 pub mod Expressions

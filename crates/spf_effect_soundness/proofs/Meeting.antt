@@ -1,6 +1,6 @@
 -- The cells of ranges at a block, and that a form does no more than is found in it.
 use Rattle.std.specs.Prelude.{◌≡◌, ◌⊎◌, ℕ, ◌+◌, ◌<◌, true, List, [], ◌∷◌, length, ℤ, pos, ◌+ℤ◌, ◌≤ℤ◌, slice_index_or, slice_index}
-use Rattle.spf_ast.specs.Interaction.{Interaction, State, Ending, Value, Trapped}
+use Rattle.spf_ast.specs.Interaction.{Interaction, Flow, Onward, Broken, State, Ending, Value, Trapped}
 use Rattle.spf_ast.specs.Meaning.{Environment, Extent, extent_in}
 use Rattle.spf_ast.specs.Lawful.{Names, IsCallable}
 use Rattle.spf_region.specs.declared.bound.Bound.{Bound}
@@ -54,6 +54,16 @@ EndsWith g k w post (Trapped t out) done = Unit {0}
 -- from what is written, the tree does no more than is found
 pub record Meets {A : Type 0} (g : List Extent) (k : ℤ) (finds : Finds) (post : A → State → List ℕ → Type 0) (t : Interaction (Ending A)) : Type 0 where
   pub holds : (w : Offsets) (done : List ℕ) → AreStored g k w done → Keeps (IsAmong g k (finds w).may) (IsAmong g k (finds w).uncovered) (EndsWith g k (finds w).written post) done t
+
+-- an end of a statement: where it goes on, all that is surely written is stored; where it broke off, or trapped, that isn't so
+abbrev pub LeavesWith : List Extent → ℤ → Offsets → (onward broken : State → List ℕ → Type 0) → Ending Flow → List ℕ → Type 0
+LeavesWith g k w onward broken (Value Onward s) done = AreStored g k w done × onward s done
+LeavesWith g k w onward broken (Value Broken s) done = broken s done
+LeavesWith g k w onward broken (Trapped t out) done = Unit {0}
+
+-- from what is written, the statement does no more than is found, and is left so
+pub record Leaves (g : List Extent) (k : ℤ) (finds : Finds) (onward broken : State → List ℕ → Type 0) (t : Interaction (Ending Flow)) : Type 0 where
+  pub holds : (w : Offsets) (done : List ℕ) → AreStored g k w done → Keeps (IsAmong g k (finds w).may) (IsAmong g k (finds w).uncovered) (LeavesWith g k (finds w).written onward broken) done t
 
 -- each slot holds a value within its bound
 abbrev pub AreWithin : ℤ → List Bound → List ℤ → Type 0

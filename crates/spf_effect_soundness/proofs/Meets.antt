@@ -78,7 +78,7 @@ meets-as {A} {g} {k} {f} {h} {mid} {post} {t} less p m = record {
     ending w done stored (Value a s) d grows i = (less.written w done d stored grows i.0, p a s d i.1)
     ending w done stored (Trapped t' out) d grows i = tt
 
-less-same : (g : List Extent) (k : ℤ) (f : Finds) → IsLess g k f f
+pub less-same : (g : List Extent) (k : ℤ) (f : Finds) → IsLess g k f f
 less-same g k f = record { may = λ w c h. h; uncovered = λ w c h. h; written = λ w done d p q r. r }
 
 pub meets-post : {A : Type 0} {g : List Extent} {k : ℤ} {f : Finds} {mid post : A → State → List ℕ → Type 0} {t : Interaction (Ending A)} → ((a : A) (s : State) (d : List ℕ) → mid a s d → post a s d) → Meets g k f mid t → Meets g k f post t
@@ -90,11 +90,12 @@ meets-then m n = meets-then-grown m (λ a s d h. meets-post (λ b e d' i grows. 
 pub meets-perhaps : {A : Type 0} {g : List Extent} {k : ℤ} {f : Finds} {post : A → State → List ℕ → Type 0} {t : Interaction (Ending A)} → Meets g k f post t → Meets g k (perhaps f) post t
 meets-perhaps {A} {g} {k} {f} m = meets-as (record { may = λ w c h. h; uncovered = λ w c h. h; written = λ w done d p grows r a q o cell place e i j. grows cell (p a q o cell place e i j) }) (λ a s d h. h) m
 
-pub meets-either-left : {A : Type 0} {g : List Extent} {k : ℤ} {f : Finds} (h : Finds) {post : A → State → List ℕ → Type 0} {t : Interaction (Ending A)} → Meets g k f post t → Meets g k (either f h) post t
-meets-either-left {A} {g} {k} {f} h m = meets-as (record { may = λ w c i. among-left g k (f w).may (h w).may c i; uncovered = λ w c i. among-left g k (f w).uncovered (h w).uncovered c i; written = λ w done d p grows r a q o cell place e i j. r a q o cell place (and-left ((f w).written a q o) _ e) i j }) (λ a s d i. i) m
+-- one of two
+pub less-left : (g : List Extent) (k : ℤ) (f h : Finds) → IsLess g k f (either f h)
+less-left g k f h = record { may = λ w c i. among-left g k (f w).may (h w).may c i; uncovered = λ w c i. among-left g k (f w).uncovered (h w).uncovered c i; written = λ w done d p grows r a q o cell place e i j. r a q o cell place (and-left ((f w).written a q o) _ e) i j }
 
-pub meets-either-right : {A : Type 0} {g : List Extent} {k : ℤ} (f : Finds) {h : Finds} {post : A → State → List ℕ → Type 0} {t : Interaction (Ending A)} → Meets g k h post t → Meets g k (either f h) post t
-meets-either-right {A} {g} {k} f {h} m = meets-as (record { may = λ w c i. among-right g k (f w).may (h w).may c i; uncovered = λ w c i. among-right g k (f w).uncovered (h w).uncovered c i; written = λ w done d p grows r a q o cell place e i j. r a q o cell place (and-right ((f w).written a q o) _ e) i j }) (λ a s d i. i) m
+pub less-right : (g : List Extent) (k : ℤ) (f h : Finds) → IsLess g k h (either f h)
+less-right g k f h = record { may = λ w c i. among-right g k (f w).may (h w).may c i; uncovered = λ w c i. among-right g k (f w).uncovered (h w).uncovered c i; written = λ w done d p grows r a q o cell place e i j. r a q o cell place (and-right ((f w).written a q o) _ e) i j }
 
 less-nothing : (g : List Extent) (k : ℤ) (f : Finds) → IsLess g k (f then finds_nothing) f
 less-nothing g k f = record { may = λ w c h. among-nil g k (f w).may c h; uncovered = λ w c h. among-nil g k (f w).uncovered c h; written = λ w done d p q r. r }

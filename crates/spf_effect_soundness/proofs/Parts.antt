@@ -1,5 +1,5 @@
 -- Parts of top constructs do no more than is found in them.
-use Rattle.std.proofs.Common.{◌≡◌, ℕ, zero, suc, ◌+◌, ◌<◌, ◌≤◌, true, List, length, Some, ℤ, pos, refl, ◌∙◌, subst, arith}
+use Rattle.std.proofs.Common.{◌≡◌, ℕ, zero, suc, ◌+◌, ◌<◌, ◌≤◌, true, List, [], ◌∷◌, length, Some, ℤ, pos, refl, ◌∙◌, subst, arith}
 use Rattle.std.specs.Prelude.{◌*ℤ◌, slice_set, slice_get}
 use Rattle.std.proofs.lemmas.Int.{ints}
 use Rattle.std.proofs.lemmas.List.{length-set}
@@ -8,21 +8,24 @@ use Rattle.spf_ast.specs.declared.syntax.Part.{Part}
 use Rattle.spf_ast.specs.declared.syntax.Part.TheVariants.{Body, Producer, Consumer, Predictor}
 use Rattle.spf_ast.specs.Syntax.{Statement, Fold, Pair, Block, end, on_line, FoldHead, PairHead, By, Host, Program}
 use Rattle.spf_ast.specs.Syntax as syntax
+use Rattle.spf_ast.specs.Carried.{Carried, with_carried}
+use Rattle.spf_ast.proofs.GoingOn.{block-goes, lawful-keeps}
 use Rattle.spf_ast.specs.Interaction.{State}
 use Rattle.spf_ast.specs.Meaning.{Environment}
-use Rattle.spf_ast.specs.Construct.{Construct, fold, pair, constructs_in, guess_means, part_means}
+use Rattle.spf_ast.specs.Construct.{Construct, fold, pair, constructs_in, guess_means, guesses_mean, part_means}
 use Rattle.spf_ast.specs.Program.{extents_of, environment_of}
-use Rattle.spf_ast.specs.Lawful.{Names, Scope, behind, showing_fixed, in_predictor, in_body, declared_in, scope_after, scope_at_end, IsLawfulStatement, IsLawfulBlock, IsLawfulPredictor, IsScoped, names_at, nothing_declared}
+use Rattle.spf_ast.specs.Lawful.{Names, Scope, behind, in_predictor, in_body, in_producer, in_consumer, declared_in, scope_after, scope_at_end, IsLawfulStatement, IsLawfulBlock, IsLawfulPredictor, AreLawfulPredictors, IsScoped, names_at, nothing_declared}
 use Rattle.spf_ast.specs.Lawful as lawful
 use Rattle.spf_region.specs.declared.bound.Bound.{Bound}
 use Rattle.spf_region.specs.declared.bound.Bound.TheVariants.{Known, Unknown}
 use Rattle.spf_findings.specs.Forms.{Setting, bounds_at_end}
-use Rattle.spf_findings.specs.Parts.{main_setting, outside, within_fold, guess_finds, part_finds}
+use Rattle.spf_findings.specs.Parts.{main_setting, outside, within_fold, guess_finds, guesses_find, part_finds}
 use Rattle.spf_ast.specs.BlockRun.{Setup, IsSetup, part_asks}
 use Rattle.spf_effect_soundness.proofs.Meeting.{bound_at, Meets, AreWithin, IsKnown}
 use Rattle.spf_effect_soundness.proofs.Meets.{meets-then, meets-post, meets-after, meets-value}
-use Rattle.spf_effect_soundness.proofs.Expressions.{expression-meets}
-use Rattle.spf_effect_soundness.proofs.Slots.{IsScope, keep-len, within-other, within-declared, scope-declared, declared-other}
+use Rattle.spf_effect_soundness.proofs.Leaves.{meets-onward}
+use Rattle.spf_effect_soundness.proofs.Expressions.{expression-meets, arguments-meet}
+use Rattle.spf_effect_soundness.proofs.Slots.{IsScope, IsSame, keep-len, within-row, within-declared, same-refl, same-row, scope-declared, declared-other, each-lies, next-each}
 use Rattle.spf_effect_soundness.proofs.Statements.{IsOf, IsBlockOf, first-of, rest-of, one-of, other-of, block-meets}
 use Rattle.spf_effect_soundness.proofs.Functions.{unknown-all, known-before}
 
@@ -80,66 +83,84 @@ number-within p head k slots inside =
     (omega (arith, ints, one-mul k), omega (arith, ints, one-mul k))
 
 -- nothing is wanted of the end
-abbrev pub AnyEnd : ℤ → State → List ℕ → Type 0
-AnyEnd z e d = Unit {0}
+abbrev pub AnyEnd : Carried → State → List ℕ → Type 0
+AnyEnd row e d = Unit {0}
 
-guess-meets : (g : Environment) (v : Setting) (k : ℤ) (names : Names) (scope : Scope) (env : List Bound) (line : ℕ) → IsKnown g v k names → (predict : syntax.Predictor) → IsLawfulPredictor names scope predict → (t : State) → AreWithin k env t.slots → Meets g.extents k (guess_finds v env predict) AnyEnd (guess_means g line predict t)
-guess-meets g v k names scope env line known (By guess) l t p = meets-post (λ z e d h. tt) (expression-meets g v k names scope env line known guess l t p)
-guess-meets g v k names scope env line known (Host number) l t p = meets-value (λ d. tt)
+-- the guess of one part of a row
+guess-meets : (g : Environment) (v : Setting) (k : ℤ) (names : Names) (scope : Scope) (env : List Bound) (line : ℕ) → IsKnown g v k names → (predict : syntax.Predictor) → IsLawfulPredictor names scope predict → (t : State) → AreWithin k env t.slots → Meets g.extents k (guess_finds v env predict) (λ z e d. e.slots ≡ t.slots) (guess_means g line predict t)
+guess-meets g v k names scope env line known (By guess) l t p = meets-post (λ z e d h. h.0) (expression-meets g v k names scope env line known guess l t p)
+guess-meets g v k names scope env line known (Host number) l t p = meets-value (λ d. refl)
+
+-- the guesses of all parts
+guesses-meet : (g : Environment) (v : Setting) (k : ℤ) (names : Names) (scope : Scope) (env : List Bound) (line : ℕ) → IsKnown g v k names → (predict : List syntax.Predictor) → AreLawfulPredictors names scope predict → (t : State) → AreWithin k env t.slots → Meets g.extents k (guesses_find v env predict) AnyEnd (guesses_mean g line predict t)
+guesses-meet g v k names scope env line known [] l t p = meets-value (λ d. tt)
+guesses-meet g v k names scope env line known (first ∷ rest) l t p =
+    meets-then (guess-meets g v k names scope env line known first l.0 t p)
+    (λ z e d h. meets-after (guesses-meet g v k names scope env line known rest l.1 e (rw h p)) (λ zs e' d' h'. meets-value (λ d''. tt)))
 
 -- ---- parts
 
-body-part : (p : Program) (g : Environment) (k w : ℤ) (line : ℕ) (head : FoldHead) (body : Block) (t : State) → IsKnown g (main_setting p) k (main_names p) → Stands p (fold line head body) → length t.slots ≡ length p.slots → Meets g.extents k (part_finds p (fold line head body) Body) AnyEnd (part_means g (fold line head body) Body k w t)
+body-part : (p : Program) (g : Environment) (k : ℤ) (w : Carried) (line : ℕ) (head : FoldHead) (body : Block) (t : State) → IsKnown g (main_setting p) k (main_names p) → Stands p (fold line head body) → length t.slots ≡ length p.slots → Meets g.extents k (part_finds p (fold line head body) Body) AnyEnd (part_means g (fold line head body) Body k w t)
 body-part p g k w line head body t known at len =
     let v : Setting = main_setting p in
     let l = at.is in
     let room = at.room in
     let here : Scope = in_body at.scope head.carried head.block in
     let env : List Bound = within_fold p head in
-    let inside : head.block < length t.slots = omega (arith, l.4.0, room, len) in
+    let is : head.block ≡ at.scope.next + length head.carried = l.4.0 ∙ next-each head.carried at.scope in
+    let inside : head.block < length t.slots = omega (arith, is, room, len) in
     let first : List ℤ = slice_set t.slots head.block k in
-    let other : bound_at env head.carried ≡ Unknown = declared-other v head.block head.carried (Known (pos 1) (pos 0) (pos 0)) (outside p) (λ e. absurd (omega (arith, l.3.0, l.4.0, e))) ∙ unknown-all (length p.slots) head.carried in
-    let within : AreWithin k env (slice_set first head.carried w) = within-other k env first head.carried w (number-within p head k t.slots inside) other in
-    let scope : IsScope v here.next env = scope-declared v head.block here.next (outside p) head.block (Known (pos 1) (pos 0) (pos 0)) refl (omega (arith, l.4.0)) (outside-scope p head.block) in
-    let len' : length p.slots ≤ length (slice_set first head.carried w) = keep-len (length-set first head.carried w ∙ length-set t.slots head.block k) (omega (arith, len)) in
-    meets-then (block-meets g v k (main_names p) true (length p.slots) known body here env l.6 at.of scope (omega (arith, room)) (record t { slots = slice_set first head.carried w }) len' within)
+    let new : List ℤ = with_carried head.carried w first in
+    let within : AreWithin k env new = within-row k env first head.carried w (number-within p head k t.slots inside) (λ x c. other x (omega (arith, is, (each-lies (main_names p) at.scope head.carried l.3 x c).1))) in
+    let scope : IsScope v here.next env = scope-declared v head.block here.next (outside p) head.block (Known (pos 1) (pos 0) (pos 0)) refl (omega (arith, is)) (outside-scope p head.block) in
+    let size : IsSame v [] 0 first new = same-row v [] 0 first first head.carried w (same-refl v [] 0 first) (λ x c. omega arith) in
+    let len' : length p.slots ≤ length new = keep-len (size.size ∙ length-set t.slots head.block k) (omega (arith, len)) in
+    meets-then (meets-onward (block-goes g body (lawful-keeps (main_names p) true here body l.6 refl) (record t { slots = new }))
+    (block-meets g v k (main_names p) true (length p.slots) known body here env l.6 at.of scope (omega (arith, room)) (record t { slots = new }) len' within))
     (λ u e d h. meets-post (λ z e' d' r. tt)
-    (expression-meets g v k (main_names p) (scope_at_end here body) (bounds_at_end v env body) head.next_line known head.next l.7 e h.0))
+    (arguments-meet g v k (main_names p) (scope_at_end here body) (bounds_at_end v env body) head.next_line known head.next l.7 e h.0))
+  where
+    other : (x : ℕ) → x < head.block → bound_at (within_fold p head) x ≡ Unknown
+    other x below = declared-other (main_setting p) head.block x (Known (pos 1) (pos 0) (pos 0)) (outside p) (λ e. absurd (omega (arith, below, e))) ∙ unknown-all (length p.slots) x
 
-producer-part : (p : Program) (g : Environment) (k w : ℤ) (line : ℕ) (head : PairHead) (producer consumer : Block) (t : State) → IsKnown g (main_setting p) k (main_names p) → Stands p (pair line head producer consumer) → length t.slots ≡ length p.slots → Meets g.extents k (part_finds p (pair line head producer consumer) Producer) AnyEnd (part_means g (pair line head producer consumer) Producer k w t)
+producer-part : (p : Program) (g : Environment) (k : ℤ) (w : Carried) (line : ℕ) (head : PairHead) (producer consumer : Block) (t : State) → IsKnown g (main_setting p) k (main_names p) → Stands p (pair line head producer consumer) → length t.slots ≡ length p.slots → Meets g.extents k (part_finds p (pair line head producer consumer) Producer) AnyEnd (part_means g (pair line head producer consumer) Producer k w t)
 producer-part p g k w line head producer consumer t known at len =
     let v : Setting = main_setting p in
     let l = at.is in
     let room = at.room in
-    let here : Scope = behind 1 at.scope in
-    meets-then (block-meets g v k (main_names p) true (length p.slots) known producer here (outside p) l.1 (one-of v producer consumer at.of) (outside-scope p here.next) (omega (arith, room)) t (omega (arith, len)) (outside-within p k t.slots))
+    let here : Scope = in_producer at.scope head.carried in
+    meets-then (meets-onward (block-goes g producer (lawful-keeps (main_names p) true here producer l.1 refl) t)
+    (block-meets g v k (main_names p) true (length p.slots) known producer here (outside p) l.1 (one-of v producer consumer at.of) (outside-scope p here.next) (omega (arith, room)) t (omega (arith, len)) (outside-within p k t.slots)))
     (λ u e d h. meets-post (λ z e' d' r. tt)
-    (expression-meets g v k (main_names p) (scope_at_end here producer) (bounds_at_end v (outside p) producer) head.give_line known head.give l.2 e h.0))
+    (arguments-meet g v k (main_names p) (scope_at_end here producer) (bounds_at_end v (outside p) producer) head.give_line known head.give l.2 e h.0))
 
-consumer-part : (p : Program) (g : Environment) (k w : ℤ) (line : ℕ) (head : PairHead) (producer consumer : Block) (t : State) → IsKnown g (main_setting p) k (main_names p) → Stands p (pair line head producer consumer) → length t.slots ≡ length p.slots → Meets g.extents k (part_finds p (pair line head producer consumer) Consumer) AnyEnd (part_means g (pair line head producer consumer) Consumer k w t)
+consumer-part : (p : Program) (g : Environment) (k : ℤ) (w : Carried) (line : ℕ) (head : PairHead) (producer consumer : Block) (t : State) → IsKnown g (main_setting p) k (main_names p) → Stands p (pair line head producer consumer) → length t.slots ≡ length p.slots → Meets g.extents k (part_finds p (pair line head producer consumer) Consumer) AnyEnd (part_means g (pair line head producer consumer) Consumer k w t)
 consumer-part p g k w line head producer consumer t known at len =
     let v : Setting = main_setting p in
     let l = at.is in
     let room = at.room in
-    let here : Scope = behind (1 + declared_in producer) (showing_fixed head.carried at.scope) in
-    let new : List ℤ = slice_set t.slots head.carried w in
-    meets-after (block-meets g v k (main_names p) true (length p.slots) known consumer here (outside p) l.4 (other-of v producer consumer at.of) (outside-scope p here.next) (omega (arith, room)) (record t { slots = new }) (keep-len (length-set t.slots head.carried w) (omega (arith, len))) (outside-within p k new))
+    let here : Scope = in_consumer at.scope head.carried producer in
+    let new : List ℤ = with_carried head.carried w t.slots in
+    let size : IsSame v [] 0 t.slots new = same-row v [] 0 t.slots t.slots head.carried w (same-refl v [] 0 t.slots) (λ x c. omega arith) in
+    meets-after (meets-onward (block-goes g consumer (lawful-keeps (main_names p) true here consumer l.4 refl) (record t { slots = new }))
+    (block-meets g v k (main_names p) true (length p.slots) known consumer here (outside p) l.4 (other-of v producer consumer at.of) (outside-scope p here.next) (omega (arith, room)) (record t { slots = new }) (keep-len size.size (omega (arith, len))) (outside-within p k new)))
     (λ u e d h. meets-value (λ d'. tt))
 
-part-meets : (p : Program) (construct : Construct) (part : Part) (g : Environment) (k w : ℤ) (t : State) → IsKnown g (main_setting p) k (main_names p) → Stands p construct → length t.slots ≡ length p.slots → Meets g.extents k (part_finds p construct part) AnyEnd (part_means g construct part k w t)
+part-meets : (p : Program) (construct : Construct) (part : Part) (g : Environment) (k : ℤ) (w : Carried) (t : State) → IsKnown g (main_setting p) k (main_names p) → Stands p construct → length t.slots ≡ length p.slots → Meets g.extents k (part_finds p construct part) AnyEnd (part_means g construct part k w t)
 part-meets p (fold line head body) Body g k w t known at len = body-part p g k w line head body t known at len
 part-meets p (fold line head body) Producer g k w t known at len = meets-value (λ d. tt)
 part-meets p (fold line head body) Consumer g k w t known at len = meets-value (λ d. tt)
 part-meets p (fold line head body) Predictor g k w t known at len =
     let l = at.is in
     let room = at.room in
-    let inside : head.block < length t.slots = omega (arith, l.4.0, room, len) in
-    guess-meets g (main_setting p) k (main_names p) (in_predictor at.scope head.block) (within_fold p head) line known head.predict l.5 (record t { slots = slice_set t.slots head.block k }) (number-within p head k t.slots inside)
+    let is : head.block ≡ at.scope.next + length head.carried = l.4.0 ∙ next-each head.carried at.scope in
+    let inside : head.block < length t.slots = omega (arith, is, room, len) in
+    guesses-meet g (main_setting p) k (main_names p) (in_predictor at.scope head.block) (within_fold p head) line known head.predict l.5 (record t { slots = slice_set t.slots head.block k }) (number-within p head k t.slots inside)
 part-meets p (pair line head producer consumer) Body g k w t known at len = meets-value (λ d. tt)
 part-meets p (pair line head producer consumer) Producer g k w t known at len = producer-part p g k w line head producer consumer t known at len
 part-meets p (pair line head producer consumer) Consumer g k w t known at len = consumer-part p g k w line head producer consumer t known at len
 part-meets p (pair line head producer consumer) Predictor g k w t known at len =
-    guess-meets g (main_setting p) k (main_names p) at.scope (outside p) line known head.predict (at.is).3 t (outside-within p k t.slots)
+    guesses-meet g (main_setting p) k (main_names p) at.scope (outside p) line known head.predict (at.is).3 t (outside-within p k t.slots)
 
 -- from any setup
 pub asks-meets : (p : Program) (construct : Construct) (part : Part) (s : Setup) → IsScoped p → IsSetup p s → Stands p construct → Meets (extents_of p (length s.input)) s.number (part_finds p construct part) AnyEnd (part_asks p construct part s)

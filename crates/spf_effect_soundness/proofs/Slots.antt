@@ -1,12 +1,14 @@
 -- Slots whose bounds are known, and slots that stay as they are.
-use Rattle.std.proofs.Common.{◌≡◌, ◌⊎◌, ◌≢◌, inl, inr, ℕ, ◌<◌, ◌≤◌, Bool, true, false, List, length, ℤ, pos, refl, sym, ap, ◌∙◌, subst, arith}
+use Rattle.std.proofs.Common.{◌≡◌, ◌⊎◌, ◌≢◌, inl, inr, ℕ, zero, suc, ◌+◌, ◌<◌, ◌≤◌, Bool, true, false, List, [], ◌∷◌, length, drop, ℤ, pos, refl, sym, ap, ◌∙◌, subst, arith}
 use Rattle.std.specs.Prelude.{if◌then◌else◌, slice_index_or, slice_set}
 use Rattle.std.specs.List.{Contains}
 use Rattle.std.proofs.lemmas.List.{get_or-set_same, get_or-set_other, length-set, get_or_past}
 use Rattle.spf_region.specs.declared.bound.Bound.{Bound}
 use Rattle.spf_region.specs.declared.bound.Bound.TheVariants.{Unknown}
 use Rattle.spf_findings.specs.Forms.{Setting, declared}
-use Rattle.spf_effect_soundness.proofs.Ways.{Grows}
+use Rattle.spf_ast.specs.Carried.{Carried, with_carried}
+use Rattle.spf_ast.specs.Lawful.{Names, Scope, behind, showing, showing_each, DeclaresEach}
+use Rattle.spf_effect_soundness.proofs.Ways.{Grows, in-first, in-rest, in-none}
 use Rattle.spf_effect_soundness.proofs.Meeting.{IsWithin, bound_at, AreWithin}
 
 -- only slots below n that no assignment sets have known bounds
@@ -75,6 +77,22 @@ same-set v fixed n a b x z p out = record { slots = λ y below un. get_or-set_ot
 pub same-slots : (v : Setting) (fixed : List ℕ) (n : ℕ) (a b c : List ℤ) → IsSame v fixed n a b → c ≡ b → IsSame v fixed n a c
 same-slots v fixed n a b c p e = rw e p
 
+-- slots are set to the words of a row that aren't among them
+pub same-row : (v : Setting) (fixed : List ℕ) (n : ℕ) (a b : List ℤ) (carried : List ℕ) (row : Carried) → IsSame v fixed n a b → ((x : ℕ) → Contains carried x → n ≤ x) → IsSame v fixed n a (with_carried carried row b)
+same-row v fixed n a b [] row p out = p
+same-row v fixed n a b (x ∷ others) row p out =
+    same-row v fixed n a (slice_set b x (slice_index_or row 0 (pos 0))) others (drop 1 row)
+    (same-set v fixed n a b x (slice_index_or row 0 (pos 0)) p (inl (out x (in-first x x others refl))))
+    (λ y c. out y (in-rest y x others c))
+
+-- and whose bounds are unknown
+pub within-row : (k : ℤ) (env : List Bound) (slots : List ℤ) (carried : List ℕ) (row : Carried) → AreWithin k env slots → ((x : ℕ) → Contains carried x → bound_at env x ≡ Unknown) → AreWithin k env (with_carried carried row slots)
+within-row k env slots [] row p unknown = p
+within-row k env slots (x ∷ others) row p unknown =
+    within-row k env (slice_set slots x (slice_index_or row 0 (pos 0))) others (drop 1 row)
+    (within-other k env slots x (slice_index_or row 0 (pos 0)) p (unknown x (in-first x x others refl)))
+    (λ y c. unknown y (in-rest y x others c))
+
 -- what was known before still holds
 pub within-back : (v : Setting) (fixed : List ℕ) (k : ℤ) (n : ℕ) (env : List Bound) (a b : List ℤ) → IsScope v n env → AreWithin k env a → IsSame v fixed n a b → AreWithin k env b
 within-back v fixed k n env a b scope p same x = go (or-at-least x n) (v.is_assigned x) refl
@@ -112,3 +130,25 @@ declared-other v x y b env ne = go (v.is_assigned x)
     go : (t : Bool) → bound_at (if t then env else slice_set env x b) y ≡ bound_at env y
     go true = refl
     go false = get_or-set_other env x y b Unknown ne
+
+-- ---- the slots of a row
+
+cons-cases : (first : ℕ) (rest : List ℕ) (x : ℕ) → Contains (first ∷ rest) x → (first ≡ x) ⊎ Contains rest x
+cons-cases first rest x h = go h.0 h.1 h.2
+  where
+    go : (i : ℕ) → i < length (first ∷ rest) → slice_index_or (first ∷ rest) i x ≡ x → (first ≡ x) ⊎ Contains rest x
+    go zero below e = inl e
+    go (suc i) below e = inr (i, omega (arith, below), e)
+
+-- the slots of the next declarations lie from the next one on, one after another
+pub each-lies : (names : Names) (scope : Scope) (slots : List ℕ) → DeclaresEach names scope slots → (x : ℕ) → Contains slots x → (scope.next ≤ x) × (x < scope.next + length slots)
+each-lies names scope [] d x c = in-none x c
+each-lies names scope (slot ∷ slots) d x c = go (cons-cases slot slots x c) (λ i. each-lies names (behind 1 (showing slot scope)) slots d.1 x i)
+  where
+    go : (slot ≡ x) ⊎ Contains slots x → (Contains slots x → (scope.next + 1 ≤ x) × (x < scope.next + 1 + length slots)) → (scope.next ≤ x) × (x < scope.next + length (slot ∷ slots))
+    go (inl e) later = let next = d.0.0 in (omega (arith, e, next), omega (arith, e, next))
+    go (inr i) later = let l = later i in (omega (arith, l.0), omega (arith, l.1))
+
+pub next-each : (slots : List ℕ) (scope : Scope) → (showing_each slots scope).next ≡ scope.next + length slots
+next-each [] scope = omega arith
+next-each (slot ∷ slots) scope = let l = next-each slots (behind 1 (showing slot scope)) in omega (arith, l)

@@ -5,7 +5,7 @@ use Rattle.std.specs.Ordering.{int_eq}
 use Rattle.std.proofs.lemmas.Int.{ints}
 use Rattle.std.proofs.lemmas.Bool.Decides.{Decides-int_eq, Decides-eqb}
 use Rattle.spf_ast.specs.declared.outcome.TrapKind.{TrapKind}
-use Rattle.spf_ast.specs.Interaction.{bind, State, Ending, Value, after_ending}
+use Rattle.spf_ast.specs.Interaction.{Flow, Onward, bind, State, Ending, Value, after_ending}
 use Rattle.spf_ast.specs.Meaning.{Extent, extent_in, cell_of, cells_of, checked, stores, stores_each}
 use Rattle.spf_region.specs.declared.bound.Bound.{Bound}
 use Rattle.spf_region.specs.declared.bound.Bound.TheVariants.{Known, Unknown}
@@ -82,7 +82,7 @@ store-meets g k a b z v line s within = go (cell_of (extent_in g a) z) refl
 
 -- ---- a fill
 
-each-keeps : (may bare : ℕ → Type 0) (ends : Ending (Unit {0}) → List ℕ → Type 0) (n c : ℕ) (v : ℤ) (s : State) (done : List ℕ) → ((j : ℕ) → j < n → may (c + j)) → ((d : List ℕ) → Grows done d → ((j : ℕ) → j < n → IsIn (c + j) d) → ends (Value tt s) d) → Keeps may bare ends done (stores_each c n v s)
+each-keeps : (may bare : ℕ → Type 0) (ends : Ending Flow → List ℕ → Type 0) (n c : ℕ) (v : ℤ) (s : State) (done : List ℕ) → ((j : ℕ) → j < n → may (c + j)) → ((d : List ℕ) → Grows done d → ((j : ℕ) → j < n → IsIn (c + j) d) → ends (Value Onward s) d) → Keeps may bare ends done (stores_each c n v s)
 each-keeps may bare ends zero c v s done m e = e done (λ d i. i) (λ j below. absurd (omega arith))
 each-keeps may bare ends (suc n) c v s done m e = (
   subst may (omega arith) (m 0 (omega arith)),

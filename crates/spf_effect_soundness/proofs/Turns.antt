@@ -5,7 +5,7 @@ use Rattle.std.specs.Ordering.{int_eq}
 use Rattle.std.specs.Int.{int_gap}
 use Rattle.std.proofs.lemmas.Int.{ints}
 use Rattle.std.proofs.lemmas.Bool.Decides.{Decides-int_eq}
-use Rattle.spf_ast.specs.Interaction.{State, Meaning}
+use Rattle.spf_ast.specs.Interaction.{Flow, Onward, Broken, State, Meaning, unless_ended}
 use Rattle.spf_ast.specs.Meaning.{Extent, for_turns}
 use Rattle.spf_region.specs.declared.bound.Bound.{Bound}
 use Rattle.spf_region.specs.declared.bound.Bound.TheVariants.{Known, Unknown}
@@ -18,17 +18,21 @@ use Rattle.spf_findings.specs.Found.{Finds, perhaps, Sweep, turn_bound, has_no_t
 use Rattle.spf_effect_soundness.proofs.Ways.{Grows}
 use Rattle.spf_effect_soundness.proofs.Meeting.{IsWithin, AreStored, Meets, AreSwept}
 use Rattle.spf_effect_soundness.proofs.Meets.{meets-post, meets-perhaps-nothing, meets-value, meets-again, meets-turn}
+use Rattle.spf_effect_soundness.proofs.Leaves.{ByFlow}
 use Rattle.spf_effect_soundness.proofs.Within.{kept-within}
 use Rattle.spf_effect_soundness.proofs.Stores.{stored-joined}
 
--- n turns from i upward, of which each keeps what holds between turns and brings what its number promises
-pub turns-meet : (g : List Extent) (k : ℤ) (f : Finds) (x : ℕ) (body : Meaning (Unit {0})) (between : State → Type 0) (brings : ℤ → List ℕ → Type 0) → ((z : ℤ) (d e : List ℕ) → Grows d e → brings z d → brings z e) → (n : ℕ) (i : ℤ) → ((z : ℤ) (s : State) → i ≤ℤ z → z <ℤ (i +ℤ pos n) → between s → Meets g k (perhaps f) (λ u e d. between e × brings z d) (body (record s { slots = slice_set s.slots x z }))) → (s : State) → between s → Meets g k (perhaps f) (λ u e d. between e × ((z : ℤ) → i ≤ℤ z → z <ℤ (i +ℤ pos n) → brings z d)) (for_turns n i x body s)
+-- how a turn is left: it keeps what holds between turns, and brings what its number promises, or what any number does where it broke off
+abbrev pub TurnEnds : (between : State → Type 0) (brings : ℤ → List ℕ → Type 0) → ℤ → Flow → State → List ℕ → Type 0
+TurnEnds between brings z = ByFlow (λ e d. between e × brings z d) (λ e d. between e × ((y : ℤ) (d' : List ℕ) → brings y d'))
+
+-- n turns from i upward, of which each is left so
+pub turns-meet : (g : List Extent) (k : ℤ) (f : Finds) (x : ℕ) (body : Meaning Flow) (between : State → Type 0) (brings : ℤ → List ℕ → Type 0) → ((z : ℤ) (d e : List ℕ) → Grows d e → brings z d → brings z e) → (n : ℕ) (i : ℤ) → ((z : ℤ) (s : State) → i ≤ℤ z → z <ℤ (i +ℤ pos n) → between s → Meets g k (perhaps f) (TurnEnds between brings z) (body (record s { slots = slice_set s.slots x z }))) → (s : State) → between s → Meets g k (perhaps f) (λ u e d. between e × ((z : ℤ) → i ≤ℤ z → z <ℤ (i +ℤ pos n) → brings z d)) (for_turns n i x body s)
 turns-meet g k f x body between brings grow zero i one s p =
     meets-perhaps-nothing f (meets-value (λ d. (p, λ z low high. absurd (omega (arith, ints)))))
 turns-meet g k f x body between brings grow (suc n) i one s p =
     meets-turn (meets-again f (one i s (omega (arith, ints)) (omega (arith, ints)) p)
-    (λ u e d h. meets-post (λ u' e' d' r grows. (r.0, λ z low high. earlier d' z (grow i d d' grows h.1) r.1 (lowest z low) high))
-    (turns-meet g k f x body between brings grow n (i +ℤ pos 1) (λ z s' low high q. one z s' (omega (arith, ints)) (omega (arith, ints)) q) e h.0)))
+    (after (turns-meet g k f x body between brings grow n (i +ℤ pos 1) (λ z s' low high q. one z s' (omega (arith, ints)) (omega (arith, ints)) q))))
   where
     lowest : (z : ℤ) → i ≤ℤ z → (i ≡ z) ⊎ ((i +ℤ pos 1) ≤ℤ z)
     lowest z low = grind (arith, ints)
@@ -36,6 +40,11 @@ turns-meet g k f x body between brings grow (suc n) i one s p =
     earlier : (d' : List ℕ) (z : ℤ) → brings i d' → ((y : ℤ) → (i +ℤ pos 1) ≤ℤ y → y <ℤ ((i +ℤ pos 1) +ℤ pos n) → brings y d') → (i ≡ z) ⊎ ((i +ℤ pos 1) ≤ℤ z) → z <ℤ (i +ℤ pos (suc n)) → brings z d'
     earlier d' z first rest (inl e) high = subst (λ y. brings y d') e first
     earlier d' z first rest (inr le) high = rest z le (omega (arith, ints))
+
+    after : ((e : State) → between e → Meets g k (perhaps f) (λ u e' d. between e' × ((z : ℤ) → (i +ℤ pos 1) ≤ℤ z → z <ℤ ((i +ℤ pos 1) +ℤ pos n) → brings z d)) (for_turns n (i +ℤ pos 1) x body e)) → (flow : Flow) (e : State) (d : List ℕ) → TurnEnds between brings i flow e d → Meets g k (perhaps f) (λ u e' d'. Grows d d' → between e' × ((z : ℤ) → i ≤ℤ z → z <ℤ (i +ℤ pos (suc n)) → brings z d')) (unless_ended (for_turns n (i +ℤ pos 1) x body) flow e)
+    after others Onward e d h =
+        meets-post (λ u e' d' r grows. (r.0, λ z low high. earlier d' z (grow i d d' grows h.1) r.1 (lowest z low) high)) (others e h.0)
+    after others Broken e d h = meets-perhaps-nothing f (meets-value (λ d' grows. (h.0, λ z low high. h.1 z d')))
 
 -- how far one number is above another
 pub far : (x y : ℤ) → x ≤ℤ y → (j : ℕ) × (y ≡ x +ℤ pos j) × (int_gap x y ≡ j)

@@ -4,6 +4,7 @@ use Rattle.std.specs.List.{Contains}
 use Rattle.spf_ast.specs.declared.syntax.Part.{Part}
 use Rattle.spf_ast.specs.Syntax.{Program}
 use Rattle.spf_ast.specs.Lawful.{IsLawful}
+use Rattle.spf_ast.specs.Carried.{Carried}
 use Rattle.spf_ast.specs.Interaction.{Ending, Value, Trapped}
 use Rattle.spf_ast.specs.Construct.{Construct, constructs_in}
 use Rattle.spf_ast.specs.Program.{extents_of}
@@ -26,7 +27,7 @@ AreStored extents k written stored =
     Contains stored ((slice_index_or extents array (0, 0)).0 + place)
 
 -- at an end with a value all that is surely written has been stored
-abbrev pub HasStored : Program → Construct → Part → Setup → Ending ℤ → List ℕ → Type 0
+abbrev pub HasStored : Program → Construct → Part → Setup → Ending Carried → List ℕ → Type 0
 HasStored p construct part s (Value value state) stored =
     AreStored (extents_of p (length s.input)) s.number (part_effects p construct part).must stored
 HasStored p construct part s (Trapped trap output) stored = Unit {0}
@@ -37,7 +38,7 @@ KeepsToItsEffects p construct part s =
     Keeps (IsAmong p s (part_effects p construct part).may) (IsAmong p s (part_effects p construct part).uncovered)
     (HasStored p construct part s) [] (part_asks p construct part s)
 
--- in a lawful program each part of each top construct does so, from any slots, at any block number and with any carried value
+-- in a lawful program each part of each top construct does so, from any slots, at any block number and with any carried row
 abbrev pub PartsKeepToTheirEffects : Type 0
 PartsKeepToTheirEffects =
     (p : Program) (n : ℕ) (construct : Construct) (part : Part) (s : Setup) → IsLawful p

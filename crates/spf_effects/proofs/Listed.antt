@@ -6,7 +6,7 @@ use Rattle.spf_ast.specs.declared.syntax.Part.{Part}
 use Rattle.spf_ast.specs.declared.syntax.Part.TheVariants.{Body, Producer, Consumer, Predictor}
 use Rattle.spf_ast.specs.Syntax.{Expression, Number, Local, Len, Input, Load, Call, Neg, Binary, Arguments, no_more, argument}
 use Rattle.spf_ast.specs.Syntax.{Condition, Compare, Both, Either, Not}
-use Rattle.spf_ast.specs.Syntax.{Statement, Let, Assign, Store, Fill, Emit, Fail, If, For, While, Do, Fold, Pair, Block, end, on_line, Function, Program, By, Host}
+use Rattle.spf_ast.specs.Syntax.{Statement, Let, Assign, Store, Fill, Emit, Fail, If, For, While, Do, Fold, Pair, Break, Block, end, on_line, Function, Program, By, Host}
 use Rattle.spf_ast.specs.Syntax as syntax
 use Rattle.spf_ast.specs.Construct.{Construct, fold, pair}
 use Rattle.spf_region.specs.declared.bound.Bound.{Bound}
@@ -16,8 +16,8 @@ use Rattle.spf_region.specs.Bounds.{is_small}
 use Rattle.spf_region.specs.Ranges.{Offsets, joined}
 use Rattle.spf_region.specs.Laws.{IsListed, SetsStayListed, ListsHaveNormalForms}
 use Rattle.spf_findings.specs.Found.{Found, Finds, finds_nothing, ◌then◌, perhaps, either, reads_element, writes_element, may_write_between, surely_writes_between, writes_range, Sweep, sweep_joined, sweeps_joined, swept, has_no_turn, turns, nowhere}
-use Rattle.spf_findings.specs.Forms.{Entered, Setting, expression_bound, argument_bounds, bounds_behind, bounds_at_end, bounds_in_turn, sweeps, expression_finds, arguments_find, condition_finds, statement_finds, block_finds, block_then}
-use Rattle.spf_findings.specs.Parts.{setting_in, own_bounds, entered, call_before, main_setting, outside, within_fold, guess_finds, part_finds, part_effects}
+use Rattle.spf_findings.specs.Forms.{Entered, Setting, expression_bound, argument_bounds, bounds_behind, bounds_at_end, bounds_in_turn, loop_sweeps, expression_finds, arguments_find, condition_finds, statement_finds, block_finds, block_then, block_then_row}
+use Rattle.spf_findings.specs.Parts.{setting_in, own_bounds, entered, call_before, main_setting, outside, within_fold, guess_finds, guesses_find, part_finds, part_effects}
 use Rattle.spf_effects.specs.Laws.{HasLists}
 
 -- what a form surely writes stays listed
@@ -131,16 +131,17 @@ module _ (laws : SetsStayListed) where
       statement_listed slots (If c first second) = followed (condition_listed slots c) (one_of (block_listed slots first) (block_listed slots second))
       statement_listed slots (For slot low high body) =
           followed (expression_listed slots low) (followed (expression_listed slots high)
-          (turned (expression_bound g slots low) (expression_bound g slots high) (sweeps slot body) (block_finds g (bounds_in_turn g slots slot low high) body)))
+          (turned (expression_bound g slots low) (expression_bound g slots high) (loop_sweeps slot body) (block_finds g (bounds_in_turn g slots slot low high) body)))
       statement_listed slots (While c most body) = followed (condition_listed slots c) (maybe (block_finds g slots body))
       statement_listed slots (Do f given) = followed (arguments_listed slots given) (calls.finds f (argument_bounds g slots given))
       statement_listed slots (Fold head body) =
-          followed (expression_listed slots head.start) (followed (expression_listed slots head.low) (followed (expression_listed slots head.high)
+          followed (arguments_listed slots head.start) (followed (expression_listed slots head.low) (followed (expression_listed slots head.high)
           (turned (expression_bound g slots head.low) (expression_bound g slots head.high) []
           (let inner = bounds_in_turn g slots head.block head.low head.high in
-          block_finds g inner body then expression_finds g (bounds_at_end g inner body) head.next))))
+          block_finds g inner body then arguments_find g (bounds_at_end g inner body) head.next))))
       statement_listed slots (Pair head producer consumer) =
-          followed (block_listed slots producer) (followed (expression_listed (bounds_at_end g slots producer) head.give) (block_listed slots consumer))
+          followed (block_listed slots producer) (followed (arguments_listed (bounds_at_end g slots producer) head.give) (block_listed slots consumer))
+      statement_listed slots Break = nothing
 
       block_listed : (slots : List Bound) (b : Block) → StaysListed (block_finds g slots b)
       block_listed slots end = nothing
@@ -149,9 +150,16 @@ module _ (laws : SetsStayListed) where
     then_listed : (slots : List Bound) (b : Block) (last : Expression) → StaysListed (block_then g slots b last)
     then_listed slots b last = followed (block_listed slots b) (expression_listed (bounds_at_end g slots b) last)
 
+    row_listed : (slots : List Bound) (b : Block) (last : Arguments) → StaysListed (block_then_row g slots b last)
+    row_listed slots b last = followed (block_listed slots b) (arguments_listed (bounds_at_end g slots b) last)
+
     guess_listed : (slots : List Bound) (p : syntax.Predictor) → StaysListed (guess_finds g slots p)
     guess_listed slots (By guess) = expression_listed slots guess
     guess_listed slots (Host number) = nothing
+
+    guesses_listed : (slots : List Bound) (all : List syntax.Predictor) → StaysListed (guesses_find g slots all)
+    guesses_listed slots [] = nothing
+    guesses_listed slots (first ∷ rest) = followed (guess_listed slots first) (guesses_listed slots rest)
 
   -- ---- calls and parts
 
@@ -173,13 +181,13 @@ module _ (laws : SetsStayListed) where
   }
 
   part_listed : (p : Program) (k : Construct) (part : Part) → StaysListed (part_finds p k part)
-  part_listed p (fold line head body) Body = then_listed (main_setting p) (calls_listed p.functions (length p.functions)) (within_fold p head) body head.next
-  part_listed p (fold line head body) Predictor = guess_listed (main_setting p) (calls_listed p.functions (length p.functions)) (within_fold p head) head.predict
+  part_listed p (fold line head body) Body = row_listed (main_setting p) (calls_listed p.functions (length p.functions)) (within_fold p head) body head.next
+  part_listed p (fold line head body) Predictor = guesses_listed (main_setting p) (calls_listed p.functions (length p.functions)) (within_fold p head) head.predict
   part_listed p (fold line head body) Producer = nothing
   part_listed p (fold line head body) Consumer = nothing
-  part_listed p (pair line head producer consumer) Producer = then_listed (main_setting p) (calls_listed p.functions (length p.functions)) (outside p) producer head.give
+  part_listed p (pair line head producer consumer) Producer = row_listed (main_setting p) (calls_listed p.functions (length p.functions)) (outside p) producer head.give
   part_listed p (pair line head producer consumer) Consumer = block_listed (main_setting p) (calls_listed p.functions (length p.functions)) (outside p) consumer
-  part_listed p (pair line head producer consumer) Predictor = guess_listed (main_setting p) (calls_listed p.functions (length p.functions)) (outside p) head.predict
+  part_listed p (pair line head producer consumer) Predictor = guesses_listed (main_setting p) (calls_listed p.functions (length p.functions)) (outside p) head.predict
   part_listed p (pair line head producer consumer) Body = nothing
 
   pub effects_listed : ListsHaveNormalForms → (p : Program) (k : Construct) (part : Part) → HasLists (part_effects p k part)

@@ -2,7 +2,7 @@
 use Rattle.std.specs.Prelude.{◌∷◌, [], pos}
 use Rattle.spf_ast.specs.declared.syntax.Op.TheVariants.{Add, Mul, And}
 use Rattle.spf_ast.specs.declared.syntax.Part.TheVariants.{Body}
-use Rattle.spf_ast.specs.declared.syntax.Test.TheVariants.{Eq}
+use Rattle.spf_ast.specs.declared.syntax.Test.TheVariants.{Eq, Gt}
 use Rattle.spf_ast.specs.Syntax.{
   Expression,
   Number,
@@ -18,6 +18,7 @@ use Rattle.spf_ast.specs.Syntax.{
   If,
   For,
   Fold,
+  Break,
   Block,
   end,
   on_line,
@@ -32,21 +33,22 @@ use Rattle.spf_findings.specs.Parts.{PartEffects, part_effects}
 -- a fold over blocks 0 to 2 with the carried slot 0 and the block number in slot 1
 abbrev pub head : Expression → FoldHead
 head next = record {
-  carried = 0;
-  start = Number (pos 0);
+  carried = 0 ∷ [];
+  start = argument (Number (pos 0)) no_more;
   block = 1;
   low = Number (pos 0);
   high = Number (pos 3);
-  predict = By (Number (pos 1));
-  next = next;
+  predict = By (Number (pos 1)) ∷ [];
+  next = argument next no_more;
   next_line = 1;
 }
 
 abbrev pub program_of : Expression → Block → Program
 program_of next body = record {
+  version = 2;
   arrays = record { name = []; factor = pos 0; offset = pos 6; line = 1 } ∷ [];
   functions = [];
-  slots = [] ∷ [] ∷ [] ∷ [];
+  slots = [] ∷ [] ∷ [] ∷ [] ∷ [];
   main = on_line 1 (Fold (head next) body) end;
 }
 
@@ -76,6 +78,20 @@ abbrev pub swept_block : PartEffects
 swept_block =
     body_effects (Local 0)
     (on_line 1 (For 2 first (Binary Add first (Number (pos 2))) (on_line 1 (Store 0 (Local 2) (Local 0)) end)) end)
+
+-- for i in 2 * k..2 * k + 2 { out[i] = s; if i > s { break; } } next s;
+abbrev pub broken_block : PartEffects
+broken_block =
+    body_effects (Local 0)
+    (on_line 1 (For 2 first (Binary Add first (Number (pos 2)))
+    (on_line 1 (Store 0 (Local 2) (Local 0)) (on_line 1 (If (Compare Gt (Local 2) (Local 0)) (on_line 1 Break end) end) end))) end)
+
+-- for i in 2 * k..2 * k + 2 { out[i] = s; for j in 0..i { break; } } next s;
+abbrev pub inner_break : PartEffects
+inner_break =
+    body_effects (Local 0)
+    (on_line 1 (For 2 first (Binary Add first (Number (pos 2)))
+    (on_line 1 (Store 0 (Local 2) (Local 0)) (on_line 1 (For 3 (Number (pos 0)) (Local 2) (on_line 1 Break end)) end))) end)
 
 -- fn put(p) { out[p] = 1; return p + 1; }
 abbrev pub put : Function

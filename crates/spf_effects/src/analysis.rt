@@ -1,5 +1,5 @@
 //! The analysis of parts of top constructs.
-ghost use Rattle.std.specs.Prelude.{◌≡◌, ℕ, IfOk, length};
+ghost use Rattle.std.specs.Prelude.{◌≡◌, ℕ, IfOk, OnOk, length, map};
 ghost use Rattle.spf_ast.specs.declared.syntax.Fold.{out-Fold};
 ghost use Rattle.spf_ast.specs.declared.syntax.Pair.{out-Pair};
 ghost use Rattle.spf_ast.specs.ConstructView.{construct as seen_construct};
@@ -7,15 +7,16 @@ ghost use Rattle.spf_ast.specs.Construct.{fold as fold_construct, pair as pair_c
 ghost use Rattle.spf_ast.specs.Syntax.{end};
 ghost use Rattle.spf_ast.specs.View.{
   block as seen_block,
-  expression as seen_expression,
+  arguments as seen_arguments,
   predictor as seen_predictor,
   program as seen_program,
   fold_head,
   pair_head,
 };
 ghost use Rattle.spf_effects.specs.Effects.{AreEffects, effects_of};
-ghost use Rattle.spf_findings.specs.Forms.{block_finds, block_then};
-ghost use Rattle.spf_findings.specs.Parts.{guess_finds, outside, part_effects};
+ghost use Rattle.spf_findings.specs.Extends.{Extends};
+ghost use Rattle.spf_findings.specs.Forms.{block_finds, block_then_row};
+ghost use Rattle.spf_findings.specs.Parts.{guess_finds, guesses_find, outside, part_effects};
 ghost use Rattle.spf_walk.specs.Settings.{setting};
 
 use crate::effects::{Effects, gathered, no_effects};
@@ -25,7 +26,7 @@ use spf_findings::findings::Findings;
 use spf_region::bound::Bound;
 use spf_walk::context::{Context, declare};
 use spf_walk::slot_sets::slots_in;
-use spf_walk::walk::{block, block_and, expression};
+use spf_walk::walk::{block, block_and_row, expression};
 use std::alloc::{AllocError, Global};
 
 /// What is known of the number of a block.
@@ -123,20 +124,20 @@ fn unknown_bounds(alloc: Global, program: &Program) -> Result<Vec<Bound>, AllocE
     Ok(bounds)
 }
 
-/// The effects of a block, and of an expression in which what the block declares is visible.
+/// The effects of a block, and of a row in whose parts what the block declares is visible.
 fn effects_and(
     alloc: Global,
     context: &Context,
     below: usize,
     bounds: &[Bound],
     statements: &[Stmt],
-    last: &Expr,
+    last: &[Expr],
 ) -> Result<Effects, AllocError>
-    ensures { IfOk result (AreEffects (effects_of (block_then (setting context.now below) bounds.now
-        (seen_block statements.now) (seen_expression last.now)) (seen_block statements.now))) }
+    ensures { IfOk result (AreEffects (effects_of (block_then_row (setting context.now below) bounds.now
+        (seen_block statements.now) (seen_arguments last.now)) (seen_block statements.now))) }
 {
     let mut found = Findings::new(alloc);
-    block_and(alloc, context, below, bounds, statements, last, &mut found)?;
+    block_and_row(alloc, context, below, bounds, statements, last, &mut found)?;
     gathered(alloc, found, statements)
 }
 
@@ -156,22 +157,40 @@ fn block_effects(
     gathered(alloc, found, statements)
 }
 
-/// The effects of a predictor. One that is handed in does nothing here.
+/// The effects of the guesses of a row's parts.
 fn predictor_effects(
     alloc: Global,
     context: &Context,
     below: usize,
     bounds: &[Bound],
-    predict: &Predict,
+    predict: &[Predict],
 ) -> Result<Effects, AllocError>
-    ensures { IfOk result (AreEffects (effects_of (guess_finds (setting context.now below) bounds.now (seen_predictor predict.now)) end)) }
+    ensures { IfOk result (AreEffects (effects_of (guesses_find (setting context.now below) bounds.now
+        (map seen_predictor predict.now)) end)) }
+{
+    let mut found = Findings::new(alloc);
+    for part in predict {
+        guess(alloc, context, below, bounds, part, &mut found)?;
+    }
+    gathered(alloc, found, &[])
+}
+
+/// Examines the guess of one part of a row. A predictor that is handed in does nothing here.
+fn guess(
+    alloc: Global,
+    context: &Context,
+    below: usize,
+    bounds: &[Bound],
+    predict: &Predict,
+    found: &mut Findings,
+) -> Result<(), AllocError>
+    ensures { OnOk result (Extends (guess_finds (setting context.now below) bounds.now (seen_predictor predict.now)) found.old found.new) }
 {
     match predict {
-        Predict::Host(_) => Ok(no_effects(alloc)),
+        Predict::Host(_) => Ok(()),
         Predict::Expr(guess) => {
-            let mut found = Findings::new(alloc);
-            expression(alloc, context, below, bounds, guess, &mut found)?;
-            gathered(alloc, found, &[])
+            expression(alloc, context, below, bounds, guess, found)?;
+            Ok(())
         }
     }
 }

@@ -6,7 +6,7 @@ ghost use Rattle.spf_region.specs.Ranges.{joined, offsets_of, wholes_of, in_both
 ghost use Rattle.spf_findings.specs.Extends.{Extends, Lists};
 ghost use Rattle.spf_findings.specs.Found.{nowhere, Finds, ◌then◌, either};
 ghost use Rattle.spf_effects.specs.Laws.{EffectsHaveLists};
-ghost use Rattle.spf_effects.specs.Examples.{filled_block, short_loop, swept_block, called_write, branches};
+ghost use Rattle.spf_effects.specs.Examples.{filled_block, short_loop, swept_block, broken_block, inner_break, called_write, branches};
 
 use spf_region::laws::each_list_has_a_normal_form;
 
@@ -28,6 +28,18 @@ pub fn loop_writes_nothing_surely()
 pub fn sweep_writes_surely()
     ensures may { swept_block.may ≡ Affine 0 (pos 2) (pos 0) (pos 1) ∷ [] }
     ensures must { swept_block.must ≡ joined (Affine 0 (pos 2) (pos 0) (pos 1)) nowhere }
+{}
+
+/// A loop that a `break` may end before its last turn writes nothing surely.
+pub fn broken_loop_writes_nothing_surely()
+    ensures may { broken_block.may ≡ Affine 0 (pos 2) (pos 0) (pos 1) ∷ [] }
+    ensures must { broken_block.must ≡ nowhere }
+{}
+
+/// A `break` of a loop within a loop ends the inner one alone, and the outer one surely writes what it swept.
+pub fn inner_break_doesnt_matter()
+    ensures may { inner_break.may ≡ Affine 0 (pos 2) (pos 0) (pos 1) ∷ [] }
+    ensures must { inner_break.must ≡ joined (Affine 0 (pos 2) (pos 0) (pos 1)) nowhere }
 {}
 
 /// A call is entered: what the function writes at its argument counts, and then the store at its answer.

@@ -1,11 +1,11 @@
 -- What a construct that was passed leads to.
 use Rattle.std.proofs.Common.{◌≡◌, ℕ, zero, suc, ◌+◌, ◌≤◌, List, [], ◌∷◌, ◌++◌, ℤ, pos, ◌+ℤ◌, length, refl, sym, ap, ◌∙◌, subst, arith}
-use Rattle.std.specs.Prelude.{Option, Some, None, Result, Ok, Err}
+use Rattle.std.specs.Prelude.{Some, None, Ok}
 use Rattle.std.specs.Option.{option_to_list}
 use Rattle.std.proofs.lemmas.List.{append-nil}
 use Rattle.spf_ast.specs.Carried as carried
 use Rattle.spf_ast.specs.Interaction.{State, Ending, Value, Trapped as trapped_at}
-use Rattle.spf_ast.specs.Syntax.{Program, Predictor, By, Host}
+use Rattle.spf_ast.specs.Syntax.{Program}
 use Rattle.spf_ast.specs.Meaning.{Environment}
 use Rattle.spf_ast.specs.Program.{environment_of, Stopped}
 use Rattle.spf_ast.specs.Construct.{Construct, fold, pair, Header, header_means, carried_of, Moment, plainly}
@@ -16,11 +16,7 @@ use Rattle.spf_exec.specs.declared.pieces.Header as code_header
 use Rattle.spf_ast.specs.declared.outcome.Trap.{Trap}
 use Rattle.spf_exec.specs.Pieces.{Stand, EndsAt, TrapsAt, ahead, refilled, seen_header}
 use Rattle.spf_rollback.specs.Rules.{KeepsTheRules}
-use Rattle.spf_cells.specs.declared.view.LogEntry.{LogEntry}
 use Rattle.spf_entry.specs.Entry.{Entry, plain_blocks}
-use Rattle.spf_speculation.specs.Steps.{Step, Merges}
-use Rattle.spf_speculation.specs.Runs.{IsSpeculativeRun}
-use Rattle.spf_lane_runs.specs.Lanes.{logs_in}
 use Rattle.spf_laws.specs.Chained.{chained}
 use Rattle.spf_layout.specs.Frame.{main_slots}
 use Rattle.spf_chain.specs.declared.validated.Settled.{Settled}
@@ -29,7 +25,7 @@ use Rattle.spf_chain.specs.Finishing.{result_as}
 use Rattle.spf_construct.specs.declared.construct.ConstructReport.{ConstructReport}
 use Rattle.spf_construct.specs.Coming.{ComesTo}
 use Rattle.spf_guess.specs.declared.stats.Stats.{Stats}
-use Rattle.spf_guess.specs.Guess.{Guess, Hosts, Telling, guess_for, predictor_of, tells_by, tells}
+use Rattle.spf_guess.specs.Guess.{Guess, Hosts, Telling, guess_for, tells}
 use Rattle.spf_guess.specs.Statistics.{none, plus, statistics_with}
 use Rattle.spf_predictors.specs.Answers.{WereTold}
 use Rattle.spf_progress.specs.Traces.{Trace, begin_with}
@@ -110,14 +106,6 @@ blocks-come e guess report memory some c = record {
 
 -- ---- without blocks
 
--- hosts are told nothing
-pub tells-nothing : (c : Construct) (h : Header) → tells c h [] ≡ []
-tells-nothing c h = go (predictor_of c)
-  where
-    go : (by : Predictor) → tells_by by h.low [] ≡ []
-    go (By guess) = refl
-    go (Host host) = refl
-
 no-trace : (blocks : ℕ) (First : Trace → Type 0) → blocks ≡ 0 → begin_with blocks First (λ others. others ≡ []) []
 no-trace zero First none = refl
 no-trace (suc n) First none = cc
@@ -131,7 +119,7 @@ no-blocks-come p input c h s guess none_there = record {
   traces_are = no-trace h.blocks (HasRuns (entry_there p input c h s) guess (Ok h.start) []) none_there;
 }
 
--- a construct without blocks leads on with its start value
+-- a construct without blocks leads on with its start row
 pub leads-nothing : ConstructsSettle → ConstructsEndRuns → (hosts : Hosts) (p : Program) (input : List ℕ) (before after : Stand) (progress : Progress) (c : Construct) (h : Header) (passed : Passed) (told : Hosts)
     → GoesOn hosts p input before progress → construct_first (ahead p before) ≡ Some c → EndsAt p (header_means (environment_of p input) c) before after h
     → FunctionsAreSilent p.functions → KeepsTheRules p c → after.place ≡ before.place → h.blocks ≡ 0
@@ -144,7 +132,7 @@ leads-nothing settle ends hosts p input before after progress c h passed told go
     (subst (λ s. BlocksComeTo (entry_there p input c h after) (guess_there hosts progress.telling p input c h after) (result_as s) [] after.cells []) (sym settled)
     (no-blocks-come p input c h after (guess_there hosts progress.telling p input c h after) none_there)))
     stats
-    (subst (λ t. WereTold hosts t told) (sym (ap (λ more. progress.telling ++ more) (tells-nothing c h) ∙ append-nil progress.telling)) were)
+    (subst (λ t. WereTold hosts t told) (sym (append-nil progress.telling)) were)
 
 -- ---- headers that trap
 

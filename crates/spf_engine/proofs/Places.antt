@@ -1,10 +1,9 @@
 -- The number of the construct that stands next.
-use Rattle.std.proofs.Common.{◌≡◌, ℕ, zero, suc, ◌+◌, ◌≤◌, Bool, true, false, List, [], ◌∷◌, length, refl, sym, ap, ◌∙◌, subst, arith}
-use Rattle.std.specs.Prelude.{Option, Some, None, slice_get}
+use Rattle.std.proofs.Common.{◌≡◌, ℕ, zero, suc, ◌+◌, ◌≤◌, ◌∷◌, length, refl, ap, ◌∙◌, subst, arith}
+use Rattle.std.specs.Prelude.{Some, slice_get}
 use Rattle.spf_ast.specs.Syntax.{Statement, Fold, Pair, Block, end, on_line}
-use Rattle.spf_ast.specs.Construct.{Construct, fold, pair, construct_of, constructs_in, is_construct}
+use Rattle.spf_ast.specs.Construct.{Construct, fold, pair, construct_of, constructs_in}
 use Rattle.spf_ast.specs.Pieces.{rest_from, construct_first}
-use Rattle.spf_exec.proofs.Constructs.{constructs-skip}
 
 -- a statement is a construct, the first of those from it on, or none
 data HasFirst (line : ℕ) (s : Statement) (rest : Block) : Type 0 where

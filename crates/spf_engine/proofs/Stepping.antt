@@ -1,5 +1,5 @@
 -- What a step leads to.
-use Rattle.std.proofs.Common.{◌≡◌, ℕ, ◌+◌, ◌-◌, ◌*◌, ◌<◌, ◌≤◌, length, List, [], ◌∷◌, ◌++◌, refl, sym, ap, ◌∙◌, subst, append_assoc, arith}
+use Rattle.std.proofs.Common.{◌≡◌, ℕ, ◌+◌, ◌-◌, ◌*◌, ◌≤◌, length, List, [], ◌∷◌, ◌++◌, refl, sym, ap, ◌∙◌, subst, append_assoc, arith}
 use Rattle.std.specs.Prelude.{Some, Result, Ok, Err, IfOk, IfErr}
 use Rattle.std.proofs.lemmas.List.{append-nil}
 use Rattle.std.specs.Option.{option_to_list}
@@ -13,10 +13,10 @@ use Rattle.spf_ast.specs.declared.outcome.Trap.{Trap}
 use Rattle.spf_ast.specs.Program.{environment_of, Outcome, outcome, Done, Stopped}
 use Rattle.spf_exec.specs.declared.pieces.Pause.{Pause}
 use Rattle.spf_exec.specs.Pieces.{Stand, Advanced, ahead}
-use Rattle.spf_progress.specs.Progress.{Progress, IsCompletedBy, GoesOn, HasCome}
+use Rattle.spf_progress.specs.Progress.{Progress, GoesOn, HasCome}
 use Rattle.spf_engine.specs.declared.account.Account.{Account}
 use Rattle.spf_progress.specs.Laws.{RunsAdvance, IsPausedSo}
-use Rattle.spf_progress.specs.Traces.{AreTraces}
+use Rattle.spf_progress.specs.Traces.{Trace, AreTraces}
 use Rattle.spf_chain.specs.declared.validated.Settled.{Settled}
 use Rattle.spf_chain.specs.declared.validated.Settled.TheVariants.{Carried, Trapped}
 use Rattle.spf_construct.specs.Guesses.{AreAtMost}
@@ -173,3 +173,10 @@ goes-on-so hosts p input taken s later there is = subst (λ t. IsThere hosts p i
 -- all was told, of the same program and input
 pub retold-as : (hosts now : Hosts) (p q : Program) (input other : List ℕ) → p ≡ q → input ≡ other → WereTold hosts (tally hosts p input).telling now → WereTold hosts (tally hosts q other).telling now
 retold-as hosts now p q input other same given were = subst (λ t. WereTold hosts t now) (λ i. (tally hosts (same i) (given i)).telling) were
+
+-- so it is with traces
+pub traces-as : (hosts : Hosts) (p q : Program) (input other : List ℕ) (traces : List Trace) → p ≡ q → input ≡ other
+    → AreTraces hosts p input (constructs_in p.main) (reals p input) [] traces → AreTraces hosts q other (constructs_in q.main) (reals q other) [] traces
+traces-as hosts p q input other traces same given are =
+    subst (λ other_input. AreTraces hosts q other_input (constructs_in q.main) (reals q other_input) [] traces) given
+    (subst (λ program. AreTraces hosts program input (constructs_in program.main) (reals program input) [] traces) same are)

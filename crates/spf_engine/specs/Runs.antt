@@ -21,7 +21,7 @@ use Rattle.spf_engine.specs.declared.step.Step.TheVariants as step
 
 -- ---- one construct
 
--- where the construct that stands next came to a value, a run that is settled with it goes on; where it came to a trap, the run has come to its end
+-- where the construct that stands next came to a row, a run that is settled with it goes on; where it came to a trap, the run has come to its end
 abbrev pub SettlesSo : Hosts → Program → List ℕ → Stand → Construct → Settled → Progress → Type 0
 SettlesSo hosts p input s c (Carried value) progress = (last : Stand) → IsSettled p c s last value → GoesOn hosts p input last progress
 SettlesSo hosts p input s c (Trapped trap) progress = HasCome hosts p input (Stopped trap s.output) progress
@@ -35,7 +35,7 @@ pub record LeadsTo (hosts : Hosts) (p : Program) (input : List ℕ) (progress : 
   pub told : WereTold hosts later.telling now
   pub settles : SettlesSo hosts p input s c passed.settled later
 
--- a run goes on past a construct with this value, or ends with this trap
+-- a run goes on past a construct with this row, or ends with this trap
 abbrev pub IsSettledSo : Program → Construct → Stand → Stand → Settled → Step → Type 0
 IsSettledSo p c before after (Carried value) taken = (taken ≡ step.Next) × IsSettled p c before after value
 IsSettledSo p c before after (Trapped trap) taken = (taken ≡ step.Trapped trap) × (after ≡ before)

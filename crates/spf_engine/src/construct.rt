@@ -63,7 +63,7 @@ fn run_at<R: Threads + Wait + Sync, G: Gate + Sync>(
     instance: &Instance,
     construct: TopConstruct,
     number: u32,
-    header: Header,
+    header: &Header,
     run: &mut Run,
     workers: u64,
     hosts: &mut Vec<Box<dyn Predictor>>,
@@ -73,20 +73,23 @@ fn run_at<R: Threads + Wait + Sync, G: Gate + Sync>(
     requires program { program_of instance.now ≡ seen_program checked.now }
     requires run { IsRunOf (program_of instance.now) (length instance.now.input) run.old }
     requires construct { slice_get (constructs_in (program_of instance.now).main) number ≡ Some (seen_construct construct) }
-    requires blocks { AreBlocksOf (seen_construct construct) header.blocks }
-    requires some { 1 ≤ header.blocks }
-    requires few { header.blocks ≤ 4096 }
-    requires fits { (header.low +ℤ pos header.blocks) ≤ℤ i64.MAX }
+    requires blocks { AreBlocksOf (seen_construct construct) header.now.blocks }
+    requires some { 1 ≤ header.now.blocks }
+    requires few { header.now.blocks ≤ 4096 }
+    requires fits { (header.now.low +ℤ pos header.now.blocks) ≤ℤ i64.MAX }
     requires host { IsHandedIn (length hosts.old.items) (seen_construct construct) }
     ensures came { IfOk result (λ r. (before : Hosts) (telling : List Telling)
         → WereTold before telling (handed_in (map (λ h. answer h) hosts.old.items))
-        → ComesTo (entry_there (program_of instance.now) instance.now.input (seen_construct construct.entry) (seen_header header) run.old)
-        (guess_there before telling (program_of instance.now) instance.now.input (seen_construct construct.entry) (seen_header header) run.old)
+        → ComesTo (entry_there (program_of instance.now) instance.now.input (seen_construct construct.entry)
+        (seen_header header.now) run.old)
+        (guess_there before telling (program_of instance.now) instance.now.input (seen_construct construct.entry)
+        (seen_header header.now) run.old)
         r run.new.cells) }
     ensures told { IfOk result (λ r. (before : Hosts) (telling : List Telling)
         → WereTold before telling (handed_in (map (λ h. answer h) hosts.old.items))
-        → WereTold before (telling ++ tells (seen_construct construct.entry) (seen_header header)
-        (plain_blocks (entry_there (program_of instance.now) instance.now.input (seen_construct construct.entry) (seen_header header) run.old)).values)
+        → WereTold before (telling ++ tells (seen_construct construct.entry) (seen_header header.now)
+        (plain_blocks (entry_there (program_of instance.now) instance.now.input (seen_construct construct.entry)
+        (seen_header header.now) run.old)).values)
         (handed_in (map (λ h. answer h) hosts.new.items))) }
     ensures nothing_told { IfErr result (λ why. (before : Hosts) (telling : List Telling)
         → WereTold before telling (handed_in (map (λ h. answer h) hosts.old.items))
@@ -150,7 +153,7 @@ pub(crate) fn pass_construct<R: Threads + Wait + Sync, G: Gate + Sync>(
         return Ok(without_blocks(Settled::Carried(header.start)));
     }
     let report = run_at(
-        rt, alloc, checked, instance, construct, number, header, run, workers, hosts, gate,
+        rt, alloc, checked, instance, construct, number, &header, run, workers, hosts, gate,
     )?;
     Ok(Passed {
         settled: report.settled,

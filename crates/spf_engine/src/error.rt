@@ -9,8 +9,9 @@ use thiserror::Error;
 /// Why a program wasn't run to its end.
 #[derive(Clone, Copy, PartialEq, Eq, Debug, Error)]
 pub enum EngineError {
-    /// All arrays together have more than 4,194,304 cells. `count` is their number, or 2^128 - 1 where it is greater than that.
-    #[error("cells {count} over 4194304")]
+    /// All arrays together have more cells than a run of the program's version may have. `count` is their number, or 2^128 - 1
+    /// where it is greater than that.
+    #[error("too many cells: {count}")]
     TooManyCells { count: u128 },
     /// A construct names this host, and fewer are handed in.
     #[error("host {number} not handed in")]

@@ -14,6 +14,7 @@ ghost use Rattle.spf_engine.specs.Errors.{AreTooMany, IsMissing, WereToldNothing
 use crate::account::Account;
 use crate::error::EngineError;
 use crate::step::{Step, take_step};
+use spf_ast::laws::breaks_stay_in_their_loops;
 use spf_ast::outcome::{Outcome, Trap};
 use spf_cells::finish::Trace;
 use spf_check::checked::Checked;
@@ -127,11 +128,16 @@ fn lay_out<'a>(
 ) -> Result<Instance<'a>, EngineError>
     ensures program { IfOk result (λ i. program_of i ≡ seen_program checked.now) }
     ensures input { IfOk result (λ i. i.input ≡ input.now) }
-    ensures few { IfOk result (λ i. cell_count_of (seen_program checked.now) (length input.now) ≤ max_cells) }
-    ensures too_many { max_cells < cell_count_of (seen_program checked.now) (length input.now)
+    ensures few { IfOk result (λ i. cell_count_of (seen_program checked.now) (length input.now)
+        ≤ max_cells (seen_program checked.now)) }
+    ensures too_many { max_cells (seen_program checked.now)
+        < cell_count_of (seen_program checked.now) (length input.now)
         → IsErrAnd result (AreTooMany (cell_count_of (seen_program checked.now) (length input.now))) }
-    ensures error { cell_count_of (seen_program checked.now) (length input.now) ≤ max_cells → IfErr result (IsMissing None) }
+    ensures error { cell_count_of (seen_program checked.now) (length input.now)
+        ≤ max_cells (seen_program checked.now)
+        → IfErr result (IsMissing None) }
 {
+    breaks_stay_in_their_loops();
     match Instance::make(alloc, checked.program(), input) {
         Ok(instance) => Ok(instance),
         Err(RunError::TooManyCells { count }) => Err(EngineError::TooManyCells { count }),
@@ -143,13 +149,15 @@ fn lay_out<'a>(
 /// the plain outcome, whatever the guesses are, and however the attempts of the 1 to 64 workers interleave. Each worker has a thread of
 /// its own; where one can't be started, the calling thread does its work. The call waits until all have ended.
 ///
-/// `hosts` are the predictors that the program names by number. Each is asked once for each block but the first of its constructs, in
-/// order, before the first attempt, and told their real values, in order, after the construct. `gate` watches the attempts.
+/// `hosts` are the predictors that the program names by number. Each is asked once for each part that names it of each block but the
+/// first, in the order of blocks and then of parts, before the first attempt, and told these parts of the real rows, in that order, after
+/// the construct. `gate` watches the attempts.
 ///
 /// # Errors
 ///
-/// `TooManyCells` where the arrays have more than 4,194,304 cells; `NoHost` where the program names a host that isn't handed in; and
-/// `OutOfMemory`. The hosts were told the first of what they are told in the whole run; after the first two errors nothing.
+/// `TooManyCells` where the arrays have more cells than a run of the program's version may have; `NoHost` where the program names a host
+/// that isn't handed in; and `OutOfMemory`. The hosts were told the first of what they are told in the whole run; after the first two
+/// errors nothing.
 pub fn run_program<R: Threads + Wait + Sync, G: Gate + Sync>(
     rt: &R,
     alloc: Global,
@@ -169,9 +177,11 @@ pub fn run_program<R: Threads + Wait + Sync, G: Gate + Sync>(
         (handed_in (map (λ h. answer h) hosts.new.items))) }
     ensures told_first { IfErr result (λ why. WereToldFirst (handed_in (map (λ h. answer h) hosts.old.items)) (seen_program checked.now) input.now
         (handed_in (map (λ h. answer h) hosts.new.items))) }
-    ensures too_many { max_cells < cell_count_of (seen_program checked.now) (length input.now)
+    ensures too_many { max_cells (seen_program checked.now)
+        < cell_count_of (seen_program checked.now) (length input.now)
         → IsErrAnd result (AreTooMany (cell_count_of (seen_program checked.now) (length input.now))) }
-    ensures few { cell_count_of (seen_program checked.now) (length input.now) ≤ max_cells
+    ensures few { cell_count_of (seen_program checked.now) (length input.now)
+        ≤ max_cells (seen_program checked.now)
         → IfErr result (IsMissing (missing_host (length hosts.old.items) (constructs_in (seen_program checked.now).main))) }
     ensures complete { IfOk result (λ r. missing_host (length hosts.old.items) (constructs_in (seen_program checked.now).main) ≡ None) }
     ensures untold { IfErr result (λ why. WereToldNothing why (handed_in (map (λ h. answer h) hosts.old.items))

@@ -5,7 +5,7 @@ use Rattle.spf_ast.specs.Event.{Event, Load, Store, Turn, word_at}
 use Rattle.spf_ast.specs.Interaction.{Performed, HasReadAll, Ended, Stopped, Ending, perform}
 use Rattle.spf_entry.specs.Entry.{Entry, own, asks_at}
 
--- What an attempt of block n at a carried value comes to, where these are its events. It shares the cells of its
+-- What an attempt of block n at a carried row comes to, where these are its events. It shares the cells of its
 -- spans; all other cells have the words of the entry. A turn that polls the attempt's number or more stops it.
 abbrev pub attempted : Entry → ℕ → Carried → (attempt : ℕ) → List Event → Performed (Ending Carried)
 attempted e n v attempt log = perform (own e n) e.memory (Some attempt) (asks_at e n v) log

@@ -41,7 +41,7 @@ number_of e n = e.header.low +ℤ pos n
 abbrev pub own : Entry → ℕ → ℕ → Bool
 own e n cell = cells_at (extents_of e.program (length e.input)) (number_of e n) (may_write e.program e.construct (part_of e.construct n)) cell
 
--- what block n asks at a carried value
+-- what block n asks at a carried row
 abbrev pub asks_at : Entry → ℕ → Carried → Interaction (Ending Carried)
 asks_at e n v = part_asks e.program e.construct (part_of e.construct n) (block_setup e.input e.slots (number_of e n) v)
 
@@ -49,7 +49,7 @@ asks_at e n v = part_asks e.program e.construct (part_of e.construct n) (block_s
 abbrev pub plain_blocks : Entry → Chained
 plain_blocks e = chained (environment_of e.program e.input) e.construct e.slots 0 e.header.blocks e.header.low e.header.start e.memory
 
--- the value at which the first attempt of block n begins: that of block 0 is the start, that of any other its guess
+-- the row at which the first attempt of block n begins: that of block 0 is the start, that of any other its guess
 abbrev pub begins_at : Entry → (ℕ → Carried) → ℕ → Carried
 begins_at e guess zero = e.header.start
 begins_at e guess (suc n) = guess (suc n)

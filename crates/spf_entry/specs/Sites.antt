@@ -1,8 +1,8 @@
 -- Sites as entries with guesses.
-use Rattle.std.specs.Prelude.{◌≡◌, ◌≢◌, ◌<◌, ℕ, zero, suc, List, Option, Some, None, length, slice_get, slice_index_or}
+use Rattle.std.specs.Prelude.{◌≡◌, ◌≢◌, ◌<◌, ℕ, zero, suc, List, [], Option, Some, None, length, pos, slice_get, slice_index_or}
 use Rattle.std.specs.List.{Contains}
-use Rattle.spf_ast.specs.Carried.{Carried, no_value}
-use Rattle.spf_ast.specs.Syntax.{Number, end, Host}
+use Rattle.spf_ast.specs.Carried.{Carried}
+use Rattle.spf_ast.specs.Syntax.{Number, no_more, end}
 use Rattle.spf_ast.specs.Construct.{Construct, fold, constructs_in}
 use Rattle.spf_ast.specs.View.{program}
 use Rattle.spf_region.specs.declared.span.Span.{Span}
@@ -11,16 +11,16 @@ use Rattle.spf_cells.specs.declared.view.Setting.{Setting}
 use Rattle.spf_entry.specs.declared.site.Site.{Site}
 use Rattle.spf_entry.specs.Entry.{Entry, own, plain_blocks, begins_at}
 
--- a construct that stands for none
+-- a construct that stands for none: a fold over rows of no words
 abbrev pub construct_or_none : Option Construct → Construct
 construct_or_none None = fold 0 (record {
-  carried = 0;
-  start = Number no_value;
+  carried = [];
+  start = no_more;
   block = 0;
-  low = Number no_value;
-  high = Number no_value;
-  predict = Host 0;
-  next = Number no_value;
+  low = Number (pos 0);
+  high = Number (pos 0);
+  predict = [];
+  next = no_more;
   next_line = 0;
 }) end
 construct_or_none (Some construct) = construct
@@ -36,15 +36,15 @@ entry_at s = record {
   header = record { low = s.low; blocks = s.blocks; start = s.start };
 }
 
--- the guess for each block; that of block 0 is nothing to anyone
+-- the guess for each block; that of block 0, like one that isn't there, is the empty row, and is nothing to anyone
 abbrev pub guess_at : Site → ℕ → Carried
-guess_at s zero = no_value
-guess_at s (suc n) = slice_index_or s.guesses n no_value
+guess_at s zero = []
+guess_at s (suc n) = slice_index_or s.guesses n []
 
 -- the guess that was given for a block; block 0 has none
 abbrev pub guess_given : Site → ℕ → Option Carried
 guess_given s zero = None
-guess_given s (suc n) = Some (slice_index_or s.guesses n no_value)
+guess_given s (suc n) = Some (slice_index_or s.guesses n [])
 
 -- ---- the cells of a construct's blocks
 
@@ -54,7 +54,7 @@ pub record AreMadeFor (e : Entry) (setting : Setting) : Type 0 where
   pub blocks : length setting.plan ≡ e.header.blocks
   pub spans : (n : ℕ) (spans : List Span) (cell : ℕ) → slice_get setting.plan n ≡ Some spans → in_spans spans cell ≡ own e n cell
 
--- block n is mispredicted: its first attempt doesn't begin at its real value in the plain run, or the plain run doesn't come to the block
+-- block n is mispredicted: its first attempt doesn't begin at its real row in the plain run, or the plain run doesn't come to the block
 abbrev pub IsMispredicted : Entry → (ℕ → Carried) → ℕ → Type 0
 IsMispredicted e guess n = slice_get (plain_blocks e).values n ≢ Some (begins_at e guess n)
 

@@ -1,5 +1,5 @@
 //! What is fixed at the entry of a construct: plain data for contracts and proofs alone. No value of it is made at run time.
-use spf_ast::carried::Carried;
+use spf_ast::row::Row;
 use spf_ast::syntax::Program;
 use std::collections::LinkedList;
 
@@ -19,8 +19,8 @@ pub struct Site {
     pub low: i64,
     /// How many blocks there are.
     pub blocks: u64,
-    /// The carried value at which block 0 begins.
-    pub start: Carried,
+    /// The row at which block 0 begins.
+    pub start: Row,
     /// The guesses for the blocks from 1 on.
-    pub guesses: LinkedList<Carried>,
+    pub guesses: LinkedList<Row>,
 }

@@ -1,20 +1,21 @@
 -- Block runs and guesses, from performances on memories that emit nothing.
-use Rattle.std.proofs.Common.{◌≡◌, ℕ, List, [], ◌∷◌, ◌++◌, length, Option, None, Result, Ok, Err, ℤ, refl, sym, ap, subst, ◌∙◌, append-nil}
+use Rattle.std.proofs.Common.{◌≡◌, ℕ, List, [], ◌∷◌, ◌++◌, length, Option, Some, None, Result, Ok, Err, ℤ, refl, sym, ap, subst, ◌∙◌, append-nil}
 use Rattle.std.proofs.lemmas.Bool.Decides.{Decides-eqb}
-use Rattle.std.specs.Prelude.{◌==◌, ◌&&◌}
+use Rattle.std.specs.Prelude.{◌==◌, ◌&&◌, slice_get}
 use Rattle.std.specs.Ordering.{int_eq}
 use Rattle.spf_ast.specs.Event.{Event, Load, Store, Turn, word_at}
 use Rattle.spf_ast.specs.Interaction.{Interaction, Answer, AskLoad, AskStore, AskTurn, Performed, Ended, Stopped, Misfit, perform, every_cell, State, Ending, Value, Trapped, result_of, Meaning}
 use Rattle.spf_ast.specs.declared.syntax.Part.{Part}
-use Rattle.spf_ast.specs.declared.syntax.Part.TheVariants.{Predictor}
-use Rattle.spf_ast.specs.Carried.{no_value}
-use Rattle.spf_ast.specs.Syntax.{Program}
+use Rattle.spf_ast.specs.Carried.{Carried}
+use Rattle.spf_ast.specs.Syntax.{Program, By, Host}
+use Rattle.spf_ast.specs.Syntax as syntax
+use Rattle.spf_ast.specs.Meaning.{Environment, sets}
 use Rattle.spf_ast.specs.Program.{environment_of, extents_of}
-use Rattle.spf_ast.specs.Construct.{Construct, fold, pair, part_means}
-use Rattle.spf_ast.specs.BlockRun.{block_setup, part_asks}
+use Rattle.spf_ast.specs.Construct.{Construct, fold, pair, part_means, guess_at, guess_part_means}
+use Rattle.spf_ast.specs.BlockRun.{block_setup, part_asks, guess_asks}
 use Rattle.spf_ast.specs.Plain.{plain_memory, unshared_answer}
 use Rattle.spf_ast.specs.Silence.{PartIsSilent, FunctionsAreSilent, with_output, LeavesOutput}
-use Rattle.spf_ast.proofs.Leaving.{calls-leave, part-leaves}
+use Rattle.spf_ast.proofs.Leaving.{CallsLeave, leaves-then, expression-leaves, calls-leave, part-leaves}
 use Rattle.spf_ast.proofs.Performing.{perform-bind, carry}
 use Rattle.spf_ast.proofs.PlainRuns.{chosen}
 use Rattle.spf_memory.specs.declared.memory.Halt.{Halt}
@@ -52,6 +53,10 @@ same_output (Ended (Trapped t o) es) full out own (Err (h.Cancelled m)) d rest p
 same_output (Stopped n es) full out own (Err (h.Cancelled m)) d rest p = cc
 same_output Misfit full out own (Err (h.Cancelled m)) d rest p = cc
 same_output x full out own (Err h.NoMemory) d rest p = absurd d
+same_output (Ended (Value v s) es) full out own (Err h.Broken) d rest p = cc
+same_output (Ended (Trapped t o) es) full out own (Err h.Broken) d rest p = cc
+same_output (Stopped n es) full out own (Err h.Broken) d rest p = cc
+same_output Misfit full out own (Err h.Broken) d rest p = refl
 
 -- a form that leaves the output alone, performed with one output, is performed with any other
 with_any_output : {M A : Type 0} {leads : List Event → M → M → Type 0} {stop : M → Option ℕ} {may_lack : Type 0} (form : Meaning A) → LeavesOutput form → (slots : List ℤ) (full out : List ℕ) {own : List ℤ} {a b : M} {r : Result A Halt}
@@ -78,12 +83,12 @@ unquiet : {S M N A : Type 0} {leads : List Event → M → M → Type 0} {stop :
 unquiet p = record { events = p.events; led = p.led.led; lacking = p.lacking; performed = p.performed }
 
 -- a part that holds no `emit` leaves the output alone
-part_leaves : (p : Program) (input : List ℕ) (c : Construct) (part : Part) (n v : ℤ) → PartIsSilent c part → FunctionsAreSilent p.functions → LeavesOutput (part_means (environment_of p input) c part n v)
+part_leaves : (p : Program) (input : List ℕ) (c : Construct) (part : Part) (n : ℤ) (v : Carried) → PartIsSilent c part → FunctionsAreSilent p.functions → LeavesOutput (part_means (environment_of p input) c part n v)
 part_leaves p input c part n v silent functions =
     part-leaves (environment_of p input) (calls-leave input (extents_of p (length input)) p.functions functions (length p.functions)) c part silent n v
 
 -- a part that emits nothing, performed with any output, is a block run
-pub quiet_run : {S M N : Type 0} {leads : List Event → M → M → Type 0} {stop : M → Option ℕ} {output : M → List ℕ} {lent : S → M} {place : S → N} (p : Program) (input : List ℕ) (c : Construct) (part : Part) (slots own : List ℤ) (full : List ℕ) (n v : ℤ) {a b : S} {r : Result ℤ Halt}
+pub quiet_run : {S M N : Type 0} {leads : List Event → M → M → Type 0} {stop : M → Option ℕ} {output : M → List ℕ} {lent : S → M} {place : S → N} (p : Program) (input : List ℕ) (c : Construct) (part : Part) (slots own : List ℤ) (full : List ℕ) (n : ℤ) (v : Carried) {a b : S} {r : Result Carried Halt}
     → PartIsSilent c part → FunctionsAreSilent p.functions
     → Performs (LeadsQuietly leads output lent place) (λ m. stop (lent m)) ⊥ (part_means (environment_of p input) c part n v (record { slots = slots; output = full })) a b r (record { slots = own; output = full })
     → PerformsOver leads stop ⊥ (part_asks p c part (block_setup input slots n v)) (lent a) (lent b) r []
@@ -106,6 +111,7 @@ plain_cells (Ok v) t m n s d p = p.1
 plain_cells (Err (h.Trapped trap)) t m n s d p = p.1
 plain_cells (Err (h.Cancelled seen)) t m n s d p = absurd p
 plain_cells (Err h.NoMemory) t m n s d p = absurd d
+plain_cells (Err h.Broken) t m n s d p = absurd p
 
 -- a header that can't lack memory is decided
 pub header_decided : (r : Result code_header.Header Halt) → LackIsAllowed ⊥ (header_result r) → IsDecided (header_result r)
@@ -113,6 +119,7 @@ header_decided (Ok v) l = tt
 header_decided (Err (h.Trapped trap)) l = tt
 header_decided (Err (h.Cancelled seen)) l = tt
 header_decided (Err h.NoMemory) l = l
+header_decided (Err h.Broken) l = absurd l
 
 -- ---- guesses
 
@@ -142,6 +149,7 @@ IsUnshared (Ok v) t m = Ok v ≡ result_of (unshared_answer t m)
 IsUnshared (Err (h.Trapped trap)) t m = Err trap ≡ result_of (unshared_answer t m)
 IsUnshared (Err (h.Cancelled seen)) t m = ⊥
 IsUnshared (Err h.NoMemory) t m = ⊥
+IsUnshared (Err h.Broken) t m = ⊥
 
 read_answer : {S : Type 0} (cells : S → List ℤ) (t : Interaction (Ending ℤ)) (a b : S) (e : Ending ℤ) (es : List Event) → LeadsUnstored es (cells a) (cells b) → perform every_cell [] None t (es ++ []) ≡ Ended e [] → e ≡ unshared_answer t (cells a)
 read_answer cells t a b e es l q = unshared t (cells a) es e l.read (ap (perform every_cell [] None t) (sym (append-nil es)) ∙ q)
@@ -152,17 +160,26 @@ came cells t a b (Ok v) s p = ap result_of (read_answer cells t a b (Value v s) 
 came cells t a b (Err (h.Trapped trap)) s p = ap result_of (read_answer cells t a b (Trapped trap s.output) p.events p.led (p.performed tt []))
 came cells t a b (Err (h.Cancelled seen)) s p = never_stops t (p.events ++ []) seen [] (p.performed tt [])
 came cells t a b (Err h.NoMemory) s p = p.lacking
+came cells t a b (Err h.Broken) s p = p.lacking
 
--- a predictor holds no statements, so no `emit`
-predictor_silent : (c : Construct) → PartIsSilent c Predictor
-predictor_silent (fold line head body) = refl
-predictor_silent (pair line head producer consumer) = refl
+-- a guess emits nothing
+guess_at_leaves : (g : Environment) → CallsLeave g → (line : ℕ) (o : Option syntax.Predictor) → LeavesOutput (guess_at g line o)
+guess_at_leaves g calls line None = record { same = λ slots output. refl }
+guess_at_leaves g calls line (Some (By guess)) = expression-leaves g calls line guess
+guess_at_leaves g calls line (Some (Host number)) = record { same = λ slots output. refl }
+
+guess_leaves : (p : Program) (input : List ℕ) (c : Construct) (place : ℕ) (number : ℤ) → FunctionsAreSilent p.functions → LeavesOutput (guess_part_means (environment_of p input) c place number)
+guess_leaves p input (fold line head body) place number functions =
+    leaves-then {first = sets head.block number} {next = λ u. guess_at (environment_of p input) line (slice_get head.predict place)} (record { same = λ slots output. refl })
+    (λ u. guess_at_leaves (environment_of p input) (calls-leave input (extents_of p (length input)) p.functions functions (length p.functions)) line (slice_get head.predict place))
+guess_leaves p input (pair line head producer consumer) place number functions =
+    guess_at_leaves (environment_of p input) (calls-leave input (extents_of p (length input)) p.functions functions (length p.functions)) line (slice_get head.predict place)
 
 -- a guess, performed over cells that are only read with any output
-pub guess_answer : {S : Type 0} (cells : S → List ℤ) (p : Program) (input : List ℕ) (c : Construct) (slots own : List ℤ) (full : List ℕ) (n : ℤ) (a b : S) (r d : Result ℤ Halt) → r ≡ d
+pub guess_answer : {S : Type 0} (cells : S → List ℤ) (p : Program) (input : List ℕ) (c : Construct) (slots own : List ℤ) (full : List ℕ) (n : ℤ) (place : ℕ) (a b : S) (r d : Result ℤ Halt) → r ≡ d
     → FunctionsAreSilent p.functions
-    → Performs (λ es x y. LeadsUnstored es (cells x) (cells y)) (λ m. None) ⊥ (part_means (environment_of p input) c Predictor n no_value (record { slots = slots; output = full })) a b r (record { slots = own; output = full })
-    → IsUnshared d (part_asks p c Predictor (block_setup input slots n no_value)) (cells a)
-guess_answer cells p input c slots own full n a b r d e functions q =
-    came cells _ a b d _ (subst (λ x. Performs (λ es y z. LeadsUnstored es (cells y) (cells z)) (λ m. None) ⊥ (part_asks p c Predictor (block_setup input slots n no_value)) a b x (record { slots = own; output = [] })) e
-    (with_any_output (part_means (environment_of p input) c Predictor n no_value) (part_leaves p input c Predictor n no_value (predictor_silent c) functions) slots full [] q))
+    → Performs (λ es x y. LeadsUnstored es (cells x) (cells y)) (λ m. None) ⊥ (guess_part_means (environment_of p input) c place n (record { slots = slots; output = full })) a b r (record { slots = own; output = full })
+    → IsUnshared d (guess_asks p c place input slots n) (cells a)
+guess_answer cells p input c slots own full n place a b r d e functions q =
+    came cells _ a b d _ (subst (λ x. Performs (λ es y z. LeadsUnstored es (cells y) (cells z)) (λ m. None) ⊥ (guess_asks p c place input slots n) a b x (record { slots = own; output = [] })) e
+    (with_any_output (guess_part_means (environment_of p input) c place n) (guess_leaves p input c place n functions) slots full [] q))

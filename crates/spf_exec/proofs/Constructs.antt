@@ -1,7 +1,7 @@
 -- The top constructs among statements.
 use Rattle.std.proofs.Common.{◌≡◌, ℕ, zero, suc, ◌+◌, ◌-◌, ◌<◌, ◌≤◌, Bool, true, false, Some, length, refl, sym, ap, ◌∙◌, arith}
 use Rattle.std.specs.Prelude.{if◌then◌else◌, slice_get}
-use Rattle.spf_ast.specs.Syntax.{Statement, Let, Assign, Store, Fill, Emit, Fail, If, For, While, Do, Fold, Pair, Block, end, on_line}
+use Rattle.spf_ast.specs.Syntax.{Statement, Let, Assign, Store, Fill, Emit, Fail, If, For, While, Do, Fold, Pair, Break, Block, end, on_line}
 use Rattle.spf_ast.specs.Construct.{Construct, construct_of, constructs_in, is_construct}
 use Rattle.spf_ast.specs.Pieces.{construct_first, rest_from, from_construct, statement_count}
 
@@ -17,6 +17,7 @@ constructs-skip line (If test a b) rest e = refl
 constructs-skip line (For slot low high body) rest e = refl
 constructs-skip line (While test most body) rest e = refl
 constructs-skip line (Do f given) rest e = refl
+constructs-skip line Break rest e = refl
 constructs-skip line (Fold head body) rest e = cc
 constructs-skip line (Pair head producer consumer) rest e = cc
 
@@ -36,6 +37,7 @@ constructs-count line (If test a b) rest = omega arith
 constructs-count line (For slot low high body) rest = omega arith
 constructs-count line (While test most body) rest = omega arith
 constructs-count line (Do f given) rest = omega arith
+constructs-count line Break rest = omega arith
 constructs-count line (Fold head body) rest = omega arith
 constructs-count line (Pair head producer consumer) rest = omega arith
 
@@ -52,6 +54,7 @@ at_first line (If test a b) rest k e = cc
 at_first line (For slot low high body) rest k e = cc
 at_first line (While test most body) rest k e = cc
 at_first line (Do f given) rest k e = cc
+at_first line Break rest k e = cc
 at_first line (Fold head body) rest k e = e
 at_first line (Pair head producer consumer) rest k e = e
 
@@ -67,6 +70,7 @@ after_one line (If test a b) rest n = ap (slice_get (constructs_in rest)) (let e
 after_one line (For slot low high body) rest n = ap (slice_get (constructs_in rest)) (let e : 0 + n ≡ n = omega arith in e)
 after_one line (While test most body) rest n = ap (slice_get (constructs_in rest)) (let e : 0 + n ≡ n = omega arith in e)
 after_one line (Do f given) rest n = ap (slice_get (constructs_in rest)) (let e : 0 + n ≡ n = omega arith in e)
+after_one line Break rest n = ap (slice_get (constructs_in rest)) (let e : 0 + n ≡ n = omega arith in e)
 after_one line (Fold head body) rest n = ap (slice_get (constructs_in (on_line line (Fold head body) rest))) (let e : 1 + n ≡ suc n = omega arith in e)
 after_one line (Pair head producer consumer) rest n = ap (slice_get (constructs_in (on_line line (Pair head producer consumer) rest))) (let e : 1 + n ≡ suc n = omega arith in e)
 
@@ -101,6 +105,7 @@ is_one line (If test a b) k e = cc
 is_one line (For slot low high body) k e = cc
 is_one line (While test most body) k e = cc
 is_one line (Do f given) k e = cc
+is_one line Break k e = cc
 is_one line (Fold head body) k e = refl
 is_one line (Pair head producer consumer) k e = refl
 

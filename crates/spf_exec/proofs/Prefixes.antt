@@ -2,14 +2,16 @@
 use Rattle.std.proofs.Common.{◌≡◌, ℕ, zero, suc, ◌+◌, ◌-◌, ◌<◌, true, false, List, [], ◌∷◌, length, get_or, take, drop, refl, sym, ap, ◌∙◌, arith, length-drop, take_all, replicate}
 use Rattle.std.specs.Prelude.{MatchOption, Option, None, Some, slice_set, ℤ}
 use Rattle.spf_ast.specs.declared.syntax.Stmt.{Stmt}
-use Rattle.spf_ast.specs.Syntax.{Statement, end, on_line, Let, Assign, Store, Fill, Emit, Fail, If, For, While, Do, Fold, Pair, Program}
+use Rattle.spf_ast.specs.Syntax.{Statement, end, on_line, Let, Assign, Store, Fill, Emit, Fail, If, For, While, Do, Fold, Pair, Break, Program}
 use Rattle.spf_ast.specs.View.{statement, block}
 use Rattle.spf_ast.specs.Program.{environment_of}
 use Rattle.spf_ast.specs.Construct.{Construct, construct_of, constructs_in, is_construct}
 use Rattle.spf_ast.specs.Pieces.{before_construct, from_construct, rest_from, statement_count, construct_first}
 use Rattle.spf_ast.specs.declared.construct.TopConstruct as code_top
 use Rattle.spf_ast.specs.ConstructView.{construct as seen_construct}
-use Rattle.spf_ast.specs.Meaning.{block_means}
+use Rattle.std.proofs.lemmas.List.{length-set}
+use Rattle.spf_ast.specs.Carried.{Carried, with_carried}
+use Rattle.spf_ast.specs.Meaning.{main_means}
 use Rattle.spf_exec.specs.declared.pieces.Pause.{Pause}
 use Rattle.spf_exec.specs.declared.pieces.Pause.TheVariants as pause
 use Rattle.spf_exec.specs.Pieces.{Stand, EndsAt, Advanced, ahead}
@@ -39,6 +41,7 @@ none_is line (If test a b) e = refl
 none_is line (For slot low high body) e = refl
 none_is line (While test most body) e = refl
 none_is line (Do f given) e = refl
+none_is line Break e = refl
 none_is line (Fold head body) e = cc
 none_is line (Pair head producer consumer) e = cc
 
@@ -53,6 +56,7 @@ some_is line (If test a b) k e = cc
 some_is line (For slot low high body) k e = cc
 some_is line (While test most body) k e = cc
 some_is line (Do f given) k e = cc
+some_is line Break k e = cc
 some_is line (Fold head body) k e = refl
 some_is line (Pair head producer consumer) k e = refl
 
@@ -101,7 +105,7 @@ count_is (x ∷ xs) = ap suc (count_is xs)
 
 -- a run that went on is where its pause says
 pub advanced_ok : (p : Program) (input : List ℕ) (before after : Stand) (number : ℕ) (o : Option code_top.TopConstruct) (at_ : Pause)
-    → EndsAt p (block_means (environment_of p input) (before_construct (ahead p before))) before after tt
+    → EndsAt p (main_means (environment_of p input) (before_construct (ahead p before))) before after tt
     → ahead p after ≡ from_construct (ahead p before)
     → number + length (constructs_in (ahead p before)) ≡ length (constructs_in p.main)
     → MatchOption o (from_construct (ahead p before) ≡ end) (λ c. construct_first (from_construct (ahead p before)) ≡ Some (seen_construct c))
@@ -148,3 +152,14 @@ take_set zero xs slot v = refl
 take_set (suc m) [] slot v = refl
 take_set (suc m) (x ∷ xs) zero v = refl
 take_set (suc m) (x ∷ xs) (suc slot) v = ap (λ l. x ∷ l) (take_set m xs slot v)
+
+pub take_carried : (m : ℕ) (slots : List ℕ) (row : Carried) (xs : List ℤ) → take m (with_carried slots row xs) ≡ with_carried slots row (take m xs)
+take_carried m [] row xs = refl
+take_carried m (slot ∷ slots) row xs = take_carried m slots (drop 1 row) _ ∙ ap (with_carried slots (drop 1 row)) (take_set m xs slot _)
+
+pub carried_length : (slots : List ℕ) (row : Carried) (xs : List ℤ) → length (with_carried slots row xs) ≡ length xs
+carried_length [] row xs = refl
+carried_length (slot ∷ slots) row xs = carried_length slots (drop 1 row) _ ∙ length-set xs slot _
+
+pub same_length : (slots : List ℕ) (row : Carried) (xs ys : List ℤ) → ys ≡ with_carried slots row xs → length ys ≡ length xs
+same_length slots row xs ys e = ap length e ∙ carried_length slots row xs

@@ -2,7 +2,7 @@
 use Rattle.std.proofs.Common.{◌≡◌, ℕ, zero, suc, ◌≤◌, Option, None, Some, List, [], ◌∷◌, sym, ap, subst, arith}
 use Rattle.std.specs.Prelude.{slice_get, MatchOption}
 use Rattle.spf_ast.specs.declared.syntax.Stmt.{Stmt}
-use Rattle.spf_ast.specs.Syntax.{Block, end, on_line, Let, Assign, Store, Fill, Emit, Fail, If, For, While, Do, Fold, Pair}
+use Rattle.spf_ast.specs.Syntax.{Break, Block, end, on_line, Let, Assign, Store, Fill, Emit, Fail, If, For, While, Do, Fold, Pair}
 use Rattle.spf_ast.specs.View.{block, statement}
 use Rattle.spf_registers.specs.Registers.{block_needs, statement_needs}
 use Rattle.spf_ast.specs.Construct.{Construct, constructs_in}
@@ -30,6 +30,7 @@ construct_fits f (on_line line (If test a b) rest) n = fits_more f (slice_get (c
 construct_fits f (on_line line (For slot low high body) rest) n = fits_more f (slice_get (constructs_in rest) n) _ _ (omega arith) (construct_fits f rest n)
 construct_fits f (on_line line (While test most body) rest) n = fits_more f (slice_get (constructs_in rest) n) _ _ (omega arith) (construct_fits f rest n)
 construct_fits f (on_line line (Do g given) rest) n = fits_more f (slice_get (constructs_in rest) n) _ _ (omega arith) (construct_fits f rest n)
+construct_fits f (on_line line Break rest) n = fits_more f (slice_get (constructs_in rest) n) _ _ (omega arith) (construct_fits f rest n)
 construct_fits f (on_line line (Fold head body) rest) zero = omega arith
 construct_fits f (on_line line (Fold head body) rest) (suc n) = fits_more f (slice_get (constructs_in rest) n) _ _ (omega arith) (construct_fits f rest n)
 construct_fits f (on_line line (Pair head producer consumer) rest) zero = omega arith

@@ -4,7 +4,7 @@ use Rattle.spf_ast.specs.declared.outcome.Trap.{Trap}
 use Rattle.spf_ast.specs.Carried.{Carried, with_carried}
 use Rattle.spf_ast.specs.Interaction.{Interaction, State, Ending, Value, Trapped, Meaning}
 use Rattle.spf_ast.specs.Syntax.{Program, Block, end}
-use Rattle.spf_ast.specs.Meaning.{block_means}
+use Rattle.spf_ast.specs.Meaning.{main_means}
 use Rattle.spf_ast.specs.Plain.{plain_answer, plain_memory}
 use Rattle.spf_ast.specs.Program.{environment_of, cell_count_of, start_of, zeros_of}
 use Rattle.spf_ast.specs.Construct.{Construct, Moment, Header, plainly, header_means, constructs_in, carried_of}
@@ -67,14 +67,14 @@ TrapsAt p form before after trap = plainly form (moment_of p before) ≡ Trapped
 
 -- the run went over all statements up to the next construct, and stands at this one, which has this number
 pub record StandsAt (p : Program) (input : List ℕ) (before after : Stand) (count : ℕ) (next : Construct) : Type 0 where
-  pub went : EndsAt p (block_means (environment_of p input) (before_construct (ahead p before))) before after tt
+  pub went : EndsAt p (main_means (environment_of p input) (before_construct (ahead p before))) before after tt
   pub at : ahead p after ≡ from_construct (ahead p before)
   pub construct : construct_first (ahead p after) ≡ Some next
   pub number : count + length (constructs_in (ahead p after)) ≡ length (constructs_in p.main)
 
 -- the run went over all statements that were left
 pub record IsFinished (p : Program) (input : List ℕ) (before after : Stand) : Type 0 where
-  pub went : EndsAt p (block_means (environment_of p input) (before_construct (ahead p before))) before after tt
+  pub went : EndsAt p (main_means (environment_of p input) (before_construct (ahead p before))) before after tt
   pub at : ahead p after ≡ from_construct (ahead p before)
   pub none : ahead p after ≡ end
 
@@ -83,7 +83,7 @@ abbrev pub Advanced : Program → List ℕ → Stand → Stand → Pause → Typ
 Advanced p input before after (pause.AtConstruct number construct) = StandsAt p input before after number (seen_construct construct)
 Advanced p input before after pause.Finished = IsFinished p input before after
 Advanced p input before after (pause.Trapped trap) =
-    TrapsAt p (block_means (environment_of p input) (before_construct (ahead p before))) before after trap
+    TrapsAt p (main_means (environment_of p input) (before_construct (ahead p before))) before after trap
 
 -- a header, as contracts see it
 abbrev pub seen_header : code_header.Header → Header
@@ -104,7 +104,7 @@ abbrev pub HeaderDone : Program → List ℕ → Construct → Stand → Stand �
 HeaderDone p input construct before after (Ok header) = EndsAt p (header_means (environment_of p input) construct) before after (seen_header header)
 HeaderDone p input construct before after (Err trap) = TrapsAt p (header_means (environment_of p input) construct) before after trap
 
--- the construct that stands next was settled: its carried slot has this value, all else is as before, and the run stands after it
+-- the construct that stands next was settled: its carried slots have this row's words, all else is as before, and the run stands after it
 pub record IsSettled (p : Program) (construct : Construct) (before after : Stand) (value : Carried) : Type 0 where
   pub slots : main_slots p after.frame ≡ with_carried (carried_of construct) value (main_slots p before.frame)
   pub cells : after.cells ≡ before.cells

@@ -1,34 +1,33 @@
 // Runs of single blocks of a program's top constructs.
 
-ghost use Rattle.std.specs.Prelude.{◌≡◌, ◌≤◌, ◌+◌, ℤ, [], length, slice_get, Some};
+ghost use Rattle.std.specs.Prelude.{◌≡◌, ◌≢◌, ◌≤◌, ◌+◌, ℤ, [], length, map, slice_get, Some};
 ghost use Rattle.spf_ast.specs.declared.syntax.Fold.{out-Fold};
 ghost use Rattle.spf_ast.specs.declared.syntax.Pair.{out-Pair};
 ghost use Rattle.spf_ast.specs.declared.syntax.Part.TheVariants.{Predictor};
 ghost use Rattle.spf_ast.specs.View.{block as seen_block, fold_head, pair_head, predictor};
 ghost use Rattle.spf_ast.specs.Syntax.{Fold as fold_form, Pair as pair_form};
 ghost use Rattle.spf_ast.specs.ConstructView.{construct as seen_construct};
-ghost use Rattle.spf_ast.specs.Construct.{constructs_in, part_means, guess_means, fold as fold_construct, pair as pair_construct};
-ghost use Rattle.spf_ast.specs.Carried.{no_value};
-ghost use Rattle.spf_ast.specs.BlockRun.{block_setup, part_asks};
-ghost use Rattle.spf_ast.specs.Interaction.{result_of};
-ghost use Rattle.spf_ast.specs.Plain.{unshared_answer};
+ghost use Rattle.spf_ast.specs.Construct.{constructs_in, part_means, guess_means, guess_at, guess_part_means, fold as fold_construct, pair as pair_construct};
+ghost use Rattle.spf_ast.specs.Carried.{IsWidth, no_row};
+ghost use Rattle.spf_ast.specs.BlockRun.{block_setup, part_asks, predicts};
+ghost use Rattle.spf_ast.specs.GoingOn.{StatementIsOrderly};
 ghost use Rattle.spf_ast.specs.Program.{cell_count_of, environment_of};
 ghost use Rattle.spf_ast.specs.Silence.{FunctionsAreSilent, PartIsSilent};
 ghost use Rattle.spf_ast.specs.Slots.{LeavesOtherSlots};
-ghost use Rattle.spf_registers.specs.Registers.{rooms, predictor_needs, statement_needs};
+ghost use Rattle.spf_registers.specs.Registers.{rooms, predictor_needs, predictors_need, statement_needs};
 ghost use Rattle.spf_code.specs.NodeView.{code as seen_code};
-ghost use Rattle.spf_lowering.specs.Lowering.{IsGuessCode, SetsNoSlot, IsFoldCode, IsPairCode, IsConstructCode};
+ghost use Rattle.spf_lowering.specs.Lowering.{IsGuessCode, AreGuessCodes, SetsNoSlot, IsFoldCode, IsPairCode, IsConstructCode};
 ghost use Rattle.spf_layout.specs.Frame.{frame_size, main_slots};
 ghost use Rattle.spf_layout.specs.Instance.{program_of};
 ghost use Rattle.spf_memory.specs.Performs.{Performs, state};
-ghost use Rattle.spf_exec.specs.Sources.{callable_of, construct_needs};
+ghost use Rattle.spf_exec.specs.Sources.{callable_of, construct_needs, ConstructIsOrderly};
 ghost use Rattle.spf_exec.specs.BlockRuns.{PerformsOver, stop_result};
 
 use crate::entry;
 use crate::frame::Frame;
-use spf_ast::carried::{Carried, set_carried};
 use spf_ast::construct::{ConstructKind, TopConstruct};
 use spf_ast::outcome::Trap;
+use spf_ast::row::{Row, set_carried};
 use spf_ast::syntax::{Fold, Pair, Part, Predict};
 use spf_code::program::{ConstructCode, ValueCode};
 use spf_layout::instance::Instance;
@@ -37,10 +36,7 @@ use spf_memory::memory::{Halt, Memory};
 use spf_memory::primitives::write;
 use spf_memory::quiet::{Quiet, ReadOnly};
 
-/// What a guess that is handed in gives here, and what stands for the carried value where a part has none.
-const NO_VALUE: Carried = 0;
-
-/// One block of a top construct: which part of the construct it runs, and with which block number and carried value.
+/// One block of a top construct: which part of the construct it runs, and with which block number and carried row.
 #[derive(Clone, Copy)]
 pub struct Block<'a> {
     pub construct: TopConstruct<'a>,
@@ -48,7 +44,7 @@ pub struct Block<'a> {
     pub index: u32,
     pub part: Part,
     pub number: i64,
-    pub value: Carried,
+    pub value: Row,
 }
 
 /// Performs a guess. One that is handed in gives no value here.
@@ -59,7 +55,7 @@ fn perform_guess<M: Memory>(
     predict: &Predict,
     registers: &mut [i64],
     memory: &mut M,
-) -> Result<Carried, Halt>
+) -> Result<i64, Halt>
     requires cells { M.cell_count memory.old ≡ cell_count_of (program_of instance.now) (length instance.now.input) }
     requires code { IsGuessCode (callable_of (program_of instance.now)) (rooms (program_of instance.now)) (length (program_of instance.now).slots)
         line (predictor predict.now) code.now }
@@ -76,11 +72,19 @@ fn perform_guess<M: Memory>(
         Predict::Expr(guess) => {
             entry::expression(instance, code, line, guess, registers, memory)
         }
-        Predict::Host(_) => Ok(NO_VALUE),
+        Predict::Host(_) => Ok(0),
     }
 }
 
-/// Performs a part of a fold. A part that it doesn't have gives no value.
+/// A row of zeros, one for each of these slots.
+fn zeros(carried: &[u32]) -> Row
+    requires { IsWidth (length carried.now) }
+    ensures { result ≡ no_row (length carried.now) }
+{
+    Row::zeros(carried.len() as u32)
+}
+
+/// Performs the body of a fold. A part that it doesn't have gives zeros.
 fn perform_fold<M: Memory>(
     instance: &Instance,
     code: &ConstructCode,
@@ -88,20 +92,22 @@ fn perform_fold<M: Memory>(
     fold: &Fold,
     part: Part,
     number: i64,
-    value: Carried,
+    row: Row,
     registers: &mut [i64],
     memory: &mut M,
-) -> Result<Carried, Halt>
+) -> Result<Row, Halt>
     requires cells { M.cell_count memory.old ≡ cell_count_of (program_of instance.now) (length instance.now.input) }
     requires code { IsFoldCode (callable_of (program_of instance.now)) (rooms (program_of instance.now)) (length (program_of instance.now).slots)
         line (fold_head fold.now) (seen_block (out-Fold fold.now).body.items) code.now }
     requires room { length (program_of instance.now).slots + statement_needs (rooms (program_of instance.now))
         (fold_form (fold_head fold.now) (seen_block (out-Fold fold.now).body.items))
         ≤ length registers.old }
+    requires orderly { StatementIsOrderly (fold_form (fold_head fold.now) (seen_block (out-Fold fold.now).body.items)) }
+    requires run { part ≢ Predictor }
     ensures performs { Performs M.leads M.stop M.may_lack_memory
         (part_means (environment_of (program_of instance.now) instance.now.input)
         (fold_construct line (fold_head fold.now) (seen_block (out-Fold fold.now).body.items))
-        part number value
+        part number row
         (state (main_slots (program_of instance.now) registers.old) (M.output memory.old)))
         memory.old memory.new result (state (main_slots (program_of instance.now) registers.new) (M.output memory.new)) }
     ensures kept { LeavesOtherSlots
@@ -111,36 +117,26 @@ fn perform_fold<M: Memory>(
     match part {
         Part::Body => {
             write(registers, fold.block, number);
-            set_carried(registers, fold.carried, value);
-            entry::value_of(instance, &code.first, registers, memory)
+            set_carried(registers, &fold.carried, row.words());
+            entry::row_of(instance, &code.first, registers, memory)
         }
-        Part::Predictor => {
-            write(registers, fold.block, number);
-            perform_guess(
-                instance,
-                &code.guess,
-                line,
-                &fold.predict,
-                registers,
-                memory,
-            )
-        }
-        Part::Producer => Ok(NO_VALUE),
-        Part::Consumer => Ok(NO_VALUE),
+        Part::Predictor => unreachable!(),
+        Part::Producer => Ok(zeros(&fold.carried)),
+        Part::Consumer => Ok(zeros(&fold.carried)),
     }
 }
 
-/// Performs a part of a pair. A part that it doesn't have gives no value.
+/// Performs the producer or the consumer of a pair. A part that it doesn't have gives zeros.
 fn perform_pair<M: Memory>(
     instance: &Instance,
     code: &ConstructCode,
     line: u32,
     pair: &Pair,
     part: Part,
-    value: Carried,
+    row: Row,
     registers: &mut [i64],
     memory: &mut M,
-) -> Result<Carried, Halt>
+) -> Result<Row, Halt>
     requires cells { M.cell_count memory.old ≡ cell_count_of (program_of instance.now) (length instance.now.input) }
     requires code { IsPairCode (callable_of (program_of instance.now)) (rooms (program_of instance.now)) (length (program_of instance.now).slots)
         line (pair_head pair.now) (seen_block (out-Pair pair.now).producer.items) (seen_block (out-Pair pair.now).consumer.items) code.now }
@@ -149,12 +145,14 @@ fn perform_pair<M: Memory>(
         (seen_block (out-Pair pair.now).producer.items)
         (seen_block (out-Pair pair.now).consumer.items))
         ≤ length registers.old }
+    requires orderly { StatementIsOrderly (pair_form (pair_head pair.now) (seen_block (out-Pair pair.now).producer.items) (seen_block (out-Pair pair.now).consumer.items)) }
+    requires run { part ≢ Predictor }
     ensures performs { (number : ℤ) → Performs M.leads M.stop M.may_lack_memory
         (part_means (environment_of (program_of instance.now) instance.now.input)
         (pair_construct line (pair_head pair.now)
         (seen_block (out-Pair pair.now).producer.items)
         (seen_block (out-Pair pair.now).consumer.items))
-        part number value
+        part number row
         (state (main_slots (program_of instance.now) registers.old) (M.output memory.old)))
         memory.old memory.new result (state (main_slots (program_of instance.now) registers.new) (M.output memory.new)) }
     ensures kept { LeavesOtherSlots
@@ -164,21 +162,14 @@ fn perform_pair<M: Memory>(
         part (main_slots (program_of instance.now) registers.old) (main_slots (program_of instance.now) registers.new) }
 {
     match part {
-        Part::Producer => entry::value_of(instance, &code.first, registers, memory),
+        Part::Producer => entry::row_of(instance, &code.first, registers, memory),
         Part::Consumer => {
-            set_carried(registers, pair.carried, value);
+            set_carried(registers, &pair.carried, row.words());
             entry::run(instance, &code.consumer, registers, memory)?;
-            Ok(value)
+            Ok(row)
         }
-        Part::Predictor => perform_guess(
-            instance,
-            &code.guess,
-            line,
-            &pair.predict,
-            registers,
-            memory,
-        ),
-        Part::Body => Ok(NO_VALUE),
+        Part::Predictor => unreachable!(),
+        Part::Body => Ok(zeros(&pair.carried)),
     }
 }
 
@@ -186,21 +177,23 @@ fn perform_pair<M: Memory>(
 fn perform_part<M: Memory>(
     instance: &Instance,
     code: &ConstructCode,
-    block: Block,
+    block: &Block,
     registers: &mut [i64],
     memory: &mut M,
-) -> Result<Carried, Halt>
+) -> Result<Row, Halt>
     requires cells { M.cell_count memory.old ≡ cell_count_of (program_of instance.now) (length instance.now.input) }
     requires code { IsConstructCode (callable_of (program_of instance.now)) (rooms (program_of instance.now)) (length (program_of instance.now).slots)
-        (seen_construct block.construct) code.now }
-    requires room { length (program_of instance.now).slots + construct_needs (rooms (program_of instance.now)) (seen_construct block.construct)
+        (seen_construct block.now.construct) code.now }
+    requires room { length (program_of instance.now).slots + construct_needs (rooms (program_of instance.now)) (seen_construct block.now.construct)
         ≤ length registers.old }
+    requires orderly { ConstructIsOrderly (seen_construct block.now.construct) }
+    requires run { block.now.part ≢ Predictor }
     ensures performs { Performs M.leads M.stop M.may_lack_memory
-        (part_means (environment_of (program_of instance.now) instance.now.input) (seen_construct block.entry.construct)
-        block.entry.part block.entry.number block.entry.value
+        (part_means (environment_of (program_of instance.now) instance.now.input) (seen_construct block.now.construct)
+        block.now.part block.now.number block.now.value
         (state (main_slots (program_of instance.now) registers.old) (M.output memory.old)))
         memory.old memory.new result (state (main_slots (program_of instance.now) registers.new) (M.output memory.new)) }
-    ensures kept { LeavesOtherSlots (seen_construct block.entry.construct) block.entry.part
+    ensures kept { LeavesOtherSlots (seen_construct block.now.construct) block.now.part
         (main_slots (program_of instance.now) registers.old) (main_slots (program_of instance.now) registers.new) }
 {
     let line = block.construct.line;
@@ -232,20 +225,21 @@ fn perform_part<M: Memory>(
 /// Performs a part of a top construct over the slots of `main`.
 fn run_part<M: Memory>(
     instance: &Instance,
-    block: Block,
+    block: &Block,
     frame: &mut Frame,
     memory: &mut M,
-) -> Result<Carried, Halt>
-    requires construct { slice_get (constructs_in (program_of instance.now).main) block.index ≡ Some (seen_construct block.construct) }
+) -> Result<Row, Halt>
+    requires construct { slice_get (constructs_in (program_of instance.now).main) block.now.index ≡ Some (seen_construct block.now.construct) }
     requires cells { M.cell_count memory.old ≡ cell_count_of (program_of instance.now) (length instance.now.input) }
     requires frame { length frame.old ≡ frame_size (program_of instance.now) }
+    requires run { block.now.part ≢ Predictor }
     ensures performs { Performs M.leads M.stop M.may_lack_memory
-        (part_means (environment_of (program_of instance.now) instance.now.input) (seen_construct block.entry.construct)
-        block.entry.part block.entry.number block.entry.value
+        (part_means (environment_of (program_of instance.now) instance.now.input) (seen_construct block.now.construct)
+        block.now.part block.now.number block.now.value
         (state (main_slots (program_of instance.now) frame.old) (M.output memory.old)))
         memory.old memory.new result
         (state (main_slots (program_of instance.now) frame.new) (M.output memory.new)) }
-    ensures kept { LeavesOtherSlots (seen_construct block.entry.construct) block.entry.part
+    ensures kept { LeavesOtherSlots (seen_construct block.now.construct) block.now.part
         (main_slots (program_of instance.now) frame.old) (main_slots (program_of instance.now) frame.new) }
     ensures size { length frame.new ≡ length frame.old }
 {
@@ -256,22 +250,23 @@ fn run_part<M: Memory>(
 /// Performs a part of a top construct that holds no `emit`.
 fn run_quietly<M: Memory>(
     instance: &Instance,
-    block: Block,
+    block: &Block,
     frame: &mut Frame,
     quiet: &mut Quiet<M>,
-) -> Result<Carried, Halt>
-    requires construct { slice_get (constructs_in (program_of instance.now).main) block.index ≡ Some (seen_construct block.construct) }
+) -> Result<Row, Halt>
+    requires construct { slice_get (constructs_in (program_of instance.now).main) block.now.index ≡ Some (seen_construct block.now.construct) }
     requires cells { M.cell_count quiet.old.memory.now ≡ cell_count_of (program_of instance.now) (length instance.now.input) }
     requires frame { length frame.old ≡ frame_size (program_of instance.now) }
-    requires silent { PartIsSilent (seen_construct block.construct) block.part }
+    requires silent { PartIsSilent (seen_construct block.now.construct) block.now.part }
     requires functions_silent { FunctionsAreSilent (program_of instance.now).functions }
+    requires run { block.now.part ≢ Predictor }
     ensures performs { PerformsOver M.leads M.stop ⊥
-        (part_asks (program_of instance.now) (seen_construct block.entry.construct) block.entry.part
-        (block_setup instance.now.input (main_slots (program_of instance.now) frame.old) block.entry.number block.entry.value))
+        (part_asks (program_of instance.now) (seen_construct block.now.construct) block.now.part
+        (block_setup instance.now.input (main_slots (program_of instance.now) frame.old) block.now.number block.now.value))
         quiet.old.memory.now quiet.new.memory.now result [] }
     ensures same_reference { quiet.new.memory.ghost_name ≡ quiet.old.memory.ghost_name }
     ensures output { M.output quiet.new.memory.now ≡ M.output quiet.old.memory.now }
-    ensures kept { LeavesOtherSlots (seen_construct block.entry.construct) block.entry.part
+    ensures kept { LeavesOtherSlots (seen_construct block.now.construct) block.now.part
         (main_slots (program_of instance.now) frame.old) (main_slots (program_of instance.now) frame.new) }
     ensures size { length frame.new ≡ length frame.old }
 {
@@ -279,42 +274,192 @@ fn run_quietly<M: Memory>(
 }
 
 /// Runs one block of a top construct: a body, a producer or a consumer that holds no `emit`, with a block number and a carried
-/// value. It asks the memory for what the block means, event by event, and is stopped at a turn whose number reaches the memory's
+/// row. It asks the memory for what the block means, event by event, and is stopped at a turn whose number reaches the memory's
 /// stopping number. However it ends, a slot of `main` that the part neither declares nor assigns is as before, and nothing is put
 /// into the memory's output.
 pub fn exec_block<M: Memory>(
     instance: &Instance,
-    block: Block,
+    block: &Block,
     frame: &mut Frame,
     memory: &mut M,
 ) -> Stop
-    requires construct { slice_get (constructs_in (program_of instance.now).main) block.index ≡ Some (seen_construct block.construct) }
+    requires construct { slice_get (constructs_in (program_of instance.now).main) block.now.index ≡ Some (seen_construct block.now.construct) }
     requires cells { M.cell_count memory.old ≡ cell_count_of (program_of instance.now) (length instance.now.input) }
     requires frame { length frame.old ≡ frame_size (program_of instance.now) }
-    requires silent { PartIsSilent (seen_construct block.construct) block.part }
+    requires silent { PartIsSilent (seen_construct block.now.construct) block.now.part }
     requires functions_silent { FunctionsAreSilent (program_of instance.now).functions }
+    requires run { block.now.part ≢ Predictor }
     ensures performs { PerformsOver M.leads M.stop ⊥
-        (part_asks (program_of instance.now) (seen_construct block.entry.construct) block.entry.part
-        (block_setup instance.now.input (main_slots (program_of instance.now) frame.old) block.entry.number block.entry.value))
+        (part_asks (program_of instance.now) (seen_construct block.now.construct) block.now.part
+        (block_setup instance.now.input (main_slots (program_of instance.now) frame.old) block.now.number block.now.value))
         memory.old memory.new (stop_result result) [] }
     ensures output { M.output memory.new ≡ M.output memory.old }
     ensures cells { M.cell_count memory.new ≡ M.cell_count memory.old }
-    ensures kept { LeavesOtherSlots (seen_construct block.entry.construct) block.entry.part
+    ensures kept { LeavesOtherSlots (seen_construct block.now.construct) block.now.part
         (main_slots (program_of instance.now) frame.old) (main_slots (program_of instance.now) frame.new) }
     ensures size { length frame.new ≡ length frame.old }
 {
     let mut quiet = Quiet { memory };
     match run_quietly(instance, block, frame, &mut quiet) {
-        Ok(value) => Stop::Ended(value),
+        Ok(row) => Stop::Ended(row),
         Err(Halt::Trapped(trap)) => Stop::Trapped(trap),
         Err(Halt::Cancelled { seen }) => Stop::Cancelled { seen },
         Err(Halt::NoMemory) => unreachable!(),
+        Err(Halt::Broken) => unreachable!(),
     }
 }
 
-/// Performs the guess of a top construct for a block number over cells that are only read: a function that stores doesn't change
-/// them, and a load gives the word that is there. A guess that is handed in gives no value here. A slot of `main` that isn't the
-/// block name is as before.
+/// Performs the guess of one part of a row. A part that isn't there gives none.
+fn guess_of<M: Memory>(
+    instance: &Instance,
+    codes: &[ValueCode],
+    line: u32,
+    predict: &[Predict],
+    place: u32,
+    registers: &mut [i64],
+    memory: &mut M,
+) -> Result<i64, Halt>
+    requires cells { M.cell_count memory.old ≡ cell_count_of (program_of instance.now) (length instance.now.input) }
+    requires codes { AreGuessCodes (callable_of (program_of instance.now)) (rooms (program_of instance.now)) (length (program_of instance.now).slots)
+        line (map predictor predict.now) codes.now }
+    requires room { length (program_of instance.now).slots + predictors_need (rooms (program_of instance.now)) (map predictor predict.now)
+        ≤ length registers.old }
+    ensures performs { Performs M.leads M.stop M.may_lack_memory
+        (guess_at (environment_of (program_of instance.now) instance.now.input) line (slice_get (map predictor predict.now) place)
+        (state (main_slots (program_of instance.now) registers.old) (M.output memory.old)))
+        memory.old memory.new result (state (main_slots (program_of instance.now) registers.new) (M.output memory.new)) }
+    ensures kept { main_slots (program_of instance.now) registers.new ≡ main_slots (program_of instance.now) registers.old }
+{
+    let place = place as usize;
+    if place >= predict.len() {
+        return Ok(0);
+    }
+    perform_guess(
+        instance,
+        &codes[place],
+        line,
+        &predict[place],
+        registers,
+        memory,
+    )
+}
+
+/// Performs the guess of one part of a fold's row.
+fn fold_guess<M: Memory>(
+    instance: &Instance,
+    code: &ConstructCode,
+    line: u32,
+    fold: &Fold,
+    number: i64,
+    place: u32,
+    registers: &mut [i64],
+    memory: &mut M,
+) -> Result<i64, Halt>
+    requires cells { M.cell_count memory.old ≡ cell_count_of (program_of instance.now) (length instance.now.input) }
+    requires code { IsFoldCode (callable_of (program_of instance.now)) (rooms (program_of instance.now)) (length (program_of instance.now).slots)
+        line (fold_head fold.now) (seen_block (out-Fold fold.now).body.items) code.now }
+    requires room { length (program_of instance.now).slots + statement_needs (rooms (program_of instance.now))
+        (fold_form (fold_head fold.now) (seen_block (out-Fold fold.now).body.items))
+        ≤ length registers.old }
+    ensures performs { Performs M.leads M.stop M.may_lack_memory
+        (guess_part_means (environment_of (program_of instance.now) instance.now.input)
+        (fold_construct line (fold_head fold.now) (seen_block (out-Fold fold.now).body.items)) place number
+        (state (main_slots (program_of instance.now) registers.old) (M.output memory.old)))
+        memory.old memory.new result (state (main_slots (program_of instance.now) registers.new) (M.output memory.new)) }
+    ensures kept { LeavesOtherSlots
+        (fold_construct line (fold_head fold.now) (seen_block (out-Fold fold.now).body.items))
+        Predictor (main_slots (program_of instance.now) registers.old) (main_slots (program_of instance.now) registers.new) }
+{
+    write(registers, fold.block, number);
+    guess_of(
+        instance,
+        &code.guesses,
+        line,
+        &fold.predict,
+        place,
+        registers,
+        memory,
+    )
+}
+
+/// Performs the guess of one part of a pair's row.
+fn pair_guess<M: Memory>(
+    instance: &Instance,
+    code: &ConstructCode,
+    line: u32,
+    pair: &Pair,
+    place: u32,
+    registers: &mut [i64],
+    memory: &mut M,
+) -> Result<i64, Halt>
+    requires cells { M.cell_count memory.old ≡ cell_count_of (program_of instance.now) (length instance.now.input) }
+    requires code { IsPairCode (callable_of (program_of instance.now)) (rooms (program_of instance.now)) (length (program_of instance.now).slots)
+        line (pair_head pair.now) (seen_block (out-Pair pair.now).producer.items) (seen_block (out-Pair pair.now).consumer.items) code.now }
+    requires room { length (program_of instance.now).slots + statement_needs (rooms (program_of instance.now))
+        (pair_form (pair_head pair.now)
+        (seen_block (out-Pair pair.now).producer.items)
+        (seen_block (out-Pair pair.now).consumer.items))
+        ≤ length registers.old }
+    ensures performs { (number : ℤ) → Performs M.leads M.stop M.may_lack_memory
+        (guess_part_means (environment_of (program_of instance.now) instance.now.input)
+        (pair_construct line (pair_head pair.now)
+        (seen_block (out-Pair pair.now).producer.items)
+        (seen_block (out-Pair pair.now).consumer.items)) place number
+        (state (main_slots (program_of instance.now) registers.old) (M.output memory.old)))
+        memory.old memory.new result (state (main_slots (program_of instance.now) registers.new) (M.output memory.new)) }
+    ensures kept { LeavesOtherSlots
+        (pair_construct line (pair_head pair.now)
+        (seen_block (out-Pair pair.now).producer.items)
+        (seen_block (out-Pair pair.now).consumer.items))
+        Predictor (main_slots (program_of instance.now) registers.old) (main_slots (program_of instance.now) registers.new) }
+{
+    guess_of(
+        instance,
+        &code.guesses,
+        line,
+        &pair.predict,
+        place,
+        registers,
+        memory,
+    )
+}
+
+/// Performs the guess of one part of a top construct's row.
+fn perform_guess_at<M: Memory>(
+    instance: &Instance,
+    code: &ConstructCode,
+    construct: TopConstruct,
+    number: i64,
+    place: u32,
+    registers: &mut [i64],
+    memory: &mut M,
+) -> Result<i64, Halt>
+    requires cells { M.cell_count memory.old ≡ cell_count_of (program_of instance.now) (length instance.now.input) }
+    requires code { IsConstructCode (callable_of (program_of instance.now)) (rooms (program_of instance.now)) (length (program_of instance.now).slots)
+        (seen_construct construct) code.now }
+    requires room { length (program_of instance.now).slots + construct_needs (rooms (program_of instance.now)) (seen_construct construct)
+        ≤ length registers.old }
+    ensures performs { Performs M.leads M.stop M.may_lack_memory
+        (guess_part_means (environment_of (program_of instance.now) instance.now.input) (seen_construct construct.entry) place number
+        (state (main_slots (program_of instance.now) registers.old) (M.output memory.old)))
+        memory.old memory.new result (state (main_slots (program_of instance.now) registers.new) (M.output memory.new)) }
+    ensures kept { LeavesOtherSlots (seen_construct construct.entry) Predictor
+        (main_slots (program_of instance.now) registers.old) (main_slots (program_of instance.now) registers.new) }
+{
+    let line = construct.line;
+    match construct.kind {
+        ConstructKind::Fold(fold) => fold_guess(
+            instance, code, line, fold, number, place, registers, memory,
+        ),
+        ConstructKind::Pair(pair) => {
+            pair_guess(instance, code, line, pair, place, registers, memory)
+        }
+    }
+}
+
+/// Performs the guess of one part of a top construct's row, for a block number, over cells that are only read: a function that
+/// stores doesn't change them, and a load gives the word that is there. A guess that is handed in gives no value here. A slot of
+/// `main` that isn't the block name is as before.
 ///
 /// # Errors
 ///
@@ -323,34 +468,36 @@ pub fn exec_predictor(
     instance: &Instance,
     construct: TopConstruct,
     index: u32,
+    place: u32,
     number: i64,
     frame: &mut Frame,
     cells: &[i64],
-) -> Result<Carried, Trap>
+) -> Result<i64, Trap>
     requires construct { slice_get (constructs_in (program_of instance.now).main) index ≡ Some (seen_construct construct) }
     requires cells { length cells.now ≡ cell_count_of (program_of instance.now) (length instance.now.input) }
     requires frame { length frame.old ≡ frame_size (program_of instance.now) }
     requires functions_silent { FunctionsAreSilent (program_of instance.now).functions }
-    ensures guess { result ≡ result_of (unshared_answer
-        (part_asks (program_of instance.now) (seen_construct construct.entry) Predictor
-        (block_setup instance.now.input (main_slots (program_of instance.now) frame.old) number no_value))
-        cells.now) }
+    ensures guess { result ≡ predicts (program_of instance.now) instance.now.input (seen_construct construct.entry)
+        (main_slots (program_of instance.now) frame.old) cells.now number place }
     ensures kept { LeavesOtherSlots (seen_construct construct.entry) Predictor
         (main_slots (program_of instance.now) frame.old) (main_slots (program_of instance.now) frame.new) }
     ensures size { length frame.new ≡ length frame.old }
 {
-    let block = Block {
-        construct,
-        index,
-        part: Part::Predictor,
-        number,
-        value: NO_VALUE,
-    };
+    let code = &instance.code().constructs[index as usize];
     let mut memory = ReadOnly { cells };
-    match run_part(instance, block, frame, &mut memory) {
+    match perform_guess_at(
+        instance,
+        code,
+        construct,
+        number,
+        place,
+        &mut frame.registers,
+        &mut memory,
+    ) {
         Ok(value) => Ok(value),
         Err(Halt::Trapped(trap)) => Err(trap),
         Err(Halt::Cancelled { .. }) => unreachable!(),
         Err(Halt::NoMemory) => unreachable!(),
+        Err(Halt::Broken) => unreachable!(),
     }
 }

@@ -1,25 +1,28 @@
 // Performances of a program's code, in terms of the source.
 
 ghost use Rattle.std.specs.Prelude.{◌≡◌, ◌≤◌, ◌+◌, ℕ, ℤ, length};
-ghost use Rattle.spf_ast.specs.Interaction.{Meaning};
-ghost use Rattle.spf_ast.specs.Meaning.{expression_means};
+ghost use Rattle.spf_ast.specs.Carried.{Carried, IsWidth};
+ghost use Rattle.spf_ast.specs.Interaction.{Flow, Meaning};
+ghost use Rattle.spf_ast.specs.Meaning.{reads, count_of, arguments_mean, expression_means};
 ghost use Rattle.spf_ast.specs.Program.{cell_count_of, environment_of};
-ghost use Rattle.spf_ast.specs.View.{expression as seen_expression};
-ghost use Rattle.spf_registers.specs.Registers.{needs, rooms};
+ghost use Rattle.spf_ast.specs.Syntax.{end};
+ghost use Rattle.spf_ast.specs.View.{expression as seen_expression, arguments as seen_arguments};
+ghost use Rattle.spf_registers.specs.Registers.{needs, arguments_need, rooms};
 ghost use Rattle.spf_layout.specs.Frame.{main_slots};
 ghost use Rattle.spf_layout.specs.Instance.{program_of};
 ghost use Rattle.spf_code.specs.Code.{code_sets};
 ghost use Rattle.spf_code.specs.Fits.{CodeFits};
 ghost use Rattle.spf_code.specs.NodeView.{code as seen_code};
-ghost use Rattle.spf_lowering.specs.Lowering.{IsExpressionCode, SetsNoSlot};
+ghost use Rattle.spf_lowering.specs.Lowering.{IsRowCode, IsExpressionCode, SetsNoSlot};
 ghost use Rattle.spf_memory.specs.Leaves.{Leaves};
 ghost use Rattle.spf_memory.specs.Performs.{Performs, state};
-ghost use Rattle.spf_exec.specs.Sources.{callable_of, RunsAs, GivesAs};
+ghost use Rattle.spf_exec.specs.Sources.{callable_of, RunsAs, wholly, GivesAs, reads_row};
 
 use crate::context::context_of;
+use spf_ast::row::Row;
 use spf_ast::syntax::Expr;
 use spf_code::node::Node;
-use spf_code::program::ValueCode;
+use spf_code::program::{RowCode, ValueCode};
 use spf_layout::instance::Instance;
 use spf_machine::machine::perform;
 use spf_memory::memory::{Halt, Memory};
@@ -34,10 +37,10 @@ pub(crate) fn run<M: Memory>(
 ) -> Result<(), Halt>
     requires cells { M.cell_count memory.old ≡ cell_count_of (program_of instance.now) (length instance.now.input) }
     requires fits { CodeFits (rooms (program_of instance.now)) (length registers.old) (seen_code code.now) }
-    ensures performs { (room : ℕ) (form : Meaning (Unit {0})) → RunsAs (program_of instance.now) instance.now.input room (seen_code code.now) form
+    ensures performs { (room : ℕ) (form : Meaning Flow) → RunsAs (program_of instance.now) instance.now.input room (seen_code code.now) form
         → room ≤ length registers.old
         → Performs M.leads M.stop M.may_lack_memory
-        (form (state (main_slots (program_of instance.now) registers.old) (M.output memory.old)))
+        (wholly form (state (main_slots (program_of instance.now) registers.old) (M.output memory.old)))
         memory.old memory.new result (state (main_slots (program_of instance.now) registers.new) (M.output memory.new)) }
     ensures cells { M.cell_count memory.new ≡ M.cell_count memory.old }
     ensures others { Leaves (λ r. code_sets r (seen_code code.now)) registers.old registers.new }
@@ -55,7 +58,7 @@ pub(crate) fn value_of<M: Memory>(
 ) -> Result<i64, Halt>
     requires cells { M.cell_count memory.old ≡ cell_count_of (program_of instance.now) (length instance.now.input) }
     requires fits { CodeFits (rooms (program_of instance.now)) (length registers.old) (seen_code code.now.nodes.items) }
-    ensures performs { (room : ℕ) (form : Meaning ℤ) → GivesAs (program_of instance.now) instance.now.input room (seen_code code.now.nodes.items) code.now.register form
+    ensures performs { (room : ℕ) (form : Meaning ℤ) → GivesAs (program_of instance.now) instance.now.input room (seen_code code.now.nodes.items) (reads code.now.register) form
         → room ≤ length registers.old
         → Performs M.leads M.stop M.may_lack_memory
         (form (state (main_slots (program_of instance.now) registers.old) (M.output memory.old)))
@@ -72,6 +75,63 @@ pub(crate) fn value_of<M: Memory>(
         memory,
     )?;
     Ok(read(registers, code.register))
+}
+
+/// Performs code that gives a row as a form does.
+pub(crate) fn row_of<M: Memory>(
+    instance: &Instance,
+    code: &RowCode,
+    registers: &mut [i64],
+    memory: &mut M,
+) -> Result<Row, Halt>
+    requires cells { M.cell_count memory.old ≡ cell_count_of (program_of instance.now) (length instance.now.input) }
+    requires fits { CodeFits (rooms (program_of instance.now)) (length registers.old) (seen_code code.now.nodes.items) }
+    requires width { IsWidth code.now.width }
+    requires room { code.now.register + code.now.width ≤ length registers.old }
+    ensures performs { (room : ℕ) (form : Meaning Carried) → GivesAs (program_of instance.now) instance.now.input room (seen_code code.now.nodes.items) (reads_row code.now.register code.now.width) form
+        → room ≤ length registers.old
+        → Performs M.leads M.stop M.may_lack_memory
+        (form (state (main_slots (program_of instance.now) registers.old) (M.output memory.old)))
+        memory.old memory.new result (state (main_slots (program_of instance.now) registers.new) (M.output memory.new)) }
+    ensures cells { M.cell_count memory.new ≡ M.cell_count memory.old }
+    ensures others { Leaves (λ r. code_sets r (seen_code code.now.nodes.items)) registers.old registers.new }
+{
+    let context = context_of(instance);
+    perform(
+        &context,
+        context.functions.len(),
+        &code.nodes,
+        registers,
+        memory,
+    )?;
+    let from = code.register as usize;
+    Ok(Row::of(&registers[from..from + code.width as usize]))
+}
+
+/// Performs the words of a row, whose code sets no slot.
+pub(crate) fn row<M: Memory>(
+    instance: &Instance,
+    code: &RowCode,
+    line: u32,
+    words: &[Expr],
+    registers: &mut [i64],
+    memory: &mut M,
+) -> Result<Row, Halt>
+    requires cells { M.cell_count memory.old ≡ cell_count_of (program_of instance.now) (length instance.now.input) }
+    requires code { IsRowCode (callable_of (program_of instance.now)) (rooms (program_of instance.now)) (length (program_of instance.now).slots)
+        end line (seen_arguments words.now) code.now }
+    requires sets { SetsNoSlot (length (program_of instance.now).slots) (seen_code code.now.nodes.items) }
+    requires width { IsWidth (count_of (seen_arguments words.now)) }
+    requires room { length (program_of instance.now).slots + arguments_need (rooms (program_of instance.now)) (seen_arguments words.now)
+        ≤ length registers.old }
+    ensures performs { Performs M.leads M.stop M.may_lack_memory
+        (arguments_mean (environment_of (program_of instance.now) instance.now.input) line (seen_arguments words.now)
+        (state (main_slots (program_of instance.now) registers.old) (M.output memory.old)))
+        memory.old memory.new result (state (main_slots (program_of instance.now) registers.old) (M.output memory.new)) }
+    ensures cells { M.cell_count memory.new ≡ M.cell_count memory.old }
+    ensures kept { main_slots (program_of instance.now) registers.new ≡ main_slots (program_of instance.now) registers.old }
+{
+    row_of(instance, code, registers, memory)
 }
 
 /// Performs an expression, whose code sets no slot.

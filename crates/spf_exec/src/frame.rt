@@ -5,7 +5,7 @@ ghost use Rattle.spf_ast.specs.Carried.{with_carried};
 ghost use Rattle.spf_layout.specs.Frame.{frame_size};
 ghost use Rattle.spf_layout.specs.Instance.{program_of};
 
-use spf_ast::carried::{Carried, set_carried};
+use spf_ast::row::{Row, set_carried};
 use spf_layout::instance::Instance;
 use std::alloc::{AllocError, Global};
 use std::marker::Model;
@@ -48,11 +48,11 @@ impl Frame {
         Ok(Frame { registers })
     }
 
-    /// Puts a carried value into its slot.
-    pub(crate) fn set_carried(&mut self, slot: u32, value: Carried)
-        ensures { self.new ≡ with_carried slot value self.old }
+    /// Puts a carried row into its slots.
+    pub(crate) fn set_carried(&mut self, slots: &[u32], row: Row)
+        ensures { self.new ≡ with_carried slots.now row self.old }
     {
-        set_carried(&mut self.registers, slot, value);
+        set_carried(&mut self.registers, slots, row.words());
     }
 
     /// Makes an equal frame.

@@ -6,7 +6,8 @@ ghost use Rattle.std.specs.Borrow.{Lends, Array, sem, i64 as word};
 ghost use Rattle.spf_exec.specs.contracts.pieces.Run.{the_row};
 ghost use Rattle.spf_exec.specs.declared.pieces.Pause.TheVariants.{AtConstruct, Finished};
 ghost use Rattle.spf_ast.specs.View.{block as seen_block, fold_head};
-ghost use Rattle.spf_ast.specs.Meaning.{block_means, max_blocks};
+ghost use Rattle.spf_ast.specs.Carried.{IsWidth};
+ghost use Rattle.spf_ast.specs.Meaning.{count_of, main_means, max_blocks};
 ghost use Rattle.spf_ast.specs.Syntax.{end, Fold as fold_form};
 ghost use Rattle.spf_ast.specs.Construct.{constructs_in, header_means, fold as fold_construct};
 ghost use Rattle.spf_ast.specs.ConstructView.{construct as seen_construct};
@@ -39,9 +40,9 @@ ghost use Rattle.spf_exec.specs.Pieces.{
 use crate::entry;
 use crate::frame::Frame;
 use crate::plain_run::run_main;
-use spf_ast::carried::Carried;
 use spf_ast::construct::{ConstructKind, TopConstruct, as_construct};
 use spf_ast::outcome::{Trap, TrapKind};
+use spf_ast::row::Row;
 use spf_ast::syntax::{Fold, Stmt};
 use spf_code::program::ConstructCode;
 use spf_layout::instance::Instance;
@@ -59,8 +60,8 @@ pub struct Header {
     pub low: i64,
     /// The number of blocks.
     pub blocks: u64,
-    /// The value at which the first block begins.
-    pub start: Carried,
+    /// The row at which the first block begins.
+    pub start: Row,
 }
 
 /// Where a run has come to.
@@ -160,7 +161,7 @@ fn perform_between(
     requires order { from ≤ to }
     requires within { to ≤ length instance.now.code.main.items }
     ensures outcome { IsPlainOutcome result
-        (block_means (environment_of (program_of instance.now) instance.now.input)
+        (main_means (environment_of (program_of instance.now) instance.now.input)
         (seen_block (take (to - from) (drop from instance.now.code.main.items)))
         (state (main_slots (program_of instance.now) frame.old) memory.old.output.items))
         memory.old.cells.items memory.new.cells.items
@@ -200,6 +201,7 @@ fn advance_from<'a>(
         Err(Halt::Trapped(trap)) => Ok((place, Pause::Trapped(trap))),
         Err(Halt::Cancelled { .. }) => unreachable!(),
         Err(Halt::NoMemory) => Err(AllocError),
+        Err(Halt::Broken) => unreachable!(),
     }
 }
 
@@ -218,6 +220,7 @@ fn perform_header<M: Memory>(
     requires room { length (program_of instance.now).slots + statement_needs (rooms (program_of instance.now))
         (fold_form (fold_head fold.now) (seen_block (out-Fold fold.now).body.items))
         ≤ length registers.old }
+    requires width { IsWidth (count_of (fold_head fold.now).start) }
     ensures performs { Performs M.leads M.stop M.may_lack_memory
         (header_means (environment_of (program_of instance.now) instance.now.input)
         (fold_construct line (fold_head fold.now) (seen_block (out-Fold fold.now).body.items))
@@ -229,7 +232,7 @@ fn perform_header<M: Memory>(
     ensures numbers { IfOk result (λ h. (h.low +ℤ pos h.blocks) ≤ℤ i64.MAX) }
 {
     let header = &code.header;
-    let start = entry::expression(
+    let start = entry::row(
         instance,
         &header.start,
         line,
@@ -268,6 +271,7 @@ fn header_quietly(
     requires room { length (program_of instance.now).slots + statement_needs (rooms (program_of instance.now))
         (fold_form (fold_head fold.now) (seen_block (out-Fold fold.now).body.items))
         ≤ frame_size (program_of instance.now) }
+    requires width { IsWidth (count_of (fold_head fold.now).start) }
     requires silent { FunctionsAreSilent (program_of instance.now).functions }
     ensures outcome { IsPlainOutcome (header_result result)
         (header_means (environment_of (program_of instance.now) instance.now.input)
@@ -308,6 +312,7 @@ fn fold_header(
     requires room { length (program_of instance.now).slots + statement_needs (rooms (program_of instance.now))
         (fold_form (fold_head fold.now) (seen_block (out-Fold fold.now).body.items))
         ≤ frame_size (program_of instance.now) }
+    requires width { IsWidth (count_of (fold_head fold.now).start) }
     requires silent { FunctionsAreSilent (program_of instance.now).functions }
     ensures answer { IsHeaderAnswer (header_means (environment_of (program_of instance.now) instance.now.input)
         (fold_construct line (fold_head fold.now) (seen_block (out-Fold fold.now).body.items))
@@ -331,6 +336,7 @@ fn fold_header(
         Err(Halt::Trapped(trap)) => Err(trap),
         Err(Halt::Cancelled { .. }) => unreachable!(),
         Err(Halt::NoMemory) => unreachable!(),
+        Err(Halt::Broken) => unreachable!(),
     }
 }
 
@@ -359,10 +365,10 @@ fn header_of(
     let line = construct.line;
     match construct.kind {
         ConstructKind::Fold(fold) => fold_header(instance, code, line, fold, frame, memory),
-        ConstructKind::Pair(_) => Ok(Header {
+        ConstructKind::Pair(pair) => Ok(Header {
             low: 0,
             blocks: 2,
-            start: 0,
+            start: Row::zeros(pair.carried.len() as u32),
         }),
     }
 }
@@ -438,8 +444,8 @@ impl Run {
         )
     }
 
-    /// Settles the top construct that stands next: puts its value into its carried slot and goes past it.
-    pub fn settle(&mut self, instance: &Instance, construct: TopConstruct, value: Carried)
+    /// Settles the top construct that stands next: puts its row into its carried slots and goes past it.
+    pub fn settle(&mut self, instance: &Instance, construct: TopConstruct, value: Row)
         requires run { IsRunOf (program_of instance.now) (length instance.now.input) self.old }
         requires construct { construct_first (ahead (program_of instance.now) self.old) ≡ Some (seen_construct construct) }
         ensures settled { IsSettled (program_of instance.now) (seen_construct construct.entry) self.old self.new value }
@@ -447,7 +453,7 @@ impl Run {
     {
         let statements = instance.program().main.len();
         prove!(self.place < statements);
-        self.frame.set_carried(construct.carried_slot(), value);
+        self.frame.set_carried(construct.carried_slots(), value);
         self.place += 1;
         self.passed += 1;
     }

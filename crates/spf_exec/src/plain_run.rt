@@ -2,7 +2,8 @@
 
 ghost use Rattle.std.specs.Prelude.{◌≡◌, ◌<◌, ◌≤◌, ◌-◌, ◌^◌, length, take, drop, IfOk, IfErr, IsErrAnd};
 ghost use Rattle.spf_ast.specs.View.{block as seen_block, program as seen_program};
-ghost use Rattle.spf_ast.specs.Meaning.{block_means};
+ghost use Rattle.spf_ast.specs.GoingOn.{IsOrderly};
+ghost use Rattle.spf_ast.specs.Meaning.{main_means};
 ghost use Rattle.spf_ast.specs.Program.{cell_count_of, environment_of, max_cells, outcome, seen_outcome};
 ghost use Rattle.spf_layout.specs.declared.layout.RunError.TheVariants.{OutOfMemory};
 ghost use Rattle.spf_layout.specs.Frame.{frame_size, main_slots};
@@ -34,7 +35,7 @@ fn perform_statements<M: Memory>(
     requires order { from ≤ to }
     requires within { to ≤ length instance.now.code.main.items }
     ensures performs { Performs M.leads M.stop M.may_lack_memory
-        (block_means (environment_of (program_of instance.now) instance.now.input)
+        (main_means (environment_of (program_of instance.now) instance.now.input)
         (seen_block (take (to - from) (drop from instance.now.code.main.items)))
         (state (main_slots (program_of instance.now) registers.old) (M.output memory.old)))
         memory.old memory.new result
@@ -61,7 +62,7 @@ pub(crate) fn run_main(
     requires order { from ≤ to }
     requires within { to ≤ length instance.now.code.main.items }
     ensures outcome { IsPlainOutcome result
-        (block_means (environment_of (program_of instance.now) instance.now.input)
+        (main_means (environment_of (program_of instance.now) instance.now.input)
         (seen_block (take (to - from) (drop from instance.now.code.main.items)))
         (state (main_slots (program_of instance.now) registers.old) memory.old.output.items))
         memory.old.cells.items memory.new.cells.items
@@ -97,6 +98,7 @@ pub fn run_instance(alloc: Global, instance: &Instance) -> Result<Outcome, Alloc
         }),
         Err(Halt::Cancelled { .. }) => unreachable!(),
         Err(Halt::NoMemory) => Err(AllocError),
+        Err(Halt::Broken) => unreachable!(),
     }
 }
 
@@ -104,13 +106,14 @@ pub fn run_instance(alloc: Global, instance: &Instance) -> Result<Outcome, Alloc
 ///
 /// # Errors
 ///
-/// `TooManyCells` where the arrays have more than 4,194,304 cells, and `OutOfMemory`.
+/// `TooManyCells` where the arrays have more cells than a run of the program's version may have, and `OutOfMemory`.
 pub fn run_plain(alloc: Global, program: &Program, input: &[u8]) -> Result<Outcome, RunError>
     requires short { length input.now < 2 ^ 63 }
+    requires orderly { IsOrderly (seen_program program.now) }
     ensures outcome { IfOk result (λ o. seen_outcome o ≡ outcome (seen_program program.now) input.now) }
-    ensures too_many { max_cells < cell_count_of (seen_program program.now) (length input.now)
+    ensures too_many { max_cells (seen_program program.now) < cell_count_of (seen_program program.now) (length input.now)
         → IsErrAnd result (IsTooMany (cell_count_of (seen_program program.now) (length input.now))) }
-    ensures few { cell_count_of (seen_program program.now) (length input.now) ≤ max_cells
+    ensures few { cell_count_of (seen_program program.now) (length input.now) ≤ max_cells (seen_program program.now)
         → IfErr result (λ why. why ≡ OutOfMemory) }
 {
     let instance = Instance::make(alloc, program, input)?;

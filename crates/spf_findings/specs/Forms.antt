@@ -7,7 +7,8 @@ use Rattle.spf_ast.specs.declared.syntax.Op.{Op}
 use Rattle.spf_ast.specs.declared.syntax.Op.TheVariants.{Add, Sub, Mul, Div, Rem, And, Or, Xor, Shl, Shr}
 use Rattle.spf_ast.specs.Syntax.{Expression, Number, Local, Len, Input, Load, Call, Neg, Binary, Arguments, no_more, argument}
 use Rattle.spf_ast.specs.Syntax.{Condition, Compare, Both, Either, Not}
-use Rattle.spf_ast.specs.Syntax.{Statement, Let, Assign, Store, Fill, Emit, Fail, If, For, While, Do, Fold, Pair, Block, end, on_line}
+use Rattle.spf_ast.specs.Syntax.{Statement, Let, Assign, Store, Fill, Emit, Fail, If, For, While, Do, Fold, Pair, Break, Block, end, on_line}
+use Rattle.spf_ast.specs.Slots.{breaks}
 use Rattle.spf_findings.specs.Found.{Finds, finds_nothing, ◌then◌, perhaps, either, reads_element, writes_element, writes_range, turn_bound, turns, Sweep}
 
 -- a call that is entered: the bound of the answer, and what is found in the function
@@ -84,11 +85,15 @@ abbrev pub sweep : ℕ → Option ℤ → List Sweep → List Sweep
 sweep array (Some d) others = record { array = array; distance = d } ∷ others
 sweep array None others = others
 
--- the sweeps of a loop's body: those of its direct statements
+-- the sweeps of a block: those of its direct statements
 abbrev pub sweeps : ℕ → Block → List Sweep
 sweeps name end = []
 sweeps name (on_line line (Store array index value) rest) = sweep array (distance name index) (sweeps name rest)
 sweeps name (on_line line _ rest) = sweeps name rest
+
+-- the sweeps of a loop: those of its body, unless a `break` may end the loop before its last turn
+abbrev pub loop_sweeps : ℕ → Block → List Sweep
+loop_sweeps name body = if breaks body then [] else sweeps name body
 
 -- ---- effects
 
@@ -129,17 +134,18 @@ abbrev mutual
       condition_finds g slots c then either (block_finds g slots first) (block_finds g slots second)
   statement_finds g slots (For slot low high body) =
       expression_finds g slots low then expression_finds g slots high
-      then turns (expression_bound g slots low) (expression_bound g slots high) (sweeps slot body)
+      then turns (expression_bound g slots low) (expression_bound g slots high) (loop_sweeps slot body)
       (block_finds g (bounds_in_turn g slots slot low high) body)
   statement_finds g slots (While c most body) = condition_finds g slots c then perhaps (block_finds g slots body)
   statement_finds g slots (Do f given) = arguments_find g slots given then (g.call f (argument_bounds g slots given)).finds
   statement_finds g slots (Fold head body) =
-      expression_finds g slots head.start then expression_finds g slots head.low then expression_finds g slots head.high
+      arguments_find g slots head.start then expression_finds g slots head.low then expression_finds g slots head.high
       then turns (expression_bound g slots head.low) (expression_bound g slots head.high) []
       (let inner = bounds_in_turn g slots head.block head.low head.high in
-      block_finds g inner body then expression_finds g (bounds_at_end g inner body) head.next)
+      block_finds g inner body then arguments_find g (bounds_at_end g inner body) head.next)
   statement_finds g slots (Pair head producer consumer) =
-      block_finds g slots producer then expression_finds g (bounds_at_end g slots producer) head.give then block_finds g slots consumer
+      block_finds g slots producer then arguments_find g (bounds_at_end g slots producer) head.give then block_finds g slots consumer
+  statement_finds g slots Break = finds_nothing
 
   pub block_finds : Setting → List Bound → Block → Finds
   block_finds g slots end = finds_nothing
@@ -148,3 +154,7 @@ abbrev mutual
 -- a block, and an expression in which what the block declares is visible
 abbrev pub block_then : Setting → List Bound → Block → Expression → Finds
 block_then g slots body last = block_finds g slots body then expression_finds g (bounds_at_end g slots body) last
+
+-- a block, and a row in whose parts what the block declares is visible
+abbrev pub block_then_row : Setting → List Bound → Block → Arguments → Finds
+block_then_row g slots body last = block_finds g slots body then arguments_find g (bounds_at_end g slots body) last

@@ -31,7 +31,7 @@ use Rattle.spf_ast.specs.Syntax.{Program, Function, Block, By, Host, FoldHead}
 use Rattle.spf_ast.specs.Syntax as syntax
 use Rattle.spf_ast.specs.Construct.{Construct, fold, pair, statements_of}
 use Rattle.spf_findings.specs.Found.{Finds, finds_nothing, ◌then◌, nowhere}
-use Rattle.spf_findings.specs.Forms.{Entered, Setting, expression_bound, expression_finds, bounds_at_end, block_finds, block_then, declared}
+use Rattle.spf_findings.specs.Forms.{Entered, Setting, expression_bound, expression_finds, bounds_at_end, block_finds, block_then, block_then_row, declared}
 use Rattle.spf_ast.specs.Slots.{assigns, assigns_outer, emits}
 
 -- ---- functions
@@ -77,18 +77,23 @@ outside p = replicate (length p.slots) Unknown
 abbrev pub within_fold : Program → FoldHead → List Bound
 within_fold p head = declared (main_setting p) head.block (Known (pos 1) (pos 0) (pos 0)) (outside p)
 
--- what is found in a predictor; one that is handed in does nothing here
+-- what is found in the guess of one part of a row; a predictor that is handed in does nothing here
 abbrev pub guess_finds : Setting → List Bound → syntax.Predictor → Finds
 guess_finds g slots (By guess) = expression_finds g slots guess
 guess_finds g slots (Host number) = finds_nothing
 
+-- what is found in the guesses of a row's parts, from left to right
+abbrev pub guesses_find : Setting → List Bound → List syntax.Predictor → Finds
+guesses_find g slots [] = finds_nothing
+guesses_find g slots (first ∷ rest) = guess_finds g slots first then guesses_find g slots rest
+
 -- what is found in a part; one that the construct doesn't have does nothing
 abbrev pub part_finds : Program → Construct → Part → Finds
-part_finds p (fold line head body) Body = block_then (main_setting p) (within_fold p head) body head.next
-part_finds p (fold line head body) Predictor = guess_finds (main_setting p) (within_fold p head) head.predict
-part_finds p (pair line head producer consumer) Producer = block_then (main_setting p) (outside p) producer head.give
+part_finds p (fold line head body) Body = block_then_row (main_setting p) (within_fold p head) body head.next
+part_finds p (fold line head body) Predictor = guesses_find (main_setting p) (within_fold p head) head.predict
+part_finds p (pair line head producer consumer) Producer = block_then_row (main_setting p) (outside p) producer head.give
 part_finds p (pair line head producer consumer) Consumer = block_finds (main_setting p) (outside p) consumer
-part_finds p (pair line head producer consumer) Predictor = guess_finds (main_setting p) (outside p) head.predict
+part_finds p (pair line head producer consumer) Predictor = guesses_find (main_setting p) (outside p) head.predict
 part_finds p _ _ = finds_nothing
 
 -- the effects of a part

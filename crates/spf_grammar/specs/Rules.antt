@@ -1,8 +1,9 @@
 -- The grammar, production by production.
-use Rattle.std.specs.Prelude.{ℕ, zero, suc, ◌+◌, nat_eq, if◌then◌else◌, List, [], ◌∷◌, ℤ, pos}
+use Rattle.std.specs.Prelude.{ℕ, zero, suc, ◌+◌, nat_eq, Bool, true, false, if◌then◌else◌, List, [], ◌∷◌, ℤ, pos}
 use Rattle.spf_text.specs.declared.token.Keyword.TheVariants as word
 use Rattle.spf_text.specs.declared.token.Sign.{Sign}
 use Rattle.spf_text.specs.declared.token.Sign.TheVariants as sign
+use Rattle.spf_text.specs.declared.token.TokenKind.TheVariants as kind
 use Rattle.spf_ast.specs.declared.syntax.Op.TheVariants as op
 use Rattle.spf_ast.specs.declared.syntax.Test.TheVariants as test
 use Rattle.spf_ast.specs.Syntax.{Array}
@@ -39,6 +40,7 @@ use Rattle.spf_ast.specs.RawSyntax.{
   Do,
   Fold,
   Pair,
+  Break,
   RawBlock,
   end,
   on_line,
@@ -47,12 +49,14 @@ use Rattle.spf_ast.specs.RawSyntax.{
 }
 use Rattle.spf_grammar.specs.Parts.{
   Part,
+  token,
   operator,
   opens,
   name,
   number,
   count,
   many,
+  few,
   expression,
   level,
   further,
@@ -60,10 +64,15 @@ use Rattle.spf_grammar.specs.Parts.{
   operand,
   arguments,
   next_argument,
+  names,
+  row,
+  guess,
+  predictor,
+  next_predictor,
   form,
   block,
   otherwise,
-  guess,
+  header,
   size,
   array,
   parameters,
@@ -229,6 +238,66 @@ next_argument_rule n = do
   a ← expression n
   give a
 
+-- ---- rows
+
+-- a name, or two to four in parentheses
+abbrev pub names_rule : ℕ → Rule (List (List ℕ))
+names_rule n =
+    (do
+      x ← name
+      give (x ∷ []))
+    or (do
+      opens n sign.OpenParen
+      x ← name
+      y ← next_parameter
+      more ← few 2 next_parameter
+      sign sign.CloseParen
+      give (x ∷ y ∷ more))
+
+-- an expression, or two to four in parentheses
+abbrev pub row_rule : ℕ → Rule (List RawExpression)
+row_rule n =
+    (do
+      a ← expression n
+      give (a ∷ []))
+    or (do
+      opens n sign.OpenParen
+      a ← expression (n + 1)
+      b ← next_argument (n + 1)
+      more ← few 2 (next_argument (n + 1))
+      sign sign.CloseParen
+      give (a ∷ b ∷ more))
+
+abbrev pub predictor_rule : ℕ → Rule RawPredictor
+predictor_rule n =
+    (do
+      keyword word.Host
+      k ← count
+      give (Host k))
+    or (do
+      g ← expression n
+      give (By g))
+
+abbrev pub next_predictor_rule : ℕ → Rule RawPredictor
+next_predictor_rule n = do
+  sign sign.Comma
+  g ← predictor n
+  give g
+
+-- a predictor, or two to four in parentheses
+abbrev pub guess_rule : ℕ → Rule (List RawPredictor)
+guess_rule n =
+    (do
+      g ← predictor n
+      give (g ∷ []))
+    or (do
+      opens n sign.OpenParen
+      g ← predictor (n + 1)
+      h ← next_predictor (n + 1)
+      more ← few 2 (next_predictor (n + 1))
+      sign sign.CloseParen
+      give (g ∷ h ∷ more))
+
 -- ---- statements
 
 -- statements in order, each with its line
@@ -236,10 +305,10 @@ abbrev pub block_of : List (ℕ × RawStatement) → RawBlock
 block_of [] = end
 block_of (s ∷ rest) = on_line s.0 s.1 (block_of rest)
 
-abbrev pub block_rule : ℕ → Rule RawBlock
-block_rule n = do
+abbrev pub block_rule : Bool → ℕ → Rule RawBlock
+block_rule breaks n = do
   opens n sign.OpenBrace
-  inside ← many (statement (n + 1))
+  inside ← many (statement breaks (n + 1))
   sign sign.CloseBrace
   give (block_of inside)
 
@@ -310,59 +379,49 @@ fail_form n = do
   sign sign.Semicolon
   give (Fail k)
 
-abbrev pub if_form : ℕ → Rule RawStatement
-if_form n = do
+abbrev pub if_form : Bool → ℕ → Rule RawStatement
+if_form breaks n = do
   keyword word.If
   c ← expression n
-  a ← block n
-  b ← otherwise n
+  a ← block breaks n
+  b ← otherwise breaks n
   give (If c a b)
 
 -- an absent `else` is an empty block
-abbrev pub otherwise_rule : ℕ → Rule RawBlock
-otherwise_rule n =
+abbrev pub otherwise_rule : Bool → ℕ → Rule RawBlock
+otherwise_rule breaks n =
     give end
     or (do
       keyword word.Else
-      b ← block n
+      b ← block breaks n
       give b)
 
-abbrev pub for_form : ℕ → Rule RawStatement
-for_form n = do
+abbrev pub for_form : Bool → ℕ → Rule RawStatement
+for_form breaks n = do
   keyword word.For
   x ← name
   keyword word.In
   i ← expression n
   sign sign.DotDot
   j ← expression n
-  b ← block n
+  b ← block breaks n
   give (For x i j b)
 
-abbrev pub while_form : ℕ → Rule RawStatement
-while_form n = do
+abbrev pub while_form : Bool → ℕ → Rule RawStatement
+while_form breaks n = do
   keyword word.While
   c ← expression n
   keyword word.Max
   most ← count
-  b ← block n
+  b ← block breaks n
   give (While c most b)
 
-abbrev pub guess_rule : ℕ → Rule RawPredictor
-guess_rule n =
-    (do
-      keyword word.Host
-      k ← count
-      give (Host k))
-    or (do
-      g ← expression n
-      give (By g))
-
-abbrev pub fold_form : ℕ → Rule RawStatement
-fold_form n = do
+abbrev pub fold_form : Bool → ℕ → Rule RawStatement
+fold_form breaks n = do
   keyword word.Specfold
-  s ← name
+  s ← names n
   sign sign.Assign
-  e ← expression n
+  e ← row n
   keyword word.For
   k ← name
   keyword word.In
@@ -372,43 +431,78 @@ fold_form n = do
   keyword word.Predict
   g ← guess n
   opens n sign.OpenBrace
-  inside ← many (statement (n + 1))
+  inside ← many (statement breaks (n + 1))
   l ← keyword word.Next
-  a ← expression (n + 1)
+  a ← row (n + 1)
   sign sign.Semicolon
   sign sign.CloseBrace
-  give (Fold (record { carried = s; start = e; block = k; low = i; high = j; predict = g; next = a; next_line = l }) (block_of inside))
+  give (Fold (record {
+    carried = s;
+    start = arguments_of e;
+    block = k;
+    low = i;
+    high = j;
+    predict = g;
+    next = arguments_of a;
+    next_line = l;
+  }) (block_of inside))
 
-abbrev pub pair_form : ℕ → Rule RawStatement
-pair_form n = do
+abbrev pub pair_form : Bool → ℕ → Rule RawStatement
+pair_form breaks n = do
   keyword word.Spec
-  x ← name
+  x ← names n
   sign sign.Assign
   opens n sign.OpenBrace
-  inside ← many (statement (n + 1))
+  inside ← many (statement breaks (n + 1))
   l ← keyword word.Give
-  a ← expression (n + 1)
+  a ← row (n + 1)
   sign sign.Semicolon
   sign sign.CloseBrace
   keyword word.Predict
   g ← guess n
-  c ← block n
-  give (Pair (record { carried = x; give = a; give_line = l; predict = g }) (block_of inside) c)
+  c ← block breaks n
+  give (Pair (record { carried = x; give = arguments_of a; give_line = l; predict = g }) (block_of inside) c)
 
-abbrev pub form_rule : ℕ → Rule RawStatement
-form_rule n =
+abbrev pub break_form : Rule RawStatement
+break_form = do
+  keyword word.Break
+  sign sign.Semicolon
+  give Break
+
+-- the statements of every version
+abbrev pub plain_form : Bool → ℕ → Rule RawStatement
+plain_form breaks n =
     let_form n
     or named_form n
     or fill_form n
     or emit_form n
     or fail_form n
-    or if_form n
-    or for_form n
-    or while_form n
-    or fold_form n
-    or pair_form n
+    or if_form breaks n
+    or for_form breaks n
+    or while_form breaks n
+    or fold_form breaks n
+    or pair_form breaks n
+
+abbrev pub form_rule : Bool → ℕ → Rule RawStatement
+form_rule true n = plain_form true n or break_form
+form_rule false n = plain_form false n
 
 -- ---- programs
+
+-- this number, up to the semicolon
+abbrev pub version_rule : ℕ → Rule ℕ
+version_rule v = do
+  token (kind.Number (pos v))
+  sign sign.Semicolon
+  give v
+
+-- `version` and the version's number; a text without them has version 1
+abbrev pub header_rule : Rule ℕ
+header_rule =
+    give 1
+    or (do
+      keyword word.Version
+      version_rule 1 or version_rule 2)
 
 -- the factor and the offset of a size
 abbrev pub size_rule : Rule (ℤ × ℤ)
@@ -450,27 +544,32 @@ next_parameter_rule = do
   x ← name
   give x
 
-abbrev pub function_rule : Rule RawFunction
-function_rule = do
+abbrev pub function_rule : Bool → Rule RawFunction
+function_rule breaks = do
   l ← keyword word.Fn
   f ← name
   opens 0 sign.OpenParen
   xs ← parameters
   opens 0 sign.OpenBrace
-  inside ← many (statement 1)
+  inside ← many (statement breaks 1)
   r ← keyword word.Return
   a ← expression 1
   sign sign.Semicolon
   sign sign.CloseBrace
   give (record { name = f; params = xs; body = block_of inside; answer = a; answer_line = r; line = l })
 
+-- whether `break` is a statement in this version
+abbrev pub has_breaks : ℕ → Bool
+has_breaks version = nat_eq version 2
+
 abbrev pub program_rule : Rule RawProgram
 program_rule = do
+  v ← header
   arrays ← many array
-  functions ← many function
+  functions ← many (function (has_breaks v))
   l ← keyword word.Main
-  b ← block 0
-  give (record { arrays = arrays; functions = functions; main = b; main_line = l })
+  b ← block (has_breaks v) 0
+  give (record { version = v; arrays = arrays; functions = functions; main = b; main_line = l })
 
 -- a part none or more times
 abbrev pub many_rule : (p : Part) → Rule (List (Value p))
@@ -481,11 +580,22 @@ many_rule p =
       more ← many p
       give (x ∷ more))
 
+-- a part so many times at most
+abbrev pub few_rule : ℕ → (p : Part) → Rule (List (Value p))
+few_rule zero p = give []
+few_rule (suc most) p =
+    give []
+    or (do
+      x ← p
+      more ← few most p
+      give (x ∷ more))
+
 -- ---- all together
 
 -- what a part says by its production; a token is read as itself
 abbrev pub rule : (p : Part) → Rule (Value p)
 rule (many p) = many_rule p
+rule (few most p) = few_rule most p
 rule (expression n) = expression_rule n
 rule (level n rank used) = level_rule n rank used
 rule (further n rank a used) = further_rule n rank a used
@@ -493,14 +603,19 @@ rule (compared n rank a used) = compared_rule n rank a used
 rule (operand n) = operand_rule n
 rule (arguments n) = arguments_rule n
 rule (next_argument n) = next_argument_rule n
-rule (form n) = form_rule n
-rule (block n) = block_rule n
-rule (otherwise n) = otherwise_rule n
+rule (names n) = names_rule n
+rule (row n) = row_rule n
 rule (guess n) = guess_rule n
+rule (predictor n) = predictor_rule n
+rule (next_predictor n) = next_predictor_rule n
+rule (form breaks n) = form_rule breaks n
+rule (block breaks n) = block_rule breaks n
+rule (otherwise breaks n) = otherwise_rule breaks n
+rule header = header_rule
 rule size = size_rule
 rule array = array_rule
 rule parameters = parameters_rule
 rule next_parameter = next_parameter_rule
-rule function = function_rule
+rule (function breaks) = function_rule breaks
 rule program = program_rule
 rule p = all p

@@ -6,7 +6,7 @@ use Rattle.spf_ast.specs.Construct.{Construct, constructs_in, Reached, reals}
 use Rattle.spf_guess.specs.Guess.{Guess, Hosts, no_hosts, Telling, guess_for, tells}
 use Rattle.spf_guess.specs.declared.stats.Stats.{Stats}
 
--- a block with a guess, and the value at which it really begins
+-- a block with a guess, and the row at which it really begins
 pub record Guessed : Type 0 where
   pub guess : Guess
   pub real : Carried
@@ -16,7 +16,7 @@ abbrev pub guessed_from : (ℕ → Guess) → ℕ → List Carried → List Gues
 guessed_from guess n [] = []
 guessed_from guess n (real ∷ others) = record { guess = guess n; real = real } ∷ guessed_from guess (suc n) others
 
--- the blocks that begin at these values; the first of them has no guess
+-- the blocks that begin at these rows; the first of them has no guess
 abbrev pub guessed : (ℕ → Guess) → List Carried → List Guessed
 guessed guess [] = []
 guessed guess (start ∷ others) = guessed_from guess 1 others
@@ -28,7 +28,7 @@ abbrev pub how_many : {A : Type 0} → (A → Bool) → List A → ℕ
 how_many test [] = 0
 how_many test (x ∷ xs) = (if test x then 1 else 0) + how_many test xs
 
--- a block was guessed right
+-- a block was guessed right: in all parts
 abbrev pub is_hit : Guessed → Bool
 is_hit block = same_carried block.guess.value block.real
 
@@ -45,7 +45,7 @@ plus one other = record {
   blind = one.blind + other.blind;
 }
 
--- the statistics of blocks that begin at these values, with these guesses
+-- the statistics of blocks that begin at these rows, with these guesses
 abbrev pub statistics_with : (ℕ → Guess) → List Carried → Stats
 statistics_with guess values = record {
   blocks = length values;
@@ -65,7 +65,7 @@ pub record Tally : Type 0 where
   pub stats : Stats
   pub telling : List Telling
 
--- one construct that was reached, and those after it: its hosts were told so much before it, and are told its blocks' values after it
+-- one construct that was reached, and those after it: its hosts were told so much before it, and are told parts of its blocks' rows after it
 abbrev pub tally_from : Hosts → Program → List ℕ → List Construct → List Reached → List Telling → Tally
 tally_from hosts p input (construct ∷ constructs) (r ∷ others) telling =
     let later = tally_from hosts p input constructs others (telling ++ tells construct r.header r.reals.values) in

@@ -12,7 +12,7 @@ pub struct Stats {
     pub hits: u64,
     /// Those of them that were guessed wrong.
     pub misses: u64,
-    /// Those of them whose predictor trapped; they count as hits or misses too.
+    /// Those of them of whose predictors one trapped; they count as hits or misses too.
     pub blind: u64,
 }
 

@@ -4,7 +4,7 @@ use Rattle.std.specs.Prelude.{if◌then◌else◌, ◌==◌, ◌&&◌}
 use Rattle.std.specs.Ordering.{int_eq}
 use Rattle.spf_ast.specs.Event.{Event, Load, Store, Turn, word_at}
 use Rattle.spf_ast.specs.Interaction.{Interaction, Answer, AskLoad, AskStore, AskTurn, bind, Performed, take_load, take_store, take_turn, reaches, perform, Ending}
-use Rattle.spf_laws.specs.Agreement.{Relation, EndAlike, GoAlike}
+use Rattle.spf_laws.specs.Agreement.{PerformedAlike}
 
 -- two trees ask the same of the memory, whatever words it gives, and have related answers
 abbrev pub AskAlike : {A B : Type 0} → (A → B → Type 0) → Interaction A → Interaction B → Type 0
@@ -40,39 +40,39 @@ bind-alike R S f g step _ _ h = elim h [ ]
 -- ---- performing
 
 -- the same choice between alike performances
-if-alike : {A : Type 0} (After : Relation) (b : Bool) (p q x y : Performed (Ending A)) → GoAlike After p q → GoAlike After x y → GoAlike After (if b then p else x) (if b then q else y)
-if-alike After true p q x y h k = h
-if-alike After false p q x y h k = k
+if-alike : {A : Type 0} (R : Ending A → Ending A → Type 0) (b : Bool) (p q x y : Performed (Ending A)) → PerformedAlike R p q → PerformedAlike R x y → PerformedAlike R (if b then p else x) (if b then q else y)
+if-alike R true p q x y h k = h
+if-alike R false p q x y h k = k
 
 -- what goes on alike after each word goes on alike after a load
-load-alike : {A : Type 0} (After : Relation) (c : ℕ) (f g : ℤ → List Event → Performed (Ending A)) → ((w : ℤ) (rest : List Event) → GoAlike After (f w rest) (g w rest)) → (es : List Event) → GoAlike After (take_load c f es) (take_load c g es)
-load-alike After c f g step [] = tt
-load-alike After c f g step (Load d w ∷ rest) = if-alike After (c == d) _ _ _ _ (step w rest) tt
-load-alike After c f g step (Store d w ∷ rest) = tt
-load-alike After c f g step (Turn n ∷ rest) = tt
+load-alike : {A : Type 0} (R : Ending A → Ending A → Type 0) (c : ℕ) (f g : ℤ → List Event → Performed (Ending A)) → ((w : ℤ) (rest : List Event) → PerformedAlike R (f w rest) (g w rest)) → (es : List Event) → PerformedAlike R (take_load c f es) (take_load c g es)
+load-alike R c f g step [] = tt
+load-alike R c f g step (Load d w ∷ rest) = if-alike R (c == d) _ _ _ _ (step w rest) tt
+load-alike R c f g step (Store d w ∷ rest) = tt
+load-alike R c f g step (Turn n ∷ rest) = tt
 
 -- what goes on alike does after a store
-store-alike : {A : Type 0} (After : Relation) (c : ℕ) (v : ℤ) (f g : List Event → Performed (Ending A)) → ((rest : List Event) → GoAlike After (f rest) (g rest)) → (es : List Event) → GoAlike After (take_store c v f es) (take_store c v g es)
-store-alike After c v f g step [] = tt
-store-alike After c v f g step (Load d w ∷ rest) = tt
-store-alike After c v f g step (Store d w ∷ rest) = if-alike After ((c == d) && int_eq v w) _ _ _ _ (step rest) tt
-store-alike After c v f g step (Turn n ∷ rest) = tt
+store-alike : {A : Type 0} (R : Ending A → Ending A → Type 0) (c : ℕ) (v : ℤ) (f g : List Event → Performed (Ending A)) → ((rest : List Event) → PerformedAlike R (f rest) (g rest)) → (es : List Event) → PerformedAlike R (take_store c v f es) (take_store c v g es)
+store-alike R c v f g step [] = tt
+store-alike R c v f g step (Load d w ∷ rest) = tt
+store-alike R c v f g step (Store d w ∷ rest) = if-alike R ((c == d) && int_eq v w) _ _ _ _ (step rest) tt
+store-alike R c v f g step (Turn n ∷ rest) = tt
 
 -- what goes on alike does after a turn
-turn-alike : {A : Type 0} (After : Relation) (stop : Option ℕ) (f g : List Event → Performed (Ending A)) → ((rest : List Event) → GoAlike After (f rest) (g rest)) → (es : List Event) → GoAlike After (take_turn stop f es) (take_turn stop g es)
-turn-alike After stop f g step [] = tt
-turn-alike After stop f g step (Load d w ∷ rest) = tt
-turn-alike After stop f g step (Store d w ∷ rest) = tt
-turn-alike After stop f g step (Turn n ∷ rest) = if-alike After (reaches stop n) _ _ _ _ (refl, refl) (step rest)
+turn-alike : {A : Type 0} (R : Ending A → Ending A → Type 0) (stop : Option ℕ) (f g : List Event → Performed (Ending A)) → ((rest : List Event) → PerformedAlike R (f rest) (g rest)) → (es : List Event) → PerformedAlike R (take_turn stop f es) (take_turn stop g es)
+turn-alike R stop f g step [] = tt
+turn-alike R stop f g step (Load d w ∷ rest) = tt
+turn-alike R stop f g step (Store d w ∷ rest) = tt
+turn-alike R stop f g step (Turn n ∷ rest) = if-alike R (reaches stop n) _ _ _ _ (refl, refl) (step rest)
 
 -- trees that ask alike are performed alike
-pub perform-alike : {A : Type 0} (After : Relation) (shared : ℕ → Bool) (m : List ℤ) (stop : Option ℕ) (t u : Interaction (Ending A)) → AskAlike (EndAlike After) t u → (es : List Event) → GoAlike After (perform shared m stop t es) (perform shared m stop u es)
-perform-alike After shared m stop (Answer a) (Answer b) h es = (h, refl)
-perform-alike After shared m stop (AskLoad c k) (AskLoad d l) h es =
-    rw h.0 (if-alike After (shared d) _ _ _ _
-    (load-alike After d _ _ (λ w rest. perform-alike After shared m stop (k w) (l w) (h.1 w) rest) es)
-    (perform-alike After shared m stop (k (word_at m d)) (l (word_at m d)) (h.1 (word_at m d)) es))
-perform-alike After shared m stop (AskStore c v t) (AskStore d w u) h es =
-    rw (h.0, h.1) (store-alike After d w _ _ (λ rest. perform-alike After shared m stop t u h.2 rest) es)
-perform-alike After shared m stop (AskTurn t) (AskTurn u) h es = turn-alike After stop _ _ (λ rest. perform-alike After shared m stop t u h rest) es
-perform-alike After shared m stop _ _ h es = elim h [ ]
+pub perform-alike : {A : Type 0} (R : Ending A → Ending A → Type 0) (shared : ℕ → Bool) (m : List ℤ) (stop : Option ℕ) (t u : Interaction (Ending A)) → AskAlike R t u → (es : List Event) → PerformedAlike R (perform shared m stop t es) (perform shared m stop u es)
+perform-alike R shared m stop (Answer a) (Answer b) h es = (h, refl)
+perform-alike R shared m stop (AskLoad c k) (AskLoad d l) h es =
+    rw h.0 (if-alike R (shared d) _ _ _ _
+    (load-alike R d _ _ (λ w rest. perform-alike R shared m stop (k w) (l w) (h.1 w) rest) es)
+    (perform-alike R shared m stop (k (word_at m d)) (l (word_at m d)) (h.1 (word_at m d)) es))
+perform-alike R shared m stop (AskStore c v t) (AskStore d w u) h es =
+    rw (h.0, h.1) (store-alike R d w _ _ (λ rest. perform-alike R shared m stop t u h.2 rest) es)
+perform-alike R shared m stop (AskTurn t) (AskTurn u) h es = turn-alike R stop _ _ (λ rest. perform-alike R shared m stop t u h rest) es
+perform-alike R shared m stop _ _ h es = elim h [ ]

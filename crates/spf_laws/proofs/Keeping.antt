@@ -1,25 +1,27 @@
 -- Forms that assign none of some slots leave them as they were.
-use Rattle.std.proofs.Common.{◌≡◌, ℕ, zero, suc, ◌⊎◌, inl, inr, Bool, true, false, List, [], ◌∷◌, length, ℤ, pos, negsuc, ◌+◌, ◌<◌, ◌+ℤ◌, refl, ap, ◌∙◌, arith, eq-eqb}
-use Rattle.std.specs.Prelude.{Result, Ok, Err, Option, Some, None, ◌==◌, if◌then◌else◌, not, nat_lt, slice_get, slice_set}
+use Rattle.std.proofs.Common.{◌≡◌, ℕ, zero, suc, ◌⊎◌, inl, inr, Bool, true, false, List, [], ◌∷◌, ◌++◌, drop, length, ℤ, pos, negsuc, ◌+◌, ◌<◌, ◌+ℤ◌, refl, ap, ◌∙◌, arith, eq-eqb}
+use Rattle.std.specs.Prelude.{Result, Ok, Err, Option, Some, None, ◌==◌, if◌then◌else◌, not, nat_lt, slice_get, slice_index_or, slice_set}
 use Rattle.std.specs.List.{Contains}
+use Rattle.std.proofs.lemmas.List.Elements.{Contains-append_right}
+use Rattle.spf_ast.specs.Carried.{Carried, with_carried}
 use Rattle.std.specs.Int.{int_gap}
 use Rattle.std.proofs.lemmas.List.{length-set}
 use Rattle.spf_ast.specs.declared.outcome.TrapKind.{TrapKind}
 use Rattle.spf_ast.specs.declared.outcome.TrapKind.TheVariants as trap
 use Rattle.spf_ast.specs.Word.{binary_words, sub_words}
-use Rattle.spf_ast.specs.Interaction.{Interaction, Answer, AskLoad, AskStore, AskTurn, bind, State, Ending, Value, Trapped, Meaning, after_ending, ◌>>=◌, ◌>>◌}
+use Rattle.spf_ast.specs.Interaction.{Interaction, Answer, AskLoad, AskStore, AskTurn, bind, State, Flow, Onward, Broken, Ending, Value, Trapped, Meaning, after_ending, ◌>>=◌, ◌>>◌, ◌>->◌, unless_broken, unless_ended}
 use Rattle.spf_ast.specs.Syntax.{Expression, Number, Local, Len, Input, Load, Call, Neg, Binary, Arguments, no_more, argument}
 use Rattle.spf_ast.specs.Syntax.{Condition, Compare, Both, Either, Not}
-use Rattle.spf_ast.specs.Syntax.{Statement, Let, Assign, Store, Fill, Emit, Fail, If, For, While, Do, Fold, Pair, Block, end, on_line, Function}
-use Rattle.spf_ast.specs.Meaning.{Extent, gives, traps, checked, reads, sets, turns, loads, stores, stores_each, emits, with_slots, in_own_slots, extent_in, cell_of, byte_of, cells_of, compares, for_turns, while_turns, fold_blocks, max_blocks, Environment, count_of}
+use Rattle.spf_ast.specs.Syntax.{Statement, Let, Assign, Store, Fill, Emit, Fail, If, For, While, Do, Fold, Pair, Break, Block, end, on_line, Function}
+use Rattle.spf_ast.specs.Meaning.{Extent, gives, traps, checked, reads, sets, sets_row, turns, loads, stores, stores_each, emits, with_slots, in_own_slots, extent_in, cell_of, byte_of, cells_of, compares, for_turns, while_turns, fold_blocks, max_blocks, Environment, count_of}
 use Rattle.spf_ast.specs.Meaning.{expression_means, arguments_mean, condition_means, statement_means, block_means, function_means, own_slots, callable_before, call_before, environment_before}
 use Rattle.spf_ast.specs.Plain.{plain_answer}
 use Rattle.spf_ast.specs.Event.{word_at}
-use Rattle.spf_ast.specs.Lawful.{Names, Scope, behind, showing_fixed, showing, in_body, Declares, IsLawfulStatement, IsLawfulBlock, declared_in, scope_after}
+use Rattle.spf_ast.specs.Lawful.{Names, Scope, behind, showing_fixed, showing_all_fixed, showing, showing_each, in_turn, in_part, in_body, in_producer, in_consumer, Declares, DeclaresEach, IsLawfulStatement, IsLawfulBlock, declared_in, scope_after}
 use Rattle.spf_ast.specs.Slots.{assigns, statement_assigns}
 use Rattle.spf_laws.specs.Keeping.{StatementSpares, BlockSpares}
 use Rattle.spf_lemmas.proofs.Bools.{neither}
-use Rattle.spf_laws.proofs.Slots.{cons_rest}
+use Rattle.spf_laws.proofs.Slots.{cons_cases, cons_first, cons_rest}
 
 -- ---- states
 
@@ -47,6 +49,13 @@ kept-set kept slots slot v n = record {
   words = λ k c. set_other slots slot k v (λ e. n (rw e c));
   slot_count = length-set slots slot v;
 }
+
+-- so many other slots that are set
+kept-row : (kept slots : List ℕ) (row : Carried) (words : List ℤ) → ((slot : ℕ) → Contains slots slot → Contains kept slot → ⊥) → AreKept kept words (with_carried slots row words)
+kept-row kept [] row words n = kept-same kept words
+kept-row kept (slot ∷ slots) row words n =
+    kept-on (kept-set kept words slot (slice_index_or row 0 (pos 0)) (n slot (cons_first slot slots)))
+    (kept-row kept slots (drop 1 row) (slice_set words slot (slice_index_or row 0 (pos 0))) (λ k c. n k (cons_rest slot slots k c)))
 
 -- ---- trees
 
@@ -99,6 +108,22 @@ keeps-then {A} {B} {kept} {first} {next} f n = record {
       (first s) (f.leaves s);
 }
 
+-- one statement, and then others
+pub keeps-on : {kept : List ℕ} {first next : Meaning Flow} → Keeps kept first → Keeps kept next → Keeps kept (first >-> next)
+keeps-on {kept} {first} {next} f n = keeps-then f go
+  where
+    go : (flow : Flow) → Keeps kept (unless_broken next flow)
+    go Onward = n
+    go Broken = record { leaves = λ s. kept-same kept s.slots }
+
+-- the body of a loop, and then its other turns
+pub keeps-turn : {kept : List ℕ} {body others : Meaning Flow} → Keeps kept body → Keeps kept others → Keeps kept (body >>= unless_ended others)
+keeps-turn {kept} {body} {others} b n = keeps-then b go
+  where
+    go : (flow : Flow) → Keeps kept (unless_ended others flow)
+    go Onward = n
+    go Broken = record { leaves = λ s. kept-same kept s.slots }
+
 -- either of two forms
 pub keeps-if : {A : Type 0} {kept : List ℕ} (b : Bool) {first second : Meaning A} → Keeps kept first → Keeps kept second → Keeps kept (if b then first else second)
 keeps-if true f g = f
@@ -121,6 +146,9 @@ reads-keeps {kept = kept} slot = record { leaves = λ s. kept-same kept s.slots 
 pub sets-keeps : {kept : List ℕ} (slot : ℕ) (word : ℤ) → (Contains kept slot → ⊥) → Keeps kept (sets slot word)
 sets-keeps {kept = kept} slot word n = record { leaves = λ s. kept-set kept s.slots slot word n }
 
+pub sets_row-keeps : {kept : List ℕ} (slots : List ℕ) (row : Carried) → ((slot : ℕ) → Contains slots slot → Contains kept slot → ⊥) → Keeps kept (sets_row slots row)
+sets_row-keeps {kept = kept} slots row n = record { leaves = λ s. kept-row kept slots row s.slots n }
+
 turns-keeps : {kept : List ℕ} → Keeps kept turns
 turns-keeps {kept = kept} = record { leaves = λ s. kept-same kept s.slots }
 
@@ -131,10 +159,10 @@ stores-keeps : {kept : List ℕ} (cell : ℕ) (word : ℤ) → Keeps kept (store
 stores-keeps {kept = kept} cell word = record { leaves = λ s. kept-same kept s.slots }
 
 stores_each-keeps : {kept : List ℕ} (first count : ℕ) (word : ℤ) → Keeps kept (stores_each first count word)
-stores_each-keeps first zero word = gives-keeps tt
+stores_each-keeps first zero word = gives-keeps Onward
 stores_each-keeps first (suc count) word = keeps-then (stores-keeps first word) (λ u. stores_each-keeps (suc first) count word)
 
-byte-keeps : (kept : List ℕ) (b : Bool) (line n : ℕ) (s : State) (output : List ℕ) → Leaves (AreKept kept s.slots) (if b then Answer (Value (tt {0}) (record s { output = output })) else traps trap.Emit line s)
+byte-keeps : (kept : List ℕ) (b : Bool) (line n : ℕ) (s : State) (output : List ℕ) → Leaves (AreKept kept s.slots) (if b then Answer (Value Onward (record s { output = output })) else traps trap.Emit line s)
 byte-keeps kept true line n s output = kept-same kept s.slots
 byte-keeps kept false line n s output = tt
 
@@ -210,24 +238,33 @@ condition-keeps g calls line (Not c) = keeps-then (condition-keeps g calls line 
 
 -- ---- loops
 
-for-keeps : {kept : List ℕ} (count : ℕ) (i : ℤ) (slot : ℕ) (body : Meaning (Unit {0})) → (Contains kept slot → ⊥) → Keeps kept body → Keeps kept (for_turns count i slot body)
-for-keeps zero i slot body n b = gives-keeps tt
+for-keeps : {kept : List ℕ} (count : ℕ) (i : ℤ) (slot : ℕ) (body : Meaning Flow) → (Contains kept slot → ⊥) → Keeps kept body → Keeps kept (for_turns count i slot body)
+for-keeps zero i slot body n b = gives-keeps Onward
 for-keeps (suc count) i slot body n b =
-    keeps-then turns-keeps (λ u. keeps-then (sets-keeps slot i n) (λ v. keeps-then b (λ w. for-keeps count (i +ℤ pos 1) slot body n b)))
+    keeps-then turns-keeps (λ u. keeps-then (sets-keeps slot i n) (λ v. keeps-turn b (for-keeps count (i +ℤ pos 1) slot body n b)))
 
-while-keeps : {kept : List ℕ} (line most : ℕ) (test : Meaning Bool) (body : Meaning (Unit {0})) → Keeps kept test → Keeps kept body → Keeps kept (while_turns line most test body)
-while-keeps line zero test body t b = keeps-then t (λ holds. keeps-if holds (traps-keeps trap.Turns line) (gives-keeps tt))
+while-keeps : {kept : List ℕ} (line most : ℕ) (test : Meaning Bool) (body : Meaning Flow) → Keeps kept test → Keeps kept body → Keeps kept (while_turns line most test body)
+while-keeps line zero test body t b = keeps-then t (λ holds. keeps-if holds (traps-keeps trap.Turns line) (gives-keeps Onward))
 while-keeps line (suc most) test body t b =
-    keeps-then t (λ holds. keeps-if holds (keeps-then turns-keeps (λ u. keeps-then b (λ v. while-keeps line most test body t b))) (gives-keeps tt))
+    keeps-then t (λ holds. keeps-if holds (keeps-then turns-keeps (λ u. keeps-turn b (while-keeps line most test body t b))) (gives-keeps Onward))
 
-blocks-keep : {kept : List ℕ} (count : ℕ) (b : ℤ) (block carried : ℕ) (value : ℤ) (body : Meaning ℤ) → (Contains kept block → ⊥) → (Contains kept carried → ⊥) → Keeps kept body → Keeps kept (fold_blocks count b block carried value body)
+blocks-keep : {kept : List ℕ} (count : ℕ) (b : ℤ) (block : ℕ) (carried : List ℕ) (value : Carried) (body : Meaning Carried) → (Contains kept block → ⊥) → ((slot : ℕ) → Contains carried slot → Contains kept slot → ⊥) → Keeps kept body → Keeps kept (fold_blocks count b block carried value body)
 blocks-keep zero b block carried value body n o k = gives-keeps value
 blocks-keep (suc count) b block carried value body n o k =
     keeps-then turns-keeps
     (λ u. keeps-then (sets-keeps block b n)
-    (λ v. keeps-then (sets-keeps carried value o)
+    (λ v. keeps-then (sets_row-keeps carried value o)
     (λ w. keeps-then k
     (λ next. blocks-keep count (b +ℤ pos 1) block carried next body n o k))))
+
+-- the next declarations have the next slots
+pub each-next : (names : Names) (scope : Scope) (slots : List ℕ) → DeclaresEach names scope slots → (k : ℕ) → Contains slots k → k < scope.next + length slots
+each-next names scope [] d k c = let inside = c.1 in omega (arith, inside)
+each-next names scope (slot ∷ slots) d k c = go (cons_cases slot slots k c) (λ i. each-next names (behind 1 (showing slot scope)) slots d.1 k i)
+  where
+    go : (slot ≡ k) ⊎ Contains slots k → (Contains slots k → k < scope.next + 1 + length slots) → k < scope.next + length (slot ∷ slots)
+    go (inl e) later = let next = d.0.0 in omega (arith, e, next)
+    go (inr i) later = let below = later i in omega (arith, below)
 
 -- ---- statements and blocks
 
@@ -258,9 +295,47 @@ fixed-more outer slot k fixed (inr c) = inr c
 pub spared-fixed : {outer kept : List ℕ} (slot : ℕ) (scope : Scope) → AreSpared outer kept scope → AreSpared outer kept (showing_fixed slot scope)
 spared-fixed {outer} slot scope a = record { declared = a.declared; fixed = λ k c. fixed-more outer slot k scope.fixed (a.fixed k c) }
 
-pub spared-body : {outer kept : List ℕ} (scope : Scope) (carried block : ℕ) → AreSpared outer kept scope → AreSpared outer kept (in_body scope carried block)
+all-more : (outer slots : List ℕ) (k : ℕ) (fixed : List ℕ) → Contains fixed k ⊎ Contains outer k → Contains (slots ++ fixed) k ⊎ Contains outer k
+all-more outer slots k fixed (inl c) = inl (Contains-append_right slots fixed k c)
+all-more outer slots k fixed (inr c) = inr c
+
+pub spared-all : {outer kept : List ℕ} (slots : List ℕ) (scope : Scope) → AreSpared outer kept scope → AreSpared outer kept (showing_all_fixed slots scope)
+spared-all {outer} slots scope a = record { declared = a.declared; fixed = λ k c. all-more outer slots k scope.fixed (a.fixed k c) }
+
+-- in a part of a construct, or in a loop
+pub spared-part : {outer kept : List ℕ} (scope : Scope) → AreSpared outer kept scope → AreSpared outer kept (in_part scope)
+spared-part scope a = record { declared = a.declared; fixed = a.fixed }
+
+pub spared-turn : {outer kept : List ℕ} (scope : Scope) → AreSpared outer kept scope → AreSpared outer kept (in_turn scope)
+spared-turn scope a = record { declared = a.declared; fixed = a.fixed }
+
+pub spared-body : {outer kept : List ℕ} (scope : Scope) (carried : List ℕ) (block : ℕ) → AreSpared outer kept scope → AreSpared outer kept (in_body scope carried block)
 spared-body scope carried block a =
-    spared-behind 2 (showing_fixed block (showing_fixed carried scope)) (spared-fixed block (showing_fixed carried scope) (spared-fixed carried scope a))
+    spared-part (behind (length carried + 1) (showing_fixed block (showing_all_fixed carried scope)))
+    (spared-behind (length carried + 1) (showing_fixed block (showing_all_fixed carried scope)) (spared-fixed block (showing_all_fixed carried scope) (spared-all carried scope a)))
+
+pub spared-producer : {outer kept : List ℕ} (scope : Scope) (carried : List ℕ) → AreSpared outer kept scope → AreSpared outer kept (in_producer scope carried)
+spared-producer scope carried a = spared-part (behind (length carried) scope) (spared-behind (length carried) scope a)
+
+pub spared-consumer : {outer kept : List ℕ} (scope : Scope) (carried : List ℕ) (producer : Block) → AreSpared outer kept scope → AreSpared outer kept (in_consumer scope carried producer)
+spared-consumer scope carried producer a =
+    spared-part (behind (length carried + declared_in producer) (showing_all_fixed carried scope))
+    (spared-behind (length carried + declared_in producer) (showing_all_fixed carried scope) (spared-all carried scope a))
+
+-- the slots of the next declarations aren't among them
+pub unseen-each : {outer kept : List ℕ} (names : Names) (scope : Scope) (slots : List ℕ) → AreSpared outer kept scope → DeclaresEach names scope slots → (slot : ℕ) → Contains slots slot → Contains kept slot → ⊥
+unseen-each names scope [] a d slot c k = let inside = c.1 in omega (arith, inside)
+unseen-each {outer} {kept} names scope (first ∷ slots) a d slot c k = go (cons_cases first slots slot c) (unseen names scope first a d.0)
+    (λ i. unseen-each names (behind 1 (showing first scope)) slots (spared-behind 1 (showing first scope) (spared-showing first scope a)) d.1 slot i k)
+  where
+    go : (first ≡ slot) ⊎ Contains slots slot → (Contains kept first → ⊥) → (Contains slots slot → ⊥) → ⊥
+    go (inl e) n m = n (rw e k)
+    go (inr i) n m = m i
+
+-- after them too
+pub spared-each : {outer kept : List ℕ} (slots : List ℕ) (scope : Scope) → AreSpared outer kept scope → AreSpared outer kept (showing_each slots scope)
+spared-each [] scope a = a
+spared-each (slot ∷ slots) scope a = spared-each slots (behind 1 (showing slot scope)) (spared-behind 1 (showing slot scope) (spared-showing slot scope a))
 
 -- a slot that is assigned isn't among them
 unassigned : {outer kept : List ℕ} (scope : Scope) (slot : ℕ) → AreSpared outer kept scope → (Contains scope.fixed slot → ⊥) → (Contains outer slot → ⊥) → Contains kept slot → ⊥
@@ -297,31 +372,33 @@ mutual
       keeps-then (expression-keeps g calls line low)
       (λ i. keeps-then (expression-keeps g calls line high)
       (λ j. for-keeps (int_gap i j) i slot (block_means g body) (unseen names scope slot a l.2)
-      (block-keeps g calls names in_main (behind 1 (showing_fixed slot scope)) body l.3 (spared-behind 1 (showing_fixed slot scope) (spared-fixed slot scope a)) o)))
+      (block-keeps g calls names in_main (in_turn (behind 1 (showing_fixed slot scope))) body l.3 (spared-turn (behind 1 (showing_fixed slot scope)) (spared-behind 1 (showing_fixed slot scope) (spared-fixed slot scope a))) o)))
   statement-keeps g calls names in_main scope line (While test most body) l a o =
-      while-keeps line most (condition_means g line test) (block_means g body) (condition-keeps g calls line test) (block-keeps g calls names in_main scope body l.2 a o)
-  statement-keeps g calls names in_main scope line (Do f given) l a o = keeps-then (expression-keeps g calls line (Call f given)) (λ word. gives-keeps tt)
+      while-keeps line most (condition_means g line test) (block_means g body) (condition-keeps g calls line test) (block-keeps g calls names in_main (in_turn scope) body l.2 (spared-turn scope a) o)
+  statement-keeps g calls names in_main scope line (Do f given) l a o = keeps-then (expression-keeps g calls line (Call f given)) (λ word. gives-keeps Onward)
   statement-keeps g calls names in_main scope line (Fold head body) l a o =
-      keeps-then (expression-keeps g calls line head.start)
+      keeps-then (arguments-keep g calls line head.start)
       (λ start. keeps-then (expression-keeps g calls line head.low)
       (λ low. keeps-then (expression-keeps g calls line head.high)
       (λ high. keeps-then
       (keeps-if (nat_lt max_blocks (int_gap low high)) (traps-keeps trap.Blocks line)
-      (blocks-keep (int_gap low high) low head.block head.carried start (block_means g body >> expression_means g head.next_line head.next)
-      (unseen names (behind 1 (showing head.carried scope)) head.block (spared-behind 1 (showing head.carried scope) (spared-showing head.carried scope a)) l.4)
-      (unseen names scope head.carried a l.3)
+      (blocks-keep (int_gap low high) low head.block head.carried start (block_means g body >> arguments_mean g head.next_line head.next)
+      (unseen names (showing_each head.carried scope) head.block (spared-each head.carried scope a) l.4)
+      (unseen-each names scope head.carried a l.3)
       (keeps-then (block-keeps g calls names in_main (in_body scope head.carried head.block) body l.6 (spared-body scope head.carried head.block a) o)
-      (λ u. expression-keeps g calls head.next_line head.next))))
-      (λ last. sets-keeps head.carried last (unseen names scope head.carried a l.3)))))
+      (λ u. arguments-keep g calls head.next_line head.next))))
+      (λ last. sets_row-keeps head.carried last (unseen-each names scope head.carried a l.3)))))
   statement-keeps g calls names in_main scope line (Pair head producer consumer) l a o =
-      keeps-then (block-keeps g calls names in_main (behind 1 scope) producer l.1 (spared-behind 1 scope a) (λ k i. (neither (assigns (λ other. other == k) producer) _ (o k i)).0))
-      (λ u. keeps-then (expression-keeps g calls head.give_line head.give)
-      (λ given. keeps-then (sets-keeps head.carried given (unseen names scope head.carried a l.0))
-      (λ v. block-keeps g calls names in_main (behind (1 + declared_in producer) (showing_fixed head.carried scope)) consumer l.4
-      (spared-behind (1 + declared_in producer) (showing_fixed head.carried scope) (spared-fixed head.carried scope a)) (λ k i. (neither (assigns (λ other. other == k) producer) _ (o k i)).1))))
+      keeps-then (block-keeps g calls names in_main (in_producer scope head.carried) producer l.1 (spared-producer scope head.carried a) (λ k i. (neither (assigns (λ other. other == k) producer) _ (o k i)).0))
+      (λ u. keeps-then (arguments-keep g calls head.give_line head.give)
+      (λ given. keeps-then (sets_row-keeps head.carried given (unseen-each names scope head.carried a l.0))
+      (λ v. keeps-then (block-keeps g calls names in_main (in_consumer scope head.carried producer) consumer l.4
+      (spared-consumer scope head.carried producer a) (λ k i. (neither (assigns (λ other. other == k) producer) _ (o k i)).1))
+      (λ w. gives-keeps Onward))))
+  statement-keeps g calls names in_main scope line Break l a o = gives-keeps Broken
 
   pub block-keeps : {outer kept : List ℕ} (g : Environment) → CallsKeep g → (names : Names) (in_main : Bool) (scope : Scope) (block : Block) → IsLawfulBlock names in_main scope block → AreSpared outer kept scope → BlockSpares outer block → Keeps kept (block_means g block)
-  block-keeps g calls names in_main scope end l a o = gives-keeps tt
+  block-keeps g calls names in_main scope end l a o = gives-keeps Onward
   block-keeps g calls names in_main scope (on_line line first rest) l a o =
-      keeps-then (statement-keeps g calls names in_main scope line first l.0 a (λ k i. (neither (statement_assigns (λ other. other == k) first) _ (o k i)).0))
-      (λ u. block-keeps g calls names in_main (scope_after scope first) rest l.1 (spared-after scope first a) (λ k i. (neither (statement_assigns (λ other. other == k) first) _ (o k i)).1))
+      keeps-on (statement-keeps g calls names in_main scope line first l.0 a (λ k i. (neither (statement_assigns (λ other. other == k) first) _ (o k i)).0))
+      (block-keeps g calls names in_main (scope_after scope first) rest l.1 (spared-after scope first a) (λ k i. (neither (statement_assigns (λ other. other == k) first) _ (o k i)).1))

@@ -2,18 +2,20 @@
 use Rattle.std.proofs.Common.{◌≡◌, ◌<◌, ℕ, zero, suc, true, false, inl, inr, List, [], length, refl, arith}
 use Rattle.std.specs.Prelude.{Some, ◌==◌, slice_get}
 use Rattle.std.specs.List.{Contains}
+use Rattle.std.proofs.lemmas.List.Elements.{Contains-append_cases}
 use Rattle.spf_ast.specs.declared.syntax.Part.{Part}
 use Rattle.spf_ast.specs.declared.syntax.Part.TheVariants.{Body, Producer, Consumer, Predictor}
 use Rattle.spf_ast.specs.Interaction.{Performed, Ended, Stopped, Misfit, Ending, Value, Trapped}
-use Rattle.spf_ast.specs.Syntax.{Statement, Let, Assign, Store, Fill, Emit, Fail, If, For, While, Do, Fold, Pair, FoldHead, PairHead, Block, end, on_line}
+use Rattle.spf_ast.specs.Syntax.{Statement, Let, Assign, Store, Fill, Emit, Fail, If, For, While, Do, Fold, Pair, Break, FoldHead, PairHead, Block, end, on_line}
 use Rattle.spf_ast.specs.Construct.{Construct, fold, pair, construct_of, constructs_in}
 use Rattle.spf_ast.specs.Program.{extents_of}
-use Rattle.spf_ast.specs.Slots.{part_declares, declares, statement_declares}
+use Rattle.spf_ast.specs.Slots.{part_declares, declares, statement_declares, is_among}
 use Rattle.spf_ast.specs.Lawful.{Names, names_at, Scope, nothing_declared, IsLawfulStatement, IsLawfulBlock, scope_after}
 use Rattle.spf_laws.specs.Agreement.{LookAlike, GoAlike, HaveOneOutput, PartsSeeVisibleSlots, PartsDeclareAnew}
 use Rattle.spf_laws.specs.Keeping.{AreDeclared, ConstructsStandInMain}
 use Rattle.spf_lemmas.proofs.Bools.{neither, either_fails}
 use Rattle.spf_laws.proofs.Slots.{cons_cases}
+use Rattle.spf_laws.proofs.Keeping.{each-next}
 use Rattle.spf_laws.proofs.Chains.{is-statement}
 use Rattle.spf_laws.proofs.SelfContained.{statement-new}
 
@@ -23,8 +25,8 @@ next-grows scope s d slot c = let below = d slot c in omega (arith, below)
 
 pub declared-after : (names : Names) (scope : Scope) (s : Statement) → IsLawfulStatement names true scope s → AreDeclared scope → AreDeclared (scope_after scope s)
 declared-after names scope (Let slot value) l d k c = elim (cons_cases slot scope.visible k c) [ inl e ↦ (let next = l.1.0 in omega (arith, e, next)) | inr h ↦ next-grows scope (Let slot value) d k h ]
-declared-after names scope (Fold head body) l d k c = elim (cons_cases head.carried scope.visible k c) [ inl e ↦ (let next = l.3.0 in omega (arith, e, next)) | inr h ↦ next-grows scope (Fold head body) d k h ]
-declared-after names scope (Pair head producer consumer) l d k c = elim (cons_cases head.carried scope.visible k c) [ inl e ↦ (let next = l.0.0 in omega (arith, e, next)) | inr h ↦ next-grows scope (Pair head producer consumer) d k h ]
+declared-after names scope (Fold head body) l d k c = elim (Contains-append_cases head.carried scope.visible k c) [ inl i ↦ (let below = each-next names scope head.carried l.3 k i in omega (arith, below)) | inr h ↦ next-grows scope (Fold head body) d k h ]
+declared-after names scope (Pair head producer consumer) l d k c = elim (Contains-append_cases head.carried scope.visible k c) [ inl i ↦ (let below = each-next names scope head.carried l.0 k i in omega (arith, below)) | inr h ↦ next-grows scope (Pair head producer consumer) d k h ]
 declared-after names scope (Assign slot value) l d k c = next-grows scope (Assign slot value) d k c
 declared-after names scope (Store array index value) l d k c = next-grows scope (Store array index value) d k c
 declared-after names scope (Fill array low high value) l d k c = next-grows scope (Fill array low high value) d k c
@@ -34,6 +36,7 @@ declared-after names scope (If test a b) l d k c = next-grows scope (If test a b
 declared-after names scope (For slot low high body) l d k c = next-grows scope (For slot low high body) d k c
 declared-after names scope (While test most body) l d k c = next-grows scope (While test most body) d k c
 declared-after names scope (Do f given) l d k c = next-grows scope (Do f given) d k c
+declared-after names scope Break l d k c = next-grows scope Break d k c
 
 -- ---- places
 
@@ -64,6 +67,7 @@ placed names scope (on_line line (If test a b) rest) l d index c e = placed name
 placed names scope (on_line line (For slot low high body) rest) l d index c e = placed names (scope_after scope (For slot low high body)) rest l.1 (declared-after names scope (For slot low high body) l.0 d) index c e
 placed names scope (on_line line (While test most body) rest) l d index c e = placed names (scope_after scope (While test most body)) rest l.1 (declared-after names scope (While test most body) l.0 d) index c e
 placed names scope (on_line line (Do f given) rest) l d index c e = placed names (scope_after scope (Do f given)) rest l.1 (declared-after names scope (Do f given) l.0 d) index c e
+placed names scope (on_line line Break rest) l d index c e = placed names (scope_after scope Break) rest l.1 (declared-after names scope Break l.0 d) index c e
 
 nothing-visible : AreDeclared nothing_declared
 nothing-visible slot c = let inside = c.1 in omega (arith, inside)
@@ -86,15 +90,15 @@ part-new names scope line s c is l =
   where
     of-fold : (x : ℕ) (head : FoldHead) (body : Block) → statement_declares x (Fold head body) ≡ false → (part : Part) → part_declares (fold line head body) part x ≡ false
     of-fold x head body none Body = none
-    of-fold x head body none Predictor = (neither (x == head.block) (declares x body) (neither (x == head.carried) _ none).1).0
+    of-fold x head body none Predictor = (neither (x == head.block) (declares x body) (neither (is_among x head.carried) _ none).1).0
     of-fold x head body none Producer = refl
     of-fold x head body none Consumer = refl
 
     of-pair : (x : ℕ) (head : PairHead) (producer consumer : Block) → statement_declares x (Pair head producer consumer) ≡ false → (part : Part) → part_declares (pair line head producer consumer) part x ≡ false
-    of-pair x head producer consumer none Producer = (neither (declares x producer) (declares x consumer) (neither (x == head.carried) _ none).1).0
+    of-pair x head producer consumer none Producer = (neither (declares x producer) (declares x consumer) (neither (is_among x head.carried) _ none).1).0
     of-pair x head producer consumer none Consumer =
-        let first = neither (x == head.carried) _ none in
-        either_fails (x == head.carried) (declares x consumer) first.0 (neither (declares x producer) (declares x consumer) first.1).1
+        let first = neither (is_among x head.carried) _ none in
+        either_fails (is_among x head.carried) (declares x consumer) first.0 (neither (declares x producer) (declares x consumer) first.1).1
     of-pair x head producer consumer none Body = refl
     of-pair x head producer consumer none Predictor = refl
 

@@ -1,10 +1,12 @@
 -- States that look alike on a list of slots.
-use Rattle.std.proofs.Common.{◌≡◌, ℕ, zero, suc, ◌<◌, ◌⊎◌, inl, inr, List, [], ◌∷◌, length, ℤ, pos, refl, sym, ap, ◌∙◌, subst, arith}
+use Rattle.std.proofs.Common.{◌≡◌, ℕ, zero, suc, ◌<◌, ◌⊎◌, inl, inr, List, [], ◌∷◌, ◌++◌, drop, length, ℤ, pos, refl, sym, ap, ◌∙◌, subst, arith}
 use Rattle.std.specs.Prelude.{slice_get, slice_index_or, slice_set}
 use Rattle.std.specs.List.{Contains}
 use Rattle.std.specs.Option.{unwrap_or}
 use Rattle.std.proofs.lemmas.List.{length-set}
 use Rattle.std.proofs.lemmas.Option.{unwrap_or-slice_get}
+use Rattle.std.proofs.lemmas.List.Elements.{Contains-append_left, Contains-append_right, Contains-append_cases}
+use Rattle.spf_ast.specs.Carried.{Carried, with_carried}
 use Rattle.spf_ast.specs.Interaction.{State}
 use Rattle.spf_laws.specs.Agreement.{LookAlike}
 
@@ -39,6 +41,22 @@ cons_swap x y xs z h = go (cons_cases x (y ∷ xs) z h)
     go : (x ≡ z) ⊎ Contains (y ∷ xs) z → Contains (y ∷ x ∷ xs) z
     go (inl e) = cons_rest y (x ∷ xs) z (subst (Contains (x ∷ xs)) e (cons_first x xs))
     go (inr k) = later (cons_cases y xs z k)
+
+-- an element may stand in the midst
+pub within_midst : (x : ℕ) (xs ys : List ℕ) → IsWithin (x ∷ (xs ++ ys)) (xs ++ (x ∷ ys))
+within_midst x xs ys k c = first (cons_cases x (xs ++ ys) k c)
+  where
+    then_ : Contains xs k ⊎ Contains ys k → Contains (xs ++ (x ∷ ys)) k
+    then_ (inl d) = Contains-append_left xs (x ∷ ys) k d
+    then_ (inr d) = Contains-append_right xs (x ∷ ys) k (cons_rest x ys k d)
+
+    first : (x ≡ k) ⊎ Contains (xs ++ ys) k → Contains (xs ++ (x ∷ ys)) k
+    first (inl e) = Contains-append_right xs (x ∷ ys) k (subst (Contains (x ∷ ys)) e (cons_first x ys))
+    first (inr d) = then_ (Contains-append_cases xs ys k d)
+
+-- the last elements of a list
+pub within_rest : (xs ys : List ℕ) → IsWithin ys (xs ++ ys)
+within_rest xs ys k c = Contains-append_right xs ys k c
 
 -- the same word set in lists of the same length is the same there
 set_same : (xs ys : List ℤ) (slot : ℕ) (v : ℤ) → length xs ≡ length ys → slice_get (slice_set xs slot v) slot ≡ slice_get (slice_set ys slot v) slot
@@ -75,6 +93,16 @@ look_set visible one other slot v h = record {
     at : (k : ℕ) → (slot ≡ k) ⊎ Contains visible k → slice_get (slice_set one.slots slot v) k ≡ slice_get (slice_set other.slots slot v) k
     at k (inl e) = subst (λ i. slice_get (slice_set one.slots slot v) i ≡ slice_get (slice_set other.slots slot v) i) e (set_same one.slots other.slots slot v h.slot_count)
     at k (inr c) = set_kept one.slots other.slots slot v k h.slot_count (h.agree.slots k c)
+
+-- and so they do when the same row is put into slots of both
+pub look_row : (visible slots : List ℕ) (row : Carried) (one other : State) → LookAlike visible one other → LookAlike (slots ++ visible) (record one { slots = with_carried slots row one.slots }) (record other { slots = with_carried slots row other.slots })
+look_row visible [] row one other h = h
+look_row visible (slot ∷ slots) row one other h =
+    let word = slice_index_or row 0 (pos 0) in
+    let first = record one { slots = slice_set one.slots slot word } in
+    let second = record other { slots = slice_set other.slots slot word } in
+    look_narrower (slot ∷ (slots ++ visible)) (slots ++ (slot ∷ visible)) _ _ (within_midst slot slots visible)
+    (look_row (slot ∷ visible) slots (drop 1 row) first second (look_set visible one other slot word h))
 
 -- lists that agree at a place have the same word there
 pub same_read : (xs ys : List ℤ) (slot : ℕ) → slice_get xs slot ≡ slice_get ys slot → slice_index_or xs slot (pos 0) ≡ slice_index_or ys slot (pos 0)

@@ -4,9 +4,9 @@ use Rattle.spf_ast.specs.declared.syntax.Part.{Part}
 use Rattle.spf_ast.specs.Event.{Event}
 use Rattle.spf_ast.specs.Carried.{Carried}
 use Rattle.spf_ast.specs.Construct.{Construct, construct_of, constructs_in, part_means, header_means}
-use Rattle.spf_ast.specs.Interaction.{Performed, Ended, Stopped, Misfit, perform, State, Ending, Value, Trapped, Meaning}
+use Rattle.spf_ast.specs.Interaction.{Performed, Ended, Stopped, Misfit, perform, State, Flow, Onward, Broken, Ending, Value, Trapped, Meaning}
 use Rattle.spf_ast.specs.Syntax.{Program, Expression, Condition, Statement, Block, Function}
-use Rattle.spf_ast.specs.Meaning.{Extent, environment_before, expression_means, condition_means, statement_means, block_means}
+use Rattle.spf_ast.specs.Meaning.{Extent, environment_before, expression_means, condition_means, statement_means, block_means, main_means}
 use Rattle.spf_ast.specs.Slots.{part_declares}
 use Rattle.spf_ast.specs.BlockRun.{block_setup, part_asks}
 use Rattle.spf_ast.specs.Lawful.{
@@ -40,12 +40,23 @@ EndAlike After (Value a one) (Value b other) = (a ≡ b) × After one other
 EndAlike After (Trapped trap output) (Trapped other_trap other_output) = (trap ≡ other_trap) × (output ≡ other_output)
 EndAlike After _ _ = ⊥
 
+-- Two statements are left alike: both go on, in states that the first relation relates; both break off, in states that
+-- the second relates; or both trap alike.
+abbrev pub LeftAlike : Relation → Relation → Ending Flow → Ending Flow → Type 0
+LeftAlike After Out (Value Onward one) (Value Onward other) = After one other
+LeftAlike After Out (Value Broken one) (Value Broken other) = Out one other
+LeftAlike After Out (Trapped trap output) (Trapped other_trap other_output) = (trap ≡ other_trap) × (output ≡ other_output)
+LeftAlike After Out _ _ = ⊥
+
 -- two performances are alike: both ended, and alike; both were stopped, by the same number; or the list fitted neither. The same events are left.
+abbrev pub PerformedAlike : {A : Type 0} → (Ending A → Ending A → Type 0) → Performed (Ending A) → Performed (Ending A) → Type 0
+PerformedAlike Alike (Ended one rest) (Ended other other_rest) = Alike one other × (rest ≡ other_rest)
+PerformedAlike Alike (Stopped number rest) (Stopped other_number other_rest) = (number ≡ other_number) × (rest ≡ other_rest)
+PerformedAlike Alike Misfit Misfit = Unit {0}
+PerformedAlike Alike _ _ = ⊥
+
 abbrev pub GoAlike : {A : Type 0} → Relation → Performed (Ending A) → Performed (Ending A) → Type 0
-GoAlike After (Ended one rest) (Ended other other_rest) = EndAlike After one other × (rest ≡ other_rest)
-GoAlike After (Stopped number rest) (Stopped other_number other_rest) = (number ≡ other_number) × (rest ≡ other_rest)
-GoAlike After Misfit Misfit = Unit {0}
-GoAlike After _ _ = ⊥
+GoAlike After one other = PerformedAlike (EndAlike After) one other
 
 -- A form relates two states before it to two states after it: from states that are related by `Before` it performs
 -- each list of events alike, and its states after it are related by `After`.
@@ -53,6 +64,12 @@ abbrev pub Relates : {A : Type 0} → Relation → Relation → Meaning A → Ty
 Relates Before After form =
     (one other : State) → Before one other → (shared : ℕ → Bool) (memory : List ℤ) (stop : Option ℕ) (events : List Event)
     → GoAlike After (perform shared memory stop (form one) events) (perform shared memory stop (form other) events)
+
+-- From states that are related before it a statement performs each list of events alike, and is left alike.
+abbrev pub RelatesLeft : Relation → Relation → Relation → Meaning Flow → Type 0
+RelatesLeft Before After Out form =
+    (one other : State) → Before one other → (shared : ℕ → Bool) (memory : List ℤ) (stop : Option ℕ) (events : List Event)
+    → PerformedAlike (LeftAlike After Out) (perform shared memory stop (form one) events) (perform shared memory stop (form other) events)
 
 -- ---- forms
 
@@ -70,23 +87,31 @@ ConditionsSeeVisibleSlots =
     → (input : List ℕ) (extents : List Extent) (functions : List Function) (place line : ℕ)
     → Relates (Agree scope.visible) (Agree scope.visible) (condition_means (environment_before input extents functions place) line c)
 
--- each lawful statement, which may make a further slot visible
+-- each lawful statement, which may make further slots visible; where it breaks off, those that were visible before it are
 abbrev pub StatementsSeeVisibleSlots : Type 0
 StatementsSeeVisibleSlots =
     (names : Names) (in_main : Bool) (scope : Scope) (s : Statement) → IsLawfulStatement names in_main scope s
     → (input : List ℕ) (extents : List Extent) (functions : List Function) (place line : ℕ)
-    → Relates (LookAlike scope.visible) (LookAlike (scope_after scope s).visible) (statement_means (environment_before input extents functions place) line s)
+    → RelatesLeft (LookAlike scope.visible) (LookAlike (scope_after scope s).visible) (LookAlike scope.visible) (statement_means (environment_before input extents functions place) line s)
 
 -- each lawful block, so each body and each whole `main`
 abbrev pub BlocksSeeVisibleSlots : Type 0
 BlocksSeeVisibleSlots =
     (names : Names) (in_main : Bool) (scope : Scope) (block : Block) → IsLawfulBlock names in_main scope block
     → (input : List ℕ) (extents : List Extent) (functions : List Function) (place : ℕ)
-    → Relates (LookAlike scope.visible) (LookAlike (scope_at_end scope block).visible) (block_means (environment_before input extents functions place) block)
+    → RelatesLeft (LookAlike scope.visible) (LookAlike (scope_at_end scope block).visible) (LookAlike scope.visible)
+    (block_means (environment_before input extents functions place) block)
+
+-- the statements of `main`, from a lawful block on that isn't in a loop
+abbrev pub MainSeesVisibleSlots : Type 0
+MainSeesVisibleSlots =
+    (names : Names) (scope : Scope) (block : Block) → IsLawfulBlock names true scope block → scope.in_loop ≡ false
+    → (input : List ℕ) (extents : List Extent) (functions : List Function) (place : ℕ)
+    → Relates (LookAlike scope.visible) (LookAlike (scope_at_end scope block).visible) (main_means (environment_before input extents functions place) block)
 
 -- ---- constructs
 
--- each part of a lawful construct of `main`, predictors too, with each block number and each carried value
+-- each part of a lawful construct of `main`, predictors too, with each block number and each carried row
 abbrev pub PartsSeeVisibleSlots : Type 0
 PartsSeeVisibleSlots =
     (names : Names) (scope : Scope) (line : ℕ) (s : Statement) (construct : Construct)

@@ -1,8 +1,8 @@
 -- A construct is its blocks: what it means is what its block runs come to, one after another.
-use Rattle.std.specs.Prelude.{◌≡◌, ℕ, zero, suc, Bool, true, false, List, [], ◌∷◌, Some, Result, Ok, Err, ℤ, pos, ◌+ℤ◌}
+use Rattle.std.specs.Prelude.{◌≡◌, ℕ, zero, suc, Bool, true, false, List, [], ◌∷◌, ◌++◌, Some, Result, Ok, Err, ℤ, pos, ◌+ℤ◌}
 use Rattle.spf_ast.specs.declared.outcome.Trap.{Trap}
 use Rattle.spf_ast.specs.Carried.{Carried, with_carried}
-use Rattle.spf_ast.specs.Interaction.{Interaction, State, Ending, Value, Trapped}
+use Rattle.spf_ast.specs.Interaction.{Interaction, State, Flow, Onward, Ending, Value, Trapped}
 use Rattle.spf_ast.specs.Syntax.{Statement, Function}
 use Rattle.spf_ast.specs.Meaning.{Environment, Extent, environment_before, statement_means}
 use Rattle.spf_ast.specs.Plain.{plain_answer, plain_memory}
@@ -24,7 +24,7 @@ chained_on value (Value next state) after others =
     record { values = value ∷ (others next).values; result = (others next).result; memory = (others next).memory }
 chained_on value (Trapped trap output) after others = record { values = value ∷ []; result = Err trap; memory = after }
 
--- what a block run of a construct asks that was entered with these slots, by the block's index, its number and its carried value
+-- what a block run of a construct asks that was entered with these slots, by the block's index, its number and its carried row
 abbrev pub block_asks : Environment → Construct → List ℤ → ℕ → ℤ → Carried → Interaction (Ending Carried)
 block_asks g construct slots n b v = part_means g construct (part_of construct n) b v (record { slots = slots; output = [] })
 
@@ -42,10 +42,10 @@ abbrev pub is_trap : Result Carried Trap → Bool
 is_trap (Ok value) = false
 is_trap (Err trap) = true
 
--- a construct ends as its blocks did: its carried slot has their value, and the other visible slots are those of the entry; or it ends with their trap
-abbrev pub IsSettledAs : List ℕ → State → ℕ → Result Carried Trap → Ending (Unit {0}) → Type 0
-IsSettledAs visible entry carried (Ok value) (Value done after) =
-    LookAlike (carried ∷ visible) after (record entry { slots = with_carried carried value entry.slots })
+-- a construct ends as its blocks did: its carried slots have their row, and the other visible slots are those of the entry; or it ends with their trap
+abbrev pub IsSettledAs : List ℕ → State → List ℕ → Result Carried Trap → Ending Flow → Type 0
+IsSettledAs visible entry carried (Ok value) (Value Onward after) =
+    LookAlike (carried ++ visible) after (record entry { slots = with_carried carried value entry.slots })
 IsSettledAs visible entry carried (Err trap) (Trapped other output) = (other ≡ trap) × (output ≡ entry.output)
 IsSettledAs visible entry carried _ _ = ⊥
 

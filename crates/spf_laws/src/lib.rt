@@ -7,6 +7,7 @@ ghost use Rattle.spf_laws.specs.Agreement.{
   ConditionsSeeVisibleSlots,
   StatementsSeeVisibleSlots,
   BlocksSeeVisibleSlots,
+  MainSeesVisibleSlots,
   PartsSeeVisibleSlots,
   HeadersSeeVisibleSlots,
   PartsDeclareAnew,
@@ -22,6 +23,7 @@ pub fn each_form_sees_visible_slots_alone()
     ensures conditions { ConditionsSeeVisibleSlots }
     ensures statements { StatementsSeeVisibleSlots }
     ensures blocks { BlocksSeeVisibleSlots }
+    ensures main { MainSeesVisibleSlots }
     ensures parts { PartsSeeVisibleSlots }
     ensures headers { HeadersSeeVisibleSlots }
 {}

@@ -12,4 +12,4 @@ pub record LayoutValue : Type 0 where
 pub record IsLayoutOf (p : Program) (len : ℕ) (l : LayoutValue) : Type 0 where
   pub extents : l.extents ≡ extents_of p len
   pub cells : l.cells ≡ cell_count_of p len
-  pub few : cell_count_of p len ≤ max_cells
+  pub few : cell_count_of p len ≤ max_cells p

@@ -2,7 +2,7 @@
 
 ghost use Rattle.std.specs.Prelude.{◌≡◌, ◌<◌, ◌≤◌, length, map, IfOk, IfErr, IsErrAnd};
 ghost use Rattle.spf_ast.specs.View.{array as seen_array, program as seen_program};
-ghost use Rattle.spf_ast.specs.Program.{size_of, sizes, extents_from, cell_count_of, max_cells};
+ghost use Rattle.spf_ast.specs.Program.{size_of, sizes, extents_from, cell_count_of, max_cells, most_cells};
 ghost use Rattle.spf_layout.specs.declared.layout.RunError.TheVariants.{OutOfMemory};
 ghost use Rattle.spf_layout.specs.Layout.{IsLayoutOf};
 ghost use Rattle.spf_layout.specs.RunErrors.{counted, IsTooMany};
@@ -11,8 +11,16 @@ use crate::layout::{Layout, RunError};
 use spf_ast::syntax::{Array, Program};
 use std::alloc::{AllocError, Global};
 
-/// How many cells a run may have.
-const MAX_CELLS: u128 = 4194304;
+/// How many cells a run of this program may have: a program of version 2 may have more.
+pub fn max_cells_of(program: &Program) -> u32
+    ensures { result ≡ max_cells (seen_program program.now) }
+{
+    if program.version == 2 {
+        16_777_216
+    } else {
+        4_194_304
+    }
+}
 
 /// The number of an array's elements for an input of this length.
 fn size(array: &Array, len: u64) -> u128
@@ -35,7 +43,7 @@ fn cell_count(arrays: &[Array], len: u64) -> u128
 
 /// The first cell and the number of elements of each array.
 fn extents(alloc: Global, arrays: &[Array], len: u64) -> Result<Vec<(u64, u64)>, AllocError>
-    requires few { sizes len (map seen_array arrays.now) ≤ max_cells }
+    requires few { sizes len (map seen_array arrays.now) ≤ most_cells }
     ensures extents { IfOk result (λ v. v.items ≡ extents_from len 0 (map seen_array arrays.now)) }
 {
     let mut extents = Vec::new(alloc);
@@ -52,16 +60,16 @@ fn extents(alloc: Global, arrays: &[Array], len: u64) -> Result<Vec<(u64, u64)>,
 ///
 /// # Errors
 ///
-/// `TooManyCells` where the arrays have more than 4,194,304 cells, and `OutOfMemory`.
+/// `TooManyCells` where the arrays have more cells than a run of the program's version may have, and `OutOfMemory`.
 pub fn layout(alloc: Global, program: &Program, len: u64) -> Result<Layout, RunError>
     ensures layout { IfOk result (IsLayoutOf (seen_program program.now) len) }
-    ensures too_many { max_cells < cell_count_of (seen_program program.now) len
+    ensures too_many { max_cells (seen_program program.now) < cell_count_of (seen_program program.now) len
         → IsErrAnd result (IsTooMany (cell_count_of (seen_program program.now) len)) }
-    ensures few { cell_count_of (seen_program program.now) len ≤ max_cells
+    ensures few { cell_count_of (seen_program program.now) len ≤ max_cells (seen_program program.now)
         → IfErr result (λ why. why ≡ OutOfMemory) }
 {
     let count = cell_count(&program.arrays, len);
-    if count > MAX_CELLS {
+    if count > max_cells_of(program) as u128 {
         return Err(RunError::TooManyCells { count });
     }
     let extents = extents(alloc, &program.arrays, len)?;

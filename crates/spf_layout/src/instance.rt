@@ -2,6 +2,7 @@
 
 ghost use Rattle.std.specs.Prelude.{◌≡◌, ◌<◌, ◌≤◌, ◌^◌, length, IfOk, IfErr, IsErrAnd};
 ghost use Rattle.spf_ast.specs.View.{program as seen_program};
+ghost use Rattle.spf_ast.specs.GoingOn.{IsOrderly};
 ghost use Rattle.spf_ast.specs.Program.{cell_count_of, max_cells};
 ghost use Rattle.spf_layout.specs.declared.layout.RunError.TheVariants.{OutOfMemory};
 ghost use Rattle.spf_lowering.specs.Lowering.{IsCodeOfProgram};
@@ -50,17 +51,18 @@ impl<'a> Instance<'a> {
     ///
     /// # Errors
     ///
-    /// `TooManyCells` where the arrays have more than 4,194,304 cells, and `OutOfMemory`.
+    /// `TooManyCells` where the arrays have more cells than a run of the program's version may have, and `OutOfMemory`.
     pub fn make(
         alloc: Global,
         program: &'a Program,
         input: &'a [u8],
     ) -> Result<Instance<'a>, RunError>
+        requires orderly { IsOrderly (seen_program program.now) }
         ensures program { IfOk result (λ i. program_of i ≡ seen_program program.now) }
         ensures input { IfOk result (λ i. i.input ≡ input.now) }
-        ensures too_many { max_cells < cell_count_of (seen_program program.now) (length input.now)
+        ensures too_many { max_cells (seen_program program.now) < cell_count_of (seen_program program.now) (length input.now)
             → IsErrAnd result (IsTooMany (cell_count_of (seen_program program.now) (length input.now))) }
-        ensures few { cell_count_of (seen_program program.now) (length input.now) ≤ max_cells
+        ensures few { cell_count_of (seen_program program.now) (length input.now) ≤ max_cells (seen_program program.now)
             → IfErr result (λ why. why ≡ OutOfMemory) }
     {
         let layout = layout(alloc, program, input.len() as u64)?;
@@ -99,7 +101,8 @@ impl<'a> Instance<'a> {
 
     /// The program's code.
     pub fn code(&self) -> &ProgramCode
-        ensures { IsCodeOfProgram (program_of self.now) result.now }
+        ensures code { IsCodeOfProgram (program_of self.now) result.now }
+        ensures orderly { IsOrderly (program_of self.now) }
     {
         &self.code
     }

@@ -41,8 +41,9 @@ impl Layout {
 /// Why a run can't be made.
 #[derive(Clone, Copy, PartialEq, Eq, Debug, Error)]
 pub enum RunError {
-    /// All arrays together have more than 4,194,304 cells. `count` is their number, or 2^128 - 1 where it is greater than that.
-    #[error("cells {count} over 4194304")]
+    /// All arrays together have more cells than a run of the program's version may have. `count` is their number, or 2^128 - 1
+    /// where it is greater than that.
+    #[error("too many cells: {count}")]
     TooManyCells { count: u128 },
     /// There was no memory for the run.
     #[error("out of memory")]

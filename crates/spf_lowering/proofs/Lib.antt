@@ -16,3 +16,4 @@ pub mod Programs
 pub mod Parts
 pub mod Settings
 pub mod Fitted
+pub mod Rows

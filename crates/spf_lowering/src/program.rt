@@ -5,19 +5,19 @@ ghost use Rattle.spf_ast.specs.declared.syntax.Fold.{out-Fold};
 ghost use Rattle.spf_ast.specs.declared.syntax.Pair.{out-Pair};
 ghost use Rattle.spf_ast.specs.Construct.{constructs_in};
 ghost use Rattle.spf_ast.specs.ConstructView.{construct as seen_construct};
-ghost use Rattle.spf_ast.specs.View.{expression as seen_expression, predictor as seen_predictor, statement as seen_statement, block as seen_block, function as seen_function, program as seen_program, fold_head, pair_head};
+ghost use Rattle.spf_ast.specs.View.{expression as seen_expression, arguments as seen_arguments, predictor as seen_predictor, statement as seen_statement, block as seen_block, function as seen_function, program as seen_program, fold_head, pair_head};
 ghost use Rattle.spf_ast.specs.Meaning.{callable_before};
 ghost use Rattle.spf_code.specs.Code.{code_sets};
 ghost use Rattle.spf_code.specs.NodeView.{code};
-ghost use Rattle.spf_lowering.specs.Lowering.{IsValueCode, IsExpressionCode, IsGuessCode, IsFoldCode, IsPairCode, IsConstructCode, AreConstructCodes, AreStatementCodes, IsRun, IsCodeOfProgram, SetsWhatIsChanged, SetsNoSlot};
+ghost use Rattle.spf_lowering.specs.Lowering.{IsRowCode, IsExpressionCode, IsGuessCode, AreGuessCodes, IsFoldCode, IsPairCode, IsConstructCode, AreConstructCodes, AreStatementCodes, IsRun, IsCodeOfProgram, SetsWhatIsChanged, SetsNoSlot};
 
-use crate::expression::{Scope, hold};
+use crate::expression::{Scope, count_of, hold, pass};
 use crate::function::functions;
 use crate::statement::{block, statement};
 use spf_ast::construct::{ConstructKind, TopConstruct, as_construct};
 use spf_ast::syntax::{Expr, Fold, Pair, Predict, Program, Stmt};
 use spf_code::node::Node;
-use spf_code::program::{ConstructCode, HeaderCode, ProgramCode, ValueCode};
+use spf_code::program::{ConstructCode, HeaderCode, ProgramCode, RowCode, ValueCode};
 use std::alloc::{AllocError, Global};
 
 /// How many slots there are.
@@ -30,23 +30,24 @@ fn slot_count(slots: usize) -> Result<u32, AllocError>
     Ok(slots as u32)
 }
 
-/// The code of statements and then of a value.
-fn value_code(
+/// The code of statements and then of a row.
+fn row_code(
     scope: &Scope,
     statements: &[Stmt],
     line: u32,
-    value: &Expr,
-) -> Result<ValueCode, AllocError>
+    row: &[Expr],
+) -> Result<RowCode, AllocError>
     ensures code { (calls : ℕ → ℕ) → IfOk result (λ v.
-        IsValueCode (callable_before (map seen_function scope.now.functions.now) scope.now.below) calls scope.now.own
-        (seen_block statements.now) line (seen_expression value.now) (code v.nodes.items) v.register) }
+        IsRowCode (callable_before (map seen_function scope.now.functions.now) scope.now.below) calls scope.now.own
+        (seen_block statements.now) line (seen_arguments row.now) v) }
     ensures sets { IfOk result (λ v. SetsWhatIsChanged scope.now.own (seen_block statements.now) (code v.nodes.items)) }
 {
     let mut nodes = block(scope, statements)?;
-    let held = hold(scope, line, scope.own, value, &mut nodes)?;
-    Ok(ValueCode {
+    pass(scope, line, scope.own, row, &mut nodes)?;
+    Ok(RowCode {
         nodes,
-        register: held.register,
+        register: scope.own,
+        width: count_of(row)?,
     })
 }
 
@@ -75,6 +76,17 @@ fn no_value(alloc: Global) -> ValueCode
     }
 }
 
+/// No code: what stands for the start of a pair.
+fn no_row(alloc: Global) -> RowCode
+    ensures { result.nodes.items ≡ [] }
+{
+    RowCode {
+        nodes: Vec::new(alloc),
+        register: 0,
+        width: 0,
+    }
+}
+
 /// The code of a guess. One that is handed in needs none.
 fn guess_code(scope: &Scope, line: u32, predict: &Predict) -> Result<ValueCode, AllocError>
     ensures code { (calls : ℕ → ℕ) → IfOk result (λ v.
@@ -88,6 +100,19 @@ fn guess_code(scope: &Scope, line: u32, predict: &Predict) -> Result<ValueCode, 
     }
 }
 
+/// The code of the guesses of a row's parts.
+fn guess_codes(scope: &Scope, line: u32, predict: &[Predict]) -> Result<Vec<ValueCode>, AllocError>
+    ensures codes { (calls : ℕ → ℕ) → IfOk result (λ v.
+        AreGuessCodes (callable_before (map seen_function scope.now.functions.now) scope.now.below) calls scope.now.own
+        line (map seen_predictor predict.now) v.items) }
+{
+    let mut codes = Vec::new(scope.alloc);
+    for part in predict {
+        codes.push(guess_code(scope, line, part)?)?;
+    }
+    Ok(codes)
+}
+
 /// The code of a fold's parts.
 fn fold_code(scope: &Scope, line: u32, fold: &Fold) -> Result<ConstructCode, AllocError>
     ensures code { (calls : ℕ → ℕ) → IfOk result (λ k.
@@ -95,17 +120,17 @@ fn fold_code(scope: &Scope, line: u32, fold: &Fold) -> Result<ConstructCode, All
         line (fold_head fold.now) (seen_block (out-Fold fold.now).body.items) k) }
 {
     let header = HeaderCode {
-        start: expression_code(scope, line, &fold.start)?,
+        start: row_code(scope, &[], line, &fold.start)?,
         low: expression_code(scope, line, &fold.low)?,
         high: expression_code(scope, line, &fold.high)?,
     };
-    let first = value_code(scope, &fold.body, fold.next_line, &fold.next)?;
-    let guess = guess_code(scope, line, &fold.predict)?;
+    let first = row_code(scope, &fold.body, fold.next_line, &fold.next)?;
+    let guesses = guess_codes(scope, line, &fold.predict)?;
     Ok(ConstructCode {
         header,
         first,
         consumer: Vec::new(scope.alloc),
-        guess,
+        guesses,
     })
 }
 
@@ -116,18 +141,18 @@ fn pair_code(scope: &Scope, line: u32, pair: &Pair) -> Result<ConstructCode, All
         line (pair_head pair.now) (seen_block (out-Pair pair.now).producer.items) (seen_block (out-Pair pair.now).consumer.items) k) }
 {
     let header = HeaderCode {
-        start: no_value(scope.alloc),
+        start: no_row(scope.alloc),
         low: no_value(scope.alloc),
         high: no_value(scope.alloc),
     };
-    let first = value_code(scope, &pair.producer, pair.give_line, &pair.give)?;
+    let first = row_code(scope, &pair.producer, pair.give_line, &pair.give)?;
     let consumer = block(scope, &pair.consumer)?;
-    let guess = guess_code(scope, line, &pair.predict)?;
+    let guesses = guess_codes(scope, line, &pair.predict)?;
     Ok(ConstructCode {
         header,
         first,
         consumer,
-        guess,
+        guesses,
     })
 }
 

@@ -44,6 +44,7 @@ plain_outcome cells t a b (Ok v) s may_lack p = came t (cells a) (cells b) p.eve
 plain_outcome cells t a b (Err (h.Trapped trap)) s may_lack p = came t (cells a) (cells b) p.events (Trapped trap s.output) p.led (p.performed tt [])
 plain_outcome cells t a b (Err (h.Cancelled seen)) s may_lack p = never_stops t (p.events ++ []) seen [] (p.performed tt [])
 plain_outcome cells t a b (Err h.NoMemory) s may_lack p = tt
+plain_outcome cells t a b (Err h.Broken) s may_lack p = p.lacking
 
 -- what a plain outcome says of a trap
 pub trapped_outcome : {A : Type 0} {r : Result A Halt} {trap : Trap} (t : Interaction (Ending A)) (m n : List ℤ) (s : State) → r ≡ Err (h.Trapped trap) → IsPlainOutcome r t m n s → (plain_answer t m ≡ Trapped trap s.output) × (n ≡ plain_memory t m)

@@ -47,3 +47,4 @@ IsPlainOutcome (Err (halt.Trapped trap)) tree before cells end =
     (plain_answer tree before ≡ Trapped trap end.output) × (cells ≡ plain_memory tree before)
 IsPlainOutcome (Err (halt.Cancelled seen)) tree before cells end = ⊥
 IsPlainOutcome (Err halt.NoMemory) tree before cells end = Unit {0}
+IsPlainOutcome (Err halt.Broken) tree before cells end = ⊥

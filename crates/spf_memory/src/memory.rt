@@ -16,6 +16,8 @@ pub enum Halt {
     Cancelled { seen: u64 },
     /// The output had no memory for a byte.
     NoMemory,
+    /// A `break` ends the innermost loop. No whole form is left so.
+    Broken,
 }
 
 /// That a form was left before its end. Why is kept beside it, so that an answer needs two registers and no memory.

@@ -1,6 +1,6 @@
 -- What is read from lexemes whose names and numbers can be written can be written.
-use Rattle.std.proofs.Common.{◌≡◌, ℕ, zero, suc, ◌<◌, ◌^◌, Bool, true, false, List, [], ◌∷◌, refl, sym, ◌∙◌, subst, arith, inl, inr, ℤ, pos, nat_eq}
-use Rattle.std.specs.Prelude.{if◌then◌else◌}
+use Rattle.std.proofs.Common.{◌≡◌, ℕ, zero, suc, ◌<◌, ◌^◌, Bool, true, false, List, [], ◌∷◌, refl, sym, ◌∙◌, ap, subst, arith, inl, inr, ℤ, pos, nat_eq}
+use Rattle.std.specs.Prelude.{if◌then◌else◌, ◌⊎◌, ◌≤◌, ◌||◌}
 use Rattle.std.proofs.Math.Facts.{yes_leb, yes_ltb, ltb_yes}
 use Rattle.std.specs.List.{All}
 use Rattle.std.proofs.lemmas.List.Elements.{All-cons, All-nil}
@@ -12,12 +12,13 @@ use Rattle.spf_text.specs.Tokens.{Spells, IsSpelledIn, Begins, IsLetter, IsWordB
 use Rattle.spf_text.specs.declared.token.TokenKind.TheVariants as kind
 use Rattle.spf_text.specs.declared.token.Sign.{Sign}
 use Rattle.spf_text.specs.declared.token.Sign.TheVariants as sign
-use Rattle.spf_ast.specs.RawSyntax.{RawExpression, RawStatement, RawProgram, arguments_of}
+use Rattle.spf_ast.specs.RawSyntax.{RawExpression, RawStatement, RawBlock, RawFunction, RawProgram, arguments_of}
 use Rattle.spf_ast.specs.Lawful.{IsName, IsNumber, IsWord, reserved_words}
-use Rattle.spf_ast.specs.Spelling.{IsWritableExpression, AreWritableArguments, IsWritablePredictor, IsWritableStatement, IsWritableBlock, IsWritableArray, IsWritableFunction, IsWritable}
+use Rattle.spf_ast.specs.Carried.{IsWidth}
+use Rattle.spf_ast.specs.Spelling.{has_break, holds_break, raw_count, IsWritableExpression, AreWritableArguments, IsWritablePredictor, IsWritableStatement, IsWritableBlock, IsWritableArray, IsWritableFunction, HasRows, HoldRows, IsWritable}
 use Rattle.spf_grammar.specs.Lexemes.{Lexeme, lexeme_of, lexemes_of}
-use Rattle.spf_grammar.specs.Parts.{Part, token, opens, operator, name, number, count, many, lined, expression, level, further, compared, operand, arguments, next_argument, form, block, otherwise, guess, size, array, parameters, next_parameter, function, program, Value, Rule, give, part, either}
-use Rattle.spf_grammar.specs.Rules.{rule, joined, block_of}
+use Rattle.spf_grammar.specs.Parts.{Part, token, opens, operator, name, number, count, many, few, lined, expression, level, further, compared, operand, arguments, next_argument, names, row, guess, predictor, next_predictor, form, block, otherwise, header, size, array, parameters, next_parameter, function, program, Value, Rule, give, part, either}
+use Rattle.spf_grammar.specs.Rules.{rule, joined, block_of, few_rule, plain_form, has_breaks}
 use Rattle.spf_grammar.specs.Reading.{reads, says}
 use Rattle.spf_grammar.proofs.Derivations.{Parts}
 
@@ -38,6 +39,17 @@ abbrev Every : {A : Type 0} → (A → Type 0) → List A → Type 0
 Every P [] = Unit {0}
 Every P (x ∷ xs) = P x × Every P xs
 
+-- without `break`, where it is no statement
+abbrev Unbroken : (breaks broken : Bool) → Type 0
+Unbroken breaks broken = breaks ≡ false → broken ≡ false
+
+-- a statement and a block can be written
+abbrev GoodForm : Bool → RawStatement → Type 0
+GoodForm breaks x = IsWritableStatement x × HasRows x × Unbroken breaks (has_break x)
+
+abbrev GoodBlock : Bool → RawBlock → Type 0
+GoodBlock breaks x = IsWritableBlock x × HoldRows x × Unbroken breaks (holds_break x)
+
 -- what a part says can be written
 abbrev Good : (p : Part) → Value p → Type 0
 Good (token k) x = Unit {0}
@@ -47,6 +59,7 @@ Good name x = IsName x
 Good number n = IsNumber n
 Good count n = n < 2 ^ 63
 Good (many p) xs = Every (Good p) xs
+Good (few most p) xs = Every (Good p) xs × (length xs ≤ most)
 Good (lined p) x = Good p x.1
 Good (expression n) x = W x
 Good (level n rank used) x = W x.0
@@ -55,15 +68,20 @@ Good (compared n rank a used) x = W a → W x.0
 Good (operand n) x = W x
 Good (arguments n) xs = Every W xs
 Good (next_argument n) x = W x
-Good (form n) x = IsWritableStatement x
-Good (block n) x = IsWritableBlock x
-Good (otherwise n) x = IsWritableBlock x
-Good (guess n) x = IsWritablePredictor x
+Good (names n) xs = Every IsName xs × IsWidth (length xs)
+Good (row n) xs = Every W xs × IsWidth (length xs)
+Good (guess n) xs = Every IsWritablePredictor xs × IsWidth (length xs)
+Good (predictor n) x = IsWritablePredictor x
+Good (next_predictor n) x = IsWritablePredictor x
+Good (form breaks n) x = GoodForm breaks x
+Good (block breaks n) x = GoodBlock breaks x
+Good (otherwise breaks n) x = GoodBlock breaks x
+Good header v = (v ≡ 1) ⊎ (v ≡ 2)
 Good size x = IsNumber x.0 × IsNumber x.1
 Good array x = IsWritableArray x
 Good parameters xs = Every IsName xs
 Good next_parameter x = IsName x
-Good function x = IsWritableFunction x
+Good (function breaks) x = IsWritableFunction x × HoldRows x.body × Unbroken breaks (holds_break x.body)
 Good program x = IsWritable x
 
 -- from parts that can be written
@@ -80,9 +98,32 @@ good_arguments : (xs : List RawExpression) → Every W xs → AreWritableArgumen
 good_arguments [] e = tt
 good_arguments (x ∷ xs) e = (e.0, good_arguments xs e.1)
 
-good_block : (ss : List (ℕ × RawStatement)) → Every (λ s. IsWritableStatement s.1) ss → IsWritableBlock (block_of ss)
-good_block [] e = tt
-good_block (s ∷ ss) e = (e.0, good_block ss e.1)
+no_breaks : (a b : Bool) → a ≡ false → b ≡ false → (a || b) ≡ false
+no_breaks true b h k = let f : true ≡ false = h in absurd cc
+no_breaks false b h k = k
+
+good_block : (breaks : Bool) (ss : List (ℕ × RawStatement)) → Every (λ s. GoodForm breaks s.1) ss → GoodBlock breaks (block_of ss)
+good_block breaks [] e = (tt, tt, λ h. refl)
+good_block breaks (s ∷ ss) e =
+    let r = good_block breaks ss e.1 in
+    ((e.0.0, r.0), (e.0.1, r.1), λ h. no_breaks (has_break s.1) (holds_break (block_of ss)) (e.0.2 h) (r.2 h))
+
+count_of : (xs : List RawExpression) → raw_count (arguments_of xs) ≡ length xs
+count_of [] = refl
+count_of (x ∷ xs) = ap suc (count_of xs)
+
+-- one, or two to four
+one_wide : IsWidth 1
+one_wide = (omega arith, omega arith)
+
+some_wide : (n : ℕ) → n ≤ 2 → IsWidth (suc (suc n))
+some_wide n h = (omega arith, omega (arith, h))
+
+wide_row : (xs : List RawExpression) → IsWidth (length xs) → IsWidth (raw_count (arguments_of xs))
+wide_row xs w = subst IsWidth (sym (count_of xs)) w
+
+good_few : {A : Type 0} (P : A → Type 0) (x y : A) (xs : List A) → P x → P y → Every P xs × (length xs ≤ 2) → Every P (x ∷ y ∷ xs) × IsWidth (suc (suc (length xs)))
+good_few P x y xs g h e = ((g, (h, e.0)), some_wide (length xs) e.1)
 
 good_joined : (s : Sign) (a b : RawExpression) → W a → W b → W (joined s a b)
 good_joined sign.Star a b g h = (g, h)
@@ -102,34 +143,40 @@ fine_level n (suc rank) used = by_rank (nat_eq rank 6)
     by_rank true = λ x g y h. h g
     by_rank false = λ x g y h. h g
 
-fine : (p : Part) → Fine (Good p) (rule p)
-fine (many p) = (tt, λ x g xs gs. (g, gs))
-fine (expression n) = λ x g. g
-fine (level n rank used) = fine_level n rank used
-fine (further n rank a used) = (λ g. g, λ o _ x gx y h ga. h (good_joined o a x.0 ga gx))
-fine (compared n rank a used) = (λ g. g, λ o _ x gx ga. good_joined o a x.0 ga gx)
-fine (operand n) = (λ k g. g, ((λ x gx. (gx, ((λ _ _ i gi _ _. (gx, gi)), (λ _ _ xs gs. (gx, good_arguments xs gs))))), ((λ _ _. tt), ((λ _ _ _ _ i gi _ w. gi), ((λ _ _ a g. g), ((λ _ _ a g. g), (λ _ _ a g _ _. g)))))))
-fine (arguments n) = ((λ _ _. tt), (λ a g more gs _ _. (g, gs)))
-fine (next_argument n) = λ _ _ a g. g
-fine (form n) = (
-  (λ _ _ x gx _ _ a g _ _. (gx, g)),
+fine_few : (most : ℕ) (p : Part) → Fine (Good (few most p)) (few_rule most p)
+fine_few zero p = (tt, omega arith)
+fine_few (suc most) p = ((tt, omega arith), (λ x g xs gs. ((g, gs.0), omega (arith, gs.1))))
+
+fine_plain : (breaks : Bool) (n : ℕ) → Fine (GoodForm breaks) (plain_form breaks n)
+fine_plain breaks n = (
+  (λ _ _ x gx _ _ a g _ _. ((gx, g), tt, λ h. refl)),
   (
-    (λ x gx. ((λ _ _ a g _ _. (gx, g)), ((λ _ _ i gi _ _ _ _ a g _ _. (gx, gi, g)), (λ _ _ xs gs _ _. (gx, good_arguments xs gs))))),
+    (λ x gx. ((λ _ _ a g _ _. ((gx, g), tt, λ h. refl)), ((λ _ _ i gi _ _ _ _ a g _ _. ((gx, gi, g), tt, λ h. refl)), (λ _ _ xs gs _ _. ((gx, good_arguments xs gs), tt, λ h. refl))))),
     (
-      (λ _ _ x gx _ _ i gi _ _ j gj _ _ _ _ a g _ _. (gx, gi, gj, g)),
+      (λ _ _ x gx _ _ i gi _ _ j gj _ _ _ _ a g _ _. ((gx, gi, gj, g), tt, λ h. refl)),
       (
-        (λ _ _ a g _ _. g),
+        (λ _ _ a g _ _. (g, tt, λ h. refl)),
         (
-          (λ _ _ k g _ _. g),
+          (λ _ _ k g _ _. (g, tt, λ h. refl)),
           (
-            (λ _ _ _ g a ga b gb. (g, ga, gb)),
+            (λ _ _ _ g a ga b gb. ((g, ga.0, gb.0), (ga.1, gb.1), λ h. no_breaks (holds_break a) (holds_break b) (ga.2 h) (gb.2 h))),
             (
-              (λ _ _ x gx _ _ i gi _ _ j gj b gb. (gx, gi, gj, gb)),
+              (λ _ _ x gx _ _ i gi _ _ j gj b gb. ((gx, gi, gj, gb.0), gb.1, gb.2)),
               (
-                (λ _ _ _ g _ _ k gk b gb. (g, gk, gb)),
+                (λ _ _ _ g _ _ k gk b gb. ((g, gk, gb.0), gb.1, gb.2)),
                 (
-                  (λ _ _ s gs _ _ e ge _ _ k gk _ _ i gi _ _ j gj _ _ g gg _ _ inside gb _ _ a ga _ _ _ _. ((gs, ge, gk, gi, gj, gg, ga), good_block inside gb)),
-                  (λ _ _ x gx _ _ _ _ inside gb _ _ a ga _ _ _ _ _ _ g gg _ gc. ((gx, ga, gg), good_block inside gb, gc)),
+                  (λ _ _ s gs _ _ e ge _ _ k gk _ _ i gi _ _ j gj _ _ g gg _ _ inside gb _ _ a ga _ _ _ _.
+                      let r = good_block breaks inside gb in (
+                        ((every_all IsName s gs.0, good_arguments e ge.0, gk, gi, gj, every_all IsWritablePredictor g gg.0, good_arguments a ga.0, gs.1), r.0),
+                        (record { start = wide_row e ge.1; predict = gg.1; next = wide_row a ga.1 }, r.1),
+                        r.2,
+                      )),
+                  (λ _ _ x gx _ _ _ _ inside gb _ _ a ga _ _ _ _ _ _ g gg c gc.
+                      let r = good_block breaks inside gb in (
+                        ((every_all IsName x gx.0, good_arguments a ga.0, every_all IsWritablePredictor g gg.0, gx.1), r.0, gc.0),
+                        (record { give = wide_row a ga.1; predict = gg.1 }, r.1, gc.1),
+                        λ h. no_breaks (holds_break (block_of inside)) (holds_break c) (r.2 h) (gc.2 h),
+                      )),
                 ),
               ),
             ),
@@ -139,15 +186,50 @@ fine (form n) = (
     ),
   ),
 )
-fine (block n) = λ _ _ inside g _ _. good_block inside g
-fine (otherwise n) = (tt, λ _ _ b g. g)
-fine (guess n) = ((λ _ _ k g. g), (λ e g. g))
+
+every_map : {A : Type 0} {P Q : A → Type 0} → ((x : A) → P x → Q x) → (xs : List A) → Every P xs → Every Q xs
+every_map h [] e = tt
+every_map h (x ∷ xs) e = (h x e.0, every_map h xs e.1)
+
+no_breaks_in : (v : ℕ) → v ≡ 1 → has_breaks v ≡ false
+no_breaks_in v h = subst (λ n. has_breaks n ≡ false) (sym h) refl
+
+fine : (p : Part) → Fine (Good p) (rule p)
+fine (many p) = (tt, λ x g xs gs. (g, gs))
+fine (expression n) = λ x g. g
+fine (level n rank used) = fine_level n rank used
+fine (further n rank a used) = (λ g. g, λ o _ x gx y h ga. h (good_joined o a x.0 ga gx))
+fine (compared n rank a used) = (λ g. g, λ o _ x gx ga. good_joined o a x.0 ga gx)
+fine (operand n) = (λ k g. g, ((λ x gx. (gx, ((λ _ _ i gi _ _. (gx, gi)), (λ _ _ xs gs. (gx, good_arguments xs gs))))), ((λ _ _. tt), ((λ _ _ _ _ i gi _ w. gi), ((λ _ _ a g. g), ((λ _ _ a g. g), (λ _ _ a g _ _. g)))))))
+fine (arguments n) = ((λ _ _. tt), (λ a g more gs _ _. (g, gs)))
+fine (next_argument n) = λ _ _ a g. g
+fine (few most p) = fine_few most p
+fine (names n) = ((λ x g. ((g, tt), one_wide)), (λ _ _ x gx y gy xs gs _ _. good_few IsName x y xs gx gy gs))
+fine (row n) = ((λ x g. ((g, tt), one_wide)), (λ _ _ x gx y gy xs gs _ _. good_few W x y xs gx gy gs))
+fine (guess n) = ((λ x g. ((g, tt), one_wide)), (λ _ _ x gx y gy xs gs _ _. good_few IsWritablePredictor x y xs gx gy gs))
+fine (predictor n) = ((λ _ _ k g. g), (λ e g. g))
+fine (next_predictor n) = λ _ _ x g. g
+fine (form true n) = (fine_plain true n, (λ _ _ _ _. (tt, tt, λ h. let f : true ≡ false = h in absurd cc)))
+fine (form false n) = fine_plain false n
+fine (block breaks n) = λ _ _ inside g _ _. good_block breaks inside g
+fine (otherwise breaks n) = ((tt, tt, λ h. refl), λ _ _ b g. g)
+fine header = (inl refl, λ _ _. ((λ _ _ _ _. inl refl), (λ _ _ _ _. inr refl)))
 fine size = λ k g. ((zero_number, g), (λ _ _ _ _. ((g, zero_number), (λ _ _ _ h. (g, h)))))
 fine array = λ _ _ x gx _ _ s gs _ _ _ _. (gx, gs.0, gs.1)
 fine parameters = ((λ _ _. tt), (λ x g more gs _ _. (g, gs)))
 fine next_parameter = λ _ _ x g. g
-fine function = λ _ _ f gf _ _ xs gs _ _ inside gb _ _ a ga _ _ _ _. (gf, every_all IsName xs gs, good_block inside gb, ga)
-fine program = λ found ga fs gf _ _ b gb. record { arrays = every_all IsWritableArray found ga; functions = every_all IsWritableFunction fs gf; main = gb }
+fine (function breaks) = λ _ _ f gf _ _ xs gs _ _ inside gb _ _ a ga _ _ _ _. let r = good_block breaks inside gb in ((gf, every_all IsName xs gs, r.0, ga), r.1, r.2)
+fine program = λ v gv found ga fs gf _ _ b gb. record {
+  well_formed = record {
+    version = gv;
+    breaks = record { main = λ h. gb.2 (no_breaks_in v h); functions = λ h. every_all (λ (f : RawFunction). holds_break f.body ≡ false) fs (every_map (λ f g. g.2 (no_breaks_in v h)) fs gf) };
+    arrays = every_all IsWritableArray found ga;
+    functions = every_all IsWritableFunction fs (every_map (λ f g. g.0) fs gf);
+    main = gb.0;
+  };
+  functions = every_all (λ (f : RawFunction). HoldRows f.body) fs (every_map (λ f g. g.1) fs gf);
+  main = gb.1;
+}
 fine p = λ x g. g
 
 -- a relation of parts that gives what can be written, and leaves what can be written

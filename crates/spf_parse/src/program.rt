@@ -7,9 +7,9 @@ ghost use Rattle.spf_text.specs.Tokens.{max_text};
 ghost use Rattle.spf_ast.specs.View.{array as seen_array};
 ghost use Rattle.spf_ast.specs.RawSyntax.{RawProgram as Program};
 ghost use Rattle.spf_ast.specs.RawView.{raw_program, raw_function};
-ghost use Rattle.spf_ast.specs.Spelling.{IsWritable};
+ghost use Rattle.spf_ast.specs.Spelling.{IsWellFormed, IsWritable};
 ghost use Rattle.spf_grammar.specs.Lexemes.{lexemes as seen_lexemes};
-ghost use Rattle.spf_grammar.specs.Parts.{many, array as array_part, function as function_part, program as program_part};
+ghost use Rattle.spf_grammar.specs.Parts.{many, header as header_part, array as array_part, function as function_part, program as program_part};
 ghost use Rattle.spf_grammar.specs.Rules.{all};
 ghost use Rattle.spf_grammar.specs.Texts.{IsProgramOf, IsUnexpectedAt, IsTooDeepAt, place as place_of};
 ghost use Rattle.spf_rules.specs.Answers.{Answers, Answered};
@@ -23,7 +23,7 @@ use spf_rules::fault::Fault;
 use spf_rules::function::{array, function};
 use spf_rules::statement::block;
 use spf_rules::step::{expect, is_next, line_of};
-use spf_text::token::{Keyword, TokenKind};
+use spf_text::token::{Keyword, Sign, TokenKind};
 use spf_text::{ScanError, scan};
 use std::alloc::{AllocError, Global};
 use thiserror::Error;
@@ -45,6 +45,27 @@ pub enum ParseError {
     OutOfMemory,
 }
 
+/// The version in which `break` is a statement.
+const WITH_BREAKS: u32 = 2;
+
+/// The version that a text is written in: 1 where it has no header.
+fn header<'b, 'a>(tokens: &'b [Lexeme<'a>]) -> Result<(u32, &'b [Lexeme<'a>]), Fault>
+    ensures { Answers header_part (seen_lexemes tokens.now) (λ x. x.0) (λ x. seen_lexemes x.1.now) result }
+{
+    if !is_next(tokens, TokenKind::Keyword(Keyword::Version)) {
+        return Ok((1, tokens));
+    }
+    let number_at = expect(tokens, TokenKind::Keyword(Keyword::Version))?;
+    if is_next(number_at, TokenKind::Number(1)) {
+        let rest = expect(number_at, TokenKind::Number(1))?;
+        let end = expect(rest, TokenKind::Sign(Sign::Semicolon))?;
+        return Ok((1, end));
+    }
+    let rest = expect(number_at, TokenKind::Number(2))?;
+    let end = expect(rest, TokenKind::Sign(Sign::Semicolon))?;
+    Ok((2, end))
+}
+
 /// The arrays, as long as one begins.
 fn arrays<'b, 'a>(
     alloc: Global,
@@ -62,17 +83,18 @@ fn arrays<'b, 'a>(
     Ok((found, rest))
 }
 
-/// The functions, as long as one begins.
+/// The functions, as long as one begins. `break` is a statement in them where so told.
 fn functions<'b, 'a>(
     alloc: Global,
     tokens: &'b [Lexeme<'a>],
+    breaks: bool,
 ) -> Result<(Vec<RawFunction>, &'b [Lexeme<'a>]), Fault>
-    ensures { Answers (many function_part) (seen_lexemes tokens.now) (λ x. map raw_function x.0.items) (λ x. seen_lexemes x.1.now) result }
+    ensures { Answers (many (function_part breaks)) (seen_lexemes tokens.now) (λ x. map raw_function x.0.items) (λ x. seen_lexemes x.1.now) result }
 {
     let mut found = Vec::new(alloc);
     let (_, mut rest) = tokens.split_at(0);
     'found: while is_next(rest, TokenKind::Keyword(Keyword::Fn)) {
-        let (first, end) = function(alloc, rest)?;
+        let (first, end) = function(alloc, rest, breaks)?;
         found.push(first)?;
         rest = end;
     }
@@ -86,13 +108,16 @@ fn program<'b, 'a>(
 ) -> Result<(RawProgram, &'b [Lexeme<'a>]), Fault>
     ensures { Answers program_part (seen_lexemes tokens.now) (λ x. raw_program x.0) (λ x. seen_lexemes x.1.now) result }
 {
-    let (arrays, after_arrays) = arrays(alloc, tokens)?;
-    let (functions, after_functions) = functions(alloc, after_arrays)?;
+    let (version, after_header) = header(tokens)?;
+    let breaks = version == WITH_BREAKS;
+    let (arrays, after_arrays) = arrays(alloc, after_header)?;
+    let (functions, after_functions) = functions(alloc, after_arrays, breaks)?;
     let main_line = line_of(after_functions);
     let rest = expect(after_functions, TokenKind::Keyword(Keyword::Main))?;
-    let (main, end) = block(alloc, rest, 0)?;
+    let (main, end) = block(alloc, rest, 0, breaks)?;
     Ok((
         RawProgram {
+            version,
             arrays,
             functions,
             main,
@@ -149,6 +174,8 @@ pub fn parse(alloc: Global, text: &[u8]) -> Result<RawProgram, ParseError>
     ensures program { IfOk result (λ p. IsProgramOf text.now (raw_program p)) }
     ensures only { IfOk result (λ p. (q : Program) → IsProgramOf text.now q → q ≡ raw_program p) }
     ensures writable { IfOk result (λ p. IsWritable (raw_program p)) }
+    // So it is what resolving asks for.
+    ensures well_formed { IfOk result (λ p. IsWellFormed (raw_program p)) }
     // A text that has a program is refused only when memory runs out.
     ensures accepted { (q : Program) → IsProgramOf text.now q → IsOkUnless result ParseError.OutOfMemory }
     // When each error comes, and that it comes there.

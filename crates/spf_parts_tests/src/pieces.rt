@@ -1,7 +1,13 @@
 // Runs in order: in pieces, and whole.
 
+ghost use Rattle.std.specs.Prelude.{◌<◌, ◌^◌, length, IfOk};
+ghost use Rattle.spf_ast.specs.View.{program as seen_program};
+ghost use Rattle.spf_ast.specs.GoingOn.{IsOrderly};
+ghost use Rattle.spf_ast.specs.Construct.{constructs_in};
+
+use spf_ast::laws::{breaks_stay_in_their_loops, lawful_programs_are_quiet_and_small};
 use spf_ast::outcome::Outcome;
-use spf_ast::syntax::{Expr, Program, Stmt, StmtKind};
+use spf_ast::syntax::Program;
 use spf_exec::frame::Frame;
 use spf_exec::pieces::{Pause, Run};
 use spf_exec::plain_run::run_plain;
@@ -9,7 +15,20 @@ use spf_layout::instance::Instance;
 use spf_layout::layout::RunError;
 use spf_parse::parse;
 use spf_types::resolve;
+use std::alloc::Global;
 use std::test::Fail;
+
+/// The program of a text, which can be run.
+fn program_of(alloc: Global, text: &[u8]) -> Result<Program, Fail>
+    ensures orderly { IfOk result (λ p. IsOrderly (seen_program p)) }
+    ensures few { IfOk result (λ p. length (constructs_in (seen_program p).main) < 2 ^ 32) }
+{
+    let raw = parse(alloc, text)?;
+    let program = resolve(alloc, raw)?;
+    breaks_stay_in_their_loops();
+    lawful_programs_are_quiet_and_small();
+    Ok(program)
+}
 
 /// Whether a run ended with this output.
 fn is_done_with(outcome: &Outcome, wanted: &[u8]) -> bool {
@@ -24,8 +43,7 @@ fn a_program_is_run_whole(rt: HostRuntime) -> Result<(), Fail> {
     let alloc = rt.alloc();
     let text =
         b"main { let n = 0; specfold s = 0 for k in 0..2 predict 0 { n = n + 1; next s; } emit n; }";
-    let raw = parse(alloc, text)?;
-    let program = resolve(alloc, raw)?;
+    let program = program_of(alloc, text)?;
     let outcome = run_plain(alloc, &program, &[])?;
     assert!(rt; is_done_with(&outcome, &[2]));
     Ok(())
@@ -34,27 +52,22 @@ fn a_program_is_run_whole(rt: HostRuntime) -> Result<(), Fail> {
 #[test]
 fn a_program_with_a_cell_too_many_is_not_run(rt: HostRuntime) -> Result<(), Fail> {
     let alloc = rt.alloc();
-    let raw = parse(alloc, b"array a[4194305]; main { }")?;
-    let program = resolve(alloc, raw)?;
-    let error = run_plain(alloc, &program, &[]).err();
-    assert_eq!(rt; error, Some(RunError::TooManyCells { count: 4_194_305 }));
+    let rows: [(&str, u128); 2] = [
+        ("array a[4194305]; main { }", 4_194_305),
+        ("version 2; array a[16777217]; main { }", 16_777_217),
+    ];
+    for (text, count) in rows {
+        let program = program_of(alloc, text.as_bytes())?;
+        let error = run_plain(alloc, &program, &[]).err();
+        assert_eq!(rt; error, Some(RunError::TooManyCells { count }));
+    }
     Ok(())
 }
 
 #[test]
 fn a_run_in_pieces_comes_to_its_end(rt: HostRuntime) -> Result<(), Fail> {
     let alloc = rt.alloc();
-    let mut main = Vec::new(alloc);
-    main.push(Stmt {
-        line: 1,
-        kind: StmtKind::Emit(Expr::Number(65)),
-    })?;
-    let program = Program {
-        arrays: Vec::new(alloc),
-        functions: Vec::new(alloc),
-        slots: Vec::new(alloc),
-        main,
-    };
+    let program = program_of(alloc, b"main { emit 65; }")?;
     let instance = Instance::make(alloc, &program, &[])?;
     let mut frame = Frame::make(alloc, &instance)?;
     let copy = frame.copy(alloc)?;

@@ -1,10 +1,8 @@
 // What each kind of predictor answers, and what hosts in a list answer after they were told something.
 ghost use Rattle.std.specs.List.{last_or};
-ghost use Rattle.std.specs.Prelude.{◌≡◌, Some, unwrap_or, IfOk, length};
-ghost use Rattle.spf_ast.specs.Carried.{no_value};
+ghost use Rattle.std.specs.Prelude.{◌≡◌, Some, unwrap_or, IfOk, length, pos};
 ghost use Rattle.spf_predictors.specs.Kinds.{blocks_told};
 
-use spf_ast::carried::Carried;
 use spf_predictors::hosts::{ask, tell};
 use spf_predictors::{Fixed, Last, Most, Predictor, Table};
 use std::alloc::{AllocError, Global};
@@ -12,16 +10,12 @@ use std::process::Abort;
 use std::test::Fail;
 
 /// The guesses for the blocks 1, 2 and 3.
-fn guesses<P: Predictor>(predictor: &mut P) -> [Carried; 3] {
+fn guesses<P: Predictor>(predictor: &mut P) -> [i64; 3] {
     [predictor.guess(1), predictor.guess(2), predictor.guess(3)]
 }
 
 /// Tells pairs of a block and its real value one after another, each of which is to be followed by these guesses.
-fn follow<R: Abort, P: Predictor>(
-    rt: &R,
-    predictor: &mut P,
-    rows: &[(i64, Carried, [Carried; 3])],
-) {
+fn follow<R: Abort, P: Predictor>(rt: &R, predictor: &mut P, rows: &[(i64, i64, [i64; 3])]) {
     for (block, real, wanted) in rows {
         predictor.tell(*block, *real);
         assert_eq!(rt; guesses(predictor), *wanted, "after {block}, {real}");
@@ -95,13 +89,13 @@ struct LastBlock {
 }
 
 impl Predictor for LastBlock {
-    ghost answer = { λ last pairs _. unwrap_or (last_or (Some last.block) (blocks_told pairs)) no_value };
+    ghost answer = { λ last pairs _. unwrap_or (last_or (Some last.block) (blocks_told pairs)) (pos 0) };
 
-    fn guess(&mut self, _block: i64) -> Carried {
+    fn guess(&mut self, _block: i64) -> i64 {
         self.block
     }
 
-    fn tell(&mut self, block: i64, _real: Carried) {
+    fn tell(&mut self, block: i64, _real: i64) {
         self.block = block;
     }
 }

@@ -2,6 +2,6 @@ mod Best
 mod Counts
 pub mod Handed
 mod Kept
-mod Named
+pub mod Named
 mod Stores
 mod Tables

@@ -3,7 +3,6 @@ use Rattle.std.specs.Prelude.{◌≡◌, ℕ, Bool, ◌+◌, ◌-◌, ◌^◌, �
 use Rattle.std.specs.Ordering.{int_eq}
 use Rattle.std.specs.Map.{update}
 use Rattle.std.specs.HashMap.{get, hash_map_len}
-use Rattle.spf_ast.specs.Carried.{Carried}
 use Rattle.spf_guess.specs.Guess.{Told}
 use Rattle.spf_predictors.specs.Kinds.{is_preferred}
 use Rattle.spf_predictors.specs.declared.store.Store.{Store}
@@ -45,7 +44,7 @@ module _ {V : Type 0} where
 -- ---- a table
 
 -- a table after it was told this pair
-abbrev pub table_step : Stored Carried → Told → Stored Carried
+abbrev pub table_step : Stored ℤ → Told → Stored ℤ
 table_step store told = put_into store told.block told.real
 
 -- ---- the value told most often
@@ -53,15 +52,15 @@ table_step store told = put_into store told.block told.real
 -- the counts of values, and the value that is guessed, with its count
 pub record Counts : Type 0 where
   pub stored : Stored ℕ
-  pub best : Carried
+  pub best : ℤ
   pub best_count : ℕ
 
 -- the count of a value after one more
-abbrev pub one_more : Stored ℕ → Carried → ℕ
+abbrev pub one_more : Stored ℕ → ℤ → ℕ
 one_more store value = min (unwrap_or (store.value value) 0 + 1) (2 ^ 64 - 1)
 
 -- the counts after a value came, which is counted so often now
-abbrev pub count_as : Counts → Carried → ℕ → Counts
+abbrev pub count_as : Counts → ℤ → ℕ → Counts
 count_as counts value count =
     if takes counts.stored value then record {
       stored = put_into counts.stored value count;

@@ -1,4 +1,4 @@
-//! Predictors that the caller hands in: they guess at which value a block begins, and learn from the real ones.
+//! Predictors that the caller hands in: they guess parts of the row at which a block begins, and learn from the real ones.
 #![tactic(auto)]
 
 pub mod fixed;

@@ -4,16 +4,18 @@ ghost use Rattle.std.specs.Prelude.{◌≡◌, ◌++◌, ◌∷◌, [], codes, I
 ghost use Rattle.std.specs.Fmt.{decimal, signed_decimal};
 ghost use Rattle.spf_ast.specs.Syntax.{Store as store_form, Fill as fill_form, Do as do_form};
 ghost use Rattle.spf_ast.specs.View.{name as seen_name, expression, arguments, condition, predictor, fold_head};
-ghost use Rattle.spf_ast.specs.Spelling.{name_at, spelled_expression, spelled_condition, spelled_predictor, spelled_fold, spelled_statement};
-ghost use Rattle.spf_canonical.specs.Canonical.{joined, line, expression_text, predictor_text, fold_line, statement_text};
+ghost use Rattle.spf_ast.specs.Spelling.{name_at, spelled_names, spelled_expression, spelled_arguments, spelled_condition, spelled_predictor, spelled_fold, spelled_statement};
+ghost use Rattle.spf_canonical.specs.Canonical.{joined, line, expression_text, carried_text, row_text, guess_text, fold_line, statement_text};
 ghost use Rattle.spf_canonical.specs.Printing.{vocabulary_of};
 
 use spf_ast::syntax::{Cond, Expr, Fold, Predict};
 use spf_canonical::expressions::{
     push_arguments, push_condition, push_expression, push_index, push_predict, push_range,
-    push_slice,
+    push_row, push_slice,
 };
-use spf_canonical::pieces::{Names, array_name, function_name, push, push_count, slot_name};
+use spf_canonical::pieces::{
+    Names, array_name, function_name, push, push_carried, push_count, slot_name,
+};
 use std::alloc::{AllocError, Global};
 
 /// Adds a line with a word and an expression.
@@ -33,6 +35,33 @@ pub(crate) fn push_with_word(
     push(text, word)?;
     push_expression(alloc, text, names, value)?;
     push(text, b";\n")
+}
+
+/// Adds a line with a word and a row.
+pub(crate) fn push_with_row(
+    alloc: Global,
+    text: &mut Vec<u8>,
+    names: &Names,
+    indent: &[u8],
+    word: &[u8],
+    parts: &[Expr],
+) -> Result<(), AllocError>
+    ensures { IfOk result (λ _. text.new.items ≡ text.old.items
+        ++ line indent.now (word.now ∷ row_text
+        (spelled_arguments (vocabulary_of names.now) (arguments parts.now)) ∷ codes ";" ∷ [])) }
+{
+    push(text, indent)?;
+    push(text, word)?;
+    push_row(alloc, text, names, parts)?;
+    push(text, b";\n")
+}
+
+/// Adds a `break`.
+pub(crate) fn push_break(text: &mut Vec<u8>, indent: &[u8]) -> Result<(), AllocError>
+    ensures { IfOk result (λ _. text.new.items ≡ text.old.items ++ line indent.now (codes "break;" ∷ [])) }
+{
+    push(text, indent)?;
+    push(text, b"break;\n")
 }
 
 /// Adds a line that sets a slot, with a word before it.
@@ -199,7 +228,7 @@ pub(crate) fn push_if_head(
     push(text, b" {\n")
 }
 
-/// Adds the start of a fold's first line, up to its start value.
+/// Adds the start of a fold's first line, up to its start row.
 fn push_fold_start(
     alloc: Global,
     text: &mut Vec<u8>,
@@ -208,14 +237,14 @@ fn push_fold_start(
     fold: &Fold,
 ) -> Result<(), AllocError>
     ensures { IfOk result (λ _. text.new.items ≡ text.old.items ++ indent.now
-        ++ joined (codes "specfold " ∷ (spelled_fold (vocabulary_of names.now) (fold_head fold.now)).carried
-        ∷ codes " = " ∷ expression_text (spelled_fold (vocabulary_of names.now) (fold_head fold.now)).start ∷ [])) }
+        ++ joined (codes "specfold " ∷ carried_text (spelled_fold (vocabulary_of names.now) (fold_head fold.now)).carried
+        ∷ codes " = " ∷ row_text (spelled_fold (vocabulary_of names.now) (fold_head fold.now)).start ∷ [])) }
 {
     push(text, indent)?;
     push(text, b"specfold ")?;
-    push(text, slot_name(names.slots, fold.carried))?;
+    push_carried(text, names.slots, &fold.carried)?;
     push(text, b" = ")?;
-    push_expression(alloc, text, names, &fold.start)
+    push_row(alloc, text, names, &fold.start)
 }
 
 /// Adds a fold's range of blocks.
@@ -256,14 +285,15 @@ pub(crate) fn push_pair_head(
     text: &mut Vec<u8>,
     names: &Names,
     indent: &[u8],
-    carried: u32,
+    carried: &[u32],
 ) -> Result<(), AllocError>
     ensures { IfOk result (λ _. text.new.items ≡ text.old.items
-        ++ line indent.now (codes "spec " ∷ name_at (vocabulary_of names.now).slots carried ∷ codes " = {" ∷ [])) }
+        ++ line indent.now (codes "spec " ∷ carried_text (spelled_names (vocabulary_of names.now) carried.now)
+        ∷ codes " = {" ∷ [])) }
 {
     push(text, indent)?;
     push(text, b"spec ")?;
-    push(text, slot_name(names.slots, carried))?;
+    push_carried(text, names.slots, carried)?;
     push(text, b" = {\n")
 }
 
@@ -273,11 +303,11 @@ pub(crate) fn push_consumer_head(
     text: &mut Vec<u8>,
     names: &Names,
     indent: &[u8],
-    predict: &Predict,
+    predict: &[Predict],
 ) -> Result<(), AllocError>
     ensures { IfOk result (λ _. text.new.items ≡ text.old.items
         ++ line indent.now (codes "} predict "
-        ∷ predictor_text (spelled_predictor (vocabulary_of names.now) (predictor predict.now)) ∷ codes " {" ∷ [])) }
+        ∷ guess_text (map (spelled_predictor (vocabulary_of names.now)) (map predictor predict.now)) ∷ codes " {" ∷ [])) }
 {
     push(text, indent)?;
     push(text, b"}")?;

@@ -3,7 +3,7 @@
 ghost use Rattle.std.specs.Prelude.{◌≡◌, ◌++◌, ◌∷◌, [], codes, IfOk, map, take};
 ghost use Rattle.spf_ast.specs.View.{name as seen_name, array as seen_array, function as seen_function, program as seen_program};
 ghost use Rattle.spf_ast.specs.Spelling.{spelled_function, spelled};
-ghost use Rattle.spf_canonical.specs.Canonical.{line, size_text, array_text, names_text, function_text, arrays_text, functions_text, main_text, canonical_text};
+ghost use Rattle.spf_canonical.specs.Canonical.{line, size_text, array_text, names_text, function_text, arrays_text, functions_text, main_text, header_text, canonical_text};
 
 use crate::lines::push_with_word;
 use crate::statements::push_nested;
@@ -124,6 +124,16 @@ fn push_main(alloc: Global, text: &mut Vec<u8>, program: &Program) -> Result<(),
     push_close(text, b"")
 }
 
+/// Adds the line that begins a program of version 2.
+fn push_header(text: &mut Vec<u8>, version: u32) -> Result<(), AllocError>
+    ensures { IfOk result (λ _. text.new.items ≡ text.old.items ++ header_text version) }
+{
+    if version == 2 {
+        return push(text, b"version 2;\n");
+    }
+    Ok(())
+}
+
 /// The canonical text of a program: each statement on lines of its own, two spaces deeper for each
 /// block around it, and no parentheses but those that are needed.
 ///
@@ -134,6 +144,7 @@ pub fn print(alloc: Global, program: &Program) -> Result<Vec<u8>, AllocError>
     ensures { IfOk result (λ text. text.items ≡ canonical_text (spelled 0 (seen_program program.now))) }
 {
     let mut text = Vec::new(alloc);
+    push_header(&mut text, program.version)?;
     push_arrays(alloc, &mut text, &program.arrays)?;
     push_functions(alloc, &mut text, program, &program.functions)?;
     push_main(alloc, &mut text, program)?;

@@ -10,8 +10,9 @@ ghost use Rattle.spf_canonical.specs.Canonical.{deeper as deeper_of, statement_t
 ghost use Rattle.spf_canonical.specs.Printing.{vocabulary_of};
 
 use crate::lines::{
-    push_call, push_consumer_head, push_fail, push_fill, push_fold_head, push_for_head,
-    push_if_head, push_pair_head, push_set, push_store, push_while_head, push_with_word,
+    push_break, push_call, push_consumer_head, push_fail, push_fill, push_fold_head, push_for_head,
+    push_if_head, push_pair_head, push_set, push_store, push_while_head, push_with_row,
+    push_with_word,
 };
 use spf_ast::syntax::{Fold, Pair, Stmt, StmtKind};
 use spf_canonical::pieces::{Names, deeper, push_close, push_else};
@@ -96,6 +97,7 @@ fn push_statement(
             push_nested(alloc, text, names, indent, body)?;
             push_close(text, indent)
         }
+        StmtKind::Break => push_break(text, indent),
         StmtKind::Fold(fold) => push_fold(alloc, text, names, indent, fold),
         StmtKind::Pair(pair) => push_pair(alloc, text, names, indent, pair),
     }
@@ -117,7 +119,7 @@ fn push_fold(
     push_fold_head(alloc, text, names, indent, fold)?;
     push_nested(alloc, text, names, indent, &fold.body)?;
     let inner = deeper(alloc, indent)?;
-    push_with_word(alloc, text, names, &inner, b"next ", &fold.next)?;
+    push_with_row(alloc, text, names, &inner, b"next ", &fold.next)?;
     push_close(text, indent)
 }
 
@@ -135,10 +137,10 @@ fn push_pair(
         (pair_form (pair_head pair.now) (block (out-Pair pair.now).producer.items)
         (block (out-Pair pair.now).consumer.items)))) }
 {
-    push_pair_head(text, names, indent, pair.carried)?;
+    push_pair_head(text, names, indent, &pair.carried)?;
     push_nested(alloc, text, names, indent, &pair.producer)?;
     let inner = deeper(alloc, indent)?;
-    push_with_word(alloc, text, names, &inner, b"give ", &pair.give)?;
+    push_with_row(alloc, text, names, &inner, b"give ", &pair.give)?;
     push_consumer_head(alloc, text, names, indent, &pair.predict)?;
     push_nested(alloc, text, names, indent, &pair.consumer)?;
     push_close(text, indent)

@@ -1,5 +1,5 @@
 -- The programs are lawful.
-use Rattle.std.proofs.Common.{ℕ, zero, suc, ◌*◌, ◌<◌, ◌≤◌, ◌^◌, Bool, true, false, [], ◌∷◌, refl, arith, rules}
+use Rattle.std.proofs.Common.{inl, ℕ, zero, suc, ◌*◌, ◌<◌, ◌≤◌, ◌^◌, Bool, true, false, [], ◌∷◌, refl, arith, rules}
 use Rattle.std.specs.Prelude.{◌==◌, if◌then◌else◌, pos, codes, IfSome, slice_get}
 use Rattle.std.proofs.lemmas.Nat.{mul-le}
 use Rattle.std.proofs.lemmas.List.Elements.{All-nil, All-cons}
@@ -34,6 +34,7 @@ packbits_lawful size h =
         slots_are_names = names-sound p.slots refl;
         main = block-sound (names_at p 0 p.slots) true nothing_declared p.main refl (packbits_numbers size h.1);
         slots = refl;
+        version = inl refl;
       };
       limits = record {
         arrays = omega arith;
@@ -96,6 +97,7 @@ huffman_lawful size h =
         slots_are_names = names-sound p.slots refl;
         main = block-sound (names_at p 2 p.slots) true nothing_declared p.main refl (huffman_numbers size h.1);
         slots = refl;
+        version = inl refl;
       };
       limits = record {
         arrays = omega arith;
@@ -141,6 +143,7 @@ sized_lawful size classes machine h k l =
         slots_are_names = names-sound p.slots refl;
         main = block-sound (names_at p 1 p.slots) true nothing_declared p.main refl (lexer_numbers size classes machine h.1 k l);
         slots = refl;
+        version = inl refl;
       };
       limits = record {
         arrays = omega arith;

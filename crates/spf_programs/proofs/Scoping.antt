@@ -1,15 +1,15 @@
 -- Tests for lawful programs, which compute on programs that are written out: all but their numbers.
 use Rattle.std.proofs.Common.{◌≡◌, ◌⊎◌, inl, inr, ℕ, zero, suc, ◌<◌, ◌≤◌, ◌^◌, Bool, true, false, List, [], ◌∷◌, ◌++◌, Some, None, Option, ℤ, pos, negsuc, refl, sym, subst, arith, Contains}
-use Rattle.std.specs.Prelude.{◌&&◌, ◌||◌, not, ◌==◌, nat_lt, nat_le, IfSome, slice_get, All}
+use Rattle.std.specs.Prelude.{◌&&◌, ◌||◌, not, ◌==◌, nat_lt, nat_le, IfSome, slice_get, All, length}
 use Rattle.std.specs.List.{AllByRecursion}
 use Rattle.std.proofs.lemmas.Bool.{ltb-true}
 use Rattle.std.proofs.lemmas.Bool.Decides.{nat_tests}
 use Rattle.std.proofs.lemmas.List.Elements.{All-nil, All-cons}
 use Rattle.spf_lemmas.proofs.Members.{first-in, later-in, none-in, first-or-later, cases, some_is}
 use Rattle.spf_ast.specs.Syntax.{Expression, Number, Local, Len, Input, Load, Call, Neg, Binary, Arguments, no_more, argument, Condition, Compare, Both, Either, Not, Predictor, By, Host}
-use Rattle.spf_ast.specs.Syntax.{Statement, Let, Assign, Store, Fill, Emit, Fail, If, For, While, Do, Fold, Pair, Block, end, on_line, Function}
+use Rattle.spf_ast.specs.Syntax.{Statement, Let, Assign, Store, Fill, Emit, Fail, If, For, While, Do, Fold, Pair, Break, Block, end, on_line, FoldHead, Function}
 use Rattle.spf_ast.specs.Meaning.{count_of}
-use Rattle.spf_ast.specs.Lawful.{IsLetter, IsWordByte, IsWord, IsName, IsNumber, AreDifferent, reserved_words, Names, Scope, behind, showing, showing_fixed, IsNew, Declares, IsCallable, IsLawfulExpression, AreLawfulArguments, IsLawfulCondition, IsLawfulPredictor, IsLawfulStatement, IsLawfulBlock, declared_in, scope_after, scope_at_end, in_predictor, in_body, parameters}
+use Rattle.spf_ast.specs.Lawful.{IsLetter, IsWordByte, IsWord, IsName, IsNumber, AreDifferent, reserved_words, Names, Scope, behind, showing, showing_fixed, showing_each, in_turn, IsNew, Declares, DeclaresEach, IsCallable, IsLawfulExpression, AreLawfulArguments, IsLawfulCondition, IsLawfulPredictor, AreLawfulPredictors, FoldHasOneWidth, IsLawfulStatement, IsLawfulBlock, declared_in, scope_after, scope_at_end, in_predictor, in_body, parameters}
 
 -- ---- tests in general
 
@@ -177,6 +177,17 @@ declares-sound names scope slot e =
     let parts = both (slot == scope.next) (is_new names scope slot) e in
     (same_number slot scope.next parts.0, new-sound names scope slot parts.1)
 
+-- slots that are declared one after another
+abbrev declares_each : Names → Scope → List ℕ → Bool
+declares_each names scope [] = true
+declares_each names scope (slot ∷ slots) = declares names scope slot && declares_each names (behind 1 (showing slot scope)) slots
+
+declares_each-sound : (names : Names) (scope : Scope) (slots : List ℕ) → declares_each names scope slots ≡ true → DeclaresEach names scope slots
+declares_each-sound names scope [] e = tt
+declares_each-sound names scope (slot ∷ slots) e =
+    let parts = both (declares names scope slot) (declares_each names (behind 1 (showing slot scope)) slots) e in
+    (declares-sound names scope slot parts.0, declares_each-sound names (behind 1 (showing slot scope)) slots parts.1)
+
 -- the first slots of a function, as many as `count`, are new where they are declared
 abbrev pub new_parameters : Names → ℕ → Bool
 new_parameters names zero = true
@@ -218,6 +229,10 @@ abbrev pub numbers_in_guess : Predictor → List ℕ
 numbers_in_guess (By guess) = numbers_in guess
 numbers_in_guess (Host number) = 2 ^ 63 ∷ []
 
+abbrev pub numbers_in_guesses : List Predictor → List ℕ
+numbers_in_guesses [] = []
+numbers_in_guesses (first ∷ rest) = numbers_in_guess first ++ numbers_in_guesses rest
+
 abbrev mutual
   pub numbers_in_statement : Statement → List ℕ
   numbers_in_statement (Let slot value) = numbers_in value
@@ -229,7 +244,8 @@ abbrev mutual
   numbers_in_statement (If test a b) = numbers_in_condition test ++ (numbers_in_block a ++ numbers_in_block b)
   numbers_in_statement (For slot low high body) = numbers_in low ++ (numbers_in high ++ numbers_in_block body)
   numbers_in_statement (Fold head body) =
-      numbers_in head.start ++ (numbers_in head.low ++ (numbers_in head.high ++ (numbers_in_guess head.predict ++ (numbers_in_block body ++ numbers_in head.next))))
+      numbers_in_arguments head.start
+      ++ (numbers_in head.low ++ (numbers_in head.high ++ (numbers_in_guesses head.predict ++ (numbers_in_block body ++ numbers_in_arguments head.next))))
   numbers_in_statement _ = 2 ^ 63 ∷ []
 
   pub numbers_in_block : Block → List ℕ
@@ -327,6 +343,37 @@ guess-sound : (names : Names) (scope : Scope) (p : Predictor) → sees_guess nam
 guess-sound names scope (By guess) t h = sees-sound names scope guess t h
 guess-sound names scope (Host number) t h = absurd (omega (arith, h.0))
 
+abbrev sees_guesses : Names → Scope → List Predictor → Bool
+sees_guesses names scope [] = true
+sees_guesses names scope (first ∷ rest) = sees_guess names scope first && sees_guesses names scope rest
+
+guesses-sound : (names : Names) (scope : Scope) (guesses : List Predictor) → sees_guesses names scope guesses ≡ true → Fit (numbers_in_guesses guesses) → AreLawfulPredictors names scope guesses
+guesses-sound names scope [] t h = tt
+guesses-sound names scope (first ∷ rest) t h =
+    let parts = both (sees_guess names scope first) (sees_guesses names scope rest) t in
+    let numbers = in_parts (numbers_in_guess first) (numbers_in_guesses rest) h in
+    (guess-sound names scope first parts.0 numbers.0, guesses-sound names scope rest parts.1 numbers.1)
+
+-- the lists of a fold are as long as its names, which are one to four
+abbrev has_one_width : FoldHead → Bool
+has_one_width head =
+    nat_le 1 (length head.carried)
+    && (nat_le (length head.carried) 4
+    && ((count_of head.start == length head.carried) && ((length head.predict == length head.carried) && (count_of head.next == length head.carried))))
+
+width-sound : (head : FoldHead) → has_one_width head ≡ true → FoldHasOneWidth head
+width-sound head t =
+    let t1 = both (nat_le 1 (length head.carried)) _ t in
+    let t2 = both (nat_le (length head.carried) 4) _ t1.1 in
+    let t3 = both (count_of head.start == length head.carried) _ t2.1 in
+    let t4 = both (length head.predict == length head.carried) (count_of head.next == length head.carried) t3.1 in
+    record {
+      width = (grind (arith, nat_tests, t1.0), grind (arith, nat_tests, t2.0));
+      start = same_number _ _ t3.0;
+      predict = same_number _ _ t4.0;
+      next = same_number _ _ t4.1;
+    }
+
 abbrev mutual
   admits : Names → Bool → Scope → Statement → Bool
   admits names in_main scope (Let slot value) = sees names scope value && declares names scope slot
@@ -339,16 +386,17 @@ abbrev mutual
   admits names in_main scope (If test a b) =
       sees_condition names scope test && (admits_block names in_main scope a && admits_block names in_main (behind (declared_in a) scope) b)
   admits names in_main scope (For slot low high body) =
-      sees names scope low && (sees names scope high && (declares names scope slot && admits_block names in_main (behind 1 (showing_fixed slot scope)) body))
+      sees names scope low && (sees names scope high && (declares names scope slot && admits_block names in_main (in_turn (behind 1 (showing_fixed slot scope))) body))
   admits names in_main scope (Fold head body) =
-      sees names scope head.start
+      sees_arguments names scope head.start
       && (sees names scope head.low
       && (sees names scope head.high
-      && (declares names scope head.carried
-      && (declares names (behind 1 (showing head.carried scope)) head.block
-      && (sees_guess names (in_predictor scope head.block) head.predict
+      && (declares_each names scope head.carried
+      && (declares names (showing_each head.carried scope) head.block
+      && (sees_guesses names (in_predictor scope head.block) head.predict
       && (admits_block names in_main (in_body scope head.carried head.block) body
-      && sees names (scope_at_end (in_body scope head.carried head.block) body) head.next))))))
+      && (sees_arguments names (scope_at_end (in_body scope head.carried head.block) body) head.next
+      && has_one_width head)))))))
   admits names in_main scope _ = false
 
   pub admits_block : Names → Bool → Scope → Block → Bool
@@ -388,7 +436,7 @@ mutual
       let later = in_parts (numbers_in_block a) (numbers_in_block b) first.1 in
       (condition-sound names scope test parts.0 first.0, block-sound names in_main scope a branches.0 later.0, block-sound names in_main (behind (declared_in a) scope) b branches.1 later.1)
   statement-sound names in_main scope (For slot low high body) t h =
-      let inner = behind 1 (showing_fixed slot scope) in
+      let inner = in_turn (behind 1 (showing_fixed slot scope)) in
       let parts = both (sees names scope low) (sees names scope high && (declares names scope slot && admits_block names in_main inner body)) t in
       let ends = both (sees names scope high) (declares names scope slot && admits_block names in_main inner body) parts.1 in
       let rest = both (declares names scope slot) (admits_block names in_main inner body) ends.1 in
@@ -397,28 +445,31 @@ mutual
       (sees-sound names scope low parts.0 first.0, sees-sound names scope high ends.0 later.0, declares-sound names scope slot rest.0, block-sound names in_main inner body rest.1 later.1)
   statement-sound names in_main scope (Fold head body) t h =
       let inner = in_body scope head.carried head.block in
-      let t1 = both (sees names scope head.start) _ t in
+      let t1 = both (sees_arguments names scope head.start) _ t in
       let t2 = both (sees names scope head.low) _ t1.1 in
       let t3 = both (sees names scope head.high) _ t2.1 in
-      let t4 = both (declares names scope head.carried) _ t3.1 in
-      let t5 = both (declares names (behind 1 (showing head.carried scope)) head.block) _ t4.1 in
-      let t6 = both (sees_guess names (in_predictor scope head.block) head.predict) _ t5.1 in
-      let t7 = both (admits_block names in_main inner body) (sees names (scope_at_end inner body) head.next) t6.1 in
-      let h1 = in_parts (numbers_in head.start) _ h in
+      let t4 = both (declares_each names scope head.carried) _ t3.1 in
+      let t5 = both (declares names (showing_each head.carried scope) head.block) _ t4.1 in
+      let t6 = both (sees_guesses names (in_predictor scope head.block) head.predict) _ t5.1 in
+      let t7 = both (admits_block names in_main inner body) _ t6.1 in
+      let t8 = both (sees_arguments names (scope_at_end inner body) head.next) (has_one_width head) t7.1 in
+      let h1 = in_parts (numbers_in_arguments head.start) _ h in
       let h2 = in_parts (numbers_in head.low) _ h1.1 in
       let h3 = in_parts (numbers_in head.high) _ h2.1 in
-      let h4 = in_parts (numbers_in_guess head.predict) _ h3.1 in
-      let h5 = in_parts (numbers_in_block body) (numbers_in head.next) h4.1 in (
-        sees-sound names scope head.start t1.0 h1.0,
+      let h4 = in_parts (numbers_in_guesses head.predict) _ h3.1 in
+      let h5 = in_parts (numbers_in_block body) (numbers_in_arguments head.next) h4.1 in (
+        arguments-sound names scope head.start t1.0 h1.0,
         sees-sound names scope head.low t2.0 h2.0,
         sees-sound names scope head.high t3.0 h3.0,
-        declares-sound names scope head.carried t4.0,
-        declares-sound names (behind 1 (showing head.carried scope)) head.block t5.0,
-        guess-sound names (in_predictor scope head.block) head.predict t6.0 h4.0,
+        declares_each-sound names scope head.carried t4.0,
+        declares-sound names (showing_each head.carried scope) head.block t5.0,
+        guesses-sound names (in_predictor scope head.block) head.predict t6.0 h4.0,
         block-sound names in_main inner body t7.0 h5.0,
-        sees-sound names (scope_at_end inner body) head.next t7.1 h5.1,
+        arguments-sound names (scope_at_end inner body) head.next t8.0 h5.1,
+        width-sound head t8.1,
       )
   statement-sound names in_main scope (While test most body) t h = absurd (omega (arith, h.0))
+  statement-sound names in_main scope Break t h = absurd (omega (arith, h.0))
   statement-sound names in_main scope (Do f given) t h = absurd (omega (arith, h.0))
   statement-sound names in_main scope (Pair head producer consumer) t h = absurd (omega (arith, h.0))
 

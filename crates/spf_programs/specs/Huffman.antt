@@ -1,6 +1,6 @@
 -- The program that decodes HUF1 by blocks of a size.
 --
--- The carried value is a 1 followed by the bits that were read since the last whole code word, or since the start where there is
+-- The carried word is a 1 followed by the bits that were read since the last whole code word, or since the start where there is
 -- none, or 0 once 16 bits were read without a whole code word. The predictor decodes the 16 bytes before the block.
 --
 --  1  array code[65536];
@@ -215,13 +215,13 @@ body size =
 -- lines 30 and 45
 abbrev pub head : ℕ → FoldHead
 head size = record {
-  carried = 3;
-  start = number 1;
+  carried = 3 ∷ [];
+  start = argument (number 1) no_more;
   block = 4;
   low = number 0;
   high = blocks_for code_bytes size;
-  predict = By (Call 1 (argument (block_begin size) no_more));
-  next = Local 5;
+  predict = By (Call 1 (argument (block_begin size) no_more)) ∷ [];
+  next = argument (Local 5) no_more;
   next_line = 45;
 }
 
@@ -260,6 +260,7 @@ main size = on_line 23 (Let 0 (number 0)) (on_line 24 table (on_line 30 (Fold (h
 
 abbrev pub huffman_program : ℕ → Program
 huffman_program size = record {
+  version = 1;
   arrays =
       record { name = codes "code"; factor = pos 0; offset = pos 65536; line = 1 }
       ∷ record { name = codes "sym"; factor = pos 8; offset = pos (8 * size); line = 2 }

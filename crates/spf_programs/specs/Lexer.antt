@@ -1,6 +1,6 @@
 -- The program that runs a LEX1 machine over the bytes after it, by blocks of a size.
 --
--- The carried value is the state. The predictor runs the machine over the 32 bytes before the block, from state 0. CLASSES is the
+-- The carried word is the state. The predictor runs the machine over the 32 bytes before the block, from state 0. CLASSES is the
 -- number of classes, MACHINE the length of the machine's file.
 --
 --  1  array mark[1*len + SIZE];
@@ -125,13 +125,13 @@ body size classes machine =
 -- lines 10 and 20
 abbrev pub head : (size machine : ℕ) → FoldHead
 head size machine = record {
-  carried = 0;
-  start = number 0;
+  carried = 0 ∷ [];
+  start = argument (number 0) no_more;
   block = 1;
   low = number 0;
   high = blocks_for (content machine) size;
-  predict = By (Call 0 (argument (block_begin size) no_more));
-  next = Local 2;
+  predict = By (Call 0 (argument (block_begin size) no_more)) ∷ [];
+  next = argument (Local 2) no_more;
   next_line = 20;
 }
 
@@ -154,6 +154,7 @@ output machine = For 5 (number 0) (content machine) (only 23 (If (Compare Ne (Lo
 
 abbrev pub program_for : (size classes machine : ℕ) → Program
 program_for size classes machine = record {
+  version = 1;
   arrays = record { name = codes "mark"; factor = pos 1; offset = pos size; line = 1 } ∷ [];
   functions = look classes machine ∷ [];
   slots = slots;

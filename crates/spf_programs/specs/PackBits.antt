@@ -1,6 +1,6 @@
 -- The program that unpacks PackBits by blocks of a size.
 --
--- The carried value is 0 where a header comes next, n > 0 where n bytes are to be copied, and -n where the next byte is repeated
+-- The carried word is 0 where a header comes next, n > 0 where n bytes are to be copied, and -n where the next byte is repeated
 -- n times. Cell i of `rep` says how often input byte i is written.
 --
 --  1  array rep[1*len + SIZE];
@@ -45,6 +45,8 @@ use Rattle.spf_ast.specs.Syntax.{
   Len,
   Input,
   Load,
+  argument,
+  no_more,
   Compare,
   By,
   Statement,
@@ -112,13 +114,13 @@ body size =
 -- lines 3 and 27
 abbrev pub head : ℕ → FoldHead
 head size = record {
-  carried = 0;
-  start = number 0;
+  carried = 0 ∷ [];
+  start = argument (number 0) no_more;
   block = 1;
   low = number 0;
   high = blocks_for Len size;
-  predict = By (number 0);
-  next = Local 2;
+  predict = By (number 0) ∷ [];
+  next = argument (Local 2) no_more;
   next_line = 27;
 }
 
@@ -128,6 +130,7 @@ output = For 5 (number 0) Len (only 30 (For 6 (number 0) (Load 0 (Local 5)) (onl
 
 abbrev pub packbits_program : ℕ → Program
 packbits_program size = record {
+  version = 1;
   arrays = record { name = codes "rep"; factor = pos 1; offset = pos size; line = 1 } ∷ [];
   functions = [];
   slots = slots;

@@ -44,7 +44,8 @@ use spf_builder::expression::{
 use spf_builder::name::{name, names, sized_array};
 use spf_builder::program::{Signature, function, program, two_arrays, two_functions};
 use spf_builder::statement::{
-    Carried, assign, choose, count, declare, emit, fail, fill, fold, on_line, only, store, when,
+    Carried, assign, choose, count, declare, emit, fail, fill, fold, on_line, only, rows_of_one,
+    store, when,
 };
 use std::alloc::{AllocError, Global};
 
@@ -341,7 +342,8 @@ fn blocks(alloc: Global, size: u64) -> Result<StmtKind, AllocError>
     };
     let count = blocks_for(alloc, code_bytes(alloc), size);
     let guess = call(alloc, LOOK, block_begin(alloc, size));
-    fold(alloc, carried, count, guess, body(alloc, size))
+    let rows = rows_of_one(alloc, carried, guess);
+    fold(alloc, rows, BLOCK, count, body(alloc, size))
 }
 
 /// A number with a byte of the header after it.
@@ -432,7 +434,7 @@ fn build(alloc: Global, size: u64) -> Result<Program, AllocError>
         b"v", b"n", b"y", b"s", b"k", b"h", b"i", b"byte", b"j", b"want", b"got", b"i",
     ];
     let slots = names(alloc, &slots);
-    program(arrays, functions, slots, statements(alloc, size))
+    program(1, arrays, functions, slots, statements(alloc, size))
 }
 
 /// The program that decodes HUF1 by blocks of this size.

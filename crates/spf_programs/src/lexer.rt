@@ -28,7 +28,7 @@ use spf_builder::expression::{binary, call, compare, input, length, load, local,
 use spf_builder::name::{name, names, sized_array};
 use spf_builder::program::{Signature, function, one_array, one_function, program};
 use spf_builder::statement::{
-    Carried, assign, count, declare, emit, fill, fold, on_line, only, store, when,
+    Carried, assign, count, declare, emit, fill, fold, on_line, only, rows_of_one, store, when,
 };
 use std::alloc::{AllocError, Global};
 
@@ -193,7 +193,8 @@ fn blocks(alloc: Global, sizes: Sizes) -> Result<StmtKind, AllocError>
     };
     let count = blocks_for(alloc, content(alloc, sizes), sizes.block);
     let guess = call(alloc, LOOK, block_begin(alloc, sizes));
-    fold(alloc, carried, count, guess, body(alloc, sizes))
+    let rows = rows_of_one(alloc, carried, guess);
+    fold(alloc, rows, BLOCK, count, body(alloc, sizes))
 }
 
 /// Writes a byte of the place.
@@ -243,7 +244,7 @@ fn program_for(alloc: Global, sizes: Sizes) -> Result<Program, AllocError>
     let arrays = one_array(alloc, sized_array(alloc, b"mark", 1, sizes.block, 1));
     let functions = one_function(alloc, look(alloc, sizes));
     let slots = names(alloc, &[b"s", b"k", b"q", b"i", b"e", b"i"]);
-    program(arrays, functions, slots, statements(alloc, sizes))
+    program(1, arrays, functions, slots, statements(alloc, sizes))
 }
 
 /// The program that runs machines with so many states and classes over the bytes after them, by blocks of this size.

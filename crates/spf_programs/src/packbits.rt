@@ -25,7 +25,8 @@ use spf_builder::expression::{binary, compare, input, length, load, local, numbe
 use spf_builder::name::{names, sized_array};
 use spf_builder::program::{one_array, program};
 use spf_builder::statement::{
-    Carried, assign, choose, count, declare, emit, fill, fold, on_line, only, store, when,
+    Carried, assign, choose, count, declare, emit, fill, fold, on_line, only, rows_of_one, store,
+    when,
 };
 use std::alloc::{AllocError, Global};
 
@@ -156,7 +157,8 @@ fn blocks(alloc: Global, size: u64) -> Result<StmtKind, AllocError>
         next_line: 27,
     };
     let count = blocks_for(alloc, length(), size);
-    fold(alloc, carried, count, number(0), body(alloc, size))
+    let rows = rows_of_one(alloc, carried, number(0));
+    fold(alloc, rows, BLOCK, count, body(alloc, size))
 }
 
 /// Writes each byte of the input as often as it was found to be written.
@@ -187,7 +189,13 @@ fn build(alloc: Global, size: u64) -> Result<Program, AllocError>
 {
     let arrays = one_array(alloc, sized_array(alloc, b"rep", 1, size, 1));
     let slots = names(alloc, &[b"s", b"k", b"t", b"i", b"b", b"i", b"j"]);
-    program(arrays, Ok(Vec::new(alloc)), slots, statements(alloc, size))
+    program(
+        1,
+        arrays,
+        Ok(Vec::new(alloc)),
+        slots,
+        statements(alloc, size),
+    )
 }
 
 /// The program that unpacks PackBits by blocks of this size.

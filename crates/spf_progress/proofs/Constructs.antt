@@ -1,24 +1,21 @@
 -- A run in pieces goes on as the plain run does where a construct is settled as its blocks come out.
-use Rattle.std.proofs.Common.{◌≡◌, ℕ, zero, suc, ◌+◌, true, false, List, [], ◌∷◌, length, ℤ, pos, ◌+ℤ◌, refl, sym, ap, ◌∙◌, subst, add-one}
-use Rattle.std.specs.Prelude.{Some, None, Result, Ok, Err, slice_set}
+use Rattle.std.proofs.Common.{◌≡◌, ℕ, zero, suc, ◌+◌, true, false, List, [], ◌∷◌, ◌++◌, length, ℤ, pos, ◌+ℤ◌, refl, sym, ap, ◌∙◌, subst, add-one}
+use Rattle.std.specs.Prelude.{Some, Result, Ok, Err}
 use Rattle.spf_ast.specs.declared.outcome.Trap.{Trap}
 use Rattle.spf_ast.specs.declared.syntax.Part.TheVariants.{Predictor}
-use Rattle.spf_ast.specs.Interaction.{Interaction, State, Ending, Value, Trapped, result_of, Performed, Ended, Stopped as stopped_at, Misfit, perform, no_cell}
+use Rattle.spf_ast.specs.Interaction.{State, Flow, Onward, Broken, Ending, Value, Trapped}
 use Rattle.spf_ast.specs.Syntax.{Statement, Program, Block, end, on_line}
-use Rattle.spf_ast.specs.Meaning.{Environment, statement_means, block_means}
-use Rattle.spf_ast.specs.Plain.{plain_answer, plain_memory, unshared_answer}
+use Rattle.spf_ast.specs.Meaning.{Environment, statement_means, main_means}
+use Rattle.spf_ast.specs.Plain.{plain_answer, plain_memory}
 use Rattle.spf_ast.specs.Program.{environment_of, extents_of, outcome_from, Stopped}
 use Rattle.spf_ast.specs.Construct.{Moment, moment_after, plainly, Construct, construct_of, constructs_in, Header, header_means, carried_of, Reached, reached, reached_here, unless_trapped, reached_from, blocks_from}
 use Rattle.spf_ast.specs.Pieces.{rest_from, construct_first}
 use Rattle.spf_ast.specs.Silence.{FunctionsAreSilent}
-use Rattle.spf_ast.specs.Carried.{Carried, no_value}
-use Rattle.spf_ast.specs.Event.{Event}
-use Rattle.spf_ast.specs.BlockRun.{part_asks, block_setup, predicts}
-use Rattle.spf_ast.specs.Laws.{HasOneUnsharedAnswer, PartsHaveOneUnsharedAnswer}
+use Rattle.spf_ast.specs.Carried.{Carried, with_carried}
 use Rattle.spf_ast.specs.Lawful.{Scope, names_at, IsLawfulStatement, IsLawfulBlock, scope_after}
 use Rattle.spf_layout.specs.Frame.{main_slots}
 use Rattle.spf_exec.specs.Pieces.{Stand, EndsAt, TrapsAt, moment_of, ahead}
-use Rattle.spf_laws.specs.Agreement.{Relation, LookAlike, EndAlike, GoAlike, PartsSeeVisibleSlots}
+use Rattle.spf_laws.specs.Agreement.{LookAlike}
 use Rattle.spf_laws.specs.Keeping.{IsSelfContained}
 use Rattle.spf_laws.specs.Chained.{chained, is_trap, IsSettledAs, IsItsBlocks}
 use Rattle.spf_laws.proofs.Chains.{is-statement}
@@ -28,21 +25,20 @@ use Rattle.spf_ast.specs.declared.syntax.Part.{Part}
 use Rattle.spf_ast.specs.declared.syntax.Part.TheVariants.{Body, Producer, Consumer}
 use Rattle.spf_ast.specs.Slots.{assigns_outer}
 use Rattle.spf_ast.specs.Silence.{PartIsSilent}
-use Rattle.spf_ast.specs.Syntax.{Predictor as PredictorForm, By, Host}
 use Rattle.spf_laws.specs.Keeping.{StandsInMain}
 use Rattle.spf_rollback.specs.Rules.{KeepsTheRules}
-use Rattle.spf_entry.specs.Entry.{Entry, plain_blocks}
-use Rattle.spf_speculation.specs.Steps.{Step, Merges}
+use Rattle.spf_entry.specs.Entry.{Entry}
+use Rattle.spf_speculation.specs.Steps.{Step}
 use Rattle.spf_speculation.specs.Runs.{IsSpeculativeRun}
-use Rattle.spf_lane_runs.specs.Lanes.{logs_in}
 use Rattle.spf_alike.specs.Alike.{SlotsLookAlike}
-use Rattle.spf_guess.specs.Guess.{Guess, Hosts, Telling, guess_of, guess_by, guess_for, predictor_of}
+use Rattle.spf_guess.specs.Guess.{Guess, Hosts, Telling, guess_for}
 use Rattle.spf_guess.specs.Statistics.{guess_at}
-use Rattle.spf_progress.specs.Traces.{Trace, entry_reached, IsRunReached, begin_with}
+use Rattle.spf_progress.specs.Traces.{Trace, entry_reached, begin_with}
 use Rattle.spf_progress.specs.Progress.{IsAt, Progress, IsCompletedBy, GoesOn, HasCome, HasRuns, BlocksComeTo, entry_there, guess_there, with_construct}
 use Rattle.spf_progress.specs.Laws.{ConstructsSettle, ConstructsEndRuns}
 use Rattle.spf_progress.proofs.Places.{goes-to}
 use Rattle.spf_progress.proofs.Fronts.{declared-after}
+use Rattle.spf_progress.proofs.Guesses.{same-guess}
 use Rattle.spf_progress.proofs.Performing.{Sees}
 use Rattle.spf_progress.proofs.Standing.{Laws, Follows, follows, follows-trap, traps-here, outcome-of}
 use Rattle.spf_progress.proofs.Tallies.{whole-of-it, AreItsTraces, completes-after}
@@ -73,36 +69,6 @@ rest-next place b line s rest e = ap (λ n. rest_from n b) (add-one place) ∙ g
     go zero (on_line n t more) e = ap tail e
     go (suc place) end e = cc
     go (suc place) (on_line n t more) e = go place more e
-
--- ---- headers and predictors
-
--- from slots that look alike predictors come to the same
-alike-results : (After : Relation) (e d : Ending Carried) → EndAlike After e d → result_of e ≡ result_of d
-alike-results After (Value a s) (Value b t) h = ap Ok h.0
-alike-results After (Value a s) (Trapped t o) h = elim h [ ]
-alike-results After (Trapped t o) (Value a s) h = elim h [ ]
-alike-results After (Trapped t o) (Trapped u q) h = ap Err h.0
-
--- what one of two trees that are performed alike comes to with no shared cell, the other comes to as well
-same-result : (After : Relation) (t u : Interaction (Ending Carried)) (m : List ℤ) → HasOneUnsharedAnswer t m → HasOneUnsharedAnswer u m
-    → ((es : List Event) → GoAlike After (perform no_cell m None t es) (perform no_cell m None u es)) → result_of (unshared_answer t m) ≡ result_of (unshared_answer u m)
-same-result After t u m one other alike = go (perform no_cell m None u one.events) refl (subst (λ x. GoAlike After x (perform no_cell m None u one.events)) one.ends (alike one.events))
-  where
-    go : (r : Performed (Ending Carried)) → perform no_cell m None u one.events ≡ r → GoAlike After (Ended (unshared_answer t m) []) r → result_of (unshared_answer t m) ≡ result_of (unshared_answer u m)
-    go (Ended e rest) is h = alike-results After (unshared_answer t m) e h.0 ∙ ap result_of (other.only one.events e (is ∙ ap (Ended e) (sym h.1)))
-    go (stopped_at n rest) is h = elim h [ ]
-    go Misfit is h = elim h [ ]
-
--- so predictors make the same guesses
-same-guesses : PartsSeeVisibleSlots → PartsHaveOneUnsharedAnswer → (p : Program) (input : List ℕ) (scope : Scope) (line : ℕ) (s : Statement) (c : Construct) → construct_of line s ≡ Some c → IsLawfulStatement (names_at p (length p.functions) p.slots) true scope s
-    → (one other : State) → LookAlike scope.visible one other → (m : List ℤ) (k : ℤ) → predicts p input c one.slots m k ≡ predicts p input c other.slots m k
-same-guesses see unshared p input scope line s c is l one other h m k =
-    same-result (LookAlike scope.visible)
-    (part_asks p c Predictor (block_setup input one.slots k no_value)) (part_asks p c Predictor (block_setup input other.slots k no_value)) m
-    (unshared p c Predictor (block_setup input one.slots k no_value) m) (unshared p c Predictor (block_setup input other.slots k no_value) m)
-    (λ es. see (names_at p (length p.functions) p.slots) scope line s c is l input (extents_of p (length input)) p.functions (length p.functions) Predictor k no_value
-    (record { slots = one.slots; output = [] }) (record { slots = other.slots; output = [] })
-    (record { agree = record { slots = h.agree.slots; output = refl }; slot_count = h.slot_count }) no_cell m None es)
 
 -- ---- entering a construct
 
@@ -163,15 +129,15 @@ header-traps-run laws hosts p input before after progress c t goes first trapped
     let ended = laws.headers g b.line b.statement c b.construct goes.moment t after.output header.answer in
     let statement : Comes (statement_means g b.line b.statement) goes.moment.state goes.moment.memory (Trapped t after.output) (plain_memory (header_means g c goes.moment.state) goes.moment.memory) = record { answer = ended.0; memory = ended.1 } in
     traps-here hosts p input before progress goes t after.output _
-    (subst (λ all. Comes (block_means g all) goes.moment.state goes.moment.memory (Trapped t after.output) (plain_memory (header_means g c goes.moment.state) goes.moment.memory)) (sym b.is) (comes-trap (λ u. block_means g b.rest) statement))
+    (subst (λ all. Comes (main_means g all) goes.moment.state goes.moment.memory (Trapped t after.output) (plain_memory (header_means g c goes.moment.state) goes.moment.memory)) (sym b.is) (comes-trap (λ u. main_means g b.rest) statement))
     (ap (λ all. reached_from g all goes.moment) b.is ∙ reaches-not g b.line b.statement b.rest c goes.moment t after.output b.construct header.answer statement.answer)
 
 -- ---- settling a construct
 
--- the scope after a construct shows its carried slot
-shows-carried : (line : ℕ) (s : Statement) (c : Construct) → construct_of line s ≡ Some c → (scope : Scope) → (scope_after scope s).visible ≡ carried_of c ∷ scope.visible
+-- the scope after a construct shows its carried slots
+shows-carried : (line : ℕ) (s : Statement) (c : Construct) → construct_of line s ≡ Some c → (scope : Scope) → (scope_after scope s).visible ≡ carried_of c ++ scope.visible
 shows-carried line s c e scope =
-    is-statement line s c (λ t k. (scope_after scope t).visible ≡ carried_of k ∷ scope.visible) (λ head body. refl) (λ head producer consumer. refl) e
+    is-statement line s c (λ t k. (scope_after scope t).visible ≡ carried_of k ++ scope.visible) (λ head body. refl) (λ head producer consumer. refl) e
 
 -- a construct is the first of those of its block
 pub counts-first : (line : ℕ) (s : Statement) (rest : Block) (c : Construct) → construct_of line s ≡ Some c → constructs_in (on_line line s rest) ≡ c ∷ constructs_in rest
@@ -209,20 +175,13 @@ place-of hosts p input before after progress c h e = record {
   declared = e.goes.declared;
 }
 
--- a predictor makes the same guess where its expression comes to the same; what a host answers depends on no slot
-same-by : (by : PredictorForm) (hosts : Hosts) (telling : List Telling) (p : Program) (input : List ℕ) (c : Construct) (one other m : List ℤ) (k : ℤ)
-    → predicts p input c one m k ≡ predicts p input c other m k → guess_by by hosts telling p input c one m k ≡ guess_by by hosts telling p input c other m k
-same-by (By guess) hosts telling p input c one other m k same = ap guess_of same
-same-by (Host host) hosts telling p input c one other m k same = refl
-
 -- the guesses are those at the entry of the run
 guesses-alike : Laws → (hosts : Hosts) (p : Program) (input : List ℕ) (before after : Stand) (progress : Progress) (c : Construct) (h : Header) (e : Entered hosts p input before after progress c h) (n : ℕ)
     → guess_at hosts progress.telling p input c (reached_as (environment_of p input) c e.goes.moment h e.header.state) n ≡ guess_there hosts progress.telling p input c h after n
 guesses-alike laws hosts p input before after progress c h e n =
     let x = plain_memory (header_means (environment_of p input) c e.goes.moment.state) e.goes.moment.memory in
     let lawful = (first-lawful hosts p input before progress e.goes c e.stands).0 in
-    same-by (predictor_of c) hosts progress.telling p input c e.header.state.slots (main_slots p after.frame) x (h.low +ℤ pos n)
-    (same-guesses laws.parts_see laws.unshared p input e.goes.scope e.stands.line e.stands.statement c e.stands.construct lawful e.header.state (moment_of p after).state e.header.alike x (h.low +ℤ pos n))
+    same-guess p input e.goes.scope e.stands.line e.stands.statement c e.stands.construct lawful e.header.state (moment_of p after).state e.header.alike hosts progress.telling x (h.low +ℤ pos n)
     ∙ ap (λ y. guess_for hosts progress.telling p input c (main_slots p after.frame) y (h.low +ℤ pos n)) e.header.comes.memory
 
 -- so are the speculative runs
@@ -306,25 +265,27 @@ is-reached-so laws hosts p input before after progress c h e silent keeps r valu
 
 -- ---- settling
 
--- the ending of a construct that has a value
-record Settles (visible : List ℕ) (entry : State) (carried : ℕ) (v : ℤ) (e : Ending (Unit {0})) : Type 0 where
+-- the ending of a construct that has a row
+record Settles (visible : List ℕ) (entry : State) (carried : List ℕ) (v : Carried) (e : Ending Flow) : Type 0 where
   state : State
-  is : e ≡ Value tt state
-  alike : LookAlike (carried ∷ visible) state (record entry { slots = slice_set entry.slots carried v })
+  is : e ≡ Value Onward state
+  alike : LookAlike (carried ++ visible) state (record entry { slots = with_carried carried v entry.slots })
 
-settles-at : (visible : List ℕ) (entry : State) (carried : ℕ) (v : ℤ) (e : Ending (Unit {0})) → IsSettledAs visible entry carried (Ok v) e → Settles visible entry carried v e
-settles-at visible entry carried v (Value u s) h = record { state = s; is = refl; alike = h }
+settles-at : (visible : List ℕ) (entry : State) (carried : List ℕ) (v : Carried) (e : Ending Flow) → IsSettledAs visible entry carried (Ok v) e → Settles visible entry carried v e
+settles-at visible entry carried v (Value Onward s) h = record { state = s; is = refl; alike = h }
+settles-at visible entry carried v (Value Broken s) h = elim h [ ]
 settles-at visible entry carried v (Trapped t o) h = elim h [ ]
 
-settles-trap : (visible : List ℕ) (entry : State) (carried : ℕ) (t : Trap) (e : Ending (Unit {0})) → IsSettledAs visible entry carried (Err t) e → e ≡ Trapped t entry.output
-settles-trap visible entry carried t (Value u s) h = elim h [ ]
+settles-trap : (visible : List ℕ) (entry : State) (carried : List ℕ) (t : Trap) (e : Ending Flow) → IsSettledAs visible entry carried (Err t) e → e ≡ Trapped t entry.output
+settles-trap visible entry carried t (Value Onward s) h = elim h [ ]
+settles-trap visible entry carried t (Value Broken s) h = elim h [ ]
 settles-trap visible entry carried t (Trapped u o) h = ap (λ w. Trapped w o) h.0 ∙ ap (Trapped t) h.1
 
 -- what the run reached from the construct on: the construct itself, and what comes after it
-abbrev later-from : Environment → Block → List ℤ → Ending (Unit {0}) → List Reached
+abbrev later-from : Environment → Block → List ℤ → Ending Flow → List Reached
 later-from g rest memory ending = unless_trapped ending (λ state. reached_from g rest (record { state = state; memory = memory }))
 
-reached-before : (hosts : Hosts) (p : Program) (input : List ℕ) (before after : Stand) (progress : Progress) (c : Construct) (h : Header) (e : Entered hosts p input before after progress c h) (ending : Ending (Unit {0})) (memory : List ℤ)
+reached-before : (hosts : Hosts) (p : Program) (input : List ℕ) (before after : Stand) (progress : Progress) (c : Construct) (h : Header) (e : Entered hosts p input before after progress c h) (ending : Ending Flow) (memory : List ℤ)
     → plainly (statement_means (environment_of p input) e.stands.line e.stands.statement) e.goes.moment ≡ ending
     → plain_memory (statement_means (environment_of p input) e.stands.line e.stands.statement e.goes.moment.state) e.goes.moment.memory ≡ memory
     → IsCompletedBy hosts p input (c ∷ constructs_in e.stands.rest) (reached_as (environment_of p input) c e.goes.moment h e.header.state ∷ later-from (environment_of p input) e.stands.rest memory ending) progress
@@ -338,11 +299,11 @@ reached-before hosts p input before after progress c h e ending memory ended lef
     subst (λ y. IsCompletedBy hosts p input (c ∷ constructs_in b.rest) (reached_as g c m h e.header.state ∷ later-from g b.rest y ending) progress) left
     (subst (λ d. IsCompletedBy hosts p input (c ∷ constructs_in b.rest) (reached_as g c m h e.header.state ∷ later-from g b.rest (plain_memory (statement_means g b.line b.statement m.state) m.memory) d) progress) ended there)
 
--- where its blocks gave a value, the run goes on after it with this value and their memory
+-- where its blocks gave a row, the run goes on after it with this row and their memory
 pub settles-so : Laws → (hosts : Hosts) (p : Program) (input : List ℕ) (before after : Stand) (progress : Progress) (last : Stand) (c : Construct) (h : Header) (e : Entered hosts p input before after progress c h)
-    → FunctionsAreSilent p.functions → KeepsTheRules p c → (v : ℤ) (values : List ℤ) (traces : List Trace)
+    → FunctionsAreSilent p.functions → KeepsTheRules p c → (v : Carried) (values : List Carried) (traces : List Trace)
     → BlocksComeTo (entry_there p input c h after) (guess_there hosts progress.telling p input c h after) (Ok v) values last.cells traces
-    → main_slots p last.frame ≡ slice_set (main_slots p after.frame) (carried_of c) v → last.output ≡ after.output → last.place ≡ before.place + 1
+    → main_slots p last.frame ≡ with_carried (carried_of c) v (main_slots p after.frame) → last.output ≡ after.output → last.place ≡ before.place + 1
     → GoesOn hosts p input last (with_construct (guess_there hosts progress.telling p input c h after) c h values traces progress)
 settles-so laws hosts p input before after progress last c h e silent keeps v values traces out slots output place =
     let g = environment_of p input in
@@ -351,7 +312,7 @@ settles-so laws hosts p input before after progress last c h e silent keeps v va
     let guess = guess_there hosts progress.telling p input c h after in
     let law = is-its-blocks laws hosts p input before after progress c h e silent (contained-here laws hosts p input before after progress c h e keeps) in
     let x = plain_memory (header_means g c m.state) m.memory in
-    let chain : List ℤ → Result ℤ Trap = λ y. (chained g c (main_slots p after.frame) 0 h.blocks h.low h.start y).result in
+    let chain : List ℤ → Result Carried Trap = λ y. (chained g c (main_slots p after.frame) 0 h.blocks h.low h.start y).result in
     let result : chain x ≡ Ok v = ap chain e.header.comes.memory ∙ out.result in
     let ended = settles-at e.goes.scope.visible (moment_of p after).state (carried_of c) v (plainly (statement_means g b.line b.statement) m)
     (subst (λ r. IsSettledAs e.goes.scope.visible (moment_of p after).state (carried_of c) r (plainly (statement_means g b.line b.statement) m)) result law.settled) in
@@ -361,8 +322,8 @@ settles-so laws hosts p input before after progress last c h e silent keeps v va
     let behind : ahead p last ≡ b.rest = ap (λ n. rest_from n p.main) place ∙ rest-next before.place p.main b.line b.statement b.rest b.is in
     let next : Moment = record { state = ended.state; memory = last.cells } in
     let names = names_at p (length p.functions) p.slots in
-    let statement : Comes (statement_means g b.line b.statement) m.state m.memory (Value tt ended.state) last.cells = record { answer = ended.is; memory = memory } in
-    let entry_is : record (moment_of p after).state { slots = slice_set (main_slots p after.frame) (carried_of c) v } ≡ (moment_of p last).state
+    let statement : Comes (statement_means g b.line b.statement) m.state m.memory (Value Onward ended.state) last.cells = record { answer = ended.is; memory = memory } in
+    let entry_is : record (moment_of p after).state { slots = with_carried (carried_of c) v (main_slots p after.frame) } ≡ (moment_of p last).state
     = λ i. record { slots = sym slots i; output = sym output i } in
     let mine = is-reached-so laws hosts p input before after progress c h e silent keeps (Ok v) values last.cells traces out in
     record {
@@ -370,25 +331,26 @@ settles-so laws hosts p input before after progress last c h e silent keeps v va
       moment = next;
       there = subst (λ rest. IsAt p input rest next) (sym behind)
           (goes-to p input (ahead p before) (on_line b.line b.statement end) b.rest m ended.state last.cells e.goes.there b.is
-          (comes-then {first = statement_means g b.line b.statement} (λ u. block_means g end) statement (record { answer = refl; memory = refl })));
+          (comes-then {first = statement_means g b.line b.statement} (λ u. main_means g end) statement (record { answer = refl; memory = refl })));
       lawful = subst (IsLawfulBlock names true (scope_after e.goes.scope b.statement)) (sym behind) lawful.1;
       declared = declared-after names e.goes.scope b.statement lawful.0 e.goes.declared;
+      outside = e.goes.outside;
       alike = subst (λ visible. LookAlike visible ended.state (moment_of p last).state) (sym (shows-carried b.line b.statement c b.construct e.goes.scope))
-          (subst (LookAlike (carried_of c ∷ e.goes.scope.visible) ended.state) entry_is ended.alike);
+          (subst (LookAlike (carried_of c ++ e.goes.scope.visible) ended.state) entry_is ended.alike);
       memory = refl;
-      outcome_is = ap (λ rest. outcome_from (plain_answer (block_means g rest next.state) next.memory) (plain_memory (block_means g rest next.state) next.memory)) behind
-          ∙ sym (outcome-of {form = block_means g (on_line b.line b.statement b.rest)} (comes-then (λ u. block_means g b.rest) statement (record { answer = refl; memory = refl })))
-          ∙ ap (λ all. outcome_from (plain_answer (block_means g all m.state) m.memory) (plain_memory (block_means g all m.state) m.memory)) (sym b.is)
+      outcome_is = ap (λ rest. outcome_from (plain_answer (main_means g rest next.state) next.memory) (plain_memory (main_means g rest next.state) next.memory)) behind
+          ∙ sym (outcome-of {form = main_means g (on_line b.line b.statement b.rest)} (comes-then (λ u. main_means g b.rest) statement (record { answer = refl; memory = refl })))
+          ∙ ap (λ all. outcome_from (plain_answer (main_means g all m.state) m.memory) (plain_memory (main_means g all m.state) m.memory)) (sym b.is)
           ∙ e.goes.outcome_is;
       completes = subst (λ rest. IsCompletedBy hosts p input (constructs_in rest) (reached_from g rest next) (with_construct guess c h values traces progress)) (sym behind)
           (completes-after hosts p input c (constructs_in b.rest) (reached_as g c m h e.header.state) (reached_from g b.rest next) guess values traces progress
           mine.guesses mine.values_are mine.traces_are
-          (reached-before hosts p input before after progress c h e (Value tt ended.state) last.cells ended.is memory));
+          (reached-before hosts p input before after progress c h e (Value Onward ended.state) last.cells ended.is memory));
     }
 
 -- where one of its blocks trapped
 pub settles-to-trap : Laws → (hosts : Hosts) (p : Program) (input : List ℕ) (before after : Stand) (progress : Progress) (c : Construct) (h : Header) (e : Entered hosts p input before after progress c h)
-    → FunctionsAreSilent p.functions → KeepsTheRules p c → (t : Trap) (values memory : List ℤ) (traces : List Trace)
+    → FunctionsAreSilent p.functions → KeepsTheRules p c → (t : Trap) (values : List Carried) (memory : List ℤ) (traces : List Trace)
     → BlocksComeTo (entry_there p input c h after) (guess_there hosts progress.telling p input c h after) (Err t) values memory traces
     → HasCome hosts p input (Stopped t after.output) (with_construct (guess_there hosts progress.telling p input c h after) c h values traces progress)
 settles-to-trap laws hosts p input before after progress c h e silent keeps t values memory traces out =
@@ -398,7 +360,7 @@ settles-to-trap laws hosts p input before after progress c h e silent keeps t va
     let guess = guess_there hosts progress.telling p input c h after in
     let law = is-its-blocks laws hosts p input before after progress c h e silent (contained-here laws hosts p input before after progress c h e keeps) in
     let x = plain_memory (header_means g c m.state) m.memory in
-    let chain : List ℤ → Result ℤ Trap = λ y. (chained g c (main_slots p after.frame) 0 h.blocks h.low h.start y).result in
+    let chain : List ℤ → Result Carried Trap = λ y. (chained g c (main_slots p after.frame) 0 h.blocks h.low h.start y).result in
     let result : chain x ≡ Err t = ap chain e.header.comes.memory ∙ out.result in
     let ended = settles-trap e.goes.scope.visible (moment_of p after).state (carried_of c) t (plainly (statement_means g b.line b.statement) m)
     (subst (λ r. IsSettledAs e.goes.scope.visible (moment_of p after).state (carried_of c) r (plainly (statement_means g b.line b.statement) m)) result law.settled) in
@@ -406,8 +368,8 @@ settles-to-trap laws hosts p input before after progress c h e silent keeps t va
     let statement : Comes (statement_means g b.line b.statement) m.state m.memory (Trapped t after.output) y = record { answer = ended; memory = refl } in
     let mine = is-reached-so laws hosts p input before after progress c h e silent keeps (Err t) values memory traces out in
     record {
-      outcome_is = sym (outcome-of {form = block_means g (on_line b.line b.statement b.rest)} (comes-trap (λ u. block_means g b.rest) statement))
-          ∙ ap (λ all. outcome_from (plain_answer (block_means g all m.state) m.memory) (plain_memory (block_means g all m.state) m.memory)) (sym b.is)
+      outcome_is = sym (outcome-of {form = main_means g (on_line b.line b.statement b.rest)} (comes-trap (λ u. main_means g b.rest) statement))
+          ∙ ap (λ all. outcome_from (plain_answer (main_means g all m.state) m.memory) (plain_memory (main_means g all m.state) m.memory)) (sym b.is)
           ∙ e.goes.outcome_is;
       whole = whole-of-it hosts p input (constructs_in b.rest) [] (with_construct guess c h values traces progress) refl
           (completes-after hosts p input c (constructs_in b.rest) (reached_as g c m h e.header.state) [] guess values traces progress

@@ -1,5 +1,6 @@
 pub mod Places
 pub mod Fronts
+pub mod Guesses
 pub mod Performing
 pub mod Tallies
 pub mod Standing

@@ -3,7 +3,7 @@ use Rattle.std.proofs.Common.{◌≡◌, ℕ, Bool, true, false, List, length, �
 use Rattle.std.specs.Prelude.{if◌then◌else◌}
 use Rattle.spf_ast.specs.Interaction.{State, Ending, Value, Trapped}
 use Rattle.spf_ast.specs.Syntax.{Program, Block, end, on_line, followed_by}
-use Rattle.spf_ast.specs.Meaning.{Environment, statement_means, block_means}
+use Rattle.spf_ast.specs.Meaning.{Environment, statement_means, main_means}
 use Rattle.spf_ast.specs.Program.{environment_of, start_of, zeros_of}
 use Rattle.spf_ast.specs.Construct.{Moment, is_construct}
 use Rattle.spf_ast.specs.Pieces.{before_construct, from_construct}
@@ -34,20 +34,20 @@ state_or other (Trapped t o) = other
 same-value : (s t : State) (e d : Ending (Unit {0})) → e ≡ Value tt s → d ≡ Value tt t → e ≡ d → s ≡ t
 same-value s t e d p q h = ap (state_or s) (sym p ∙ h ∙ q)
 
-pub comes-on : (g : Environment) (a b : Block) (s mid : State) (m x y : List ℤ) (e : Ending (Unit {0})) → Comes (block_means g a) s m (Value tt mid) x → Comes (block_means g b) mid x e y → Comes (block_means g (followed_by a b)) s m e y
+pub comes-on : (g : Environment) (a b : Block) (s mid : State) (m x y : List ℤ) (e : Ending (Unit {0})) → Comes (main_means g a) s m (Value tt mid) x → Comes (main_means g b) mid x e y → Comes (main_means g (followed_by a b)) s m e y
 comes-on g end b s mid m x y e p q =
-    subst (λ z. Comes (block_means g b) z m e y) (sym (same-value s mid _ _ refl refl p.answer)) (subst (λ z. Comes (block_means g b) mid z e y) (sym p.memory) q)
+    subst (λ z. Comes (main_means g b) z m e y) (sym (same-value s mid _ _ refl refl p.answer)) (subst (λ z. Comes (main_means g b) mid z e y) (sym p.memory) q)
 comes-on g (on_line line first rest) b s mid m x y e p q =
-    go (part (statement_means g line first) (λ u. block_means g rest) s m (Value tt mid) x p) (λ between z later. comes-on g rest b between mid z x y e later q)
+    go (part (statement_means g line first) (λ u. main_means g rest) s m (Value tt mid) x p) (λ between z later. comes-on g rest b between mid z x y e later q)
   where
-    go : Parted (statement_means g line first) (λ u. block_means g rest) s m (Value tt mid) x → ((between : State) (z : List ℤ) → Comes (block_means g rest) between z (Value tt mid) x → Comes (block_means g (followed_by rest b)) between z e y) → Comes (block_means g (on_line line first (followed_by rest b))) s m e y
-    go (gave u between z one later) further = comes-then (λ w. block_means g (followed_by rest b)) one (further between z later)
+    go : Parted (statement_means g line first) (λ u. main_means g rest) s m (Value tt mid) x → ((between : State) (z : List ℤ) → Comes (main_means g rest) between z (Value tt mid) x → Comes (main_means g (followed_by rest b)) between z e y) → Comes (main_means g (on_line line first (followed_by rest b))) s m e y
+    go (gave u between z one later) further = comes-then (λ w. main_means g (followed_by rest b)) one (further between z later)
     go (trapped t o one wrong) further = cc
 
 -- ---- moments
 
 -- the plain run went on over these statements
-pub goes-to : (p : Program) (input : List ℕ) (rest more later : Block) (m : Moment) (state : State) (memory : List ℤ) → IsAt p input rest m → rest ≡ followed_by more later → Comes (block_means (environment_of p input) more) m.state m.memory (Value tt state) memory → IsAt p input later (record { state = state; memory = memory })
+pub goes-to : (p : Program) (input : List ℕ) (rest more later : Block) (m : Moment) (state : State) (memory : List ℤ) → IsAt p input rest m → rest ≡ followed_by more later → Comes (main_means (environment_of p input) more) m.state m.memory (Value tt state) memory → IsAt p input later (record { state = state; memory = memory })
 goes-to p input rest more later m state memory at parts c =
     let both = comes-on (environment_of p input) at.before more (start_of p) m.state (zeros_of p (length input)) m.memory memory (Value tt state) (record { answer = at.state; memory = at.memory }) c in
     record {

@@ -1,40 +1,33 @@
 -- A run in pieces goes on as the plain run does.
-use Rattle.std.proofs.Common.{◌≡◌, ℕ, ◌+◌, true, List, [], ◌∷◌, length, ℤ, refl, sym, ap, ◌∙◌, subst, arith}
+use Rattle.std.proofs.Common.{◌≡◌, ℕ, true, false, List, [], length, ℤ, refl, sym, ap, ◌∙◌, subst, arith}
 use Rattle.std.specs.List.{Contains}
 use Rattle.spf_ast.specs.declared.outcome.Trap.{Trap}
 use Rattle.spf_ast.specs.Interaction.{State, Ending, Value, Trapped, Meaning}
 use Rattle.spf_ast.specs.Syntax.{Program, Block, end}
-use Rattle.spf_ast.specs.Meaning.{block_means}
+use Rattle.spf_ast.specs.Meaning.{main_means}
 use Rattle.spf_ast.specs.Plain.{plain_answer, plain_memory}
 use Rattle.spf_ast.specs.Program.{environment_of, extents_of, start_of, zeros_of, outcome_from, Done, Stopped}
-use Rattle.spf_ast.specs.Construct.{Moment, Construct, constructs_in, reached_from}
+use Rattle.spf_ast.specs.Construct.{Moment, constructs_in, reached_from}
 use Rattle.spf_ast.specs.Pieces.{before_construct, from_construct, rest_from}
 use Rattle.spf_ast.specs.Lawful.{Scope, names_at, nothing_declared, IsLawful, IsLawfulBlock, scope_at_end}
-use Rattle.spf_exec.specs.declared.pieces.Pause.{Pause}
-use Rattle.spf_exec.specs.Pieces.{Stand, HasBegun, Advanced, EndsAt, TrapsAt, moment_of, ahead}
-use Rattle.spf_ast.specs.Laws.{PartsHaveOneUnsharedAnswer}
-use Rattle.spf_laws.specs.Agreement.{Relation, LookAlike, EndAlike, BlocksSeeVisibleSlots, PartsSeeVisibleSlots, HeadersSeeVisibleSlots}
+use Rattle.spf_exec.specs.Pieces.{Stand, HasBegun, EndsAt, TrapsAt, moment_of, ahead}
+use Rattle.spf_laws.specs.Agreement.{Relation, LookAlike, EndAlike, MainSeesVisibleSlots, HeadersSeeVisibleSlots}
 use Rattle.spf_laws.specs.Chained.{ConstructsAreTheirBlocks, HeadersTrap}
 use Rattle.spf_laws.specs.Keeping.{ConstructsAreSelfContained}
 use Rattle.spf_laws.proofs.Plainly.{Comes}
 use Rattle.spf_alike.specs.Alike.{RunsSeeVisibleSlots}
-use Rattle.spf_guess.specs.declared.stats.Stats.{Stats}
 use Rattle.spf_guess.specs.Guess.{Hosts}
-use Rattle.spf_guess.specs.Statistics.{none, plus}
-use Rattle.spf_progress.specs.Laws.{IsPausedSo, RunsAdvance}
-use Rattle.spf_progress.specs.Progress.{IsAt, Progress, no_progress, IsCompletedBy, GoesOn, IsWhole, HasCome}
+use Rattle.spf_progress.specs.Progress.{IsAt, Progress, no_progress, IsCompletedBy, GoesOn, HasCome}
 use Rattle.spf_progress.proofs.Tallies.{whole-of-it, completes-all}
 use Rattle.spf_progress.proofs.Performing.{Sees, form-ends-alike}
 use Rattle.spf_progress.proofs.Places.{goes-to, whole-again}
-use Rattle.spf_progress.proofs.Fronts.{front-goes, front-traps, front-constructs, split-lawfully, declared-at-end}
+use Rattle.spf_progress.proofs.Fronts.{front-goes, front-traps, front-constructs, split-lawfully, declared-at-end, outside-at-end}
 
 -- ---- the laws that are used
 
 pub record Laws : Type 0 where
-  pub blocks_see : BlocksSeeVisibleSlots
-  pub parts_see : PartsSeeVisibleSlots
+  pub main_sees : MainSeesVisibleSlots
   pub headers_see : HeadersSeeVisibleSlots
-  pub unshared : PartsHaveOneUnsharedAnswer
   pub blocks : ConstructsAreTheirBlocks
   pub headers : HeadersTrap
   pub contained : ConstructsAreSelfContained
@@ -97,9 +90,10 @@ begins hosts p input s l b =
       there = record { before = end; parts = all; state = refl; memory = refl };
       lawful = subst (IsLawfulBlock (names_at p (length p.functions) p.slots) true nothing_declared) (sym all) l.scoped.main;
       declared = λ slot c. absurd (nothing-visible slot c);
+      outside = refl;
       alike = record { agree = record { slots = λ slot c. absurd (nothing-visible slot c); output = sym b.output }; slot_count = ap length (sym b.slots) };
       memory = sym b.cells;
-      outcome_is = ap (λ rest. outcome_from (plain_answer (block_means g rest m.state) m.memory) (plain_memory (block_means g rest m.state) m.memory)) all;
+      outcome_is = ap (λ rest. outcome_from (plain_answer (main_means g rest m.state) m.memory) (plain_memory (main_means g rest m.state) m.memory)) all;
       completes = subst (λ rest. IsCompletedBy hosts p input (constructs_in rest) (reached_from g rest m) no_progress) (sym all) (completes-all hosts p input);
     }
 
@@ -111,52 +105,53 @@ finishes hosts p input s progress h none_left =
     let g = environment_of p input in
     record {
       outcome_is = (λ i. Done (sym h.memory i) (sym h.alike.agree.output i))
-          ∙ ap (λ rest. outcome_from (plain_answer (block_means g rest h.moment.state) h.moment.memory) (plain_memory (block_means g rest h.moment.state) h.moment.memory)) (sym none_left)
+          ∙ ap (λ rest. outcome_from (plain_answer (main_means g rest h.moment.state) h.moment.memory) (plain_memory (main_means g rest h.moment.state) h.moment.memory)) (sym none_left)
           ∙ h.outcome_is;
       whole = whole-of-it hosts p input [] [] progress refl (subst (λ rest. IsCompletedBy hosts p input (constructs_in rest) (reached_from g rest h.moment) progress) none_left h.completes);
     }
 
 -- what is left traps and reaches no construct
 pub traps-here : (hosts : Hosts) (p : Program) (input : List ℕ) (s : Stand) (progress : Progress) (h : GoesOn hosts p input s progress) (t : Trap) (o : List ℕ) (x : List ℤ)
-    → Comes (block_means (environment_of p input) (ahead p s)) h.moment.state h.moment.memory (Trapped t o) x → reached_from (environment_of p input) (ahead p s) h.moment ≡ []
+    → Comes (main_means (environment_of p input) (ahead p s)) h.moment.state h.moment.memory (Trapped t o) x → reached_from (environment_of p input) (ahead p s) h.moment ≡ []
     → HasCome hosts p input (Stopped t o) progress
 traps-here hosts p input s progress h t o x c r =
     let g = environment_of p input in
     record {
-      outcome_is = sym (outcome-of {form = block_means g (ahead p s)} c) ∙ h.outcome_is;
+      outcome_is = sym (outcome-of {form = main_means g (ahead p s)} c) ∙ h.outcome_is;
       whole = whole-of-it hosts p input (constructs_in (ahead p s)) (reached_from g (ahead p s) h.moment) progress r h.completes;
     }
 
 -- ---- statements before a construct
 
 -- all forms of `main` see visible slots alone
-block-follows : Laws → (p : Program) (input : List ℕ) (scope : Scope) (b : Block) → IsLawfulBlock (names_at p (length p.functions) p.slots) true scope b → Sees (LookAlike scope.visible) (LookAlike (scope_at_end scope b).visible) (block_means (environment_of p input) b)
-block-follows laws p input scope b l =
-    record { relates = laws.blocks_see (names_at p (length p.functions) p.slots) true scope b l input (extents_of p (length input)) p.functions (length p.functions) }
+main-follows : Laws → (p : Program) (input : List ℕ) (scope : Scope) (b : Block) → IsLawfulBlock (names_at p (length p.functions) p.slots) true scope b → scope.in_loop ≡ false → Sees (LookAlike scope.visible) (LookAlike (scope_at_end scope b).visible) (main_means (environment_of p input) b)
+main-follows laws p input scope b l outside =
+    record { relates = laws.main_sees (names_at p (length p.functions) p.slots) scope b l outside input (extents_of p (length input)) p.functions (length p.functions) }
 
 -- the run went over them
 pub advances : Laws → (hosts : Hosts) (p : Program) (input : List ℕ) (before after : Stand) (progress : Progress) → GoesOn hosts p input before progress
-    → EndsAt p (block_means (environment_of p input) (before_construct (ahead p before))) before after tt → ahead p after ≡ from_construct (ahead p before)
+    → EndsAt p (main_means (environment_of p input) (before_construct (ahead p before))) before after tt → ahead p after ≡ from_construct (ahead p before)
     → GoesOn hosts p input after progress
 advances laws hosts p input before after progress h went at =
     let g = environment_of p input in
     let names = names_at p (length p.functions) p.slots in
     let front = before_construct (ahead p before) in
     let parts = split-lawfully names h.scope (ahead p before) h.lawful in
-    let f = follows (block-follows laws p input h.scope front parts.front) h.moment (moment_of p before).state before.cells h.alike h.memory tt (moment_of p after).state went.answer in
-    let goes = front-goes g (ahead p before) h.moment f.state (plain_memory (block_means g front (moment_of p before).state) before.cells) f.comes in
-    let m : Moment = record { state = f.state; memory = plain_memory (block_means g front (moment_of p before).state) before.cells } in
+    let f = follows (main-follows laws p input h.scope front parts.front h.outside) h.moment (moment_of p before).state before.cells h.alike h.memory tt (moment_of p after).state went.answer in
+    let goes = front-goes g (ahead p before) h.moment f.state (plain_memory (main_means g front (moment_of p before).state) before.cells) f.comes in
+    let m : Moment = record { state = f.state; memory = plain_memory (main_means g front (moment_of p before).state) before.cells } in
     record {
       scope = scope_at_end h.scope front;
       moment = m;
       there = subst (λ rest. IsAt p input rest m) (sym at)
-          (goes-to p input (ahead p before) front (from_construct (ahead p before)) h.moment f.state (plain_memory (block_means g front (moment_of p before).state) before.cells) h.there (sym (whole-again (ahead p before))) f.comes);
+          (goes-to p input (ahead p before) front (from_construct (ahead p before)) h.moment f.state (plain_memory (main_means g front (moment_of p before).state) before.cells) h.there (sym (whole-again (ahead p before))) f.comes);
       lawful = subst (IsLawfulBlock names true (scope_at_end h.scope front)) (sym at) parts.rest;
       declared = declared-at-end names h.scope front parts.front h.declared;
+      outside = outside-at-end h.scope front ∙ h.outside;
       alike = f.alike;
       memory = sym went.memory;
-      outcome_is = ap (λ rest. outcome_from (plain_answer (block_means g rest m.state) m.memory) (plain_memory (block_means g rest m.state) m.memory)) at
-          ∙ sym (outcome-of {form = block_means g (ahead p before)} (goes.comes _ _ (record { answer = refl; memory = refl })))
+      outcome_is = ap (λ rest. outcome_from (plain_answer (main_means g rest m.state) m.memory) (plain_memory (main_means g rest m.state) m.memory)) at
+          ∙ sym (outcome-of {form = main_means g (ahead p before)} (goes.comes _ _ (record { answer = refl; memory = refl })))
           ∙ h.outcome_is;
       completes =
           subst (λ rest. IsCompletedBy hosts p input (constructs_in rest) (reached_from g rest m) progress) (sym at)
@@ -166,11 +161,11 @@ advances laws hosts p input before after progress h went at =
 
 -- one of them trapped
 pub advances-to-trap : Laws → (hosts : Hosts) (p : Program) (input : List ℕ) (before after : Stand) (progress : Progress) (t : Trap) → GoesOn hosts p input before progress
-    → TrapsAt p (block_means (environment_of p input) (before_construct (ahead p before))) before after t → HasCome hosts p input (Stopped t after.output) progress
+    → TrapsAt p (main_means (environment_of p input) (before_construct (ahead p before))) before after t → HasCome hosts p input (Stopped t after.output) progress
 advances-to-trap laws hosts p input before after progress t h trapped =
     let g = environment_of p input in
     let front = before_construct (ahead p before) in
     let parts = split-lawfully (names_at p (length p.functions) p.slots) h.scope (ahead p before) h.lawful in
-    let comes = follows-trap (block-follows laws p input h.scope front parts.front) h.moment (moment_of p before).state before.cells h.alike h.memory t after.output trapped in
+    let comes = follows-trap (main-follows laws p input h.scope front parts.front h.outside) h.moment (moment_of p before).state before.cells h.alike h.memory t after.output trapped in
     let whole = front-traps g (ahead p before) h.moment t after.output _ comes in
     traps-here hosts p input before progress h t after.output _ whole.comes whole.reached

@@ -41,8 +41,8 @@ HeadersEndRuns =
     → TrapsAt p (header_means (environment_of p input) construct) before after trap
     → HasCome hosts p input (Stopped trap after.output) progress
 
--- Where the header of a construct is done that keeps the rules, and its blocks came to a value: the run goes on after
--- it, with this value in the carried slot and with the memory that the blocks left.
+-- Where the header of a construct is done that keeps the rules, and its blocks came to a row: the run goes on after
+-- it, with this row in the carried slots and with the memory that the blocks left.
 abbrev pub ConstructsSettle : Type 0
 ConstructsSettle =
     (hosts : Hosts) (p : Program) (input : List ℕ) (before after last : Stand) (progress : Progress)

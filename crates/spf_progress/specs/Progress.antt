@@ -1,9 +1,9 @@
 -- A run in pieces that goes on as the plain run of its program does.
-use Rattle.std.specs.Prelude.{◌≡◌, ℕ, true, List, [], ◌++◌, length, Result, Ok, ℤ, pos, ◌+ℤ◌}
+use Rattle.std.specs.Prelude.{◌≡◌, ℕ, true, false, List, [], ◌++◌, length, Result, Ok, ℤ, pos, ◌+ℤ◌}
 use Rattle.spf_ast.specs.declared.outcome.Trap.{Trap}
 use Rattle.spf_ast.specs.Interaction.{Value}
 use Rattle.spf_ast.specs.Syntax.{Program, Block, followed_by}
-use Rattle.spf_ast.specs.Meaning.{block_means}
+use Rattle.spf_ast.specs.Meaning.{main_means}
 use Rattle.spf_ast.specs.Carried.{Carried}
 use Rattle.spf_ast.specs.Plain.{plain_answer, plain_memory}
 use Rattle.spf_ast.specs.Program.{environment_of, start_of, zeros_of, Outcome, outcome, outcome_from}
@@ -28,8 +28,8 @@ use Rattle.spf_progress.specs.Traces.{Trace, AreTraces, begin_with}
 pub record IsAt (p : Program) (input : List ℕ) (rest : Block) (m : Moment) : Type 0 where
   pub before : Block
   pub parts : followed_by before rest ≡ p.main
-  pub state : plain_answer (block_means (environment_of p input) before (start_of p)) (zeros_of p (length input)) ≡ Value tt m.state
-  pub memory : plain_memory (block_means (environment_of p input) before (start_of p)) (zeros_of p (length input)) ≡ m.memory
+  pub state : plain_answer (main_means (environment_of p input) before (start_of p)) (zeros_of p (length input)) ≡ Value tt m.state
+  pub memory : plain_memory (main_means (environment_of p input) before (start_of p)) (zeros_of p (length input)) ≡ m.memory
 
 -- what a run has counted, what it has told its hosts, and the traces of its constructs, up to where it is
 pub record Progress : Type 0 where
@@ -58,10 +58,11 @@ pub record GoesOn (hosts : Hosts) (p : Program) (input : List ℕ) (s : Stand) (
   pub there : IsAt p input (ahead p s) moment
   pub lawful : IsLawfulBlock (names_at p (length p.functions) p.slots) true scope (ahead p s)
   pub declared : AreDeclared scope
+  pub outside : scope.in_loop ≡ false
   pub alike : LookAlike scope.visible moment.state (moment_of p s).state
   pub memory : moment.memory ≡ s.cells
-  pub outcome_is : outcome_from (plain_answer (block_means (environment_of p input) (ahead p s) moment.state) moment.memory)
-      (plain_memory (block_means (environment_of p input) (ahead p s) moment.state) moment.memory)
+  pub outcome_is : outcome_from (plain_answer (main_means (environment_of p input) (ahead p s) moment.state) moment.memory)
+      (plain_memory (main_means (environment_of p input) (ahead p s) moment.state) moment.memory)
       ≡ outcome p input
   pub completes : IsCompletedBy hosts p input (constructs_in (ahead p s)) (reached_from (environment_of p input) (ahead p s) moment) progress
 
@@ -87,7 +88,7 @@ pub record HasRuns (e : Entry) (guess : ℕ → Guess) (r : Result Carried Trap)
   pub logs : length trace ≡ e.header.blocks
   pub merging : (steps : List Step) → Merges e.header.blocks (logs_in trace) steps → IsSpeculativeRun e (λ n. (guess n).value) steps values r
 
--- The blocks from this entry came to this result, began at these values, and left this memory where none trapped.
+-- The blocks from this entry came to this result, began at these rows, and left this memory where none trapped.
 -- Their trace is one of speculative runs from these guesses; without blocks there is no trace.
 pub record BlocksComeTo (e : Entry) (guess : ℕ → Guess) (r : Result Carried Trap) (values : List Carried) (memory : List ℤ) (traces : List Trace) : Type 0 where
   pub result : (plain_blocks e).result ≡ r
@@ -95,7 +96,7 @@ pub record BlocksComeTo (e : Entry) (guess : ℕ → Guess) (r : Result Carried 
   pub memory_is : (v : Carried) → r ≡ Ok v → memory ≡ (plain_blocks e).memory
   pub traces_are : begin_with e.header.blocks (HasRuns e guess r values) (λ others. others ≡ []) traces
 
--- the progress after a construct whose blocks began at these values, had these guesses and left these traces
+-- the progress after a construct whose blocks began at these rows, had these guesses and left these traces
 abbrev pub with_construct : (ℕ → Guess) → Construct → Header → List Carried → List Trace → Progress → Progress
 with_construct guess c h values traces progress = record {
   stats = plus progress.stats (statistics_with guess values);

@@ -28,7 +28,7 @@ entry_reached p input construct r = record {
   header = r.header;
 }
 
--- these steps are a speculative run with the real values of the plain run, and end with a trap where the plain run does
+-- these steps are a speculative run with the real rows of the plain run, and end with a trap where the plain run does
 pub record IsRunReached (e : Entry) (guess : ℕ → Carried) (reals : RealValues) (steps : List Step) : Type 0 where
   pub result : Result Carried Trap
   pub run : IsSpeculativeRun e guess steps reals.values result

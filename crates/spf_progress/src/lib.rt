@@ -5,7 +5,6 @@
 ghost use Rattle.spf_progress.specs.Laws.{RunsBegin, RunsAdvance, HeadersEndRuns, ConstructsSettle, ConstructsEndRuns};
 
 use spf_alike::speculative_runs_see_visible_slots_alone;
-use spf_ast::laws::each_guess_has_one_answer;
 use spf_laws::{
     each_construct_is_its_block_runs, each_construct_is_self_contained,
     each_form_sees_visible_slots_alone,
@@ -22,7 +21,6 @@ pub fn runs_in_pieces_go_on()
     ensures blocks { ConstructsEndRuns }
 {
     each_form_sees_visible_slots_alone();
-    each_guess_has_one_answer();
     each_construct_is_its_block_runs();
     each_construct_is_self_contained();
     speculative_runs_see_visible_slots_alone();

@@ -1,10 +1,11 @@
 -- The registers of lists of forms.
-use Rattle.std.proofs.Common.{◌≡◌, ℕ, ◌+◌, ◌-◌, ◌^◌, ◌<◌, ◌≤◌, max, List, length, get_or, drop, sym, ap, subst, arith}
+use Rattle.std.proofs.Common.{◌≡◌, ℕ, ◌+◌, ◌-◌, ◌^◌, ◌<◌, ◌≤◌, max, List, length, get_or, drop, map, sym, ap, subst, arith}
 use Rattle.std.proofs.lemmas.List.{drop_all}
 use Rattle.spf_ast.specs.declared.syntax.Expr.{Expr}
+use Rattle.spf_ast.specs.declared.syntax.Predict.{Predict}
 use Rattle.spf_ast.specs.declared.syntax.Stmt.{Stmt}
-use Rattle.spf_ast.specs.View.{expression, arguments, statement, block}
-use Rattle.spf_registers.specs.Registers.{needs, arguments_need, block_needs, statement_needs}
+use Rattle.spf_ast.specs.View.{expression, arguments, predictor, statement, block}
+use Rattle.spf_registers.specs.Registers.{needs, arguments_need, predictor_needs, predictors_need, block_needs, statement_needs}
 use Rattle.spf_registers.specs.Counted.{capped}
 use Rattle.spf_registers.proofs.Lists.{item_at}
 
@@ -64,6 +65,16 @@ arguments_split calls es i e h is = ap (λ l. arguments_need calls (arguments l)
 
 pub arguments_end : (calls : ℕ → ℕ) (es : List Expr) (i : ℕ) → length es ≤ i → arguments_from calls es i ≡ 0
 arguments_end calls es i h = ap (λ l. arguments_need calls (arguments l)) (drop_all i es h)
+
+-- predictors from an index on
+abbrev pub predictors_from : (ℕ → ℕ) → List Predict → ℕ → ℕ
+predictors_from calls ps i = predictors_need calls (map predictor (drop i ps))
+
+pub predictors_split : (calls : ℕ → ℕ) (ps : List Predict) (i : ℕ) (p : Predict) → i < length ps → p ≡ get_or ps i p → predictors_from calls ps i ≡ max (predictor_needs calls (predictor p)) (predictors_from calls ps (i + 1))
+predictors_split calls ps i p h is = ap (λ l. predictors_need calls (map predictor l)) (item_at ps i p h is)
+
+pub predictors_end : (calls : ℕ → ℕ) (ps : List Predict) (i : ℕ) → length ps ≤ i → predictors_from calls ps i ≡ 0
+predictors_end calls ps i h = ap (λ l. predictors_need calls (map predictor l)) (drop_all i ps h)
 
 -- statements from an index on
 abbrev pub block_from : (ℕ → ℕ) → List Stmt → ℕ → ℕ

@@ -1,6 +1,6 @@
 // How many registers forms need, given how many calls of functions need. A number that doesn't fit is the largest.
 
-ghost use Rattle.std.specs.Prelude.{◌≡◌, ℕ};
+ghost use Rattle.std.specs.Prelude.{◌≡◌, ℕ, map};
 ghost use Rattle.spf_ast.specs.declared.syntax.Fold.{out-Fold};
 ghost use Rattle.spf_ast.specs.declared.syntax.Pair.{out-Pair};
 ghost use Rattle.spf_ast.specs.Syntax as form;
@@ -14,7 +14,7 @@ ghost use Rattle.spf_ast.specs.View.{
   fold_head,
   pair_head,
 };
-ghost use Rattle.spf_registers.specs.Registers.{needs, arguments_need, condition_needs, predictor_needs, block_needs, statement_needs};
+ghost use Rattle.spf_registers.specs.Registers.{needs, arguments_need, condition_needs, predictor_needs, predictors_need, block_needs, statement_needs};
 ghost use Rattle.spf_registers.specs.Counted.{capped, IsTable};
 
 use spf_ast::syntax::{Cond, Expr, Fold, Pair, Predict, Stmt, StmtKind};
@@ -95,6 +95,17 @@ fn predictor(rooms: &[u64], predict: &Predict) -> u64
     }
 }
 
+/// The predictors of a row's parts.
+fn predictors(rooms: &[u64], predict: &[Predict]) -> u64
+    ensures { (calls : ℕ → ℕ) → IsTable calls rooms.now → result ≡ capped (predictors_need calls (map seen_predictor predict.now)) }
+{
+    let mut most: u64 = 0;
+    for part in predict {
+        most = most.max(predictor(rooms, part));
+    }
+    most
+}
+
 /// Statements one after another.
 #[cycle(statement)]
 pub fn block(rooms: &[u64], statements: &[Stmt]) -> u64
@@ -143,6 +154,7 @@ fn statement(rooms: &[u64], kind: &StmtKind) -> u64
         }
         StmtKind::Fold(parts) => fold(rooms, parts),
         StmtKind::Pair(parts) => pair(rooms, parts),
+        StmtKind::Break => 0,
     }
 }
 
@@ -154,10 +166,12 @@ fn fold(rooms: &[u64], fold: &Fold) -> u64
         (form.Fold (fold_head fold.now) (seen_block (out-Fold fold.now).body.items))) }
 {
     let range = expression(rooms, &fold.low).max(expression(rooms, &fold.high));
-    let header = expression(rooms, &fold.start).max(range).saturating_add(3);
-    let next = expression(rooms, &fold.next).saturating_add(1);
-    let body = block(rooms, &fold.body).max(next);
-    header.max(predictor(rooms, &fold.predict)).max(body)
+    let ends = range
+        .saturating_add(2)
+        .saturating_add(fold.carried.len() as u64);
+    let header = arguments(rooms, &fold.start).max(ends);
+    let body = block(rooms, &fold.body).max(arguments(rooms, &fold.next));
+    header.max(predictors(rooms, &fold.predict)).max(body)
 }
 
 /// A pair.
@@ -168,8 +182,8 @@ fn pair(rooms: &[u64], pair: &Pair) -> u64
         (form.Pair (pair_head pair.now) (seen_block (out-Pair pair.now).producer.items)
         (seen_block (out-Pair pair.now).consumer.items))) }
 {
-    let give = expression(rooms, &pair.give).saturating_add(1);
-    let produced = block(rooms, &pair.producer).max(give);
-    let guessed = predictor(rooms, &pair.predict);
+    let given = arguments(rooms, &pair.give).max(pair.carried.len() as u64);
+    let produced = block(rooms, &pair.producer).max(given);
+    let guessed = predictors(rooms, &pair.predict);
     produced.max(guessed.max(block(rooms, &pair.consumer)))
 }

@@ -2,6 +2,7 @@
 use Rattle.std.proofs.Common.{◌≡◌, ◌⊎◌, inl, inr, ℕ, ◌+◌, ◌-◌, ◌<◌, ◌≤◌, true, false, List, [], ◌∷◌, ◌++◌, length, ℤ, pos, refl, sym, subst, arith, Contains}
 use Rattle.std.specs.Prelude.{◌+ℤ◌, ◌-ℤ◌, ◌*ℤ◌, ◌≤ℤ◌, slice_index_or}
 use Rattle.std.proofs.lemmas.Int.{ints}
+use Rattle.spf_ast.specs.Carried.{Carried}
 use Rattle.spf_ast.specs.declared.syntax.Part.{Part}
 use Rattle.spf_ast.specs.declared.syntax.Part.TheVariants.{Body, Producer, Consumer, Predictor}
 use Rattle.spf_ast.specs.Event.{Event, Load, Store}
@@ -29,12 +30,12 @@ use Rattle.spf_rollback.proofs.Slots.{Anything, HasWord, part-keeps, calls-keep}
 use Rattle.spf_rollback.proofs.Quiet.{HasOutput, part-quiet}
 
 -- what a performance does, by what is found in its part
-abbrev pub Does : Program → Construct → Part → Setup → List Event → Performed (Ending ℤ) → Type 0
+abbrev pub Does : Program → Construct → Part → Setup → List Event → Performed (Ending Carried) → Type 0
 Does p c part s es r =
     Along (IsAmong p s (part_effects p c part).may) (IsAmong p s (part_effects p c part).uncovered) [] es
     × Comes (HasStored p c part s) r (stored_by es [])
 
-does : (p : Program) (c : Construct) (part : Part) (s : Setup) (es : List Event) (r : Performed (Ending ℤ)) → KeepsToItsEffects p c part s → IsPerformance p c part s es r → Does p c part s es r
+does : (p : Program) (c : Construct) (part : Part) (s : Setup) (es : List Event) (r : Performed (Ending Carried)) → KeepsToItsEffects p c part s → IsPerformance p c part s es r → Does p c part s es r
 does p c part s es r keeps h =
     along (IsAmong p s (part_effects p c part).may) (IsAmong p s (part_effects p c part).uncovered) (HasStored p c part s) h.stop (part_asks p c part s) [] es r keeps h.performed h.whole
 
@@ -86,10 +87,10 @@ pub record Known (p : Program) (c : Construct) : Type 0 where
   pub quiet : SilentPartsLeaveTheOutput
   pub rules : KeepsTheRules p c
 
-done : {p : Program} {c : Construct} → Known p c → (part : Part) (s : Setup) (es : List Event) (r : Performed (Ending ℤ)) → IsPerformance p c part s es r → Does p c part s es r
+done : {p : Program} {c : Construct} → Known p c → (part : Part) (s : Setup) (es : List Event) (r : Performed (Ending Carried)) → IsPerformance p c part s es r → Does p c part s es r
 done {p} {c} k part s es r h = does p c part s es r (k.keeps part s h.setup) h
 
-stores-its-own : {p : Program} {c : Construct} → Known p c → (part : Part) (s : Setup) (es : List Event) (r : Performed (Ending ℤ)) (cell : ℕ) (word : ℤ) → IsPerformance p c part s es r → Contains es (Store cell word) → IsOwn p c part (length s.input) s.number cell
+stores-its-own : {p : Program} {c : Construct} → Known p c → (part : Part) (s : Setup) (es : List Event) (r : Performed (Ending Carried)) (cell : ℕ) (word : ℤ) → IsPerformance p c part s es r → Contains es (Store cell word) → IsOwn p c part (length s.input) s.number cell
 stores-its-own {p} {c} k part s es r cell word h i =
     stores-along (IsAmong p s (may_write p c part)) (IsAmong p s (reads_bare p c part)) [] es cell word (done k part s es r h).0 i
 
@@ -97,18 +98,18 @@ stores-its-own {p} {c} k part s es r cell word h i =
 by-event : (es : List Event) (cell : ℕ) → Contains (stored_by es []) cell → HasStore es cell
 by-event es cell i = cases (stored-has es [] cell i) (λ h. h) (λ none. absurd (none-in cell none))
 
-loads-what-it-stored : {p : Program} {c : Construct} → Known p c → (s : Setup) (es before later : List Event) (r : Performed (Ending ℤ)) (cell : ℕ) (word : ℤ) → IsPerformance p c (guessed_part c) s es r → es ≡ before ++ Load cell word ∷ later → IsWrittenCell p c (length s.input) cell → HasStore before cell
+loads-what-it-stored : {p : Program} {c : Construct} → Known p c → (s : Setup) (es before later : List Event) (r : Performed (Ending Carried)) (cell : ℕ) (word : ℤ) → IsPerformance p c (guessed_part c) s es r → es ≡ before ++ Load cell word ∷ later → IsWrittenCell p c (length s.input) cell → HasStore before cell
 loads-what-it-stored {p} {c} k s es before later r cell word h e w =
     cases (load-after (IsAmong p s (may_write p c (guessed_part c))) (IsAmong p s (reads_bare p c (guessed_part c))) [] before later cell word (subst (Along (IsAmong p s (may_write p c (guessed_part c))) (IsAmong p s (reads_bare p c (guessed_part c))) []) e (done k (guessed_part c) s es r h).0))
     (λ bare. absurd (k.rules.reads_after_writing w.array (bare-array p c (guessed_part c) s cell bare w) w.written))
     (λ i. by-event before cell i)
 
-predictor-stores-nothing : {p : Program} {c : Construct} → Known p c → (s : Setup) (es : List Event) (r : Performed (Ending ℤ)) (cell : ℕ) (word : ℤ) → IsPerformance p c Predictor s es r → Contains es (Store cell word) → ⊥
+predictor-stores-nothing : {p : Program} {c : Construct} → Known p c → (s : Setup) (es : List Event) (r : Performed (Ending Carried)) (cell : ℕ) (word : ℤ) → IsPerformance p c Predictor s es r → Contains es (Store cell word) → ⊥
 predictor-stores-nothing {p} {c} k s es r cell word h i =
     let a = has-array-of (extents_of p (length s.input)) s.number (may_write p c Predictor) cell (stores-its-own k Predictor s es r cell word h i) in
     k.rules.predictor_writes_nothing a.0 a.1
 
-predictor-loads-apart : {p : Program} {c : Construct} → Known p c → (s : Setup) (es : List Event) (r : Performed (Ending ℤ)) (cell : ℕ) (word : ℤ) → IsPerformance p c Predictor s es r → Contains es (Load cell word) → IsWrittenCell p c (length s.input) cell → ⊥
+predictor-loads-apart : {p : Program} {c : Construct} → Known p c → (s : Setup) (es : List Event) (r : Performed (Ending Carried)) (cell : ℕ) (word : ℤ) → IsPerformance p c Predictor s es r → Contains es (Load cell word) → IsWrittenCell p c (length s.input) cell → ⊥
 predictor-loads-apart {p} {c} k s es r cell word h i w = go (loads-along (IsAmong p s (may_write p c Predictor)) (IsAmong p s (reads_bare p c Predictor)) [] es cell word (done k Predictor s es r h).0 i)
   where
     go : IsAmong p s (reads_bare p c Predictor) cell ⊎ IsAmong p s (may_write p c Predictor) cell ⊎ Contains [] cell → ⊥
@@ -118,7 +119,7 @@ predictor-loads-apart {p} {c} k s es r cell word h i w = go (loads-along (IsAmon
         k.rules.predictor_writes_nothing a.0 a.1
     go (inr (inr none)) = none-in cell none
 
-stores-all : {p : Program} {c : Construct} → Known p c → (s : Setup) (es : List Event) (value : ℤ) (state : State) (cell : ℕ) → IsPerformance p c (guessed_part c) s es (Ended (Value value state) []) → IsOwn p c (guessed_part c) (length s.input) s.number cell → HasStore es cell
+stores-all : {p : Program} {c : Construct} → Known p c → (s : Setup) (es : List Event) (value : Carried) (state : State) (cell : ℕ) → IsPerformance p c (guessed_part c) s es (Ended (Value value state) []) → IsOwn p c (guessed_part c) (length s.input) s.number cell → HasStore es cell
 stores-all {p} {c} k s es value state cell h own =
     by-event es cell (stores-own p c (guessed_part c) s (stored_by es []) cell k.rules.writes_all.no_whole k.rules.writes_all.sure (done k (guessed_part c) s es (Ended (Value value state) []) h).1 own)
 
@@ -129,10 +130,10 @@ disjoint-spans {p} (pair line head producer consumer) k = λ len n m cell x y.
     nothing-shared (extents_of p len) (lie-apart p len) (may_write p (pair line head producer consumer) Consumer) (may_write p (pair line head producer consumer) Producer) k.rules.writes_apart.1 m n cell y x
 
 -- a fold has no producer, which asks nothing
-no-producer : {p : Program} (line : ℕ) (head : _) (body : _) (s : Setup) (es : List Event) (r : Performed (Ending ℤ)) → IsPerformance p (fold line head body) Producer s es r → es ≡ []
+no-producer : {p : Program} (line : ℕ) (head : _) (body : _) (s : Setup) (es : List Event) (r : Performed (Ending Carried)) → IsPerformance p (fold line head body) Producer s es r → es ≡ []
 no-producer line head body s es r h = subst HasReadAll (sym h.performed) h.whole
 
-producer-loads-apart : {p : Program} (c : Construct) → Known p c → (s : Setup) (es : List Event) (r : Performed (Ending ℤ)) (block : ℤ) (cell : ℕ) (word : ℤ) → IsPerformance p c Producer s es r → Contains es (Load cell word) → IsOwn p c Consumer (length s.input) block cell → ⊥
+producer-loads-apart : {p : Program} (c : Construct) → Known p c → (s : Setup) (es : List Event) (r : Performed (Ending Carried)) (block : ℤ) (cell : ℕ) (word : ℤ) → IsPerformance p c Producer s es r → Contains es (Load cell word) → IsOwn p c Consumer (length s.input) block cell → ⊥
 producer-loads-apart {p} (fold line head body) k s es r block cell word h i own =
     none-in (Load cell word) (subst (λ l. Contains l (Load cell word)) (no-producer line head body s es r h) i)
 producer-loads-apart {p} (pair line head producer consumer) k s es r block cell word h i own = go (loads-along (IsAmong p s (may_write p c Producer)) (IsAmong p s (reads_bare p c Producer)) [] es cell word (done k Producer s es r h).0 i)
@@ -158,11 +159,11 @@ statement-rules (fold line head body) k Predictor = (refl, refl)
 statement-rules (pair line head producer consumer) k Predictor = (refl, refl)
 
 -- the output at an end
-same-output : {p : Program} {c : Construct} → Known p c → (part : Part) (s : Setup) (es : List Event) (r : Performed (Ending ℤ)) → IsPerformance p c part s es r → Comes (HasOutput s.output) r (stored_by es [])
+same-output : {p : Program} {c : Construct} → Known p c → (part : Part) (s : Setup) (es : List Event) (r : Performed (Ending Carried)) → IsPerformance p c part s es r → Comes (HasOutput s.output) r (stored_by es [])
 same-output {p} {c} k part s es r h =
     (along Anything Anything (HasOutput s.output) h.stop (part_asks p c part s) [] es r (part-quiet k.quiet p k.functions s.input c part (statement-rules c k part).1 s.number s.carried s.slots s.output []) h.performed h.whole).1
 
-same-slot : {p : Program} {c : Construct} → Known p c → (part : Part) (s : Setup) (es : List Event) (r : Performed (Ending ℤ)) → IsPerformance p c part s es r → (slot : ℕ) → part_declares c part slot ≡ false → Comes (HasWord slot (slice_index_or s.slots slot (pos 0))) r (stored_by es [])
+same-slot : {p : Program} {c : Construct} → Known p c → (part : Part) (s : Setup) (es : List Event) (r : Performed (Ending Carried)) → IsPerformance p c part s es r → (slot : ℕ) → part_declares c part slot ≡ false → Comes (HasWord slot (slice_index_or s.slots slot (pos 0))) r (stored_by es [])
 same-slot {p} {c} k part s es r h slot outer =
     (along Anything Anything (HasWord slot (slice_index_or s.slots slot (pos 0))) h.stop (part_asks p c part s) [] es r
     ((part-keeps (environment_of p s.input) (calls-keep s.input _ p.functions _) c part (statement-rules c k part).0 outer s.number s.carried).ways (record { slots = s.slots; output = s.output }) [])

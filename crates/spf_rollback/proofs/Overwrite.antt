@@ -2,6 +2,7 @@
 use Rattle.std.proofs.Common.{◌≡◌, ◌⊎◌, ◌≢◌, inl, inr, ℕ, ◌<◌, ◌≤◌, List, [], ◌∷◌, ◌++◌, length, None, ℤ, pos, refl, sym, ap, ◌∙◌, arith, Contains}
 use Rattle.std.specs.Prelude.{slice_set}
 use Rattle.std.proofs.lemmas.List.{get_or-set_same, get_or-set_other, length-set, get_or_past}
+use Rattle.spf_ast.specs.Carried.{Carried}
 use Rattle.spf_ast.specs.Event.{Event, Load, Store, Turn, word_at, after, IsConsistent}
 use Rattle.spf_ast.specs.Interaction.{Interaction, Ended, Ending}
 use Rattle.spf_ast.specs.Syntax.{Program}
@@ -81,7 +82,7 @@ overwrites law p construct s one other free setup agree = record {
       both.1 cell (inl (store-stored es [] cell store.word store.stored)) ∙ ap (λ l. word_at (after l other) cell) same;
 }
   where
-    tree : Interaction (Ending ℤ)
+    tree : Interaction (Ending Carried)
     tree = part_asks p construct (guessed_part construct) s
 
     es : List Event

@@ -1,6 +1,7 @@
 -- Rollback freedom: that a run from a wrong guess leaves nothing that has to be undone.
 use Rattle.std.specs.Prelude.{◌≡◌, ◌≢◌, ℕ, true, false, List, [], ◌∷◌, ◌++◌, length, slice_index_or, slice_get, Some, ℤ, pos}
 use Rattle.std.specs.List.{Contains}
+use Rattle.spf_ast.specs.Carried.{Carried}
 use Rattle.spf_ast.specs.declared.outcome.Trap.{Trap}
 use Rattle.spf_ast.specs.declared.syntax.Part.{Part}
 use Rattle.spf_ast.specs.declared.syntax.Part.TheVariants.{Body, Producer, Consumer, Predictor}
@@ -42,31 +43,31 @@ pub record LeavesTheRest (construct : Construct) (part : Part) (s : Setup) (stat
 -- A top construct is rollback free: in every performance of its parts, from every setup, whatever the loads answer and wherever it is stopped.
 pub record IsRollbackFree (p : Program) (construct : Construct) : Type 0 where
   -- a part stores only cells of its block's spans
-  pub stores_its_own : (part : Part) (s : Setup) (events : List Event) (result : Performed (Ending ℤ)) (cell : ℕ) (word : ℤ)
+  pub stores_its_own : (part : Part) (s : Setup) (events : List Event) (result : Performed (Ending Carried)) (cell : ℕ) (word : ℤ)
       → IsPerformance p construct part s events result → Contains events (Store cell word)
       → IsOwn p construct part (length s.input) s.number cell
   -- the guessed part loads a cell of a written array only after it has stored the cell
-  pub loads_what_it_stored : (s : Setup) (events before later : List Event) (result : Performed (Ending ℤ)) (cell : ℕ) (word : ℤ)
+  pub loads_what_it_stored : (s : Setup) (events before later : List Event) (result : Performed (Ending Carried)) (cell : ℕ) (word : ℤ)
       → IsPerformance p construct (guessed_part construct) s events result → events ≡ before ++ Load cell word ∷ later
       → IsWrittenCell p construct (length s.input) cell → HasStore before cell
   -- a producer never loads a cell of the consumer's spans
-  pub producer_loads_apart : (s : Setup) (events : List Event) (result : Performed (Ending ℤ)) (block : ℤ) (cell : ℕ) (word : ℤ)
+  pub producer_loads_apart : (s : Setup) (events : List Event) (result : Performed (Ending Carried)) (block : ℤ) (cell : ℕ) (word : ℤ)
       → IsPerformance p construct Producer s events result → Contains events (Load cell word)
       → IsOwn p construct Consumer (length s.input) block cell → ⊥
   -- a guessed part that ends with a value has stored every cell of its spans
-  pub stores_all : (s : Setup) (events : List Event) (value : ℤ) (state : State) (cell : ℕ)
+  pub stores_all : (s : Setup) (events : List Event) (value : Carried) (state : State) (cell : ℕ)
       → IsPerformance p construct (guessed_part construct) s events (Ended (Value value state) [])
       → IsOwn p construct (guessed_part construct) (length s.input) s.number cell → HasStore events cell
   -- the spans of two blocks share no cell
   pub spans_are_disjoint : HaveDisjointSpans p construct
   -- a predictor stores nothing, and loads no cell of a written array
-  pub predictor_stores_nothing : (s : Setup) (events : List Event) (result : Performed (Ending ℤ)) (cell : ℕ) (word : ℤ)
+  pub predictor_stores_nothing : (s : Setup) (events : List Event) (result : Performed (Ending Carried)) (cell : ℕ) (word : ℤ)
       → IsPerformance p construct Predictor s events result → Contains events (Store cell word) → ⊥
-  pub predictor_loads_apart : (s : Setup) (events : List Event) (result : Performed (Ending ℤ)) (cell : ℕ) (word : ℤ)
+  pub predictor_loads_apart : (s : Setup) (events : List Event) (result : Performed (Ending Carried)) (cell : ℕ) (word : ℤ)
       → IsPerformance p construct Predictor s events result → Contains events (Load cell word)
       → IsWrittenCell p construct (length s.input) cell → ⊥
   -- a part leaves the output and all slots declared outside of it as they were
-  pub leaves_the_rest : (part : Part) (s : Setup) (events : List Event) (value : ℤ) (state : State)
+  pub leaves_the_rest : (part : Part) (s : Setup) (events : List Event) (value : Carried) (state : State)
       → IsPerformance p construct part s events (Ended (Value value state) []) → LeavesTheRest construct part s state
   pub leaves_the_output : (part : Part) (s : Setup) (events : List Event) (trap : Trap) (output : List ℕ)
       → IsPerformance p construct part s events (Ended (Trapped trap output) []) → output ≡ s.output

@@ -1,5 +1,6 @@
 -- The overwrite law: what a block finds in the arrays that its construct writes doesn't matter.
 use Rattle.std.specs.Prelude.{◌≡◌, ℕ, List, length, ℤ}
+use Rattle.spf_ast.specs.Carried.{Carried}
 use Rattle.spf_ast.specs.Event.{word_at}
 use Rattle.spf_ast.specs.Interaction.{State, Value}
 use Rattle.spf_ast.specs.Syntax.{Program}
@@ -18,7 +19,7 @@ pub record AgreeOnUnwritten (p : Program) (construct : Construct) (len : ℕ) (o
 pub record IsTheSameOn (p : Program) (construct : Construct) (s : Setup) (one other : List ℤ) : Type 0 where
   pub events : plain_events (part_asks p construct (guessed_part construct) s) one ≡ plain_events (part_asks p construct (guessed_part construct) s) other
   pub answer : plain_answer (part_asks p construct (guessed_part construct) s) one ≡ plain_answer (part_asks p construct (guessed_part construct) s) other
-  pub contents : (value : ℤ) (state : State) (cell : ℕ)
+  pub contents : (value : Carried) (state : State) (cell : ℕ)
       → plain_answer (part_asks p construct (guessed_part construct) s) one ≡ Value value state
       → IsOwn p construct (guessed_part construct) (length s.input) s.number cell
       → word_at (plain_memory (part_asks p construct (guessed_part construct) s) one) cell

@@ -10,7 +10,7 @@ use spf_ast::laws::{
 use spf_effect_soundness::each_part_keeps_to_its_effects;
 
 /// A top construct of a lawful program that keeps the seven rules is rollback free: for every input, all slots, every block number
-/// and carried value, whatever the loads answer, and wherever a turn stops it.
+/// and carried row, whatever the loads answer, and wherever a turn stops it.
 pub fn the_rules_set_free()
     ensures { TheRulesSetFree }
 {

@@ -1,7 +1,7 @@
 -- The bytes of pieces are the canonical text.
-use Rattle.std.proofs.Common.{◌≡◌, ℕ, zero, suc, ◌+◌, Bool, true, false, nat_lt, List, [], ◌∷◌, ◌++◌, codes, refl, sym, ap, ◌∙◌, append_assoc, ℤ, pos, negsuc}
+use Rattle.std.proofs.Common.{◌≡◌, ℕ, zero, suc, ◌+◌, Bool, true, false, nat_lt, nat_eq, if◌then◌else◌, length, List, [], ◌∷◌, ◌++◌, codes, refl, sym, ap, ◌∙◌, append_assoc, ℤ, pos, negsuc}
 use Rattle.std.proofs.lemmas.List.{append-nil}
-use Rattle.std.specs.Fmt.{decimal, signed_decimal}
+use Rattle.std.specs.Fmt.{decimal, digits, signed_decimal}
 use Rattle.spf_text.specs.Tokens.{Piece, bytes_of, sign_spelling}
 use Rattle.spf_text.specs.declared.token.Keyword.TheVariants as word
 use Rattle.spf_text.specs.declared.token.Sign.{Sign}
@@ -13,12 +13,13 @@ use Rattle.spf_ast.specs.declared.syntax.Test.TheVariants as test
 use Rattle.spf_ast.specs.Syntax.{Array}
 use Rattle.spf_ast.specs.RawSyntax.{RawExpression, Number, Local, Len, Input, Load, Call, Neg, Binary, Compare, Both, Either, Not, RawArguments, no_more, argument}
 use Rattle.spf_ast.specs.RawSyntax.{RawPredictor, By, Host, RawFoldHead}
-use Rattle.spf_ast.specs.RawSyntax.{RawStatement, Let, Assign, Store, Fill, Emit, Fail, If, For, While, Do, Fold, Pair, RawBlock, end, on_line}
+use Rattle.spf_ast.specs.RawSyntax.{RawStatement, Let, Assign, Store, Fill, Emit, Fail, If, For, While, Do, Fold, Pair, Break, RawBlock, end, on_line}
 use Rattle.spf_ast.specs.RawSyntax.{RawFunction, RawProgram}
+use Rattle.spf_ast.specs.Spelling.{raw_count}
 use Rattle.spf_canonical.specs.Canonical as text
-use Rattle.spf_canonical.specs.Canonical.{joined, line, deeper, level, op_level, comparison_level, unary_level, expression_text, arguments_text, further_arguments_text, predictor_text, fold_line, statement_text, otherwise_text, block_text, size_text, array_text, names_text, further_names_text, function_text, arrays_text, functions_text, main_text, canonical_text}
+use Rattle.spf_canonical.specs.Canonical.{joined, line, deeper, level, op_level, comparison_level, unary_level, expression_text, arguments_text, further_arguments_text, predictor_text, predictors_text, further_predictors_text, carried_text, row_text, guess_text, fold_line, statement_text, otherwise_text, block_text, size_text, array_text, names_text, further_names_text, function_text, arrays_text, functions_text, main_text, header_text, canonical_text}
 use Rattle.spf_roundtrip.proofs.Pieces.{fold_line as head_line}
-use Rattle.spf_roundtrip.proofs.Pieces.{w, s, count, space, newline, bytes, op_sign, test_sign, spaced, enclosed, of_expression, of_arguments, of_further, of_predictor, blanks, on_own_line, closing, close_line, range, let_line, assign_line, stored, store_line, fill_line, word_line, fail_line, opening, if_line, for_line, while_line, do_line, pair_line, consumer_line, else_line, array_line, function_line, of_statement, of_otherwise, of_block, of_size, of_array, of_names, of_further_names, of_function, of_arrays, of_functions, of_main, of_program}
+use Rattle.spf_roundtrip.proofs.Pieces.{w, s, count, space, newline, bytes, op_sign, test_sign, spaced, enclosed, of_expression, of_arguments, of_further, of_predictor, of_predictors, of_further_predictors, of_carried, of_row, of_guess, blanks, on_own_line, closing, close_line, range, let_line, assign_line, stored, store_line, fill_line, word_line, row_line, fail_line, break_line, opening, if_line, for_line, while_line, do_line, pair_line, consumer_line, else_line, array_line, function_line, of_statement, of_otherwise, of_block, of_size, of_array, of_names, of_further_names, of_function, of_arrays, of_functions, of_main, header_line, of_header, of_program}
 
 pub bytes-append : (ps qs : List Piece) → bytes (ps ++ qs) ≡ bytes ps ++ bytes qs
 bytes-append [] qs = refl
@@ -119,6 +120,34 @@ pub predictor-bytes : (p : RawPredictor) → Writes (of_predictor p) (predictor_
 predictor-bytes (By guess) = expression-bytes guess
 predictor-bytes (Host n) = record { is = refl }
 
+further_predictors-bytes : (gs : List RawPredictor) → Writes (of_further_predictors gs) (further_predictors_text gs)
+further_predictors-bytes [] = record { is = refl }
+further_predictors-bytes (g ∷ gs) =
+    record { is = ap (λ b. codes ", " ++ b) (seq (predictor-bytes g) (further_predictors-bytes gs)).is ∙ sym (append_assoc (codes ", ") (predictor_text g) (further_predictors_text gs)) }
+
+predictors-bytes : (gs : List RawPredictor) → Writes (of_predictors gs) (predictors_text gs)
+predictors-bytes [] = record { is = refl }
+predictors-bytes (g ∷ gs) = seq (predictor-bytes g) (further_predictors-bytes gs)
+
+further_names-bytes : (xs : List (List ℕ)) → Writes (of_further_names xs) (further_names_text xs)
+further_names-bytes [] = record { is = refl }
+further_names-bytes (x ∷ xs) = record { is = ap (λ b. codes ", " ++ (x ++ b)) (further_names-bytes xs).is ∙ sym (append_assoc (codes ", ") x (further_names_text xs)) }
+
+names-bytes : (xs : List (List ℕ)) → Writes (of_names xs) (names_text xs)
+names-bytes [] = record { is = refl }
+names-bytes (x ∷ xs) = record { is = ap (λ b. x ++ b) (further_names-bytes xs).is }
+
+-- ---- rows
+
+carried-bytes : (xs : List (List ℕ)) → Writes (of_carried xs) (carried_text xs)
+carried-bytes xs = enclosed-bytes (nat_lt 1 (length xs)) (of_names xs) (names_text xs) (names-bytes xs)
+
+row-bytes : (given : RawArguments) → Writes (of_row given) (row_text given)
+row-bytes given = enclosed-bytes (nat_lt 1 (raw_count given)) (of_arguments given) (arguments_text given) (arguments-bytes given)
+
+guess-bytes : (gs : List RawPredictor) → Writes (of_guess gs) (guess_text gs)
+guess-bytes gs = enclosed-bytes (nat_lt 1 (length gs)) (of_predictors gs) (predictors_text gs) (predictors-bytes gs)
+
 -- a range of numbers
 range-bytes : (low high : RawExpression) → Writes (range low high) (expression_text low ++ (codes ".." ++ expression_text high))
 range-bytes low high = seq (expression-bytes low) (record { is = ap (λ b. codes ".." ++ b) (expression-bytes high).is })
@@ -152,15 +181,33 @@ stored-bytes e = record { is = ap (λ b. codes "] = " ++ b) (ended e) }
 opened : {ps : List Piece} {t : List ℕ} → Writes ps t → bytes (ps ++ opening) ≡ joined (t ∷ codes " {" ∷ [])
 opened e = (seq e (at_once opening (codes " {" ++ []) refl)).is
 
+-- a row at the end of a line
+row-ended : (given : RawArguments) → bytes (of_row given ++ s sign.Semicolon ∷ []) ≡ joined (row_text given ∷ codes ";" ∷ [])
+row-ended given = bracketed sign.Semicolon (of_row given) (row_text given) (row-bytes given)
+
+row_line-bytes : (indent : List ℕ) (given : RawArguments) → Writes (on_own_line indent (row_line word.Next given)) (line indent (codes "next " ∷ row_text given ∷ codes ";" ∷ []))
+row_line-bytes indent given = line-bytes indent (row_line word.Next given) (codes "next " ∷ row_text given ∷ codes ";" ∷ []) (ap (λ b. codes "next " ++ b) (row-ended given))
+
+give_line-bytes : (indent : List ℕ) (given : RawArguments) → Writes (on_own_line indent (row_line word.Give given)) (line indent (codes "give " ∷ row_text given ∷ codes ";" ∷ []))
+give_line-bytes indent given = line-bytes indent (row_line word.Give given) (codes "give " ∷ row_text given ∷ codes ";" ∷ []) (ap (λ b. codes "give " ++ b) (row-ended given))
+
 fold_line-bytes : (indent : List ℕ) (head : RawFoldHead) → Writes (on_own_line indent (head_line head)) (fold_line indent head)
 fold_line-bytes indent head =
     line-bytes indent (head_line head)
-    (codes "specfold " ∷ head.carried ∷ codes " = " ∷ expression_text head.start ∷ codes " for " ∷ head.block ∷ codes " in " ∷ expression_text head.low ∷ codes ".." ∷ expression_text head.high ∷ codes " predict " ∷ predictor_text head.predict ∷ codes " {" ∷ [])
-    (ap (λ b. codes "specfold " ++ (head.carried ++ (codes " = " ++ b)))
-    (seq (expression-bytes head.start) (record {
-      is = ap (λ b. codes " for " ++ (head.block ++ (codes " in " ++ b)))
-          (range-then head.low head.high (record { is = ap (λ b. codes " predict " ++ b) (opened (predictor-bytes head.predict)) })).is;
+    (codes "specfold " ∷ carried_text head.carried ∷ codes " = " ∷ row_text head.start ∷ codes " for " ∷ head.block ∷ codes " in " ∷ expression_text head.low ∷ codes ".." ∷ expression_text head.high ∷ codes " predict " ∷ guess_text head.predict ∷ codes " {" ∷ [])
+    (ap (λ b. codes "specfold " ++ b)
+    (seq (carried-bytes head.carried) (record {
+      is = ap (λ b. codes " = " ++ b)
+          (seq (row-bytes head.start) (record {
+            is = ap (λ b. codes " for " ++ (head.block ++ (codes " in " ++ b)))
+                (range-then head.low head.high (record { is = ap (λ b. codes " predict " ++ b) (opened (guess-bytes head.predict)) })).is;
+          })).is;
     })).is)
+
+pair_line-bytes : (indent : List ℕ) (xs : List (List ℕ)) → Writes (on_own_line indent (pair_line xs)) (line indent (codes "spec " ∷ carried_text xs ∷ codes " = {" ∷ []))
+pair_line-bytes indent xs =
+    line-bytes indent (pair_line xs) (codes "spec " ∷ carried_text xs ∷ codes " = {" ∷ [])
+    (ap (λ b. codes "spec " ++ b) (seq (carried-bytes xs) (at_once (space ∷ s sign.Assign ∷ opening) (codes " = {" ++ []) refl)).is)
 
 mutual
   pub statement-bytes : (indent : List ℕ) (x : RawStatement) → Writes (of_statement indent x) (statement_text indent x)
@@ -181,12 +228,12 @@ mutual
   statement-bytes indent (Do f given) =
       line-bytes indent (do_line f given) (f ∷ codes "(" ∷ arguments_text given ∷ codes ");" ∷ []) (ap (λ b. f ++ (codes "(" ++ b)) (seq (arguments-bytes given) (at_once (s sign.CloseParen ∷ s sign.Semicolon ∷ []) (codes ");" ++ []) refl)).is)
   statement-bytes indent (Fold head body) =
-      four (fold_line-bytes indent head) (block-bytes (deeper indent) body) (line-bytes (deeper indent) (word_line word.Next head.next) (codes "next " ∷ expression_text head.next ∷ codes ";" ∷ []) (ap (λ b. codes "next " ++ b) (ended head.next))) (closing-bytes indent)
+      four (fold_line-bytes indent head) (block-bytes (deeper indent) body) (row_line-bytes (deeper indent) head.next) (closing-bytes indent)
   statement-bytes indent (Pair head producer consumer) =
-      six (line-bytes indent (pair_line head.carried) (codes "spec " ∷ head.carried ∷ codes " = {" ∷ []) refl) (block-bytes (deeper indent) producer)
-      (line-bytes (deeper indent) (word_line word.Give head.give) (codes "give " ∷ expression_text head.give ∷ codes ";" ∷ []) (ap (λ b. codes "give " ++ b) (ended head.give)))
-      (line-bytes indent (consumer_line head.predict) (codes "} predict " ∷ predictor_text head.predict ∷ codes " {" ∷ []) (ap (λ b. codes "} predict " ++ b) (opened (predictor-bytes head.predict))))
+      six (pair_line-bytes indent head.carried) (block-bytes (deeper indent) producer) (give_line-bytes (deeper indent) head.give)
+      (line-bytes indent (consumer_line head.predict) (codes "} predict " ∷ guess_text head.predict ∷ codes " {" ∷ []) (ap (λ b. codes "} predict " ++ b) (opened (guess-bytes head.predict))))
       (block-bytes (deeper indent) consumer) (closing-bytes indent)
+  statement-bytes indent Break = line-bytes indent break_line (codes "break;" ∷ []) refl
 
   otherwise-bytes : (indent : List ℕ) (b : RawBlock) → Writes (of_otherwise indent b) (otherwise_text indent b)
   otherwise-bytes indent end = closing-bytes indent
@@ -213,14 +260,6 @@ array-bytes a =
     line-bytes [] (array_line a) (codes "array " ∷ a.name ∷ codes "[" ∷ size_text a.factor a.offset ∷ codes "];" ∷ [])
     (ap (λ b. codes "array " ++ (a.name ++ (codes "[" ++ b))) (seq (size-bytes a.factor a.offset) (at_once (s sign.CloseBracket ∷ s sign.Semicolon ∷ []) (codes "];" ++ []) refl)).is)
 
-further_names-bytes : (xs : List (List ℕ)) → Writes (of_further_names xs) (further_names_text xs)
-further_names-bytes [] = record { is = refl }
-further_names-bytes (x ∷ xs) = record { is = ap (λ b. codes ", " ++ (x ++ b)) (further_names-bytes xs).is ∙ sym (append_assoc (codes ", ") x (further_names_text xs)) }
-
-names-bytes : (xs : List (List ℕ)) → Writes (of_names xs) (names_text xs)
-names-bytes [] = record { is = refl }
-names-bytes (x ∷ xs) = record { is = ap (λ b. x ++ b) (further_names-bytes xs).is }
-
 function-bytes : (f : RawFunction) → Writes (of_function f) (function_text f)
 function-bytes f =
     four (line-bytes [] (function_line f) (codes "fn " ∷ f.name ∷ codes "(" ∷ names_text f.params ∷ codes ") {" ∷ [])
@@ -238,6 +277,17 @@ functions-bytes (f ∷ rest) = seq (function-bytes f) (functions-bytes rest)
 main-bytes : (body : RawBlock) → Writes (of_main body) (main_text body)
 main-bytes body = three (line-bytes [] (w word.Main ∷ opening) (codes "main {" ∷ []) refl) (block-bytes (deeper []) body) (closing-bytes [])
 
+header_line-bytes : bytes header_line ≡ joined (codes "version 2;" ∷ [])
+unfolding digits
+header_line-bytes = refl
+
+header-bytes : (version : ℕ) → Writes (of_header version) (header_text version)
+header-bytes version = go (nat_eq version 2)
+  where
+    go : (b : Bool) → Writes (if b then on_own_line [] header_line else []) (if b then line [] (codes "version 2;" ∷ []) else [])
+    go true = line-bytes [] header_line (codes "version 2;" ∷ []) header_line-bytes
+    go false = record { is = refl }
+
 -- the bytes of a program's pieces are its canonical text
 pub program-bytes : (p : RawProgram) → bytes (of_program p) ≡ canonical_text p
-program-bytes p = (three (arrays-bytes p.arrays) (functions-bytes p.functions) (main-bytes p.main)).is
+program-bytes p = (four (header-bytes p.version) (arrays-bytes p.arrays) (functions-bytes p.functions) (main-bytes p.main)).is

@@ -1,5 +1,5 @@
 -- The grammar is unambiguous: no two alternatives begin with the same token.
-use Rattle.std.proofs.Common.{◌≡◌, ℕ, ◌<◌, zero, suc, Bool, true, false, not, List, [], ◌∷◌, length, Option, Some, None, ℤ, refl, arith, get_or, nat_eq}
+use Rattle.std.proofs.Common.{◌≡◌, ℕ, ◌+◌, ◌<◌, zero, suc, Bool, true, false, not, List, [], ◌∷◌, length, Option, Some, None, ℤ, refl, arith, get_or, nat_eq}
 use Rattle.std.specs.Prelude.{◌&&◌, IsTrue, if◌then◌else◌, nat_lt}
 use Rattle.std.proofs.lemmas.Bool.Decides.{nat_tests}
 use Rattle.spf_text.specs.declared.token.Keyword.{Keyword}
@@ -8,10 +8,10 @@ use Rattle.spf_text.specs.declared.token.Sign.{Sign}
 use Rattle.spf_text.specs.declared.token.Sign.TheVariants as sign
 use Rattle.spf_text.specs.declared.token.TokenKind.{TokenKind}
 use Rattle.spf_text.specs.declared.token.TokenKind.TheVariants as kind
-use Rattle.spf_ast.specs.RawSyntax.{RawExpression}
+use Rattle.spf_ast.specs.RawSyntax.{RawExpression, RawPredictor}
 use Rattle.spf_grammar.specs.Lexemes.{Lexeme}
-use Rattle.spf_grammar.specs.Parts.{Part, token, many, lined, next_argument, form, array, next_parameter, function, statement, Value, Rule, give, part, either}
-use Rattle.spf_grammar.specs.Rules.{rank_of, expression_rule, level_rule, further_rule, compared_rule, operand_rule, arguments_rule, next_argument_rule, form_rule, block_rule, otherwise_rule, guess_rule, size_rule, array_rule, parameters_rule, next_parameter_rule, function_rule, program_rule, many_rule}
+use Rattle.spf_grammar.specs.Parts.{Part, token, opens, many, few, lined, expression, next_argument, predictor, next_predictor, form, array, next_parameter, function, statement, keyword, Value, Rule, give, part, either}
+use Rattle.spf_grammar.specs.Rules.{rank_of, expression_rule, level_rule, further_rule, compared_rule, operand_rule, arguments_rule, next_argument_rule, names_rule, predictor_rule, next_predictor_rule, plain_form, break_form, form_rule, block_rule, otherwise_rule, version_rule, size_rule, array_rule, parameters_rule, next_parameter_rule, function_rule, program_rule, many_rule}
 use Rattle.spf_rules.specs.Answers.{reach, Stops, stop}
 use Rattle.spf_rules.proofs.Beginnings.{stops_at, ranked, may, begins}
 use Rattle.spf_rules.proofs.Follows.{Follows, operator_reach}
@@ -130,19 +130,28 @@ abbrev pub is_listed : Part → Bool
 is_listed (next_argument n) = true
 is_listed next_parameter = true
 is_listed array = true
-is_listed function = true
-is_listed (lined (form n)) = true
+is_listed (function breaks) = true
+is_listed (lined (form breaks n)) = true
 is_listed p = false
+
+-- short lists of these parts occur
+abbrev pub is_row_part : Part → Bool
+is_row_part (next_argument n) = true
+is_row_part (next_predictor n) = true
+is_row_part next_parameter = true
+is_row_part p = false
 
 abbrev pub is_used : Part → Bool
 is_used (many p) = is_listed p
-is_used (lined (form n)) = true
+is_used (few most p) = is_row_part p
+is_used (lined (form breaks n)) = true
 is_used (lined p) = false
 is_used p = true
 
 -- the level up to which a part is read
 abbrev pub level_of : Part → ℕ
 level_of (next_argument n) = 10
+level_of (next_predictor n) = 10
 level_of p = stop p
 
 -- a closing parenthesis comes next
@@ -154,6 +163,7 @@ IsClosed (t ∷ ts) = t.kind ≡ kind.Sign sign.CloseParen
 abbrev pub Ends : Part → List Lexeme → Type 0
 Ends (many (next_argument n)) ts = IsClosed ts
 Ends (many next_parameter) ts = IsClosed ts
+Ends (few most p) ts = IsClosed ts
 Ends p ts = Stops (level_of p) ts
 
 abbrev pub Closes : {A : Type 0} → Rule A → Type 0
@@ -164,6 +174,7 @@ Closes r = ⊥
 abbrev pub Precedes : Part → ℕ → {A : Type 0} → Rule A → Type 0
 Precedes (many (next_argument k)) n r = Closes r
 Precedes (many next_parameter) n r = Closes r
+Precedes (few most p) n r = Closes r
 Precedes p n r = Follows (level_of p) n r
 
 -- two rules begin with different tokens
@@ -178,6 +189,38 @@ IsClear n (either r s) = Differ n r s × IsClear n r × IsClear n s
 
 -- ---- each production is clear
 
+-- an expression as a row, and several in parentheses
+abbrev pub one_row : ℕ → Rule (List RawExpression)
+one_row n = part (expression n) (λ a. give (a ∷ []))
+
+abbrev pub row_rest : ℕ → RawExpression → Rule (List RawExpression)
+row_rest n a =
+    part (next_argument (n + 1))
+    (λ b. part (few 2 (next_argument (n + 1)))
+    (λ more. part (token (kind.Sign sign.CloseParen))
+    (λ l. give (a ∷ b ∷ more))))
+
+abbrev pub some_row : ℕ → Rule (List RawExpression)
+some_row n = part (opens n sign.OpenParen) (λ o. part (expression (n + 1)) (row_rest n))
+
+-- the same of predictors
+abbrev pub one_guess : ℕ → Rule (List RawPredictor)
+one_guess n = part (predictor n) (λ g. give (g ∷ []))
+
+abbrev pub guess_rest : ℕ → RawPredictor → Rule (List RawPredictor)
+guess_rest n g =
+    part (next_predictor (n + 1))
+    (λ h. part (few 2 (next_predictor (n + 1)))
+    (λ more. part (token (kind.Sign sign.CloseParen))
+    (λ l. give (g ∷ h ∷ more))))
+
+abbrev pub some_guess : ℕ → Rule (List RawPredictor)
+some_guess n = part (opens n sign.OpenParen) (λ o. part (predictor (n + 1)) (guess_rest n))
+
+-- a header with this version
+abbrev pub written_version : ℕ → Rule ℕ
+written_version v = part (keyword word.Version) (λ l. version_rule v)
+
 pub operand_clear : (n : ℕ) → IsClear 1 (operand_rule n)
 operand_clear n = (nowhere (record { none = refl; name = refl; number = λ n. refl; words = refl; signs = refl }), (refl, λ x. omega arith, λ x. tt), (nowhere (record { none = refl; name = refl; number = λ n. refl; words = refl; signs = refl }), (refl, λ x. (omega arith, (omega arith, omega arith)), λ x. (nowhere (record { none = refl; name = refl; number = λ n. refl; words = refl; signs = refl }), tt, (nowhere (record { none = refl; name = refl; number = λ n. refl; words = refl; signs = refl }), (refl, λ x. omega arith, λ x. (refl, λ x. omega arith, λ x. (refl, λ x. omega arith, λ x. tt))), (refl, λ x. omega arith, λ x. (refl, λ x. omega arith, λ x. tt))))), (nowhere (record { none = refl; name = refl; number = λ n. refl; words = refl; signs = refl }), (refl, λ x. omega arith, λ x. tt), (nowhere (record { none = refl; name = refl; number = λ n. refl; words = refl; signs = refl }), (refl, λ x. omega arith, λ x. (refl, λ x. omega arith, λ x. (refl, λ x. omega arith, λ x. (refl, λ x. omega arith, λ x. tt)))), (nowhere (record { none = refl; name = refl; number = λ n. refl; words = refl; signs = refl }), (refl, λ x. omega arith, λ x. (refl, λ x. omega arith, λ x. tt)), (nowhere (record { none = refl; name = refl; number = λ n. refl; words = refl; signs = refl }), (refl, λ x. omega arith, λ x. (refl, λ x. omega arith, λ x. tt)), (refl, λ x. omega arith, λ x. (refl, λ x. omega arith, λ x. (refl, λ x. omega arith, λ x. tt)))))))))
 
@@ -190,17 +233,43 @@ arguments_clear n = (nowhere (record { none = refl; name = refl; number = λ n. 
 pub next_argument_clear : (n : ℕ) → IsClear 10 (next_argument_rule n)
 next_argument_clear n = (refl, λ x. omega arith, λ x. (refl, λ x. omega arith, λ x. tt))
 
-pub form_clear : (n : ℕ) → IsClear 11 (form_rule n)
-form_clear n = (nowhere (record { none = refl; name = refl; number = λ n. refl; words = refl; signs = refl }), (refl, λ x. omega arith, λ x. (refl, λ x. omega arith, λ x. (refl, λ x. omega arith, λ x. (refl, λ x. omega arith, λ x. (refl, λ x. omega arith, λ x. tt))))), (nowhere (record { none = refl; name = refl; number = λ n. refl; words = refl; signs = refl }), (refl, λ x. (omega arith, (omega arith, omega arith)), λ x. (nowhere (record { none = refl; name = refl; number = λ n. refl; words = refl; signs = refl }), (refl, λ x. omega arith, λ x. (refl, λ x. omega arith, λ x. (refl, λ x. omega arith, λ x. tt))), (nowhere (record { none = refl; name = refl; number = λ n. refl; words = refl; signs = refl }), (refl, λ x. omega arith, λ x. (refl, λ x. omega arith, λ x. (refl, λ x. omega arith, λ x. (refl, λ x. omega arith, λ x. (refl, λ x. omega arith, λ x. (refl, λ x. omega arith, λ x. tt)))))), (refl, λ x. omega arith, λ x. (refl, λ x. omega arith, λ x. (refl, λ x. omega arith, λ x. tt)))))), (nowhere (record { none = refl; name = refl; number = λ n. refl; words = refl; signs = refl }), (refl, λ x. omega arith, λ x. (refl, λ x. omega arith, λ x. (refl, λ x. omega arith, λ x. (refl, λ x. omega arith, λ x. (refl, λ x. omega arith, λ x. (refl, λ x. omega arith, λ x. (refl, λ x. omega arith, λ x. (refl, λ x. omega arith, λ x. (refl, λ x. omega arith, λ x. (refl, λ x. omega arith, λ x. tt)))))))))), (nowhere (record { none = refl; name = refl; number = λ n. refl; words = refl; signs = refl }), (refl, λ x. omega arith, λ x. (refl, λ x. omega arith, λ x. (refl, λ x. omega arith, λ x. tt))), (nowhere (record { none = refl; name = refl; number = λ n. refl; words = refl; signs = refl }), (refl, λ x. omega arith, λ x. (refl, λ x. omega arith, λ x. (refl, λ x. omega arith, λ x. tt))), (nowhere (record { none = refl; name = refl; number = λ n. refl; words = refl; signs = refl }), (refl, λ x. omega arith, λ x. (refl, λ x. omega arith, λ x. (refl, λ x. omega arith, λ x. (refl, λ x. omega arith, λ x. tt)))), (nowhere (record { none = refl; name = refl; number = λ n. refl; words = refl; signs = refl }), (refl, λ x. omega arith, λ x. (refl, λ x. omega arith, λ x. (refl, λ x. omega arith, λ x. (refl, λ x. omega arith, λ x. (refl, λ x. omega arith, λ x. (refl, λ x. omega arith, λ x. (refl, λ x. omega arith, λ x. tt))))))), (nowhere (record { none = refl; name = refl; number = λ n. refl; words = refl; signs = refl }), (refl, λ x. omega arith, λ x. (refl, λ x. omega arith, λ x. (refl, λ x. omega arith, λ x. (refl, λ x. omega arith, λ x. (refl, λ x. omega arith, λ x. tt))))), (nowhere (record { none = refl; name = refl; number = λ n. refl; words = refl; signs = refl }), (refl, λ x. omega arith, λ x. (refl, λ x. omega arith, λ x. (refl, λ x. omega arith, λ x. (refl, λ x. omega arith, λ x. (refl, λ x. omega arith, λ x. (refl, λ x. omega arith, λ x. (refl, λ x. omega arith, λ x. (refl, λ x. omega arith, λ x. (refl, λ x. omega arith, λ x. (refl, λ x. omega arith, λ x. (refl, λ x. omega arith, λ x. (refl, λ x. omega arith, λ x. (refl, λ x. (omega arith, λ y. omega arith), λ x. (refl, λ x. omega arith, λ x. (refl, λ x. omega arith, λ x. (refl, λ x. omega arith, λ x. (refl, λ x. omega arith, λ x. (refl, λ x. omega arith, λ x. tt)))))))))))))))))), (refl, λ x. omega arith, λ x. (refl, λ x. omega arith, λ x. (refl, λ x. omega arith, λ x. (refl, λ x. (omega arith, λ y. omega arith), λ x. (refl, λ x. omega arith, λ x. (refl, λ x. omega arith, λ x. (refl, λ x. omega arith, λ x. (refl, λ x. omega arith, λ x. (refl, λ x. omega arith, λ x. (refl, λ x. omega arith, λ x. (refl, λ x. omega arith, λ x. (refl, λ x. omega arith, λ x. tt)))))))))))))))))))))
+plain_clear : (breaks : Bool) (n : ℕ) → IsClear 11 (plain_form breaks n)
+plain_clear breaks n = (nowhere (record { none = refl; name = refl; number = λ n. refl; words = refl; signs = refl }), (refl, λ x. omega arith, λ x. (refl, λ x. omega arith, λ x. (refl, λ x. omega arith, λ x. (refl, λ x. omega arith, λ x. (refl, λ x. omega arith, λ x. tt))))), (nowhere (record { none = refl; name = refl; number = λ n. refl; words = refl; signs = refl }), (refl, λ x. (omega arith, (omega arith, omega arith)), λ x. (nowhere (record { none = refl; name = refl; number = λ n. refl; words = refl; signs = refl }), (refl, λ x. omega arith, λ x. (refl, λ x. omega arith, λ x. (refl, λ x. omega arith, λ x. tt))), (nowhere (record { none = refl; name = refl; number = λ n. refl; words = refl; signs = refl }), (refl, λ x. omega arith, λ x. (refl, λ x. omega arith, λ x. (refl, λ x. omega arith, λ x. (refl, λ x. omega arith, λ x. (refl, λ x. omega arith, λ x. (refl, λ x. omega arith, λ x. tt)))))), (refl, λ x. omega arith, λ x. (refl, λ x. omega arith, λ x. (refl, λ x. omega arith, λ x. tt)))))), (nowhere (record { none = refl; name = refl; number = λ n. refl; words = refl; signs = refl }), (refl, λ x. omega arith, λ x. (refl, λ x. omega arith, λ x. (refl, λ x. omega arith, λ x. (refl, λ x. omega arith, λ x. (refl, λ x. omega arith, λ x. (refl, λ x. omega arith, λ x. (refl, λ x. omega arith, λ x. (refl, λ x. omega arith, λ x. (refl, λ x. omega arith, λ x. (refl, λ x. omega arith, λ x. tt)))))))))), (nowhere (record { none = refl; name = refl; number = λ n. refl; words = refl; signs = refl }), (refl, λ x. omega arith, λ x. (refl, λ x. omega arith, λ x. (refl, λ x. omega arith, λ x. tt))), (nowhere (record { none = refl; name = refl; number = λ n. refl; words = refl; signs = refl }), (refl, λ x. omega arith, λ x. (refl, λ x. omega arith, λ x. (refl, λ x. omega arith, λ x. tt))), (nowhere (record { none = refl; name = refl; number = λ n. refl; words = refl; signs = refl }), (refl, λ x. omega arith, λ x. (refl, λ x. omega arith, λ x. (refl, λ x. omega arith, λ x. (refl, λ x. omega arith, λ x. tt)))), (nowhere (record { none = refl; name = refl; number = λ n. refl; words = refl; signs = refl }), (refl, λ x. omega arith, λ x. (refl, λ x. omega arith, λ x. (refl, λ x. omega arith, λ x. (refl, λ x. omega arith, λ x. (refl, λ x. omega arith, λ x. (refl, λ x. omega arith, λ x. (refl, λ x. omega arith, λ x. tt))))))), (nowhere (record { none = refl; name = refl; number = λ n. refl; words = refl; signs = refl }), (refl, λ x. omega arith, λ x. (refl, λ x. omega arith, λ x. (refl, λ x. omega arith, λ x. (refl, λ x. omega arith, λ x. (refl, λ x. omega arith, λ x. tt))))), (nowhere (record { none = refl; name = refl; number = λ n. refl; words = refl; signs = refl }), (refl, λ x. omega arith, λ x. (refl, λ x. omega arith, λ x. (refl, λ x. omega arith, λ x. (refl, λ x. omega arith, λ x. (refl, λ x. omega arith, λ x. (refl, λ x. omega arith, λ x. (refl, λ x. omega arith, λ x. (refl, λ x. omega arith, λ x. (refl, λ x. omega arith, λ x. (refl, λ x. omega arith, λ x. (refl, λ x. omega arith, λ x. (refl, λ x. omega arith, λ x. (refl, λ x. (omega arith, λ y. omega arith), λ x. (refl, λ x. omega arith, λ x. (refl, λ x. omega arith, λ x. (refl, λ x. omega arith, λ x. (refl, λ x. omega arith, λ x. (refl, λ x. omega arith, λ x. tt)))))))))))))))))), (refl, λ x. omega arith, λ x. (refl, λ x. omega arith, λ x. (refl, λ x. omega arith, λ x. (refl, λ x. (omega arith, λ y. omega arith), λ x. (refl, λ x. omega arith, λ x. (refl, λ x. omega arith, λ x. (refl, λ x. omega arith, λ x. (refl, λ x. omega arith, λ x. (refl, λ x. omega arith, λ x. (refl, λ x. omega arith, λ x. (refl, λ x. omega arith, λ x. (refl, λ x. omega arith, λ x. tt)))))))))))))))))))))
 
-pub block_clear : (n : ℕ) → IsClear 0 (block_rule n)
-block_clear n = (refl, λ x. (omega arith, λ y. omega arith), λ x. (refl, λ x. omega arith, λ x. (refl, λ x. omega arith, λ x. tt)))
+pub form_clear : (breaks : Bool) (n : ℕ) → IsClear 11 (form_rule breaks n)
+form_clear true n = (nowhere (record { none = refl; name = refl; number = λ n. refl; words = refl; signs = refl }), plain_clear true n, (refl, λ x. omega arith, λ x. (refl, λ x. omega arith, λ x. tt)))
+form_clear false n = plain_clear false n
 
-pub otherwise_clear : (n : ℕ) → IsClear 11 (otherwise_rule n)
-otherwise_clear n = (nowhere (record { none = refl; name = refl; number = λ n. refl; words = refl; signs = refl }), tt, (refl, λ x. omega arith, λ x. (refl, λ x. omega arith, λ x. tt)))
+pub block_clear : (breaks : Bool) (n : ℕ) → IsClear 0 (block_rule breaks n)
+block_clear breaks n = (refl, λ x. (omega arith, λ y. omega arith), λ x. (refl, λ x. omega arith, λ x. (refl, λ x. omega arith, λ x. tt)))
 
-pub guess_clear : (n : ℕ) → IsClear 10 (guess_rule n)
-guess_clear n = (nowhere (record { none = refl; name = refl; number = λ n. refl; words = refl; signs = refl }), (refl, λ x. omega arith, λ x. (refl, λ x. omega arith, λ x. tt)), (refl, λ x. omega arith, λ x. tt))
+pub otherwise_clear : (breaks : Bool) (n : ℕ) → IsClear 11 (otherwise_rule breaks n)
+otherwise_clear breaks n = (nowhere (record { none = refl; name = refl; number = λ n. refl; words = refl; signs = refl }), tt, (refl, λ x. omega arith, λ x. (refl, λ x. omega arith, λ x. tt)))
+
+pub predictor_clear : (n : ℕ) → IsClear 10 (predictor_rule n)
+predictor_clear n = (nowhere (record { none = refl; name = refl; number = λ n. refl; words = refl; signs = refl }), (refl, λ x. omega arith, λ x. (refl, λ x. omega arith, λ x. tt)), (refl, λ x. omega arith, λ x. tt))
+
+pub next_predictor_clear : (n : ℕ) → IsClear 10 (next_predictor_rule n)
+next_predictor_clear n = (refl, λ x. omega arith, λ x. (refl, λ x. omega arith, λ x. tt))
+
+pub names_clear : (n : ℕ) → IsClear 0 (names_rule n)
+names_clear n = (nowhere (record { none = refl; name = refl; number = λ n. refl; words = refl; signs = refl }), (refl, λ x. omega arith, λ x. tt), (refl, λ x. omega arith, λ x. (refl, λ x. omega arith, λ x. (refl, λ x. (omega arith, λ y. omega arith), λ x. (refl, λ x. refl, λ x. (refl, λ x. omega arith, λ x. tt))))))
+
+-- one alternative of rows, guesses and headers, whose alternatives begin alike
+pub one_row_clear : (n : ℕ) → IsClear 10 (one_row n)
+one_row_clear n = (refl, λ x. omega arith, λ x. tt)
+
+pub some_row_clear : (n : ℕ) → IsClear 10 (some_row n)
+some_row_clear n = (refl, λ x. omega arith, λ x. (refl, λ x. omega arith, λ x. (refl, λ x. (omega arith, λ y. omega arith), λ x. (refl, λ x. refl, λ x. (refl, λ x. omega arith, λ x. tt)))))
+
+pub one_guess_clear : (n : ℕ) → IsClear 10 (one_guess n)
+one_guess_clear n = (refl, λ x. omega arith, λ x. tt)
+
+pub some_guess_clear : (n : ℕ) → IsClear 10 (some_guess n)
+some_guess_clear n = (refl, λ x. omega arith, λ x. (refl, λ x. omega arith, λ x. (refl, λ x. (omega arith, λ y. omega arith), λ x. (refl, λ x. refl, λ x. (refl, λ x. omega arith, λ x. tt)))))
+
+pub version_clear : (v : ℕ) → IsClear 11 (written_version v)
+version_clear v = (refl, λ x. omega arith, λ x. (refl, λ x. omega arith, λ x. (refl, λ x. omega arith, λ x. tt)))
 
 pub size_clear : IsClear 3 size_rule
 size_clear = (refl, λ x. (omega arith, omega arith), λ x. (nowhere (record { none = refl; name = refl; number = λ n. refl; words = refl; signs = refl }), tt, (refl, λ x. omega arith, λ x. (refl, λ x. (omega arith, omega arith), λ x. (nowhere (record { none = refl; name = refl; number = λ n. refl; words = refl; signs = refl }), tt, (refl, λ x. omega arith, λ x. (refl, λ x. omega arith, λ x. tt)))))))
@@ -214,20 +283,21 @@ parameters_clear = (nowhere (record { none = refl; name = refl; number = λ n. r
 pub next_parameter_clear : IsClear 0 next_parameter_rule
 next_parameter_clear = (refl, λ x. omega arith, λ x. (refl, λ x. omega arith, λ x. tt))
 
-pub function_clear : IsClear 0 function_rule
-function_clear = (refl, λ x. omega arith, λ x. (refl, λ x. omega arith, λ x. (refl, λ x. omega arith, λ x. (refl, λ x. omega arith, λ x. (refl, λ x. (omega arith, λ y. omega arith), λ x. (refl, λ x. omega arith, λ x. (refl, λ x. omega arith, λ x. (refl, λ x. omega arith, λ x. (refl, λ x. omega arith, λ x. (refl, λ x. omega arith, λ x. tt))))))))))
+pub function_clear : (breaks : Bool) → IsClear 0 (function_rule breaks)
+function_clear breaks = (refl, λ x. omega arith, λ x. (refl, λ x. omega arith, λ x. (refl, λ x. omega arith, λ x. (refl, λ x. omega arith, λ x. (refl, λ x. (omega arith, λ y. omega arith), λ x. (refl, λ x. omega arith, λ x. (refl, λ x. omega arith, λ x. (refl, λ x. omega arith, λ x. (refl, λ x. omega arith, λ x. (refl, λ x. omega arith, λ x. tt))))))))))
 
 pub program_clear : IsClear 0 program_rule
-program_clear = (refl, λ x. (omega arith, λ y. omega arith), λ x. (refl, λ x. omega arith, λ x. (refl, λ x. omega arith, λ x. (refl, λ x. omega arith, λ x. tt))))
+program_clear = (refl, λ v. (omega arith, λ x. (omega arith, λ y. omega arith)), λ v. (refl, λ x. (omega arith, λ y. omega arith), λ x. (refl, λ x. omega arith, λ x. (refl, λ x. omega arith, λ x. (refl, λ x. omega arith, λ x. tt)))))
 
-pub statements_clear : (n : ℕ) → IsClear 12 (many_rule (statement n))
-statements_clear n = (nowhere (record { none = refl; name = refl; number = λ n. refl; words = refl; signs = refl }), tt, (refl, λ x. (omega arith, λ y. omega arith), λ x. (refl, λ x. omega arith, λ x. tt)))
+pub statements_clear : (breaks : Bool) (n : ℕ) → IsClear 12 (many_rule (statement breaks n))
+statements_clear true n = (nowhere (record { none = refl; name = refl; number = λ n. refl; words = refl; signs = refl }), tt, (refl, λ x. (omega arith, λ y. omega arith), λ x. (refl, λ x. omega arith, λ x. tt)))
+statements_clear false n = (nowhere (record { none = refl; name = refl; number = λ n. refl; words = refl; signs = refl }), tt, (refl, λ x. (omega arith, λ y. omega arith), λ x. (refl, λ x. omega arith, λ x. tt)))
 
 pub arrays_clear : IsClear 12 (many_rule array)
 arrays_clear = (nowhere (record { none = refl; name = refl; number = λ n. refl; words = refl; signs = refl }), tt, (refl, λ x. (omega arith, λ y. omega arith), λ x. (refl, λ x. omega arith, λ x. tt)))
 
-pub functions_clear : IsClear 13 (many_rule function)
-functions_clear = (nowhere (record { none = refl; name = refl; number = λ n. refl; words = refl; signs = refl }), tt, (refl, λ x. (omega arith, λ y. omega arith), λ x. (refl, λ x. omega arith, λ x. tt)))
+pub functions_clear : (breaks : Bool) → IsClear 13 (many_rule (function breaks))
+functions_clear breaks = (nowhere (record { none = refl; name = refl; number = λ n. refl; words = refl; signs = refl }), tt, (refl, λ x. (omega arith, λ y. omega arith), λ x. (refl, λ x. omega arith, λ x. tt)))
 
 -- a comparison, or operators of one rank
 operator_differs : (rank : ℕ) (w : Option TokenKind) → stops_at (suc (suc rank)) w ≡ true → ranked (suc rank) w ≡ true → ⊥

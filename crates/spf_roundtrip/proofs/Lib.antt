@@ -2,7 +2,9 @@ pub mod Pieces
 pub mod Bytes
 pub mod Cuts
 pub mod Wholes
+pub mod Parens
 pub mod Lexing
+pub mod Limits
 pub mod Levels
 pub mod Statements
 pub mod Programs

@@ -1,11 +1,11 @@
 -- Raw programs that are the same but for their lines resolve to programs that are.
-use Rattle.std.proofs.Common.{◌≡◌, ℕ, ◌+◌, List, [], ◌∷◌, ◌++◌, length, map, refl, sym, ap, ◌∙◌}
+use Rattle.std.proofs.Common.{◌≡◌, ℕ, ◌+◌, Bool, true, false, List, [], ◌∷◌, ◌++◌, length, map, refl, sym, ap, ◌∙◌}
 use Rattle.spf_ast.specs.Syntax as s
 use Rattle.spf_ast.specs.Syntax.{Array, Function, Program}
-use Rattle.spf_ast.specs.RawSyntax.{RawStatement, Let, Assign, Store, Fill, Emit, Fail, If, For, While, Do, Fold, Pair, RawBlock, end, on_line, RawFunction, RawProgram}
+use Rattle.spf_ast.specs.RawSyntax.{RawStatement, Let, Assign, Store, Fill, Emit, Fail, If, For, While, Do, Fold, Pair, Break, RawBlock, end, on_line, RawFunction, RawProgram}
 use Rattle.spf_scopes.specs.Globals.{Globals, globals_of}
 use Rattle.spf_scopes.specs.Locals.{Local}
-use Rattle.spf_scopes.specs.Resolved.{fixed, names_of, names_in, slots_in, locals_after, locals_at_end, body_locals, params_of, resolved_expression, resolved_condition, resolved_predictor, resolved_statement, resolved_block, resolved_function, resolved}
+use Rattle.spf_scopes.specs.Resolved.{fixed, names_of, names_in, slots_in, with_each, row_slots, block_slot, body_slot, locals_after, locals_at_end, body_locals, resolved_expression, resolved_arguments, resolved_condition, resolved_predictors, resolved_statement, resolved_block, resolved_function, resolved}
 use Rattle.spf_scopes.proofs.Tables.{map_twice}
 use Rattle.spf_roundtrip.specs.Laws as raw
 use Rattle.spf_roundtrip.specs.Lines as lines
@@ -24,8 +24,9 @@ mutual
   names_kept (For x low high body) = λ j. x ∷ names_in_kept body j
   names_kept (While test most body) = names_in_kept body
   names_kept (Do f given) = refl
-  names_kept (Fold head body) = λ j. head.carried ∷ head.block ∷ names_in_kept body j
-  names_kept (Pair head a b) = λ j. head.carried ∷ (names_in_kept a j ++ names_in_kept b j)
+  names_kept (Fold head body) = λ j. head.carried ++ head.block ∷ names_in_kept body j
+  names_kept (Pair head a b) = λ j. head.carried ++ (names_in_kept a j ++ names_in_kept b j)
+  names_kept Break = refl
 
   names_in_kept : (b : RawBlock) → names_in (raw.block_without_lines b) ≡ names_in b
   names_in_kept end = refl
@@ -44,6 +45,7 @@ locals_kept ls n (While test most body) = refl
 locals_kept ls n (Do f given) = refl
 locals_kept ls n (Fold head body) = refl
 locals_kept ls n (Pair head a b) = refl
+locals_kept ls n Break = refl
 
 end_kept : (ls : List Local) (n : ℕ) (b : RawBlock) → locals_at_end ls n (raw.block_without_lines b) ≡ locals_at_end ls n b
 end_kept ls n end = refl
@@ -68,26 +70,29 @@ mutual
   statement_kept g ls n (While test most body) = λ j. s.While (resolved_condition g ls test) most (block_kept g ls n body j)
   statement_kept g ls n (Do f given) = refl
   statement_kept g ls n (Fold head body) =
-      let at = end_kept (body_locals ls n head) (n + 2) body in
+      let at = end_kept (body_locals ls n head) (body_slot n head) body in
       λ j. s.Fold (record {
-        carried = n;
-        start = resolved_expression g ls head.start;
-        block = n + 1;
+        carried = row_slots n head.carried;
+        start = resolved_arguments g ls head.start;
+        block = block_slot n head;
         low = resolved_expression g ls head.low;
         high = resolved_expression g ls head.high;
-        predict = resolved_predictor g (fixed head.block (n + 1) ∷ ls) head.predict;
-        next = resolved_expression g (at j) head.next;
+        predict = resolved_predictors g (fixed head.block (block_slot n head) ∷ ls) head.predict;
+        next = resolved_arguments g (at j) head.next;
         next_line = 0;
-      }) (block_kept g (body_locals ls n head) (n + 2) body j)
+      }) (block_kept g (body_locals ls n head) (body_slot n head) body j)
   statement_kept g ls n (Pair head a b) =
-      let at = end_kept ls (n + 1) a in
-      let second = ap (λ ns. resolved_block g (fixed head.carried n ∷ ls) (n + 1 + length ns) (raw.block_without_lines b)) (names_in_kept a) ∙ block_kept g (fixed head.carried n ∷ ls) (n + 1 + slots_in a) b in
+      let m = n + length head.carried in
+      let consumer = with_each true ls n head.carried in
+      let at = end_kept ls m a in
+      let second = ap (λ ns. resolved_block g consumer (m + length ns) (raw.block_without_lines b)) (names_in_kept a) ∙ block_kept g consumer (m + slots_in a) b in
       λ j. s.Pair (record {
-        carried = n;
-        give = resolved_expression g (at j) head.give;
+        carried = row_slots n head.carried;
+        give = resolved_arguments g (at j) head.give;
         give_line = 0;
-        predict = resolved_predictor g ls head.predict;
-      }) (block_kept g ls (n + 1) a j) (second j)
+        predict = resolved_predictors g ls head.predict;
+      }) (block_kept g ls m a j) (second j)
+  statement_kept g ls n Break = refl
 
   block_kept : (g : Globals) (ls : List Local) (n : ℕ) (b : RawBlock) → resolved_block g ls n (raw.block_without_lines b) ≡ lines.block_without_lines (resolved_block g ls n b)
   block_kept g ls n end = refl
@@ -99,7 +104,7 @@ mutual
 
 function_kept : (g : Globals) (f : RawFunction) → resolved_function g (raw.function_without_lines f) ≡ lines.function_without_lines (resolved_function g f)
 function_kept g f =
-    let ls = params_of [] 0 f.params in
+    let ls = with_each false [] 0 f.params in
     let n = length f.params in
     λ j. record {
       name = f.name;
@@ -130,6 +135,7 @@ program_kept p =
     let functions = ap (λ h. map (resolved_function h) (map raw.function_without_lines p.functions)) e ∙ functions_kept g p.functions in
     let main = ap (λ h. resolved_block h [] 0 (raw.block_without_lines p.main)) e ∙ block_kept g [] 0 p.main in
     λ j. record {
+      version = p.version;
       arrays = map raw.array_without_lines p.arrays;
       functions = functions j;
       slots = names_in_kept p.main j;

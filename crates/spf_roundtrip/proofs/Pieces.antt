@@ -1,6 +1,7 @@
 -- The pieces of canonical texts: their tokens, and the blanks between them.
-use Rattle.std.proofs.Common.{ℕ, zero, ◌+◌, Bool, true, false, nat_lt, List, [], ◌∷◌, ◌++◌, map, ℤ, pos}
+use Rattle.std.proofs.Common.{◌≡◌, ℕ, zero, suc, arith, ◌+◌, Bool, true, false, nat_lt, nat_eq, if◌then◌else◌, length, List, [], ◌∷◌, ◌++◌, map, ℤ, pos}
 use Rattle.std.specs.Fmt.{decimal, signed_decimal}
+use Rattle.std.proofs.lemmas.Bool.Decides.{nat_tests}
 use Rattle.spf_text.specs.declared.token.Keyword.{Keyword}
 use Rattle.spf_text.specs.declared.token.Keyword.TheVariants as word
 use Rattle.spf_text.specs.declared.token.Sign.{Sign}
@@ -14,8 +15,9 @@ use Rattle.spf_ast.specs.declared.syntax.Test.TheVariants as test
 use Rattle.spf_ast.specs.Syntax.{Array}
 use Rattle.spf_ast.specs.RawSyntax.{RawExpression, Number, Local, Len, Input, Load, Call, Neg, Binary, Compare, Both, Either, Not, RawArguments, no_more, argument}
 use Rattle.spf_ast.specs.RawSyntax.{RawPredictor, By, Host, RawFoldHead}
-use Rattle.spf_ast.specs.RawSyntax.{RawStatement, Let, Assign, Store, Fill, Emit, Fail, If, For, While, Do, Fold, Pair, RawBlock, end, on_line}
+use Rattle.spf_ast.specs.RawSyntax.{RawStatement, Let, Assign, Store, Fill, Emit, Fail, If, For, While, Do, Fold, Pair, Break, RawBlock, end, on_line}
 use Rattle.spf_ast.specs.RawSyntax.{RawFunction, RawProgram}
+use Rattle.spf_ast.specs.Spelling.{raw_count}
 use Rattle.spf_canonical.specs.Canonical.{level, op_level, comparison_level, unary_level, deeper}
 
 -- ---- single pieces
@@ -112,6 +114,37 @@ abbrev pub of_predictor : RawPredictor → List Piece
 of_predictor (By guess) = of_expression guess
 of_predictor (Host n) = w word.Host ∷ space ∷ count n ∷ []
 
+abbrev pub of_further_predictors : List RawPredictor → List Piece
+of_further_predictors [] = []
+of_further_predictors (g ∷ gs) = s sign.Comma ∷ space ∷ (of_predictor g ++ of_further_predictors gs)
+
+abbrev pub of_predictors : List RawPredictor → List Piece
+of_predictors [] = []
+of_predictors (g ∷ gs) = of_predictor g ++ of_further_predictors gs
+
+abbrev pub of_further_names : List (List ℕ) → List Piece
+of_further_names [] = []
+of_further_names (x ∷ xs) = s sign.Comma ∷ space ∷ name x ∷ of_further_names xs
+
+abbrev pub of_names : List (List ℕ) → List Piece
+of_names [] = []
+of_names (x ∷ xs) = name x ∷ of_further_names xs
+
+-- ---- rows
+
+-- two parts and more are several
+pub several : (n : ℕ) → nat_lt 1 (suc (suc n)) ≡ true
+several n = grind (arith, nat_tests)
+
+abbrev pub of_carried : List (List ℕ) → List Piece
+of_carried xs = enclosed (nat_lt 1 (length xs)) (of_names xs)
+
+abbrev pub of_row : RawArguments → List Piece
+of_row given = enclosed (nat_lt 1 (raw_count given)) (of_arguments given)
+
+abbrev pub of_guess : List RawPredictor → List Piece
+of_guess gs = enclosed (nat_lt 1 (length gs)) (of_predictors gs)
+
 -- ---- statements
 
 abbrev pub blanks : List ℕ → List Piece
@@ -142,9 +175,16 @@ store_line a index value = name a ∷ s sign.OpenBracket ∷ (of_expression inde
 abbrev pub fill_line : List ℕ → RawExpression → RawExpression → RawExpression → List Piece
 fill_line a low high value = w word.Fill ∷ space ∷ name a ∷ s sign.OpenBracket ∷ (range low high ++ stored value)
 
--- a word and an expression: `emit`, `next`, `give` and `return`
+-- a word and an expression: `emit` and `return`
 abbrev pub word_line : Keyword → RawExpression → List Piece
 word_line k value = w k ∷ space ∷ (of_expression value ++ s sign.Semicolon ∷ [])
+
+-- a word and a row: `next` and `give`
+abbrev pub row_line : Keyword → RawArguments → List Piece
+row_line k given = w k ∷ space ∷ (of_row given ++ s sign.Semicolon ∷ [])
+
+abbrev pub break_line : List Piece
+break_line = w word.Break ∷ s sign.Semicolon ∷ []
 
 abbrev pub fail_line : ℤ → List Piece
 fail_line n = w word.Fail ∷ space ∷ number n ∷ s sign.Semicolon ∷ []
@@ -165,17 +205,24 @@ while_line test most = w word.While ∷ space ∷ (of_expression test ++ space �
 abbrev pub do_line : List ℕ → RawArguments → List Piece
 do_line f given = name f ∷ s sign.OpenParen ∷ (of_arguments given ++ s sign.CloseParen ∷ s sign.Semicolon ∷ [])
 
+-- the line of a fold: what comes after its range, after its start row, and after its names
+abbrev pub fold_guess : RawFoldHead → List Piece
+fold_guess head = space ∷ w word.Predict ∷ space ∷ (of_guess head.predict ++ opening)
+
+abbrev pub fold_range : RawFoldHead → List Piece
+fold_range head = space ∷ w word.For ∷ space ∷ name head.block ∷ space ∷ w word.In ∷ space ∷ (range head.low head.high ++ fold_guess head)
+
+abbrev pub fold_start : RawFoldHead → List Piece
+fold_start head = space ∷ s sign.Assign ∷ space ∷ (of_row head.start ++ fold_range head)
+
 abbrev pub fold_line : RawFoldHead → List Piece
-fold_line head =
-    w word.Specfold ∷ space ∷ name head.carried ∷ space ∷ s sign.Assign ∷ space ∷ (of_expression head.start
-    ++ space ∷ w word.For ∷ space ∷ name head.block ∷ space ∷ w word.In ∷ space ∷ (range head.low head.high
-    ++ space ∷ w word.Predict ∷ space ∷ (of_predictor head.predict ++ opening)))
+fold_line head = w word.Specfold ∷ space ∷ (of_carried head.carried ++ fold_start head)
 
-abbrev pub pair_line : List ℕ → List Piece
-pair_line x = w word.Spec ∷ space ∷ name x ∷ space ∷ s sign.Assign ∷ opening
+abbrev pub pair_line : List (List ℕ) → List Piece
+pair_line xs = w word.Spec ∷ space ∷ (of_carried xs ++ space ∷ s sign.Assign ∷ opening)
 
-abbrev pub consumer_line : RawPredictor → List Piece
-consumer_line predict = s sign.CloseBrace ∷ space ∷ w word.Predict ∷ space ∷ (of_predictor predict ++ opening)
+abbrev pub consumer_line : List RawPredictor → List Piece
+consumer_line predict = s sign.CloseBrace ∷ space ∷ w word.Predict ∷ space ∷ (of_guess predict ++ opening)
 
 abbrev pub else_line : List Piece
 else_line = s sign.CloseBrace ∷ space ∷ w word.Else ∷ opening
@@ -199,10 +246,11 @@ abbrev mutual
   of_statement indent (While test most body) = on_own_line indent (while_line test most) ++ (of_block (deeper indent) body ++ closing indent)
   of_statement indent (Do f given) = on_own_line indent (do_line f given)
   of_statement indent (Fold head body) =
-      on_own_line indent (fold_line head) ++ (of_block (deeper indent) body ++ (on_own_line (deeper indent) (word_line word.Next head.next) ++ closing indent))
+      on_own_line indent (fold_line head) ++ (of_block (deeper indent) body ++ (on_own_line (deeper indent) (row_line word.Next head.next) ++ closing indent))
   of_statement indent (Pair head producer consumer) =
-      on_own_line indent (pair_line head.carried) ++ (of_block (deeper indent) producer ++ (on_own_line (deeper indent) (word_line word.Give head.give)
+      on_own_line indent (pair_line head.carried) ++ (of_block (deeper indent) producer ++ (on_own_line (deeper indent) (row_line word.Give head.give)
       ++ (on_own_line indent (consumer_line head.predict) ++ (of_block (deeper indent) consumer ++ closing indent))))
+  of_statement indent Break = on_own_line indent break_line
 
   pub of_otherwise : List ℕ → RawBlock → List Piece
   of_otherwise indent end = closing indent
@@ -226,14 +274,6 @@ array_line a = w word.Array ∷ space ∷ name a.name ∷ s sign.OpenBracket ∷
 abbrev pub of_array : Array → List Piece
 of_array a = on_own_line [] (array_line a)
 
-abbrev pub of_further_names : List (List ℕ) → List Piece
-of_further_names [] = []
-of_further_names (x ∷ xs) = s sign.Comma ∷ space ∷ name x ∷ of_further_names xs
-
-abbrev pub of_names : List (List ℕ) → List Piece
-of_names [] = []
-of_names (x ∷ xs) = name x ∷ of_further_names xs
-
 abbrev pub function_line : RawFunction → List Piece
 function_line f = w word.Fn ∷ space ∷ name f.name ∷ s sign.OpenParen ∷ (of_names f.params ++ s sign.CloseParen ∷ opening)
 
@@ -252,5 +292,11 @@ of_functions (f ∷ rest) = of_function f ++ of_functions rest
 abbrev pub of_main : RawBlock → List Piece
 of_main body = on_own_line [] (w word.Main ∷ opening) ++ (of_block (deeper []) body ++ closing [])
 
+abbrev pub header_line : List Piece
+header_line = w word.Version ∷ space ∷ count 2 ∷ s sign.Semicolon ∷ []
+
+abbrev pub of_header : ℕ → List Piece
+of_header version = if nat_eq version 2 then on_own_line [] header_line else []
+
 abbrev pub of_program : RawProgram → List Piece
-of_program p = of_arrays p.arrays ++ (of_functions p.functions ++ of_main p.main)
+of_program p = of_header p.version ++ (of_arrays p.arrays ++ (of_functions p.functions ++ of_main p.main))

@@ -22,5 +22,5 @@ read_back p h =
     let cut : IsCut text ps [] = subst (λ x. IsCut x ps []) same (cut_of ps [] ((program-ended p h).whole [])) in
     let tokens = tokens_at 0 ps in
     let room : length (lexemes_of text tokens) ≤ length tokens = omega (arith, length-map tokens (lexeme_of text)) in
-    let v = program_put (length tokens) p (lexemes_of text tokens) [] room (lexed text [] text ps refl cut) in
+    let v = program_put (length tokens) p h (lexemes_of text tokens) [] room (lexed text [] text ps refl cut) in
     record { tokens = tokens; are = record { pieces = ps; cut = cut; are = refl }; said = v.found; reads = v.said.says; same = v.same }

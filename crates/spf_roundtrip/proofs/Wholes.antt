@@ -1,7 +1,7 @@
 -- The pieces of each form are whole.
-use Rattle.std.proofs.Common.{◌≡◌, ℕ, zero, suc, ◌+◌, ◌<◌, ◌^◌, Bool, true, false, nat_lt, List, [], ◌∷◌, ◌++◌, length, refl, sym, append_assoc, subst, arith, inl, inr, ℤ, pos, negsuc}
+use Rattle.std.proofs.Common.{◌≡◌, ℕ, zero, suc, ◌+◌, ◌<◌, ◌^◌, Bool, true, false, nat_lt, nat_eq, if◌then◌else◌, List, [], ◌∷◌, ◌++◌, length, refl, sym, append_assoc, append-nil, subst, arith, inl, inr, ℤ, pos, negsuc}
 use Rattle.std.specs.Fmt.{decimal, signed_decimal}
-use Rattle.std.specs.List.{AllByRecursion}
+use Rattle.std.specs.List.{All, AllByRecursion}
 use Rattle.std.proofs.lemmas.Fmt.{digits_decimal, decimal_nonempty}
 use Rattle.std.proofs.lemmas.Int.{ints}
 use Rattle.std.proofs.lemmas.List.Elements.{recursion_from_All}
@@ -13,13 +13,14 @@ use Rattle.spf_text.specs.Tokens.{Piece, IsPiece, IsLetter, IsDigit, IsWordByte}
 use Rattle.spf_ast.specs.Syntax.{Array}
 use Rattle.spf_ast.specs.RawSyntax.{RawExpression, Number, Local, Len, Input, Load, Call, Neg, Binary, Compare, Both, Either, Not, RawArguments, no_more, argument}
 use Rattle.spf_ast.specs.RawSyntax.{RawPredictor, By, Host, RawFoldHead}
-use Rattle.spf_ast.specs.RawSyntax.{RawStatement, Let, Assign, Store, Fill, Emit, Fail, If, For, While, Do, Fold, Pair, RawBlock, end, on_line}
+use Rattle.spf_ast.specs.RawSyntax.{RawStatement, Let, Assign, Store, Fill, Emit, Fail, If, For, While, Do, Fold, Pair, Break, RawBlock, end, on_line}
 use Rattle.spf_ast.specs.RawSyntax.{RawFunction, RawProgram}
 use Rattle.spf_ast.specs.Lawful.{IsName, IsNumber}
-use Rattle.spf_ast.specs.Spelling.{IsWritable, IsWritableExpression, AreWritableArguments, IsWritablePredictor, IsWritableStatement, IsWritableBlock, IsWritableArray, IsWritableFunction}
+use Rattle.spf_ast.specs.Carried.{IsWidth}
+use Rattle.spf_ast.specs.Spelling.{raw_count, FoldHasRows, PairHasRows, HasRows, HoldRows, IsWritable, IsWritableExpression, AreWritableArguments, IsWritablePredictor, IsWritableStatement, IsWritableBlock, IsWritableArray, IsWritableFunction}
 use Rattle.spf_canonical.specs.Canonical.{level, op_level, comparison_level, unary_level, deeper}
-use Rattle.spf_roundtrip.proofs.Pieces.{fold_line}
-use Rattle.spf_roundtrip.proofs.Pieces.{w, s, name, space, newline, bytes, op_sign, test_sign, spaced, enclosed, of_expression, of_arguments, of_further, of_predictor, blanks, on_own_line, closing, close_line, range, let_line, assign_line, stored, store_line, fill_line, word_line, fail_line, opening, if_line, for_line, while_line, do_line, pair_line, consumer_line, else_line, of_statement, of_otherwise, of_block, of_size, of_array, array_line, of_names, of_further_names, function_line, of_function, of_arrays, of_functions, of_main, of_program}
+use Rattle.spf_roundtrip.proofs.Pieces.{several, fold_line, fold_start, fold_range, fold_guess}
+use Rattle.spf_roundtrip.proofs.Pieces.{w, s, name, space, newline, bytes, op_sign, test_sign, spaced, enclosed, of_expression, of_arguments, of_further, of_predictor, of_predictors, of_further_predictors, of_carried, of_row, of_guess, blanks, on_own_line, closing, close_line, range, let_line, assign_line, stored, store_line, fill_line, word_line, row_line, fail_line, break_line, opening, if_line, for_line, while_line, do_line, pair_line, consumer_line, else_line, of_statement, of_otherwise, of_block, of_size, of_array, array_line, of_names, of_further_names, function_line, of_function, of_arrays, of_functions, of_main, header_line, of_header, count, of_program}
 use Rattle.spf_roundtrip.proofs.Bytes.{bytes-append}
 use Rattle.spf_roundtrip.proofs.Cuts.{AreWhole, whole-append, is_second, NoSecond, NoWord, no_word, no_word-semicolon, no_word-open, no_word-close, sign_spells, paren_spells, bracket_spells, word_spells, name_spells, count_spells, number_spells, numeral_model}
 
@@ -168,6 +169,83 @@ predictor-sound (Host n) h = record {
   head = λ after. refl;
 }
 
+-- predictors, before a closing parenthesis
+further_predictors-stop : (gs : List RawPredictor) (after : List ℕ) → NoWord (bytes (of_further_predictors gs) ++ 41 ∷ after)
+further_predictors-stop [] after = no_word 41 (omega arith)
+further_predictors-stop (g ∷ gs) after = no_word 44 (omega arith)
+
+further_predictors-whole : (gs : List RawPredictor) → AllByRecursion IsWritablePredictor gs → (after : List ℕ) → AreWhole (of_further_predictors gs) (41 ∷ after)
+further_predictors-whole [] h after = tt
+further_predictors-whole (g ∷ gs) h after =
+    (sign_spells sign.Comma _ refl, (inl refl, whole-append (of_predictor g) (of_further_predictors gs) (41 ∷ after) ((predictor-sound g h.0).whole _ (further_predictors-stop gs after)) (further_predictors-whole gs h.1 after)))
+
+predictors-whole : (gs : List RawPredictor) → AllByRecursion IsWritablePredictor gs → (after : List ℕ) → AreWhole (of_predictors gs) (41 ∷ after)
+predictors-whole [] h after = tt
+predictors-whole (g ∷ gs) h after =
+    whole-append (of_predictor g) (of_further_predictors gs) (41 ∷ after) ((predictor-sound g h.0).whole _ (further_predictors-stop gs after)) (further_predictors-whole gs h.1 after)
+
+predictors-head : (gs : List RawPredictor) → AllByRecursion IsWritablePredictor gs → (after : List ℕ) → NoSecond (bytes (of_predictors gs) ++ 41 ∷ after)
+predictors-head [] h after = refl
+predictors-head (g ∷ gs) h after =
+    subst (λ t. NoSecond (t ++ 41 ∷ after)) (sym (bytes-append (of_predictor g) (of_further_predictors gs))) (regroup (bytes (of_predictor g)) (bytes (of_further_predictors gs)) (41 ∷ after) ((predictor-sound g h.0).head _))
+
+further_names-stop : (xs : List (List ℕ)) (after : List ℕ) → NoWord (bytes (of_further_names xs) ++ 41 ∷ after)
+further_names-stop [] after = no_word 41 (omega arith)
+further_names-stop (x ∷ xs) after = no_word 44 (omega arith)
+
+-- names, before a closing parenthesis
+further_names-whole : (xs : List (List ℕ)) → AllByRecursion IsName xs → (after : List ℕ) → AreWhole (of_further_names xs) (41 ∷ after)
+further_names-whole [] h after = tt
+further_names-whole (x ∷ xs) h after = (sign_spells sign.Comma _ refl, (inl refl, (name_spells x _ h.0 (further_names-stop xs after), further_names-whole xs h.1 after)))
+
+names-whole : (xs : List (List ℕ)) → AllByRecursion IsName xs → (after : List ℕ) → AreWhole (of_names xs) (41 ∷ after)
+names-whole [] h after = tt
+names-whole (x ∷ xs) h after = (name_spells x _ h.0 (further_names-stop xs after), further_names-whole xs h.1 after)
+
+names-head : (xs : List (List ℕ)) → AllByRecursion IsName xs → (after : List ℕ) → NoSecond (bytes (of_names xs) ++ 41 ∷ after)
+names-head [] h after = refl
+names-head (x ∷ xs) h after = regroup x (bytes (of_further_names xs)) (41 ∷ after) (name_head x _ h.0)
+
+-- ---- rows
+
+-- a list in parentheses
+listed-sound : (ps : List Piece) → ((after : List ℕ) → AreWhole ps (41 ∷ after)) → ((after : List ℕ) → NoSecond (bytes ps ++ 41 ∷ after)) → Sound (enclosed true ps)
+listed-sound ps whole head = record {
+  whole = λ after no_. (sign_spells sign.OpenParen _ (headed after), whole-append ps (s sign.CloseParen ∷ []) after (whole after) (paren_spells after, tt));
+  head = λ after. refl;
+}
+  where
+    headed : (after : List ℕ) → NoSecond (bytes (ps ++ s sign.CloseParen ∷ []) ++ after)
+    headed after = subst (λ t. NoSecond (t ++ after)) (sym (bytes-append ps (s sign.CloseParen ∷ []))) (regroup (bytes ps) (41 ∷ []) after (head after))
+
+-- pieces, and no more
+alone-sound : (ps : List Piece) → Sound ps → Sound (ps ++ [])
+alone-sound ps h = subst Sound (sym (append-nil ps)) h
+
+carried-sound : (xs : List (List ℕ)) → AllByRecursion IsName xs → IsWidth (length xs) → Sound (of_carried xs)
+carried-sound [] h w = absurd (omega (arith, w.0))
+carried-sound (x ∷ []) h w = record {
+  whole = λ after no_. (name_spells x after h.0 no_, tt);
+  head = λ after. regroup x [] after (name_head x after h.0);
+}
+carried-sound (x ∷ y ∷ xs) h w =
+    subst (λ b. Sound (enclosed b (of_names (x ∷ y ∷ xs)))) (sym (several (length xs)))
+    (listed-sound (of_names (x ∷ y ∷ xs)) (names-whole (x ∷ y ∷ xs) h) (names-head (x ∷ y ∷ xs) h))
+
+row-sound : (given : RawArguments) → AreWritableArguments given → IsWidth (raw_count given) → Sound (of_row given)
+row-sound no_more h w = absurd (omega (arith, w.0))
+row-sound (argument a no_more) h w = alone-sound (of_expression a) (expression-sound a h.0)
+row-sound (argument a (argument b rest)) h w =
+    subst (λ t. Sound (enclosed t (of_arguments (argument a (argument b rest))))) (sym (several (raw_count rest)))
+    (listed-sound (of_arguments (argument a (argument b rest))) (arguments-whole (argument a (argument b rest)) h) (arguments-head (argument a (argument b rest)) h))
+
+guess-sound : (gs : List RawPredictor) → AllByRecursion IsWritablePredictor gs → IsWidth (length gs) → Sound (of_guess gs)
+guess-sound [] h w = absurd (omega (arith, w.0))
+guess-sound (g ∷ []) h w = alone-sound (of_predictor g) (predictor-sound g h.0)
+guess-sound (g ∷ k ∷ gs) h w =
+    subst (λ b. Sound (enclosed b (of_predictors (g ∷ k ∷ gs)))) (sym (several (length gs)))
+    (listed-sound (of_predictors (g ∷ k ∷ gs)) (predictors-whole (g ∷ k ∷ gs) h) (predictors-head (g ∷ k ∷ gs) h))
+
 -- ---- lines
 
 -- spaces alone
@@ -194,6 +272,10 @@ deeper-spaces (b ∷ rest) h = (h.0, deeper-spaces rest h.1)
 -- an expression at the end of a line
 finished : (e : RawExpression) → IsWritableExpression e → (after : List ℕ) → AreWhole (of_expression e ++ s sign.Semicolon ∷ []) (10 ∷ after)
 finished e h after = whole-append (of_expression e) (s sign.Semicolon ∷ []) (10 ∷ after) ((expression-sound e h).whole _ no_word-semicolon) (sign_spells sign.Semicolon (10 ∷ after) refl, tt)
+
+-- a row at the end of a line
+row-finished : (given : RawArguments) → AreWritableArguments given → IsWidth (raw_count given) → (after : List ℕ) → AreWhole (of_row given ++ s sign.Semicolon ∷ []) (10 ∷ after)
+row-finished given h w after = whole-append (of_row given) (s sign.Semicolon ∷ []) (10 ∷ after) ((row-sound given h w).whole _ no_word-semicolon) (sign_spells sign.Semicolon (10 ∷ after) refl, tt)
 
 -- a block that begins at the end of a line
 opens : (after : List ℕ) → AreWhole opening (10 ∷ after)
@@ -236,67 +318,50 @@ closing-ended indent h = line-ended indent close_line h (λ after. (sign_spells 
 word_line-ended : (indent : List ℕ) (k : Keyword) (e : RawExpression) → AreSpaces indent → IsWritableExpression e → Ended (on_own_line indent (word_line k e))
 word_line-ended indent k e h v = line-ended indent (word_line k e) h (λ after. (worded k, (inl refl, finished e v after)))
 
-fold_line-whole : (head : RawFoldHead) (body : RawBlock) → IsWritableStatement (Fold head body) → (after : List ℕ) → AreWhole (fold_line head) (10 ∷ after)
-fold_line-whole head body h after = (
-  worded word.Specfold,
-  (
-    inl refl,
-    (
-      named head.carried h.0.0,
-      (
-        inl refl,
-        (
-          sign_spells sign.Assign _ refl,
-          (
-            inl refl,
-            whole-append (of_expression head.start) _ (10 ∷ after) ((expression-sound head.start h.0.1).whole _ no_word-space) (
-              inl refl,
-              (
-                worded word.For,
-                (
-                  inl refl,
-                  (
-                    named head.block h.0.2,
-                    (
-                      inl refl,
-                      (
-                        worded word.In,
-                        (
-                          inl refl,
-                          whole-append (range head.low head.high) _ (10 ∷ after) ((range-sound head.low head.high h.0.3 h.0.4).whole _ no_word-space)
-                              (inl refl, (worded word.Predict, (inl refl, opened (of_predictor head.predict) (predictor-sound head.predict h.0.5) after))),
-                        ),
-                      ),
-                    ),
-                  ),
-                ),
-              ),
-            ),
-          ),
-        ),
-      ),
-    ),
-  ),
-)
+row_line-ended : (indent : List ℕ) (k : Keyword) (given : RawArguments) → AreSpaces indent → AreWritableArguments given → IsWidth (raw_count given) → Ended (on_own_line indent (row_line k given))
+row_line-ended indent k given h v w = line-ended indent (row_line k given) h (λ after. (worded k, (inl refl, row-finished given v w after)))
+
+-- a guess that ends a line
+guess-opened : (gs : List RawPredictor) → All IsWritablePredictor gs → IsWidth (length gs) → (after : List ℕ) → AreWhole (w word.Predict ∷ space ∷ (of_guess gs ++ opening)) (10 ∷ after)
+guess-opened gs h k after = (worded word.Predict, (inl refl, opened (of_guess gs) (guess-sound gs (recursion_from_All IsWritablePredictor gs h) k) after))
+
+-- the line of a fold from its range on, from its start on, and whole
+range-whole : (head : RawFoldHead) (body : RawBlock) → IsWritableStatement (Fold head body) → FoldHasRows head → (after : List ℕ) → AreWhole (fold_range head) (10 ∷ after)
+range-whole head body h rows after =
+    let guess : AreWhole (fold_guess head) (10 ∷ after) = (inl refl, guess-opened head.predict h.0.5 rows.predict after) in
+    let numbers = whole-append (range head.low head.high) _ (10 ∷ after) ((range-sound head.low head.high h.0.3 h.0.4).whole _ no_word-space) guess in
+    (inl refl, (worded word.For, (inl refl, (named head.block h.0.2, (inl refl, (worded word.In, (inl refl, numbers)))))))
+
+start-whole : (head : RawFoldHead) (body : RawBlock) → IsWritableStatement (Fold head body) → FoldHasRows head → (after : List ℕ) → AreWhole (fold_start head) (10 ∷ after)
+start-whole head body h rows after =
+    (inl refl, (sign_spells sign.Assign _ refl, (inl refl, whole-append (of_row head.start) _ (10 ∷ after) ((row-sound head.start h.0.1 rows.start).whole _ no_word-space) (range-whole head body h rows after))))
+
+fold_line-whole : (head : RawFoldHead) (body : RawBlock) → IsWritableStatement (Fold head body) → FoldHasRows head → (after : List ℕ) → AreWhole (fold_line head) (10 ∷ after)
+fold_line-whole head body h rows after =
+    (worded word.Specfold, (inl refl, whole-append (of_carried head.carried) _ (10 ∷ after) ((carried-sound head.carried (recursion_from_All IsName head.carried h.0.0) h.0.7).whole _ no_word-space) (start-whole head body h rows after)))
+
+pair_line-whole : (xs : List (List ℕ)) → All IsName xs → IsWidth (length xs) → (after : List ℕ) → AreWhole (pair_line xs) (10 ∷ after)
+pair_line-whole xs h k after =
+    (worded word.Spec, (inl refl, whole-append (of_carried xs) _ (10 ∷ after) ((carried-sound xs (recursion_from_All IsName xs h) k).whole _ no_word-space) (inl refl, (sign_spells sign.Assign _ refl, opens after))))
 
 mutual
-  pub statement-ended : (indent : List ℕ) (x : RawStatement) → AreSpaces indent → IsWritableStatement x → Ended (of_statement indent x)
-  statement-ended indent (Let x value) i h = line-ended indent (let_line x value) i (λ after. (worded word.Let, (inl refl, (named x h.0, assigned value h.1 after))))
-  statement-ended indent (Assign x value) i h = line-ended indent (assign_line x value) i (λ after. (named x h.0, assigned value h.1 after))
-  statement-ended indent (Store a index value) i h =
+  pub statement-ended : (indent : List ℕ) (x : RawStatement) → AreSpaces indent → IsWritableStatement x → HasRows x → Ended (of_statement indent x)
+  statement-ended indent (Let x value) i h rows = line-ended indent (let_line x value) i (λ after. (worded word.Let, (inl refl, (named x h.0, assigned value h.1 after))))
+  statement-ended indent (Assign x value) i h rows = line-ended indent (assign_line x value) i (λ after. (named x h.0, assigned value h.1 after))
+  statement-ended indent (Store a index value) i h rows =
       line-ended indent (store_line a index value) i (λ after. indexed a (of_expression index) value h.0 (expression-sound index h.1) h.2 after)
-  statement-ended indent (Fill a low high value) i h =
+  statement-ended indent (Fill a low high value) i h rows =
       line-ended indent (fill_line a low high value) i (λ after. (worded word.Fill, (inl refl, indexed a (range low high) value h.0 (range-sound low high h.1 h.2) h.3 after)))
-  statement-ended indent (Emit value) i h = word_line-ended indent word.Emit value i h
-  statement-ended indent (Fail n) i h =
+  statement-ended indent (Emit value) i h rows = word_line-ended indent word.Emit value i h
+  statement-ended indent (Fail n) i h rows =
       line-ended indent (fail_line n) i (λ after. (worded word.Fail, (inl refl, (number_spells n (59 ∷ []) h no_word-semicolon, (sign_spells sign.Semicolon (10 ∷ after) refl, tt)))))
-  statement-ended indent (If test a b) i h =
+  statement-ended indent (If test a b) i h rows =
       both-ended (line-ended indent (if_line test) i (λ after. (worded word.If, (inl refl, opened (of_expression test) (expression-sound test h.0) after))))
-      (both-ended (block-ended (deeper indent) a (deeper-spaces indent i) h.1) (otherwise-ended indent b i h.2))
-  statement-ended indent (For x low high body) i h =
+      (both-ended (block-ended (deeper indent) a (deeper-spaces indent i) h.1 rows.0) (otherwise-ended indent b i h.2 rows.1))
+  statement-ended indent (For x low high body) i h rows =
       both-ended (line-ended indent (for_line x low high) i (λ after. (worded word.For, (inl refl, (named x h.0, (inl refl, (worded word.In, (inl refl, opened (range low high) (range-sound low high h.1 h.2) after))))))))
-      (both-ended (block-ended (deeper indent) body (deeper-spaces indent i) h.3) (closing-ended indent i))
-  statement-ended indent (While test most body) i h =
+      (both-ended (block-ended (deeper indent) body (deeper-spaces indent i) h.3 rows) (closing-ended indent i))
+  statement-ended indent (While test most body) i h rows =
       both-ended (line-ended indent (while_line test most) i (λ after. (
         worded word.While,
         (
@@ -305,28 +370,29 @@ mutual
               (inl refl, (worded word.Max, (inl refl, (count_spells most (32 ∷ []) h.1 no_word-space, opens after)))),
         ),
       )))
-      (both-ended (block-ended (deeper indent) body (deeper-spaces indent i) h.2) (closing-ended indent i))
-  statement-ended indent (Do f given) i h =
+      (both-ended (block-ended (deeper indent) body (deeper-spaces indent i) h.2 rows) (closing-ended indent i))
+  statement-ended indent (Do f given) i h rows =
       line-ended indent (do_line f given) i (λ after. called (name f) (of_arguments given) (λ rest. name_spells f (40 ∷ rest) h.0 (no_word 40 (omega arith))) (arguments-whole given h.1) (arguments-head given h.1) (s sign.Semicolon ∷ []) (10 ∷ after) (sign_spells sign.Semicolon (10 ∷ after) refl, tt))
-  statement-ended indent (Fold head body) i h =
-      both-ended (line-ended indent (fold_line head) i (fold_line-whole head body h))
-      (both-ended (block-ended (deeper indent) body (deeper-spaces indent i) h.1) (both-ended (word_line-ended (deeper indent) word.Next head.next (deeper-spaces indent i) h.0.6) (closing-ended indent i)))
-  statement-ended indent (Pair head producer consumer) i h =
-      both-ended (line-ended indent (pair_line head.carried) i (λ after. (worded word.Spec, (inl refl, (named head.carried h.0.0, (inl refl, (sign_spells sign.Assign _ refl, opens after)))))))
-      (both-ended (block-ended (deeper indent) producer (deeper-spaces indent i) h.1)
-      (both-ended (word_line-ended (deeper indent) word.Give head.give (deeper-spaces indent i) h.0.1)
-      (both-ended (line-ended indent (consumer_line head.predict) i (λ after. (sign_spells sign.CloseBrace _ refl, (inl refl, (worded word.Predict, (inl refl, opened (of_predictor head.predict) (predictor-sound head.predict h.0.2) after))))))
-      (both-ended (block-ended (deeper indent) consumer (deeper-spaces indent i) h.2) (closing-ended indent i)))))
+  statement-ended indent (Fold head body) i h rows =
+      both-ended (line-ended indent (fold_line head) i (fold_line-whole head body h rows.0))
+      (both-ended (block-ended (deeper indent) body (deeper-spaces indent i) h.1 rows.1) (both-ended (row_line-ended (deeper indent) word.Next head.next (deeper-spaces indent i) h.0.6 rows.0.next) (closing-ended indent i)))
+  statement-ended indent (Pair head producer consumer) i h rows =
+      both-ended (line-ended indent (pair_line head.carried) i (pair_line-whole head.carried h.0.0 h.0.3))
+      (both-ended (block-ended (deeper indent) producer (deeper-spaces indent i) h.1 rows.1)
+      (both-ended (row_line-ended (deeper indent) word.Give head.give (deeper-spaces indent i) h.0.1 rows.0.give)
+      (both-ended (line-ended indent (consumer_line head.predict) i (λ after. (sign_spells sign.CloseBrace _ refl, (inl refl, guess-opened head.predict h.0.2 rows.0.predict after))))
+      (both-ended (block-ended (deeper indent) consumer (deeper-spaces indent i) h.2 rows.2) (closing-ended indent i)))))
+  statement-ended indent Break i h rows = line-ended indent break_line i (λ after. (word_spells word.Break (59 ∷ []) no_word-semicolon, (sign_spells sign.Semicolon (10 ∷ after) refl, tt)))
 
-  otherwise-ended : (indent : List ℕ) (b : RawBlock) → AreSpaces indent → IsWritableBlock b → Ended (of_otherwise indent b)
-  otherwise-ended indent end i h = closing-ended indent i
-  otherwise-ended indent (on_line n first rest) i h =
+  otherwise-ended : (indent : List ℕ) (b : RawBlock) → AreSpaces indent → IsWritableBlock b → HoldRows b → Ended (of_otherwise indent b)
+  otherwise-ended indent end i h rows = closing-ended indent i
+  otherwise-ended indent (on_line n first rest) i h rows =
       both-ended (line-ended indent else_line i (λ after. (sign_spells sign.CloseBrace _ refl, (inl refl, (worded word.Else, opens after)))))
-      (both-ended (both-ended (statement-ended (deeper indent) first (deeper-spaces indent i) h.0) (block-ended (deeper indent) rest (deeper-spaces indent i) h.1)) (closing-ended indent i))
+      (both-ended (both-ended (statement-ended (deeper indent) first (deeper-spaces indent i) h.0 rows.0) (block-ended (deeper indent) rest (deeper-spaces indent i) h.1 rows.1)) (closing-ended indent i))
 
-  pub block-ended : (indent : List ℕ) (b : RawBlock) → AreSpaces indent → IsWritableBlock b → Ended (of_block indent b)
-  block-ended indent end i h = record { whole = λ after. tt }
-  block-ended indent (on_line n first rest) i h = both-ended (statement-ended indent first i h.0) (block-ended indent rest i h.1)
+  pub block-ended : (indent : List ℕ) (b : RawBlock) → AreSpaces indent → IsWritableBlock b → HoldRows b → Ended (of_block indent b)
+  block-ended indent end i h rows = record { whole = λ after. tt }
+  block-ended indent (on_line n first rest) i h rows = both-ended (statement-ended indent first i h.0 rows.0) (block-ended indent rest i h.1 rows.1)
 
 -- ---- programs
 
@@ -365,25 +431,8 @@ array-ended a h =
     headed : (after : List ℕ) → NoSecond (bytes (of_size a.factor a.offset ++ s sign.CloseBracket ∷ s sign.Semicolon ∷ []) ++ 10 ∷ after)
     headed after = subst (λ t. NoSecond (t ++ 10 ∷ after)) (sym (bytes-append (of_size a.factor a.offset) (s sign.CloseBracket ∷ s sign.Semicolon ∷ []))) (regroup (bytes (of_size a.factor a.offset)) (93 ∷ 59 ∷ []) (10 ∷ after) (size-head a.factor a.offset h.1 h.2 _))
 
-further_names-stop : (xs : List (List ℕ)) (after : List ℕ) → NoWord (bytes (of_further_names xs) ++ 41 ∷ after)
-further_names-stop [] after = no_word 41 (omega arith)
-further_names-stop (x ∷ xs) after = no_word 44 (omega arith)
-
--- names, before a closing parenthesis
-further_names-whole : (xs : List (List ℕ)) → AllByRecursion IsName xs → (after : List ℕ) → AreWhole (of_further_names xs) (41 ∷ after)
-further_names-whole [] h after = tt
-further_names-whole (x ∷ xs) h after = (sign_spells sign.Comma _ refl, (inl refl, (name_spells x _ h.0 (further_names-stop xs after), further_names-whole xs h.1 after)))
-
-names-whole : (xs : List (List ℕ)) → AllByRecursion IsName xs → (after : List ℕ) → AreWhole (of_names xs) (41 ∷ after)
-names-whole [] h after = tt
-names-whole (x ∷ xs) h after = (name_spells x _ h.0 (further_names-stop xs after), further_names-whole xs h.1 after)
-
-names-head : (xs : List (List ℕ)) → AllByRecursion IsName xs → (after : List ℕ) → NoSecond (bytes (of_names xs) ++ 41 ∷ after)
-names-head [] h after = refl
-names-head (x ∷ xs) h after = regroup x (bytes (of_further_names xs)) (41 ∷ after) (name_head x _ h.0)
-
-function-ended : (f : RawFunction) → IsWritableFunction f → Ended (of_function f)
-function-ended f h =
+function-ended : (f : RawFunction) → IsWritableFunction f → HoldRows f.body → Ended (of_function f)
+function-ended f h rows =
     both-ended (line-ended [] (function_line f) tt (λ after. (
       worded word.Fn,
       (
@@ -391,22 +440,31 @@ function-ended f h =
         called (name f.name) (of_names f.params) (λ rest. name_spells f.name (40 ∷ rest) h.0 (no_word 40 (omega arith))) (names-whole f.params (recursion_from_All IsName f.params h.1)) (names-head f.params (recursion_from_All IsName f.params h.1)) opening (10 ∷ after) (opens after),
       ),
     )))
-    (both-ended (block-ended (deeper []) f.body (deeper-spaces [] tt) h.2) (both-ended (word_line-ended (deeper []) word.Return f.answer (deeper-spaces [] tt) h.3) (closing-ended [] tt)))
+    (both-ended (block-ended (deeper []) f.body (deeper-spaces [] tt) h.2 rows) (both-ended (word_line-ended (deeper []) word.Return f.answer (deeper-spaces [] tt) h.3) (closing-ended [] tt)))
 
 arrays-ended : (as_ : List Array) → AllByRecursion IsWritableArray as_ → Ended (of_arrays as_)
 arrays-ended [] h = record { whole = λ after. tt }
 arrays-ended (a ∷ rest) h = both-ended (array-ended a h.0) (arrays-ended rest h.1)
 
-functions-ended : (fs : List RawFunction) → AllByRecursion IsWritableFunction fs → Ended (of_functions fs)
-functions-ended [] h = record { whole = λ after. tt }
-functions-ended (f ∷ rest) h = both-ended (function-ended f h.0) (functions-ended rest h.1)
+functions-ended : (fs : List RawFunction) → AllByRecursion IsWritableFunction fs → AllByRecursion (λ (f : RawFunction). HoldRows f.body) fs → Ended (of_functions fs)
+functions-ended [] h rows = record { whole = λ after. tt }
+functions-ended (f ∷ rest) h rows = both-ended (function-ended f h.0 rows.0) (functions-ended rest h.1 rows.1)
 
-main-ended : (body : RawBlock) → IsWritableBlock body → Ended (of_main body)
-main-ended body h =
-    both-ended (line-ended [] (w word.Main ∷ opening) tt (λ after. (worded word.Main, opens after))) (both-ended (block-ended (deeper []) body (deeper-spaces [] tt) h) (closing-ended [] tt))
+main-ended : (body : RawBlock) → IsWritableBlock body → HoldRows body → Ended (of_main body)
+main-ended body h rows =
+    both-ended (line-ended [] (w word.Main ∷ opening) tt (λ after. (worded word.Main, opens after))) (both-ended (block-ended (deeper []) body (deeper-spaces [] tt) h rows) (closing-ended [] tt))
+
+header-ended : (version : ℕ) → Ended (of_header version)
+header-ended version = go (nat_eq version 2)
+  where
+    go : (b : Bool) → Ended (if b then on_own_line [] header_line else [])
+    go true = line-ended [] header_line tt (λ after. (worded word.Version, (inl refl, (count_spells 2 (59 ∷ []) (omega arith) no_word-semicolon, (sign_spells sign.Semicolon (10 ∷ after) refl, tt)))))
+    go false = record { whole = λ after. tt }
 
 -- the pieces of a program are whole
 pub program-ended : (p : RawProgram) → IsWritable p → Ended (of_program p)
 program-ended p h =
-    both-ended (arrays-ended p.arrays (recursion_from_All IsWritableArray p.arrays h.arrays))
-    (both-ended (functions-ended p.functions (recursion_from_All IsWritableFunction p.functions h.functions)) (main-ended p.main h.main))
+    let f = h.well_formed in
+    both-ended (header-ended p.version)
+    (both-ended (arrays-ended p.arrays (recursion_from_All IsWritableArray p.arrays f.arrays))
+    (both-ended (functions-ended p.functions (recursion_from_All IsWritableFunction p.functions f.functions) (recursion_from_All (λ (f : RawFunction). HoldRows f.body) p.functions h.functions)) (main-ended p.main f.main h.main)))

@@ -47,6 +47,7 @@ function_without_lines f = record {
 -- a whole program
 abbrev pub program_without_lines : RawProgram → RawProgram
 program_without_lines p = record {
+  version = p.version;
   arrays = map array_without_lines p.arrays;
   functions = map function_without_lines p.functions;
   main = block_without_lines p.main;

@@ -33,6 +33,7 @@ function_without_lines f = record {
 -- a whole program
 abbrev pub program_without_lines : Program → Program
 program_without_lines p = record {
+  version = p.version;
   arrays = map (λ (a : Array). record a { line = 0 }) p.arrays;
   functions = map function_without_lines p.functions;
   slots = p.slots;

@@ -8,8 +8,8 @@ use Rattle.spf_text.specs.declared.token.TokenKind.{TokenKind}
 use Rattle.spf_text.specs.declared.token.TokenKind.TheVariants as kind
 use Rattle.spf_ast.specs.RawSyntax.{RawExpression, Number, Let, end, Host}
 use Rattle.spf_grammar.specs.Lexemes.{Lexeme}
-use Rattle.spf_grammar.specs.Parts.{Part, token, opens, operator, name, number, count, many, lined, expression, level, further, compared, operand, arguments, next_argument, form, block, otherwise, guess, size, array, parameters, next_parameter, function, program, statement, Value, Rule, give, part, either}
-use Rattle.spf_grammar.specs.Rules.{rule}
+use Rattle.spf_grammar.specs.Parts.{Part, token, opens, operator, name, number, count, many, few, lined, expression, level, further, compared, operand, arguments, next_argument, names, row, guess, predictor, next_predictor, form, block, otherwise, header, size, array, parameters, next_parameter, function, program, statement, Value, Rule, give, part, either}
+use Rattle.spf_grammar.specs.Rules.{rule, has_breaks}
 use Rattle.spf_grammar.specs.Derivations.{Says, Reading}
 use Rattle.spf_grammar.proofs.Derivations.{from_rule}
 
@@ -25,6 +25,7 @@ sample name = []
 sample number = pos 0
 sample count = 0
 sample (many p) = []
+sample (few most p) = []
 sample (lined p) = (0, sample p)
 sample (expression n) = zero_expression
 sample (level n rank used) = (zero_expression, used)
@@ -33,16 +34,21 @@ sample (compared n rank a used) = (a, used)
 sample (operand n) = zero_expression
 sample (arguments n) = []
 sample (next_argument n) = zero_expression
-sample (form n) = Let [] zero_expression
-sample (block n) = end
-sample (otherwise n) = end
-sample (guess n) = Host 0
+sample (names n) = [] ∷ []
+sample (row n) = zero_expression ∷ []
+sample (guess n) = Host 0 ∷ []
+sample (predictor n) = Host 0
+sample (next_predictor n) = Host 0
+sample (form breaks n) = Let [] zero_expression
+sample (block breaks n) = end
+sample (otherwise breaks n) = end
+sample header = 1
 sample size = (pos 0, pos 0)
 sample array = record { name = []; factor = pos 0; offset = pos 0; line = 0 }
 sample parameters = []
 sample next_parameter = []
-sample function = record { name = []; params = []; body = end; answer = zero_expression; answer_line = 0; line = 0 }
-sample program = record { arrays = []; functions = []; main = end; main_line = 0 }
+sample (function breaks) = record { name = []; params = []; body = end; answer = zero_expression; answer_line = 0; line = 0 }
+sample program = record { version = 1; arrays = []; functions = []; main = end; main_line = 0 }
 
 -- these are completed only by what stands in the text
 abbrev pub is_given : Part → Bool
@@ -151,9 +157,23 @@ an_expression : (n : ℕ) → CompletesPart (expression n)
 unfolding Completable
 an_expression n = by_rule (expression n) (a_level n 9 0, refl)
 
-a_block : (n : ℕ) → CompletesPart (block n)
+a_block : (breaks : Bool) (n : ℕ) → CompletesPart (block breaks n)
 unfolding Completable
-a_block n = by_rule (block n) (an_opening n sign.OpenBrace, (no_more (statement (n + 1)), (a_token (kind.Sign sign.CloseBrace), refl)))
+a_block breaks n = by_rule (block breaks n) (an_opening n sign.OpenBrace, (no_more (statement breaks (n + 1)), (a_token (kind.Sign sign.CloseBrace), refl)))
+
+none_of_few : (most : ℕ) (p : Part) → CompletesPart (few most p)
+unfolding Completable
+none_of_few zero p = by_rule (few zero p) refl
+none_of_few (suc most) p = by_rule (few (suc most) p) refl
+
+a_predictor : (n : ℕ) → CompletesPart (predictor n)
+unfolding Completable
+a_predictor n = by_rule (predictor n) (a_token (kind.Keyword word.Host), (a_count, refl))
+
+a_form : (breaks : Bool) (n : ℕ) → CompletesPart (form breaks n)
+unfolding Completable
+a_form true n = by_rule (form true n) (a_token (kind.Keyword word.Let), (a_name, (a_token (kind.Sign sign.Assign), (an_expression n, (a_token (kind.Sign sign.Semicolon), refl)))))
+a_form false n = by_rule (form false n) (a_token (kind.Keyword word.Let), (a_name, (a_token (kind.Sign sign.Assign), (an_expression n, (a_token (kind.Sign sign.Semicolon), refl)))))
 
 pub completes_part : (p : Part) → is_given p ≡ false → CompletesPart p
 unfolding Completable
@@ -164,6 +184,7 @@ completes_part name h = a_name
 completes_part number h = a_number
 completes_part count h = a_count
 completes_part (many p) h = no_more p
+completes_part (few most p) h = none_of_few most p
 completes_part (lined p) h = let f : true ≡ false = h in absurd cc
 completes_part (expression n) h = an_expression n
 completes_part (level n rank used) h = a_level n rank used
@@ -172,16 +193,21 @@ completes_part (compared n rank a used) h = a_compared n rank a used
 completes_part (operand n) h = an_operand n
 completes_part (arguments n) h = by_rule (arguments n) (a_token (kind.Sign sign.CloseParen), refl)
 completes_part (next_argument n) h = by_rule (next_argument n) (a_token (kind.Sign sign.Comma), (an_expression n, refl))
-completes_part (form n) h = by_rule (form n) (a_token (kind.Keyword word.Let), (a_name, (a_token (kind.Sign sign.Assign), (an_expression n, (a_token (kind.Sign sign.Semicolon), refl)))))
-completes_part (block n) h = a_block n
-completes_part (otherwise n) h = by_rule (otherwise n) refl
-completes_part (guess n) h = by_rule (guess n) (a_token (kind.Keyword word.Host), (a_count, refl))
+completes_part (names n) h = by_rule (names n) (a_name, refl)
+completes_part (row n) h = by_rule (row n) (an_expression n, refl)
+completes_part (guess n) h = by_rule (guess n) (a_predictor n, refl)
+completes_part (predictor n) h = a_predictor n
+completes_part (next_predictor n) h = by_rule (next_predictor n) (a_token (kind.Sign sign.Comma), (a_predictor n, refl))
+completes_part (form breaks n) h = a_form breaks n
+completes_part (block breaks n) h = a_block breaks n
+completes_part (otherwise breaks n) h = by_rule (otherwise breaks n) refl
+completes_part header h = by_rule header refl
 completes_part size h = by_rule size (a_number, refl)
 completes_part array h = by_rule array (a_token (kind.Keyword word.Array), (a_name, (an_opening 0 sign.OpenBracket, (by_rule size (a_number, refl), (a_token (kind.Sign sign.CloseBracket), (a_token (kind.Sign sign.Semicolon), refl))))))
 completes_part parameters h = by_rule parameters (a_token (kind.Sign sign.CloseParen), refl)
 completes_part next_parameter h = by_rule next_parameter (a_token (kind.Sign sign.Comma), (a_name, refl))
-completes_part function h = by_rule function (a_token (kind.Keyword word.Fn), (a_name, (an_opening 0 sign.OpenParen, (by_rule parameters (a_token (kind.Sign sign.CloseParen), refl), (an_opening 0 sign.OpenBrace, (no_more (statement 1), (a_token (kind.Keyword word.Return), (an_expression 1, (a_token (kind.Sign sign.Semicolon), (a_token (kind.Sign sign.CloseBrace), refl))))))))))
-completes_part program h = by_rule program (no_more array, (no_more function, (a_token (kind.Keyword word.Main), (a_block 0, refl))))
+completes_part (function breaks) h = by_rule (function breaks) (a_token (kind.Keyword word.Fn), (a_name, (an_opening 0 sign.OpenParen, (by_rule parameters (a_token (kind.Sign sign.CloseParen), refl), (an_opening 0 sign.OpenBrace, (no_more (statement breaks 1), (a_token (kind.Keyword word.Return), (an_expression 1, (a_token (kind.Sign sign.Semicolon), (a_token (kind.Sign sign.CloseBrace), refl))))))))))
+completes_part program h = by_rule program (by_rule header refl, (no_more array, (no_more (function (has_breaks 1)), (a_token (kind.Keyword word.Main), (a_block (has_breaks 1) 0, refl)))))
 
 complete_part : {A : Type 0} (p : Part) (r : Value p → Rule A) → (IsTrue (whole (r (sample p))) → Completes (r (sample p))) → (b : Bool) → is_given p ≡ b → IsTrue (if b then false else whole (r (sample p))) → Completes (part p r)
 complete_part p r c true e h = let f : false ≡ true = h in absurd cc

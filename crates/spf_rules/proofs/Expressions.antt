@@ -1,5 +1,5 @@
 -- What is left of expressions.
-use Rattle.std.proofs.Common.{◌≡◌, ℕ, zero, suc, ◌+◌, false, List, [], ◌∷◌, ◌++◌, length, refl, sym, ◌∙◌, ap, subst, append_assoc, arith, inl, inr, Option, Some, None, nat_eq}
+use Rattle.std.proofs.Common.{◌≡◌, ℕ, zero, suc, ◌+◌, Bool, true, false, List, [], ◌∷◌, ◌++◌, length, refl, sym, ◌∙◌, ap, subst, append_assoc, arith, inl, inr, Option, Some, None, nat_eq}
 use Rattle.std.proofs.lemmas.List.{append-nil}
 use Rattle.std.specs.Prelude.{if◌then◌else◌, nat_lt}
 use Rattle.std.proofs.lemmas.Bool.Decides.{nat_tests}
@@ -14,7 +14,7 @@ use Rattle.spf_grammar.specs.Lexemes.{Lexeme}
 use Rattle.spf_grammar.specs.Parts.{Part, token, opens, operator, many, expression, level, further, compared, operand, arguments, next_argument, Value, Rule, give, part, either}
 use Rattle.spf_grammar.specs.Rules.{all, rule, rank_of, joined, named}
 use Rattle.spf_grammar.specs.Derivations.{Says, Reading}
-use Rattle.spf_rules.specs.Answers.{ahead, reach, Stops, Leads, Faults, IsRead}
+use Rattle.spf_rules.specs.Answers.{ahead, reach, Stops, Leads, Faults, IsRead, after_operand}
 use Rattle.spf_grammar.proofs.Derivations.{bind}
 use Rattle.spf_rules.proofs.Follows.{operator_reach}
 use Rattle.spf_rules.proofs.Steps.{start, unfold_part, not_first, not_second, cannot, decide, go, can, pick, refuse}
@@ -71,15 +71,20 @@ module _ {F : Rule (RawExpression × ℕ)} {ts us : List Lexeme} (e rank : ℕ) 
   pub compared_done : ((s : Sign) → ahead us ≡ Some (kind.Sign s) → rank_of s ≡ suc rank → ⊥) → Leads (suc (suc rank)) F ts (all (compared e rank a used)) us → Leads (suc (suc rank)) F ts (give (a, used)) us
   compared_done never l = not_second {R = give (a, used)} {S = after_comparison e rank a used} (λ free k b vs same d s. no_operator (suc rank) used (λ o. part (level e rank (used + 1)) (λ x. give (joined o a x.0, x.1))) us never free k b vs same d) (unfold_part (compared e rank a used) (λ x. give x) l)
 
--- a level begins with one of the tighter rank
-pub chain_start : {ts : List Lexeme} (e rank used : ℕ) → (rank ≡ 6 → ⊥) → Leads (suc (suc rank)) (all (level e (suc rank) used)) ts (part (level e rank used) (λ x. all (further e rank x.0 x.1))) ts
-chain_start {ts} e rank used never =
-    let b : nat_eq rank 6 ≡ false = grind (arith, nat_tests, never) in
-    subst (λ b. Leads (suc (suc rank)) (all (level e (suc rank) used)) ts (bind (if b then part (level e rank used) (λ x. all (compared e rank x.0 x.1)) else part (level e rank used) (λ x. all (further e rank x.0 x.1))) (λ x. give x)) ts) b
-    (unfold_part (level e (suc rank) used) (λ x. give x) start)
+-- ---- levels, by their first operands
 
-pub comparison_start : {ts : List Lexeme} (e used : ℕ) → Leads 8 (all (level e 7 used)) ts (part (level e 6 used) (λ x. all (compared e 6 x.0 x.1))) ts
-comparison_start e used = unfold_part (level e 7 used) (λ x. give x) start
+-- a rule that follows an operand, and then another
+pub then_bind : (e rank : ℕ) (a : RawExpression) (used : ℕ) {A B : Type 0} (K : RawExpression × ℕ → Rule A) (L : A → Rule B) →
+    bind (after_operand e rank a used K) L ≡ after_operand e rank a used (λ x. bind (K x) L)
+then_bind e zero a used K L = refl
+then_bind e (suc rank) a used {A} {B} K L = then_rank (nat_eq rank 6) (then_bind e rank a used)
+  where
+    then_rank : (b : Bool) →
+        ((K' : RawExpression × ℕ → Rule A) (L' : A → Rule B) → bind (after_operand e rank a used K') L' ≡ after_operand e rank a used (λ x. bind (K' x) L')) →
+        bind (after_operand e rank a used (λ x. if b then part (compared e rank x.0 x.1) K else part (further e rank x.0 x.1) K)) L
+        ≡ after_operand e rank a used (λ x. if b then part (compared e rank x.0 x.1) (λ y. bind (K y) L) else part (further e rank x.0 x.1) (λ y. bind (K y) L))
+    then_rank true h = h (λ x. part (compared e rank x.0 x.1) K) L
+    then_rank false h = h (λ x. part (further e rank x.0 x.1) K) L
 
 -- ---- arguments
 

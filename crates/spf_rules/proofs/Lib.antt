@@ -4,5 +4,6 @@ pub mod Completions
 pub mod Steps
 pub mod Tokens
 pub mod Expressions
+pub mod Rows
 pub mod Statements
 pub mod Functions

@@ -1,12 +1,12 @@
 -- What the parser's functions answer.
-use Rattle.std.specs.Prelude.{◌≡◌, ℕ, zero, suc, ◌+◌, ◌<◌, ◌≤◌, Bool, true, false, List, [], ◌∷◌, ◌++◌, length, Option, Some, None, Result, Ok, Err}
+use Rattle.std.specs.Prelude.{◌≡◌, ℕ, zero, suc, ◌+◌, ◌<◌, ◌≤◌, nat_eq, Bool, true, false, if◌then◌else◌, List, [], ◌∷◌, ◌++◌, length, map, Option, Some, None, Result, Ok, Err}
 use Rattle.spf_text.specs.declared.token.Keyword.{Keyword}
 use Rattle.spf_text.specs.declared.token.Keyword.TheVariants as word
 use Rattle.spf_text.specs.declared.token.Sign.TheVariants as sign
 use Rattle.spf_text.specs.declared.token.TokenKind.{TokenKind}
 use Rattle.spf_text.specs.declared.token.TokenKind.TheVariants as kind
 use Rattle.spf_ast.specs.declared.raw.RawStmt.{RawStmt}
-use Rattle.spf_ast.specs.RawSyntax.{RawExpression, RawPredictor, RawStatement}
+use Rattle.spf_ast.specs.RawSyntax.{RawExpression, RawPredictor, By, Host, RawStatement}
 use Rattle.spf_ast.specs.RawView.{raw_expression, raw_predictor, raw_statement}
 use Rattle.spf_ast.specs.View.{name as seen_name}
 use Rattle.spf_grammar.specs.Lexemes.{Lexeme}
@@ -17,22 +17,32 @@ use Rattle.spf_grammar.specs.Parts.{
   token,
   opens,
   name,
+  count,
   many,
+  few,
   lined,
   expression,
   level,
   further,
   compared,
   operand,
+  next_argument,
+  names,
+  row,
+  guess,
+  predictor,
+  next_predictor,
   form,
   otherwise,
-  guess,
+  header,
   size,
   function,
   statement,
   Value,
   Rule,
   give,
+  part,
+  ◌or◌,
 }
 use Rattle.spf_grammar.specs.Rules.{all, rank_of, named}
 use Rattle.spf_grammar.specs.Derivations.{Reading}
@@ -62,6 +72,8 @@ reach (kind.Keyword word.For) = 12
 reach (kind.Keyword word.While) = 12
 reach (kind.Keyword word.Specfold) = 12
 reach (kind.Keyword word.Spec) = 12
+reach (kind.Keyword word.Break) = 12
+reach (kind.Keyword word.Version) = 11
 reach (kind.Keyword word.Array) = 12
 reach (kind.Keyword word.Fn) = 13
 reach (kind.Sign sign.OpenParen) = 1
@@ -76,13 +88,16 @@ Stops n (t ∷ ts) = n < reach t.kind
 
 -- the level up to which a part is read
 abbrev pub stop : Part → ℕ
-stop (many function) = 13
+stop (many (function breaks)) = 13
 stop (many p) = 12
 stop (lined p) = 11
-stop (form n) = 11
-stop (otherwise n) = 11
+stop (form breaks n) = 11
+stop (otherwise breaks n) = 11
+stop header = 11
 stop (expression n) = 10
+stop (row n) = 10
 stop (guess n) = 10
+stop (predictor n) = 10
 stop (level n rank used) = suc rank
 stop (further n rank a used) = suc (suc rank)
 stop (compared n rank a used) = suc (suc rank)
@@ -151,28 +166,87 @@ named_operand n = name >>= λ x. named n x
 abbrev pub value_before : ℕ → TokenKind → Rule RawExpression
 value_before n end = expression n >>= λ a. token end >> give a
 
--- an opening brace, and the statements after it
-abbrev pub opened_statements : ℕ → Rule (List (ℕ × RawStatement))
-opened_statements n = opens n sign.OpenBrace >> (many (statement (n + 1)) >>= λ inside. give inside)
+-- a row, and the token after it
+abbrev pub row_before : ℕ → TokenKind → Rule (List RawExpression)
+row_before n end = row n >>= λ a. token end >> give a
 
--- an opening brace, the statements after it, and a last one of this word with an expression, up to the closing brace
-abbrev pub ended_statements : ℕ → Keyword → Rule (List (ℕ × RawStatement) × ℕ × RawExpression)
-ended_statements n w = do
+-- What follows an operand in an expression of this rank, and then what follows the expression. The operand is given,
+-- and how many operators there are before it.
+abbrev pub after_operand : {A : Type 0} → ℕ → (rank : ℕ) → RawExpression → (used : ℕ) → (RawExpression × ℕ → Rule A) → Rule A
+after_operand n zero a used K = K (a, used)
+after_operand n (suc rank) a used K =
+    after_operand n rank a used
+    (λ x. if nat_eq rank 6 then part (compared n rank x.0 x.1) K else part (further n rank x.0 x.1) K)
+
+-- What follows an opening parenthesis. With `)` after an expression it was an operand, and the whole expression is said.
+-- With `,` it was the first part of a row.
+abbrev pub from_bracket : {A : Type 0} → ℕ → (whole : RawExpression → A) → (first : RawExpression → Rule A) → Rule A
+from_bracket n whole first = expression (n + 1) >>= λ a.
+    (token (kind.Sign sign.CloseParen) >> after_operand n 9 a 0 (λ x. give (whole x.0)))
+    or (token (kind.Sign sign.Comma) >> first a)
+
+-- the closing parenthesis after all parts
+abbrev pub closed : {A : Type 0} → List A → List A → Rule (List A)
+closed before more = token (kind.Sign sign.CloseParen) >> give (before ++ more)
+
+-- what follows a whole expression, which is a row, or the first part of a row and its comma
+abbrev pub row_after : ℕ → RawExpression → Bool → Rule (List RawExpression)
+row_after n a true = give (a ∷ [])
+row_after n a false = expression (n + 1) >>= λ b. few 2 (next_argument (n + 1)) >>= closed (a ∷ b ∷ [])
+
+abbrev pub row_from : ℕ → Rule (List RawExpression)
+row_from n = from_bracket n (λ a. a ∷ []) (λ a. row_after n a false)
+
+-- the same of predictors
+abbrev pub guess_after : ℕ → RawPredictor → Bool → Rule (List RawPredictor)
+guess_after n g true = give (g ∷ [])
+guess_after n g false = predictor (n + 1) >>= λ h. few 2 (next_predictor (n + 1)) >>= closed (g ∷ h ∷ [])
+
+abbrev pub guess_from_bracket : ℕ → Rule (List RawPredictor)
+guess_from_bracket n = from_bracket n (λ a. By a ∷ []) (λ a. guess_after n (By a) false)
+
+abbrev pub guess_from : ℕ → Rule (List RawPredictor)
+guess_from n =
+    (token (kind.Keyword word.Host) >> (count >>= λ k. token (kind.Sign sign.Comma) >> guess_after n (Host k) false))
+    or guess_from_bracket n
+
+-- what is answered about these tokens for a rule of which only the beginning is read: what it says of what is left; or
+-- where they go wrong
+abbrev pub Continues : {X A : Type 0} → ℕ → Rule A → List Lexeme → (X → Rule A) → (X → List Lexeme) → Result X Fault → Type 0
+Continues n F ts next rest (Ok x) = Leads n F ts (next x) (rest x)
+Continues n F ts next rest (Err why) = Refuses n F ts why
+
+-- an opening brace, and the statements after it
+abbrev pub opened_statements : Bool → ℕ → Rule (List (ℕ × RawStatement))
+opened_statements breaks n = opens n sign.OpenBrace >> (many (statement breaks (n + 1)) >>= λ inside. give inside)
+
+-- an opening brace, the statements after it, and a last one of this word with a row, up to the closing brace
+abbrev pub ended_statements : Bool → ℕ → Keyword → Rule (List (ℕ × RawStatement) × ℕ × List RawExpression)
+ended_statements breaks n w = do
   opens n sign.OpenBrace
-  inside ← many (statement (n + 1))
+  inside ← many (statement breaks (n + 1))
   l ← token (kind.Keyword w)
-  a ← expression (n + 1)
+  a ← row (n + 1)
   token (kind.Sign sign.Semicolon)
   token (kind.Sign sign.CloseBrace)
   give (inside, l, a)
 
+-- what a fold says before its body
+pub record Opening : Type 0 where
+  pub carried : List (List ℕ)
+  pub start : List RawExpression
+  pub block : List ℕ
+  pub low : RawExpression
+  pub high : RawExpression
+  pub predict : List RawPredictor
+
 -- a fold up to its body
-abbrev pub fold_opening : ℕ → Rule (List ℕ × RawExpression × List ℕ × RawExpression × RawExpression × RawPredictor)
+abbrev pub fold_opening : ℕ → Rule Opening
 fold_opening n = do
   token (kind.Keyword word.Specfold)
-  s ← name
+  s ← names n
   token (kind.Sign sign.Assign)
-  e ← expression n
+  e ← row n
   token (kind.Keyword word.For)
   k ← name
   token (kind.Keyword word.In)
@@ -181,21 +255,33 @@ fold_opening n = do
   j ← expression n
   token (kind.Keyword word.Predict)
   g ← guess n
-  give (s, e, k, i, j, g)
+  give (record { carried = s; start = e; block = k; low = i; high = j; predict = g })
 
-abbrev pub seen_head : FoldHead → List ℕ × RawExpression × List ℕ × RawExpression × RawExpression × RawPredictor
-seen_head h = (seen_name h.carried, raw_expression h.start, seen_name h.block, raw_expression h.low, raw_expression h.high, raw_predictor h.predict)
+abbrev pub seen_head : FoldHead → Opening
+seen_head h = record {
+  carried = map seen_name h.carried.items;
+  start = map raw_expression h.start.items;
+  block = seen_name h.block;
+  low = raw_expression h.low;
+  high = raw_expression h.high;
+  predict = map raw_predictor h.predict.items;
+}
+
+-- the next token is `break`
+abbrev pub IsBreakNext : List Lexeme → Type 0
+IsBreakNext ts = ahead ts ≡ Some (kind.Keyword word.Break)
 
 -- a statement begins with this token
-abbrev pub opens_statement : Option TokenKind → Bool
-opens_statement (Some kind.Name) = true
-opens_statement (Some (kind.Keyword word.Let)) = true
-opens_statement (Some (kind.Keyword word.Fill)) = true
-opens_statement (Some (kind.Keyword word.Emit)) = true
-opens_statement (Some (kind.Keyword word.Fail)) = true
-opens_statement (Some (kind.Keyword word.If)) = true
-opens_statement (Some (kind.Keyword word.For)) = true
-opens_statement (Some (kind.Keyword word.While)) = true
-opens_statement (Some (kind.Keyword word.Specfold)) = true
-opens_statement (Some (kind.Keyword word.Spec)) = true
-opens_statement w = false
+abbrev pub opens_statement : (breaks : Bool) → Option TokenKind → Bool
+opens_statement breaks (Some kind.Name) = true
+opens_statement breaks (Some (kind.Keyword word.Let)) = true
+opens_statement breaks (Some (kind.Keyword word.Fill)) = true
+opens_statement breaks (Some (kind.Keyword word.Emit)) = true
+opens_statement breaks (Some (kind.Keyword word.Fail)) = true
+opens_statement breaks (Some (kind.Keyword word.If)) = true
+opens_statement breaks (Some (kind.Keyword word.For)) = true
+opens_statement breaks (Some (kind.Keyword word.While)) = true
+opens_statement breaks (Some (kind.Keyword word.Specfold)) = true
+opens_statement breaks (Some (kind.Keyword word.Spec)) = true
+opens_statement breaks (Some (kind.Keyword word.Break)) = breaks
+opens_statement breaks w = false

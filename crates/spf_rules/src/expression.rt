@@ -4,9 +4,9 @@ ghost use Rattle.std.specs.Prelude.{◌≡◌, ◌≤◌, ◌<◌, IfOk, IfErr, 
 ghost use Rattle.spf_text.specs.declared.token.TokenKind.TheVariants.{Sign as kind_sign};
 ghost use Rattle.spf_ast.specs.RawView.{raw_expression};
 ghost use Rattle.spf_grammar.specs.Lexemes.{lexemes};
-ghost use Rattle.spf_grammar.specs.Parts.{expression, level as level_part, operand as operand_part, arguments as arguments_part};
+ghost use Rattle.spf_grammar.specs.Parts.{expression, level as level_part, further as further_part, compared as compared_part, give, operand as operand_part, arguments as arguments_part};
 ghost use Rattle.spf_grammar.specs.Rules.{joined};
-ghost use Rattle.spf_rules.specs.Answers.{ahead, Answers, Answered, reach, named_operand, value_before};
+ghost use Rattle.spf_rules.specs.Answers.{ahead, Answers, Answered, reach, named_operand, value_before, after_operand};
 
 use crate::fault::Fault;
 use crate::step::{after, expect, followed, is_next, name, next, number, open, operator};
@@ -23,7 +23,7 @@ const MAX_OPERATORS: u32 = 32;
 const COMPARISONS: u32 = 7;
 
 /// The rank of the operators that bind loosest.
-const LOOSEST: u32 = 9;
+pub(crate) const LOOSEST: u32 = 9;
 
 /// An operator between its two sides.
 fn between(operator: Sign, left: Box<RawExpr>, right: Box<RawExpr>) -> RawExpr
@@ -205,33 +205,57 @@ fn level<'b, 'a>(
     ensures answers { Answers (level_part nesting rank used) (lexemes tokens.now) (λ x. (raw_expression x.0.value, x.1)) (λ x. lexemes x.2.now) result }
     ensures used_in { IfOk result (λ x. x.1 ≤ 32) }
 {
-    if rank == 0 {
-        let (a, rest) = operand(alloc, tokens, nesting)?;
-        return Ok((a, used, rest));
-    }
-    if rank == COMPARISONS {
-        return comparison(alloc, tokens, nesting, used);
-    }
-    chain(alloc, tokens, rank - 1, nesting, used)
+    let (first, rest) = operand(alloc, tokens, nesting)?;
+    continued(alloc, first, rest, rank, nesting, used)
 }
 
-/// Operands of this rank, with operators of the next looser one between them.
+/// An expression of this rank, of which the first operand is read.
+#[cycle(expression)]
+pub(crate) fn continued<'b, 'a>(
+    alloc: Global,
+    operand: Box<RawExpr>,
+    tokens: &'b [Lexeme<'a>],
+    rank: u32,
+    nesting: u32,
+    used: u32,
+) -> Result<(Box<RawExpr>, u32, &'b [Lexeme<'a>]), Fault>
+    requires rank_in { rank ≤ 9 }
+    requires nesting_in { nesting ≤ 64 }
+    requires used_in { used ≤ 32 }
+    ensures answers { Answered (suc rank) (after_operand nesting rank (raw_expression operand.value) used (λ x. give x)) (lexemes tokens.now)
+        (λ x. (raw_expression x.0.value, x.1)) (λ x. lexemes x.2.now) result }
+    ensures used_in { IfOk result (λ x. x.1 ≤ 32) }
+{
+    if rank == 0 {
+        return Ok((operand, used, tokens));
+    }
+    let (left, so_far, rest) = continued(alloc, operand, tokens, rank - 1, nesting, used)?;
+    if rank == COMPARISONS {
+        return comparison(alloc, left, rest, nesting, so_far);
+    }
+    chain(alloc, left, rest, rank - 1, nesting, so_far)
+}
+
+/// Operands of this rank after a first one, each after an operator of the next looser rank.
 #[cycle(expression)]
 fn chain<'b, 'a>(
     alloc: Global,
+    first: Box<RawExpr>,
     tokens: &'b [Lexeme<'a>],
     rank: u32,
     nesting: u32,
     used: u32,
 ) -> Result<(Box<RawExpr>, u32, &'b [Lexeme<'a>]), Fault>
     requires rank_in { rank ≤ 8 }
-    requires no_comparison { rank ≡ 6 → ⊥ }
     requires nesting_in { nesting ≤ 64 }
     requires used_in { used ≤ 32 }
-    ensures answers { Answers (level_part nesting (suc rank) used) (lexemes tokens.now) (λ x. (raw_expression x.0.value, x.1)) (λ x. lexemes x.2.now) result }
+    ensures answers { Answers (further_part nesting rank (raw_expression first.value) used) (lexemes tokens.now)
+        (λ x. (raw_expression x.0.value, x.1)) (λ x. lexemes x.2.now) result }
     ensures used_in { IfOk result (λ x. x.1 ≤ 32) }
 {
-    let (mut left, mut so_far, mut rest) = level(alloc, tokens, rank, nesting, used)?;
+    let mut left = first;
+    let mut so_far = used;
+    let (_, mut rest) = tokens.split_at(0);
     'further: while let Some((sign, behind)) = operator(rest, rank + 1) {
         if so_far >= MAX_OPERATORS {
             return Err(Fault::TooDeep(rest.len()));
@@ -244,27 +268,28 @@ fn chain<'b, 'a>(
     Ok((left, so_far, rest))
 }
 
-/// At most one comparison.
+/// At most one comparison after its left side.
 #[cycle(expression)]
 fn comparison<'b, 'a>(
     alloc: Global,
+    left: Box<RawExpr>,
     tokens: &'b [Lexeme<'a>],
     nesting: u32,
     used: u32,
 ) -> Result<(Box<RawExpr>, u32, &'b [Lexeme<'a>]), Fault>
     requires nesting_in { nesting ≤ 64 }
     requires used_in { used ≤ 32 }
-    ensures answers { Answers (level_part nesting 7 used) (lexemes tokens.now) (λ x. (raw_expression x.0.value, x.1)) (λ x. lexemes x.2.now) result }
+    ensures answers { Answers (compared_part nesting 6 (raw_expression left.value) used) (lexemes tokens.now)
+        (λ x. (raw_expression x.0.value, x.1)) (λ x. lexemes x.2.now) result }
     ensures used_in { IfOk result (λ x. x.1 ≤ 32) }
 {
-    let (left, so_far, rest) = level(alloc, tokens, COMPARISONS - 1, nesting, used)?;
-    let Some((sign, behind)) = operator(rest, COMPARISONS) else {
-        return Ok((left, so_far, rest));
+    let Some((sign, behind)) = operator(tokens, COMPARISONS) else {
+        return Ok((left, used, tokens));
     };
-    if so_far >= MAX_OPERATORS {
-        return Err(Fault::TooDeep(rest.len()));
+    if used >= MAX_OPERATORS {
+        return Err(Fault::TooDeep(tokens.len()));
     }
-    let (right, more, end) = level(alloc, behind, COMPARISONS - 1, nesting, so_far + 1)?;
+    let (right, more, end) = level(alloc, behind, COMPARISONS - 1, nesting, used + 1)?;
     Ok((join(alloc, sign, left, right)?, more, end))
 }
 

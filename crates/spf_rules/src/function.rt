@@ -7,9 +7,10 @@ ghost use Rattle.spf_grammar.specs.Lexemes.{lexemes};
 ghost use Rattle.spf_grammar.specs.Parts.{size as size_part, array as array_part, parameters as parameters_part, function as function_part};
 ghost use Rattle.spf_rules.specs.Answers.{Answers};
 
+use crate::expression::value;
 use crate::fault::Fault;
-use crate::statement::ended;
-use crate::step::{after, expect, line_of, name, number, open};
+use crate::statement::{CLOSE_BRACE, SEMICOLON, opened};
+use crate::step::{after, expect, followed, line_of, name, number, open};
 use spf_ast::raw::RawFunction;
 use spf_ast::syntax::{Array, Name};
 use spf_grammar::Lexeme;
@@ -79,19 +80,23 @@ fn parameters<'b, 'a>(
     Ok((inside, end))
 }
 
-/// A function.
+/// A function. `break` is a statement in it where so told.
 pub fn function<'b, 'a>(
     alloc: Global,
     tokens: &'b [Lexeme<'a>],
+    breaks: bool,
 ) -> Result<(RawFunction, &'b [Lexeme<'a>]), Fault>
-    ensures { Answers function_part (lexemes tokens.now) (λ x. raw_function x.0) (λ x. lexemes x.1.now) result }
+    ensures { Answers (function_part breaks) (lexemes tokens.now) (λ x. raw_function x.0) (λ x. lexemes x.1.now) result }
 {
     let line = line_of(tokens);
     let rest = expect(tokens, TokenKind::Keyword(Keyword::Fn))?;
     let (name, after_name) = name(alloc, rest)?;
     let inner = open(after_name, Sign::OpenParen, 0)?;
     let (params, after_params) = parameters(alloc, inner)?;
-    let ((body, answer_line, answer), end) = ended(alloc, after_params, 0, Keyword::Return)?;
+    let (body, after_body) = opened(alloc, after_params, 0, breaks)?;
+    let answer_line = line_of(after_body);
+    let answer_at = expect(after_body, TokenKind::Keyword(Keyword::Return))?;
+    let (answer, end) = followed(value(alloc, answer_at, 1, SEMICOLON), CLOSE_BRACE)?;
     let function = RawFunction {
         name,
         params,

@@ -3,14 +3,15 @@
 ghost use Rattle.std.specs.Prelude.{◌≤◌, ◌<◌, map};
 ghost use Rattle.spf_text.specs.declared.token.TokenKind.TheVariants.{Keyword as keyword_kind};
 ghost use Rattle.spf_ast.specs.View.{name as seen_name};
-ghost use Rattle.spf_ast.specs.RawView.{raw_expression, raw_statement, raw_predictor, raw_block};
+ghost use Rattle.spf_ast.specs.RawView.{raw_expression, raw_statement, raw_block};
 ghost use Rattle.spf_grammar.specs.Lexemes.{lexemes};
-ghost use Rattle.spf_grammar.specs.Parts.{form as form_part, block as block_part, guess as guess_part, otherwise as otherwise_part};
+ghost use Rattle.spf_grammar.specs.Parts.{form as form_part, block as block_part, otherwise as otherwise_part};
 ghost use Rattle.spf_grammar.specs.Rules as grammar;
-ghost use Rattle.spf_rules.specs.Answers.{Answers, Answered, reach, stated, opened_statements, ended_statements, fold_opening, seen_head};
+ghost use Rattle.spf_rules.specs.Answers.{Answers, Answered, reach, stated, opened_statements, ended_statements, fold_opening, seen_head, IsBreakNext};
 
 use crate::expression::{arguments, expr, value};
 use crate::fault::Fault;
+use crate::row::{guess, names, row_up_to};
 use crate::step::{
     after, begins_statement, count, expect, followed, is_next, line_of, name, next, number, open,
 };
@@ -22,13 +23,13 @@ use std::alloc::Global;
 
 const ASSIGN: TokenKind = TokenKind::Sign(Sign::Assign);
 
-const SEMICOLON: TokenKind = TokenKind::Sign(Sign::Semicolon);
+pub(crate) const SEMICOLON: TokenKind = TokenKind::Sign(Sign::Semicolon);
 
 const DOTS: TokenKind = TokenKind::Sign(Sign::DotDot);
 
 const CLOSE_BRACKET: TokenKind = TokenKind::Sign(Sign::CloseBracket);
 
-const CLOSE_BRACE: TokenKind = TokenKind::Sign(Sign::CloseBrace);
+pub(crate) const CLOSE_BRACE: TokenKind = TokenKind::Sign(Sign::CloseBrace);
 
 /// A statement, or a part of one, and the tokens after it.
 pub type Read<'b, 'a, T> = Result<(T, &'b [Lexeme<'a>]), Fault>;
@@ -162,17 +163,21 @@ fn fail_form<'b, 'a>(tokens: &'b [Lexeme<'a>], nesting: u32) -> Read<'b, 'a, Raw
     Ok((RawStmtKind::Fail(n), end))
 }
 
-/// What comes after `predict`: a number of a predictor that is handed in, or an expression.
-fn guess<'b, 'a>(alloc: Global, tokens: &'b [Lexeme<'a>], nesting: u32) -> Read<'b, 'a, RawPredict>
-    requires { nesting ≤ 64 }
-    ensures { Answers (guess_part nesting) (lexemes tokens.now) (λ x. raw_predictor x.0) (λ x. lexemes x.1.now) result }
+/// `break`, where it is a statement.
+fn break_form<'b, 'a>(
+    tokens: &'b [Lexeme<'a>],
+    nesting: u32,
+    breaks: bool,
+) -> Read<'b, 'a, RawStmtKind>
+    requires { IsBreakNext (lexemes tokens.now) }
+    ensures { Answers (form_part breaks nesting) (lexemes tokens.now) (λ x. raw_statement x.0) (λ x. lexemes x.1.now) result }
 {
-    if let Some(rest) = after(tokens, TokenKind::Keyword(Keyword::Host)) {
-        let (n, end) = count(rest)?;
-        return Ok((RawPredict::Host(n), end));
+    if !breaks {
+        return Err(Fault::Unexpected(tokens.len()));
     }
-    let (g, end) = expr(alloc, tokens, nesting)?;
-    Ok((RawPredict::Expr(Box::into_inner(g)), end))
+    let rest = expect(tokens, TokenKind::Keyword(Keyword::Break))?;
+    let end = expect(rest, SEMICOLON)?;
+    Ok((RawStmtKind::Break, end))
 }
 
 /// `if`.
@@ -181,14 +186,15 @@ fn if_form<'b, 'a>(
     alloc: Global,
     tokens: &'b [Lexeme<'a>],
     nesting: u32,
+    breaks: bool,
 ) -> Read<'b, 'a, RawStmtKind>
     requires { nesting ≤ 64 }
-    ensures { Answered 11 (grammar.if_form nesting) (lexemes tokens.now) (λ x. raw_statement x.0) (λ x. lexemes x.1.now) result }
+    ensures { Answered 11 (grammar.if_form breaks nesting) (lexemes tokens.now) (λ x. raw_statement x.0) (λ x. lexemes x.1.now) result }
 {
     let rest = expect(tokens, TokenKind::Keyword(Keyword::If))?;
     let (test, after_test) = expr(alloc, rest, nesting)?;
-    let (yes, after_yes) = block(alloc, after_test, nesting)?;
-    let (no, end) = otherwise(alloc, after_yes, nesting)?;
+    let (yes, after_yes) = block(alloc, after_test, nesting, breaks)?;
+    let (no, end) = otherwise(alloc, after_yes, nesting, breaks)?;
     Ok((RawStmtKind::If(Box::into_inner(test), yes, no), end))
 }
 
@@ -198,12 +204,13 @@ fn otherwise<'b, 'a>(
     alloc: Global,
     tokens: &'b [Lexeme<'a>],
     nesting: u32,
+    breaks: bool,
 ) -> Read<'b, 'a, Vec<RawStmt>>
     requires { nesting ≤ 64 }
-    ensures { Answers (otherwise_part nesting) (lexemes tokens.now) (λ x. raw_block x.0.items) (λ x. lexemes x.1.now) result }
+    ensures { Answers (otherwise_part breaks nesting) (lexemes tokens.now) (λ x. raw_block x.0.items) (λ x. lexemes x.1.now) result }
 {
     match after(tokens, TokenKind::Keyword(Keyword::Else)) {
-        Some(rest) => block(alloc, rest, nesting),
+        Some(rest) => block(alloc, rest, nesting, breaks),
         None => Ok((Vec::new(alloc), tokens)),
     }
 }
@@ -214,15 +221,16 @@ fn for_form<'b, 'a>(
     alloc: Global,
     tokens: &'b [Lexeme<'a>],
     nesting: u32,
+    breaks: bool,
 ) -> Read<'b, 'a, RawStmtKind>
     requires { nesting ≤ 64 }
-    ensures { Answered 11 (grammar.for_form nesting) (lexemes tokens.now) (λ x. raw_statement x.0) (λ x. lexemes x.1.now) result }
+    ensures { Answered 11 (grammar.for_form breaks nesting) (lexemes tokens.now) (λ x. raw_statement x.0) (λ x. lexemes x.1.now) result }
 {
     let rest = expect(tokens, TokenKind::Keyword(Keyword::For))?;
     let (x, range) = followed(name(alloc, rest), TokenKind::Keyword(Keyword::In))?;
     let (low, after_low) = value(alloc, range, nesting, DOTS)?;
     let (high, after_high) = expr(alloc, after_low, nesting)?;
-    let (body, end) = block(alloc, after_high, nesting)?;
+    let (body, end) = block(alloc, after_high, nesting, breaks)?;
     let repeat = RawStmtKind::For(x, Box::into_inner(low), Box::into_inner(high), body);
     Ok((repeat, end))
 }
@@ -233,26 +241,27 @@ fn while_form<'b, 'a>(
     alloc: Global,
     tokens: &'b [Lexeme<'a>],
     nesting: u32,
+    breaks: bool,
 ) -> Read<'b, 'a, RawStmtKind>
     requires { nesting ≤ 64 }
-    ensures { Answered 11 (grammar.while_form nesting) (lexemes tokens.now) (λ x. raw_statement x.0) (λ x. lexemes x.1.now) result }
+    ensures { Answered 11 (grammar.while_form breaks nesting) (lexemes tokens.now) (λ x. raw_statement x.0) (λ x. lexemes x.1.now) result }
 {
     let rest = expect(tokens, TokenKind::Keyword(Keyword::While))?;
     let (test, after_test) = value(alloc, rest, nesting, TokenKind::Keyword(Keyword::Max))?;
     let (most, after_most) = count(after_test)?;
-    let (body, end) = block(alloc, after_most, nesting)?;
+    let (body, end) = block(alloc, after_most, nesting, breaks)?;
     Ok((RawStmtKind::While(Box::into_inner(test), most, body), end))
 }
 
 /// What a fold says before its body.
 #[derive(Drop)]
 struct FoldHead {
-    carried: Name,
-    start: RawExpr,
+    carried: Vec<Name>,
+    start: Vec<RawExpr>,
     block: Name,
     low: RawExpr,
     high: RawExpr,
-    predict: RawPredict,
+    predict: Vec<RawPredict>,
 }
 
 /// `specfold`, up to its body.
@@ -265,8 +274,8 @@ fn fold_head<'b, 'a>(
     ensures { Answered 10 (fold_opening nesting) (lexemes tokens.now) (λ x. seen_head x.0.value) (λ x. lexemes x.1.now) result }
 {
     let rest = expect(tokens, TokenKind::Keyword(Keyword::Specfold))?;
-    let (carried, value_at) = followed(name(alloc, rest), ASSIGN)?;
-    let (start, after_start) = value(alloc, value_at, nesting, TokenKind::Keyword(Keyword::For))?;
+    let (carried, row_at) = followed(names(alloc, rest, nesting), ASSIGN)?;
+    let (start, after_start) = row_up_to(alloc, row_at, nesting, TokenKind::Keyword(Keyword::For))?;
     let (block, range) = followed(name(alloc, after_start), TokenKind::Keyword(Keyword::In))?;
     let (low, after_low) = value(alloc, range, nesting, DOTS)?;
     let (high, after_high) = value(
@@ -278,7 +287,7 @@ fn fold_head<'b, 'a>(
     let (predict, end) = guess(alloc, after_high, nesting)?;
     let head = FoldHead {
         carried,
-        start: Box::into_inner(start),
+        start,
         block,
         low: Box::into_inner(low),
         high: Box::into_inner(high),
@@ -293,12 +302,13 @@ fn fold_form<'b, 'a>(
     alloc: Global,
     tokens: &'b [Lexeme<'a>],
     nesting: u32,
+    breaks: bool,
 ) -> Read<'b, 'a, RawStmtKind>
     requires { nesting ≤ 64 }
-    ensures { Answered 11 (grammar.fold_form nesting) (lexemes tokens.now) (λ x. raw_statement x.0) (λ x. lexemes x.1.now) result }
+    ensures { Answered 11 (grammar.fold_form breaks nesting) (lexemes tokens.now) (λ x. raw_statement x.0) (λ x. lexemes x.1.now) result }
 {
     let (head, rest) = fold_head(alloc, tokens, nesting)?;
-    let ((body, next_line, next), end) = ended(alloc, rest, nesting, Keyword::Next)?;
+    let ((body, next_line, next), end) = ended(alloc, rest, nesting, breaks, Keyword::Next)?;
     let head = Box::into_inner(head);
     let fold = RawFold {
         carried: head.carried,
@@ -308,29 +318,30 @@ fn fold_form<'b, 'a>(
         high: head.high,
         predict: head.predict,
         body,
-        next: Box::into_inner(next),
+        next,
         next_line,
     };
     Ok((RawStmtKind::Fold(Box::new(alloc, fold)?), end))
 }
 
-/// Statements in braces whose last one begins with this word and has an expression, with the line of that word.
+/// Statements in braces whose last one begins with this word and has a row, with the line of that word.
 #[cycle(statement)]
-pub(crate) fn ended<'b, 'a>(
+fn ended<'b, 'a>(
     alloc: Global,
     tokens: &'b [Lexeme<'a>],
     nesting: u32,
+    breaks: bool,
     word: Keyword,
-) -> Read<'b, 'a, (Vec<RawStmt>, u32, Box<RawExpr>)>
+) -> Read<'b, 'a, (Vec<RawStmt>, u32, Vec<RawExpr>)>
     requires nesting_in { nesting ≤ 64 }
     requires ends { 12 < reach (keyword_kind word) }
-    ensures { Answered 0 (ended_statements nesting word) (lexemes tokens.now)
-        (λ x. (map stated x.0.0.items, x.0.1, raw_expression x.0.2.value)) (λ x. lexemes x.1.now) result }
+    ensures { Answered 0 (ended_statements breaks nesting word) (lexemes tokens.now)
+        (λ x. (map stated x.0.0.items, x.0.1, map raw_expression x.0.2.items)) (λ x. lexemes x.1.now) result }
 {
-    let (body, rest) = opened(alloc, tokens, nesting)?;
+    let (body, rest) = opened(alloc, tokens, nesting, breaks)?;
     let line = line_of(rest);
     let last = expect(rest, TokenKind::Keyword(word))?;
-    let (a, end) = followed(value(alloc, last, nesting + 1, SEMICOLON), CLOSE_BRACE)?;
+    let (a, end) = followed(row_up_to(alloc, last, nesting + 1, SEMICOLON), CLOSE_BRACE)?;
     Ok(((body, line, a), end))
 }
 
@@ -340,25 +351,25 @@ fn pair_form<'b, 'a>(
     alloc: Global,
     tokens: &'b [Lexeme<'a>],
     nesting: u32,
+    breaks: bool,
 ) -> Read<'b, 'a, RawStmtKind>
     requires { nesting ≤ 64 }
-    ensures { Answered 11 (grammar.pair_form nesting) (lexemes tokens.now) (λ x. raw_statement x.0) (λ x. lexemes x.1.now) result }
+    ensures { Answered 11 (grammar.pair_form breaks nesting) (lexemes tokens.now) (λ x. raw_statement x.0) (λ x. lexemes x.1.now) result }
 {
     let rest = expect(tokens, TokenKind::Keyword(Keyword::Spec))?;
-    let (carried, open_at) = followed(name(alloc, rest), ASSIGN)?;
+    let (carried, open_at) = followed(names(alloc, rest, nesting), ASSIGN)?;
     let ((producer, give_line, give), guess_at) = followed(
-        ended(alloc, open_at, nesting, Keyword::Give),
+        ended(alloc, open_at, nesting, breaks, Keyword::Give),
         TokenKind::Keyword(Keyword::Predict),
     )?;
     let (predict, after_guess) = guess(alloc, guess_at, nesting)?;
-    let predict = Box::new(alloc, predict)?;
-    let (consumer, end) = block(alloc, after_guess, nesting)?;
+    let (consumer, end) = block(alloc, after_guess, nesting, breaks)?;
     let pair = RawPair {
         carried,
         producer,
-        give: Box::into_inner(give),
+        give,
         give_line,
-        predict: Box::into_inner(predict),
+        predict,
         consumer,
     };
     Ok((RawStmtKind::Pair(Box::new(alloc, pair)?), end))
@@ -370,11 +381,12 @@ pub fn block<'b, 'a>(
     alloc: Global,
     tokens: &'b [Lexeme<'a>],
     nesting: u32,
+    breaks: bool,
 ) -> Read<'b, 'a, Vec<RawStmt>>
     requires { nesting ≤ 64 }
-    ensures { Answers (block_part nesting) (lexemes tokens.now) (λ x. raw_block x.0.items) (λ x. lexemes x.1.now) result }
+    ensures { Answers (block_part breaks nesting) (lexemes tokens.now) (λ x. raw_block x.0.items) (λ x. lexemes x.1.now) result }
 {
-    let (inside, end) = followed(opened(alloc, tokens, nesting), CLOSE_BRACE)?;
+    let (inside, end) = followed(opened(alloc, tokens, nesting, breaks), CLOSE_BRACE)?;
     Ok((inside, end))
 }
 
@@ -384,15 +396,16 @@ pub(crate) fn opened<'b, 'a>(
     alloc: Global,
     tokens: &'b [Lexeme<'a>],
     nesting: u32,
+    breaks: bool,
 ) -> Read<'b, 'a, Vec<RawStmt>>
     requires { nesting ≤ 64 }
-    ensures { Answered 12 (opened_statements nesting) (lexemes tokens.now) (λ x. map stated x.0.items) (λ x. lexemes x.1.now) result }
+    ensures { Answered 12 (opened_statements breaks nesting) (lexemes tokens.now) (λ x. map stated x.0.items) (λ x. lexemes x.1.now) result }
 {
     let mut rest = open(tokens, Sign::OpenBrace, nesting)?;
     let mut inside = Vec::new(alloc);
-    'inside: while begins_statement(rest) {
+    'inside: while begins_statement(rest, breaks) {
         let line = line_of(rest);
-        let (kind, end) = form(alloc, rest, nesting + 1)?;
+        let (kind, end) = form(alloc, rest, nesting + 1, breaks)?;
         inside.push(RawStmt { line, kind })?;
         rest = end;
     }
@@ -401,9 +414,14 @@ pub(crate) fn opened<'b, 'a>(
 
 /// A statement, but for its line.
 #[cycle(statement)]
-fn form<'b, 'a>(alloc: Global, tokens: &'b [Lexeme<'a>], nesting: u32) -> Read<'b, 'a, RawStmtKind>
+fn form<'b, 'a>(
+    alloc: Global,
+    tokens: &'b [Lexeme<'a>],
+    nesting: u32,
+    breaks: bool,
+) -> Read<'b, 'a, RawStmtKind>
     requires { nesting ≤ 64 }
-    ensures { Answers (form_part nesting) (lexemes tokens.now) (λ x. raw_statement x.0) (λ x. lexemes x.1.now) result }
+    ensures { Answers (form_part breaks nesting) (lexemes tokens.now) (λ x. raw_statement x.0) (λ x. lexemes x.1.now) result }
 {
     let Some(kind) = next(tokens) else {
         return Err(Fault::Unexpected(0));
@@ -415,11 +433,12 @@ fn form<'b, 'a>(alloc: Global, tokens: &'b [Lexeme<'a>], nesting: u32) -> Read<'
             Keyword::Fill => fill_form(alloc, tokens, nesting),
             Keyword::Emit => emit_form(alloc, tokens, nesting),
             Keyword::Fail => fail_form(tokens, nesting),
-            Keyword::If => if_form(alloc, tokens, nesting),
-            Keyword::For => for_form(alloc, tokens, nesting),
-            Keyword::While => while_form(alloc, tokens, nesting),
-            Keyword::Specfold => fold_form(alloc, tokens, nesting),
-            Keyword::Spec => pair_form(alloc, tokens, nesting),
+            Keyword::If => if_form(alloc, tokens, nesting, breaks),
+            Keyword::For => for_form(alloc, tokens, nesting, breaks),
+            Keyword::While => while_form(alloc, tokens, nesting, breaks),
+            Keyword::Specfold => fold_form(alloc, tokens, nesting, breaks),
+            Keyword::Break => break_form(tokens, nesting, breaks),
+            Keyword::Spec => pair_form(alloc, tokens, nesting, breaks),
             _ => Err(Fault::Unexpected(tokens.len())),
         },
         TokenKind::Number(_) => Err(Fault::Unexpected(tokens.len())),

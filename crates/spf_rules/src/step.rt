@@ -186,24 +186,25 @@ pub(crate) fn operator<'b, 'a>(
     }
 }
 
-/// Whether a statement begins here.
-pub(crate) fn begins_statement(tokens: &[Lexeme]) -> bool
-    ensures { result ≡ opens_statement (ahead (lexemes tokens.now)) }
+/// Whether a statement begins here. `break` begins one where there are such statements.
+pub(crate) fn begins_statement(tokens: &[Lexeme], breaks: bool) -> bool
+    ensures { result ≡ opens_statement breaks (ahead (lexemes tokens.now)) }
 {
     match next(tokens) {
         Some(TokenKind::Name) => true,
-        Some(TokenKind::Keyword(word)) => matches!(
-            word,
+        Some(TokenKind::Keyword(word)) => match word {
             Keyword::Let
-                | Keyword::Fill
-                | Keyword::Emit
-                | Keyword::Fail
-                | Keyword::If
-                | Keyword::For
-                | Keyword::While
-                | Keyword::Specfold
-                | Keyword::Spec
-        ),
+            | Keyword::Fill
+            | Keyword::Emit
+            | Keyword::Fail
+            | Keyword::If
+            | Keyword::For
+            | Keyword::While
+            | Keyword::Specfold
+            | Keyword::Spec => true,
+            Keyword::Break => breaks,
+            _ => false,
+        },
         _ => false,
     }
 }

@@ -18,7 +18,8 @@ use Rattle.spf_ast.proofs.Views.{statement-for, statement-fold}
 use Rattle.spf_ast.specs.Carried.{Carried}
 use Rattle.spf_ast.specs.Event.{Event, Load, Store, Turn}
 use Rattle.spf_ast.specs.Interaction.{Interaction, Answer, AskTurn, Ended, Stopped, Misfit, Ending, Value, State, perform}
-use Rattle.spf_ast.specs.Lawful.{IsLawful, IsName, reserved_words}
+use Rattle.spf_ast.specs.GoingOn.{IsOrderly}
+use Rattle.spf_ast.specs.Lawful.{IsLawful, IsName, FoldHasOneWidth, reserved_words}
 use Rattle.spf_region.specs.declared.span.Span.{Span}
 use Rattle.spf_region.specs.Cells.{in_spans}
 use Rattle.spf_findings.specs.Parts.{part_effects}
@@ -31,7 +32,7 @@ use Rattle.spf_entry.specs.Sites.{AreMadeFor}
 use Rattle.spf_ticket.specs.Tickets.{EndsAs}
 use Rattle.spf_runtime_tests.specs.CountingFold.{counting, counting_head, counting_body, counting_fold, counting_setting, counting_entry, no_cells, five_turns}
 
--- ---- the program is lawful
+-- ---- the program is lawful and orderly
 
 -- each of these words has two letters or more
 long : List (List ℕ) → Bool
@@ -71,6 +72,12 @@ first-name : (k d : ℕ) → k < 1 → slice_get counting.slots (get_or (0 ∷ [
 first-name zero d h e = let n : ◌≡◌ {A = ℕ} 115 107 = cc in omega (arith, n)
 first-name (suc k) d h e = omega (arith, h)
 
+one_width : FoldHasOneWidth counting_head
+one_width = record { width = (omega arith, omega arith); start = refl; predict = refl; next = refl }
+
+pub counting_orderly : IsOrderly counting
+counting_orderly = record { functions = λ place. tt; main = ((one_width, refl, (tt, tt)), (tt, tt)) }
+
 pub counting_lawful : IsLawful counting
 counting_lawful = record {
   scoped = record {
@@ -81,18 +88,20 @@ counting_lawful = record {
     slots_are_names = names;
     main = (
       (
+        ((grind arith, grind arith), tt),
         (grind arith, grind arith),
         (grind arith, grind arith),
-        (grind arith, grind arith),
-        (refl, (none-in (115 ∷ []), λ k d h e. absurd (omega (arith, h)))),
+        ((refl, (none-in (115 ∷ []), λ k d h e. absurd (omega (arith, h)))), tt),
         (refl, (none-in (107 ∷ []), first-name)),
-        (grind arith, grind arith),
+        ((grind arith, grind arith), tt),
         (((grind arith, grind arith), (1, omega arith, refl), (refl, (none-in (105 ∷ []), other-name)), tt), tt),
-        (grind arith, grind arith),
+        ((grind arith, grind arith), tt),
+        one_width,
       ),
       ((refl, (0, omega arith, refl)), tt),
     );
     slots = refl;
+    version = inl refl;
   };
   limits = record { arrays = omega arith; functions = omega arith; function_size = λ f. omega arith; size = omega arith; depth = omega arith; slots = omega arith };
 }
@@ -175,8 +184,8 @@ turned shared memory (suc n) value v state (Turn (suc seen) ∷ rest) h =
     reached : nat_le 1 (suc seen) ≡ true
     reached = grind arith
 
-pub five : (log : List Event) (v : Carried) → EndsAs (attempted counting_entry 1 (pos 5) 1 log) (stop.Ended v) → log ≡ five_turns
-five log v h = turned (own counting_entry 1) [] 5 (pos 1) v (record { slots = pos 5 ∷ pos 1 ∷ pos 4 ∷ []; output = [] }) log h
+pub five : (log : List Event) (v : Carried) → EndsAs (attempted counting_entry 1 (pos 5 ∷ []) 1 log) (stop.Ended v) → log ≡ five_turns
+five log v h = turned (own counting_entry 1) [] 5 (pos 1 ∷ []) v (record { slots = pos 5 ∷ pos 1 ∷ pos 4 ∷ []; output = [] }) log h
 
 -- ---- the program's statements in the code
 

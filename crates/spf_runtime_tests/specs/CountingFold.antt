@@ -1,6 +1,6 @@
 -- A program whose blocks only make turns, with the cells and the entry of its blocks.
 use Rattle.std.specs.Prelude.{List, [], ◌∷◌, codes, pos}
-use Rattle.spf_ast.specs.Syntax.{Number, Local, For, Fold, Emit, By, FoldHead, Block, end, on_line, Program}
+use Rattle.spf_ast.specs.Syntax.{Number, Local, no_more, argument, For, Fold, Emit, By, FoldHead, Block, end, on_line, Program}
 use Rattle.spf_ast.specs.Construct.{Construct, fold}
 use Rattle.spf_ast.specs.Event.{Event, Turn}
 use Rattle.spf_region.specs.declared.span.Span.{Span}
@@ -9,13 +9,13 @@ use Rattle.spf_entry.specs.Entry.{Entry}
 
 abbrev pub counting_head : FoldHead
 counting_head = record {
-  carried = 0;
-  start = Number (pos 1);
+  carried = 0 ∷ [];
+  start = argument (Number (pos 1)) no_more;
   block = 1;
   low = Number (pos 0);
   high = Number (pos 2);
-  predict = By (Number (pos 5));
-  next = Number (pos 1);
+  predict = By (Number (pos 5)) ∷ [];
+  next = argument (Number (pos 1)) no_more;
   next_line = 1;
 }
 
@@ -29,6 +29,7 @@ counting_fold = fold 1 counting_head counting_body
 -- the fold, and then `emit s;`
 abbrev pub counting : Program
 counting = record {
+  version = 1;
   arrays = [];
   functions = [];
   slots = codes "s" ∷ codes "k" ∷ codes "i" ∷ [];
@@ -51,7 +52,7 @@ counting_entry = record {
   input = [];
   slots = pos 0 ∷ pos 0 ∷ pos 0 ∷ [];
   memory = [];
-  header = record { low = pos 0; blocks = 2; start = pos 1 };
+  header = record { low = pos 0; blocks = 2; start = pos 1 ∷ [] };
 }
 
 -- five turns that polled 0

@@ -1,8 +1,9 @@
 //! Attempts of a block that only makes turns, on one thread.
-ghost use Rattle.std.specs.Prelude.{◌≡◌, [], ◌∷◌, ◌++◌, length, pos, IfOk, replicate};
+ghost use Rattle.std.specs.Prelude.{◌≡◌, [], ◌∷◌, ◌++◌, length, pos, IfOk, map, replicate};
 ghost use Rattle.spf_ast.specs.Carried.{Carried as CarriedValue};
-ghost use Rattle.spf_ast.specs.Syntax.{Fold as fold_form};
-ghost use Rattle.spf_ast.specs.View.{program as seen_program, block as seen_block, statement as seen_statement};
+ghost use Rattle.spf_ast.specs.Syntax.{Fold as fold_form, Number, By, argument, no_more};
+ghost use Rattle.spf_ast.specs.View.{program as seen_program, block as seen_block, statement as seen_statement, arguments as seen_arguments, predictor};
+ghost use Rattle.spf_ast.specs.GoingOn.{IsOrderly};
 ghost use Rattle.spf_ast.specs.ConstructView.{construct as seen_construct};
 ghost use Rattle.spf_layout.specs.Frame.{frame_size};
 ghost use Rattle.spf_layout.specs.Instance.{program_of};
@@ -22,6 +23,7 @@ ghost use Rattle.spf_runtime_tests.specs.CountingFold.{
 };
 
 use spf_ast::construct::find_construct;
+use spf_ast::row::Row;
 use spf_ast::syntax::{Expr, Fold, Name, Predict, Program, Stmt, StmtKind};
 use spf_cells::cells::Cells;
 use spf_cells::lane::Lane;
@@ -57,19 +59,40 @@ fn loop_to_carried(alloc: Global) -> Result<Vec<Stmt>, AllocError>
     Ok(body)
 }
 
+/// The slots of a row that is kept in slot 0.
+fn first_slot(alloc: Global) -> Result<Vec<u32>, AllocError>
+    ensures { IfOk result (λ v. v.items ≡ 0 ∷ []) }
+{
+    Ok(vec![in alloc; 0]?)
+}
+
+/// A list of one expression: a number.
+fn one_number(alloc: Global, number: i64) -> Result<Vec<Expr>, AllocError>
+    ensures { IfOk result (λ v. seen_arguments v.items ≡ argument (Number number) no_more) }
+{
+    Ok(vec![in alloc; Expr::Number(number)]?)
+}
+
+/// The guess of a row of one part: 5.
+fn guess_of_five(alloc: Global) -> Result<Vec<Predict>, AllocError>
+    ensures { IfOk result (λ v. map predictor v.items ≡ By (Number (pos 5)) ∷ []) }
+{
+    Ok(vec![in alloc; Predict::Expr(Expr::Number(5))]?)
+}
+
 /// specfold s = 1 for k in 0..2 predict 5 { for i in 0..s { } next 1; }
 fn counting_fold(alloc: Global) -> Result<StmtKind, AllocError>
     ensures { IfOk result (λ kind. seen_statement kind ≡ fold_form counting_head counting_body) }
 {
     let fold = Fold {
-        carried: 0,
-        start: Expr::Number(1),
+        carried: first_slot(alloc)?,
+        start: one_number(alloc, 1)?,
         block: 1,
         low: Expr::Number(0),
         high: Expr::Number(2),
-        predict: Predict::Expr(Expr::Number(5)),
+        predict: guess_of_five(alloc)?,
         body: loop_to_carried(alloc)?,
-        next: Expr::Number(1),
+        next: one_number(alloc, 1)?,
         next_line: 1,
     };
     Ok(StmtKind::Fold(Box::new(alloc, fold)?))
@@ -77,10 +100,12 @@ fn counting_fold(alloc: Global) -> Result<StmtKind, AllocError>
 
 /// The fold, and then `emit s;`.
 pub(crate) fn counting(alloc: Global) -> Result<Program, AllocError>
+    ensures version { IfOk result (λ p. (seen_program p).version ≡ 1) }
     ensures arrays { IfOk result (λ p. (seen_program p).arrays ≡ []) }
     ensures functions { IfOk result (λ p. (seen_program p).functions ≡ []) }
     ensures slots { IfOk result (λ p. (seen_program p).slots ≡ counting.slots) }
     ensures main { IfOk result (λ p. (seen_program p).main ≡ counting.main) }
+    ensures orderly { IfOk result (λ p. IsOrderly (seen_program p)) }
 {
     let mut main = Vec::new(alloc);
     main.push(Stmt {
@@ -96,6 +121,7 @@ pub(crate) fn counting(alloc: Global) -> Result<Program, AllocError>
     slots.push(name(alloc, b'k')?)?;
     slots.push(name(alloc, b'i')?)?;
     Ok(Program {
+        version: 1,
         arrays: Vec::new(alloc),
         functions: Vec::new(alloc),
         slots,
@@ -130,7 +156,7 @@ pub(crate) fn attempt(cells: &Cells, job: &Job, ticket: Ticket) -> Report
     requires block { ticket.block ≡ 1 }
     requires frame { length ticket.frame ≡ frame_size counting }
     ensures same { IsSameTicket counting fold_of_counting ticket result.ticket }
-    ensures turns { (value : CarriedValue) → IsTicketAt counting_entry cells.now ticket → ticket.attempt ≡ 1 → ticket.carried ≡ pos 5
+    ensures turns { (value : CarriedValue) → IsTicketAt counting_entry cells.now ticket → ticket.attempt ≡ 1 → ticket.carried ≡ pos 5 ∷ []
         → result.stop ≡ stop.Ended value → events result.ticket.lane.log ≡ events ticket.lane.log ++ five_turns }
 {
     the_rules_set_free();
@@ -153,7 +179,7 @@ fn first_attempt(cells: &Cells, job: &Job, lane: Lane, frame: Frame) -> Report
     ensures table { result.ticket.lane.table ≡ cells.now.table }
     ensures frame { length result.ticket.frame ≡ frame_size counting }
 {
-    attempt(cells, job, Ticket::make(1, 1, 5, lane, frame))
+    attempt(cells, job, Ticket::make(1, 1, Row::one(5), lane, frame))
 }
 
 /// Both attempts of block 1, the second one at 1, where the first one was raised or not: how they ended.
@@ -177,20 +203,20 @@ fn both_attempts(alloc: Global, raised: bool) -> Result<Option<(Stop, Stop)>, Al
         warden.raise(&cells, 1, 1);
     }
     let first = first_attempt(&cells, &job, lane, frame);
-    let second = attempt(&cells, &job, first.ticket.again(1));
+    let second = attempt(&cells, &job, first.ticket.again(Row::one(1)));
     Ok(Some((first.stop, second.stop)))
 }
 
 #[test]
 fn an_attempt_that_is_not_raised_makes_all_its_turns(rt: HostRuntime) -> Result<(), Fail> {
     let stops = both_attempts(rt.alloc(), false)?;
-    assert!(rt; stops == Some((Stop::Ended(1), Stop::Ended(1))));
+    assert!(rt; stops == Some((Stop::Ended(Row::one(1)), Stop::Ended(Row::one(1)))));
     Ok(())
 }
 
 #[test]
 fn a_flag_of_one_stops_a_first_attempt_alone(rt: HostRuntime) -> Result<(), Fail> {
     let stops = both_attempts(rt.alloc(), true)?;
-    assert!(rt; stops == Some((Stop::Cancelled { seen: 1 }, Stop::Ended(1))));
+    assert!(rt; stops == Some((Stop::Cancelled { seen: 1 }, Stop::Ended(Row::one(1)))));
     Ok(())
 }

@@ -1,8 +1,7 @@
 //! What hosts are asked and told in whole runs.
 ghost use Rattle.spf_runtime_tests.specs.Digits.{digits};
 
-use crate::programs::{HOSTED, WIDE, accepted, counts, gave, no_attempts, run};
-use spf_ast::carried::Carried;
+use crate::programs::{HOSTED, HOSTED_WORDS, WIDE, accepted, counts, gave, no_attempts, run};
 use spf_edge::{Gate, Place};
 use spf_engine::error::EngineError;
 use spf_engine::run::run_program;
@@ -12,7 +11,7 @@ use std::sync::Arc;
 use std::sync::atomic::{AtomicU64, Ordering};
 use std::test::Fail;
 
-/// A predictor whose guess shows all that it was told, and in which order: each pair adds two digits, the block and its value. It counts
+/// A predictor whose guess shows all that it was told, and in which order: each pair adds two digits, the block and its word. It counts
 /// how often it is asked.
 #[derive(Drop)]
 struct Digits {
@@ -23,12 +22,12 @@ struct Digits {
 impl Predictor for Digits {
     ghost answer = { λ host pairs _. digits host.number pairs };
 
-    fn guess(&mut self, _block: i64) -> Carried {
+    fn guess(&mut self, _block: i64) -> i64 {
         let _before = self.asked.fetch_add(1, Ordering::SeqCst);
         self.number
     }
 
-    fn tell(&mut self, block: i64, real: Carried) {
+    fn tell(&mut self, block: i64, real: i64) {
         let shifted = self.number.wrapping_mul(100);
         self.number = shifted
             .wrapping_add(block.wrapping_mul(10))
@@ -92,6 +91,18 @@ fn a_host_learns_between_constructs(rt: HostRuntime) -> Result<(), Fail> {
     assert!(rt; gave(&report.outcome, &[7, 7]));
     assert!(rt; report.stats == counts(6, 2, 2, 0));
     assert!(rt; report.traces.len() == 2);
+    Ok(())
+}
+
+#[test]
+fn a_host_of_two_parts_is_told_both(rt: HostRuntime) -> Result<(), Fail> {
+    let attempts = no_attempts();
+    let mut hosts: Vec<Box<dyn Predictor>> = Vec::new(rt.alloc());
+    let host: Box<dyn Predictor> = Box::new(rt.alloc(), Last::make())?;
+    hosts.push(host)?;
+    let report = run(&rt, rt.alloc(), HOSTED_WORDS, 2, &mut hosts, &attempts)?;
+    assert!(rt; gave(&report.outcome, &[7, 7]));
+    assert!(rt; report.stats == counts(6, 0, 4, 0));
     Ok(())
 }
 

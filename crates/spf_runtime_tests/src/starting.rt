@@ -13,6 +13,7 @@ ghost use Rattle.spf_layout.specs.Instance.{program_of};
 ghost use Rattle.spf_ticket.specs.Tickets.{IsJobOf};
 
 use spf_ast::construct::{ConstructKind, TopConstruct};
+use spf_ast::row::Row;
 use spf_ast::syntax::Program;
 use spf_cells::cells::Cells;
 use spf_chain::chain::Chain;
@@ -66,20 +67,21 @@ fn is_fold(construct: TopConstruct) -> bool
     }
 }
 
+/// Guesses of one word each.
 fn guesses_of(alloc: Global, values: &[i64]) -> Result<Vec<Guess>, AllocError>
     ensures { IfOk result (λ v. length v.items ≡ length values.now) }
 {
     let mut guesses = Vec::new(alloc);
     for value in values {
         guesses.push(Guess {
-            value: *value,
+            value: Row::one(*value),
             blind: false,
         })?;
     }
     Ok(guesses)
 }
 
-/// Starts the chain of the job's construct: a fold, which begins at this value and has one block more than guesses.
+/// Starts the chain of the job's construct: a fold over rows of one word, which begins at this one and has one block more than guesses.
 pub(crate) fn start(
     alloc: Global,
     checked: &Checked,
@@ -104,7 +106,7 @@ pub(crate) fn start(
     let header = Header {
         low: 0,
         blocks: guesses.len() as u64 + 1,
-        start: first,
+        start: Row::one(first),
     };
     let frame = Frame::make(alloc, job.instance)?;
     let started = Chain::start(

@@ -9,6 +9,7 @@ ghost use Rattle.spf_runtime_tests.specs.CountingFold.{counting, counting_fold a
 
 use crate::counting::{attempt, counting, lane_of_block_one};
 use spf_ast::construct::find_construct;
+use spf_ast::row::Row;
 use spf_cells::cells::Cells;
 use spf_cells::warden::Warden;
 use spf_exec::frame::Frame;
@@ -37,7 +38,7 @@ fn attempt_twice(cells: &Cells, job: &Job, ticket: Ticket) -> (Stop, Stop)
     requires frame { length ticket.frame ≡ frame_size counting }
 {
     let first = attempt(cells, job, ticket);
-    let second = attempt(cells, job, first.ticket.again(1));
+    let second = attempt(cells, job, first.ticket.again(Row::one(1)));
     (first.stop, second.stop)
 }
 
@@ -91,7 +92,7 @@ fn both_attempts<R: Threads + Sync>(
     };
     let frame = Frame::make(alloc, &instance)?;
     let (cells, mut warden, lane) = lane_of_block_one(alloc)?;
-    let ticket = Ticket::make(1, 1, LONG, lane, frame);
+    let ticket = Ticket::make(1, 1, Row::one(LONG), lane, frame);
     Ok(Some(raised_meanwhile(rt, &cells, &job, &mut warden, ticket)))
 }
 
@@ -99,7 +100,7 @@ fn both_attempts<R: Threads + Sync>(
 fn an_attempt_is_cancelled_that_is_raised_meanwhile(rt: HostRuntime) -> Result<(), Fail> {
     for _ in 0..20 {
         let stops = both_attempts(&rt, rt.alloc())?;
-        assert!(rt; stops == Some((Stop::Cancelled { seen: 1 }, Stop::Ended(1))));
+        assert!(rt; stops == Some((Stop::Cancelled { seen: 1 }, Stop::Ended(Row::one(1)))));
     }
     Ok(())
 }

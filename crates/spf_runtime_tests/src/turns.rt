@@ -10,6 +10,7 @@ ghost use Rattle.spf_layout.specs.Instance.{program_of};
 
 use crate::starting::{accepted, start};
 use spf_ast::construct::find_construct;
+use spf_ast::laws::breaks_stay_in_their_loops;
 use spf_check::checked::Checked;
 use spf_crew::attempt::{Attempter, GatedJob};
 use spf_crew::crew::Crew;
@@ -98,6 +99,7 @@ fn turns_over(
 fn turns(alloc: Global, guesses: &[i64], order: &[usize]) -> Result<Vec<u64>, Fail> {
     let checked = accepted(alloc, DOUBLING)?;
     let program = checked.program();
+    breaks_stay_in_their_loops();
     let Ok(instance) = Instance::make(alloc, program, &[]) else {
         return Err(Fail::new("no instance"));
     };

@@ -14,6 +14,8 @@ ghost use Rattle.spf_ticket.specs.Tickets.{IsJobOf};
 use crate::own_threads::run_on_threads;
 use crate::starting::{Started, accepted, start};
 use spf_ast::construct::find_construct;
+use spf_ast::laws::breaks_stay_in_their_loops;
+use spf_ast::row::Row;
 use spf_cells::cells::Cells;
 use spf_chain::chain::Chain;
 use spf_chain::validated::Settled;
@@ -39,9 +41,9 @@ const TRAPPING: &[u8] =
 const MANY: &[u8] =
     b"main { specfold s = 1 for k in 0..600 predict 0 { let t = s; for i in 0..50 { t = (t * 5 + i) % 1009; } next t; } emit s & 255; }";
 
-/// A program's first construct, and what it comes to.
+/// A program's first construct, which carries rows of one word, and what it comes to.
 #[derive(Drop)]
-struct Row<'a> {
+struct Case<'a> {
     text: &'a [u8],
     /// The value at which block 0 begins.
     first: i64,
@@ -61,8 +63,8 @@ struct Came {
 }
 
 impl Came {
-    fn is_wanted(&self, row: &Row) -> bool {
-        self.values.as_slice() == row.values && self.memory.as_slice() == row.memory
+    fn is_wanted(&self, case: &Case) -> bool {
+        self.values.as_slice() == case.values && self.memory.as_slice() == case.memory
     }
 }
 
@@ -73,6 +75,11 @@ enum By {
     OwnThreads,
 }
 
+/// The word of a row of one word.
+fn word_of(row: Row) -> i64 {
+    row.part(0)
+}
+
 /// What an ended chain came to, with its cells.
 fn finish(alloc: Global, chain: Chain, cells: Cells, size: usize) -> Result<Came, AllocError>
     requires ended { HasEnded chain }
@@ -81,12 +88,12 @@ fn finish(alloc: Global, chain: Chain, cells: Cells, size: usize) -> Result<Came
 {
     let mut values = Vec::new(alloc);
     for validated in chain.history() {
-        values.push(validated.real)?;
+        values.push(word_of(validated.real))?;
     }
     let mut memory = vec![in alloc; 0i64; size]?;
     let (settled, _trace) = chain.finish(cells, memory.as_mut_slice());
     match settled {
-        Settled::Carried(last) => values.push(last)?,
+        Settled::Carried(last) => values.push(word_of(last))?,
         Settled::Trapped(_) => memory.clear(),
     }
     Ok(Came { values, memory })
@@ -122,7 +129,7 @@ fn run_over<R: Threads + Wait + Sync>(
     alloc: Global,
     checked: &Checked,
     job: Job,
-    row: &Row,
+    case: &Case,
     workers: u64,
     by: By,
 ) -> Result<Came, Fail>
@@ -131,24 +138,25 @@ fn run_over<R: Threads + Wait + Sync>(
     requires entry { length job.entry.now ≡ cell_count_of (program_of job.instance.now) (length job.instance.now.input) }
     requires workers { (0 < workers) × (workers ≤ 64) }
 {
-    let started = start(alloc, checked, &job, row.first, row.guesses)?;
+    let started = start(alloc, checked, &job, case.first, case.guesses)?;
     let (chain, cells) = attempt_all(rt, alloc, started, workers, job, by)?;
     Ok(finish(alloc, chain, cells, job.entry.len())?)
 }
 
-/// What a row's construct came to, run by so many workers.
+/// What a case's construct came to, run by so many workers.
 fn run<R: Threads + Wait + Sync>(
     rt: &R,
     alloc: Global,
-    row: &Row,
+    case: &Case,
     workers: u64,
     by: By,
 ) -> Result<Came, Fail> {
     if workers == 0 || workers > 64 {
         return Err(Fail::new("a number of workers"));
     }
-    let checked = accepted(alloc, row.text)?;
+    let checked = accepted(alloc, case.text)?;
     let program = checked.program();
+    breaks_stay_in_their_loops();
     let Ok(instance) = Instance::make(alloc, program, &[]) else {
         return Err(Fail::new("no instance"));
     };
@@ -162,7 +170,7 @@ fn run<R: Threads + Wait + Sync>(
         index: 0,
         entry: entry.as_slice(),
     };
-    run_over(rt, alloc, &checked, job, row, workers, by)
+    run_over(rt, alloc, &checked, job, case, workers, by)
 }
 
 /// The carried value after a block of `MANY`.
@@ -189,22 +197,22 @@ fn values_of(alloc: Global, blocks: usize) -> Result<Vec<i64>, AllocError> {
 #[test]
 fn any_number_of_workers_gives_the_plain_values(rt: HostRuntime) -> Result<(), Fail> {
     let many = values_of(rt.alloc(), 600)?;
-    let rows = [
-        Row {
+    let cases = [
+        Case {
             text: SCATTERED,
             first: 0,
             guesses: &[1, 1],
             values: &[0, 1, 2, 3],
             memory: &[7, 0, 0, 7, 7, 0],
         },
-        Row {
+        Case {
             text: TRAPPING,
             first: 0,
             guesses: &[0, 0, 0],
             values: &[0, 0],
             memory: &[],
         },
-        Row {
+        Case {
             text: MANY,
             first: 1,
             guesses: &[0; 599],
@@ -219,10 +227,10 @@ fn any_number_of_workers_gives_the_plain_values(rt: HostRuntime) -> Result<(), F
         (8, By::Driver),
         (4, By::OwnThreads),
     ];
-    for row in &rows {
+    for case in &cases {
         for (workers, by) in crews {
-            let came = run(&rt, rt.alloc(), row, workers, by)?;
-            assert!(rt; came.is_wanted(row));
+            let came = run(&rt, rt.alloc(), case, workers, by)?;
+            assert!(rt; came.is_wanted(case));
         }
     }
     Ok(())

@@ -49,6 +49,7 @@ use Rattle.spf_ast.specs.RawSyntax.{
   By,
   Host,
   RawFoldHead,
+  RawPairHead,
   RawStatement,
   Let,
   Assign,
@@ -62,6 +63,7 @@ use Rattle.spf_ast.specs.RawSyntax.{
   Do,
   Fold,
   Pair,
+  Break,
   RawBlock,
   end,
   on_line,
@@ -69,7 +71,7 @@ use Rattle.spf_ast.specs.RawSyntax.{
   RawProgram,
 }
 use Rattle.spf_scopes.specs.declared.fault.TypeFault.{TypeFault}
-use Rattle.spf_scopes.specs.declared.fault.TypeFault.TheVariants.{UnknownName, Twice, Arity, Kind, CallsLater, Misplaced}
+use Rattle.spf_scopes.specs.declared.fault.TypeFault.TheVariants.{UnknownName, Twice, Arity, Kind, CallsLater, Misplaced, MisplacedBreak}
 use Rattle.spf_scopes.specs.declared.globals.Outer.{Outer}
 use Rattle.spf_scopes.specs.declared.globals.Outer.TheVariants as outer
 use Rattle.spf_scopes.specs.Names.{has}
@@ -108,16 +110,32 @@ showing x scope = record { name = x; fixed = false } ∷ scope
 abbrev pub showing_fixed : List ℕ → Scope → Scope
 showing_fixed x scope = record { name = x; fixed = true } ∷ scope
 
+-- the scope in which these locals may be used besides, declared from left to right; `fixed` tells whether they may not be assigned
+abbrev pub showing_each : Bool → Scope → List (List ℕ) → Scope
+showing_each fixed scope [] = scope
+showing_each fixed scope (x ∷ xs) = showing_each fixed (record { name = x; fixed = fixed } ∷ scope) xs
+
 -- whether the local of this name may not be assigned; none where no local has it
 abbrev pub local_named : Scope → List ℕ → Option Bool
 local_named [] x = None
 local_named (v ∷ scope) x = if bytes_eq v.name x then Some v.fixed else local_named scope x
 
--- where a form stands: what is visible in the whole program, the place before which functions may be called, and whether it is in `main`
+-- where a form stands: what is visible in the whole program, the place before which functions may be called, whether it
+-- is in `main`, and whether it is in a loop: of the same function, of the same part of a construct, or of `main` outside
+-- of constructs
 pub record Setting : Type 0 where
   pub globals : Globals
   pub place : ℕ
   pub in_main : Bool
+  pub in_loop : Bool
+
+-- the body of a loop there
+abbrev pub in_turn : Setting → Setting
+in_turn here = record here { in_loop = true }
+
+-- a part of a construct there: no `break` of it ends a loop around the construct
+abbrev pub in_part : Setting → Setting
+in_part here = record here { in_loop = false }
 
 -- ---- names
 
@@ -128,6 +146,12 @@ misuse here scope x = if is_some (local_named scope x) || is_some (global_named 
 -- a name that is declared
 abbrev pub declared_faults : Setting → Scope → ℕ → List ℕ → List Fault
 declared_faults here scope line x = when (is_some (local_named scope x) || is_some (global_named here.globals x)) Twice line
+
+-- names that are declared from left to right, each where the ones before it may be used
+abbrev pub each_declared_faults : Setting → Scope → ℕ → List (List ℕ) → List Fault
+each_declared_faults here scope line [] = []
+each_declared_faults here scope line (x ∷ xs) =
+    declared_faults here scope line x ++ each_declared_faults here (showing x scope) line xs
 
 -- a name that is used as a number
 abbrev pub used_faults : Setting → Scope → ℕ → List ℕ → List Fault
@@ -224,6 +248,11 @@ abbrev pub predictor_faults : Setting → Scope → ℕ → RawPredictor → Lis
 predictor_faults here scope line (By guess) = expression_faults here scope line a_number guess
 predictor_faults here scope line (Host number) = []
 
+-- the predictors of a row's parts
+abbrev pub predictors_faults : Setting → Scope → ℕ → List RawPredictor → List Fault
+predictors_faults here scope line [] = []
+predictors_faults here scope line (first ∷ rest) = predictor_faults here scope line first ++ predictors_faults here scope line rest
+
 -- ---- statements
 
 -- whether a number is from 0 to 255
@@ -234,8 +263,8 @@ is_byte (negsuc n) = false
 -- the scope after a statement
 abbrev pub scope_after : Scope → RawStatement → Scope
 scope_after scope (Let x value) = showing x scope
-scope_after scope (Fold head body) = showing head.carried scope
-scope_after scope (Pair head producer consumer) = showing head.carried scope
+scope_after scope (Fold head body) = showing_each false scope head.carried
+scope_after scope (Pair head producer consumer) = showing_each false scope head.carried
 scope_after scope _ = scope
 
 -- the scope at the end of a block
@@ -244,22 +273,39 @@ scope_at_end scope end = scope
 scope_at_end scope (on_line line first rest) = scope_at_end (scope_after scope first) rest
 
 -- the scope of a fold's body
-abbrev pub in_body : Scope → List ℕ → List ℕ → Scope
-in_body scope carried block = showing_fixed block (showing_fixed carried scope)
+abbrev pub in_body : Scope → List (List ℕ) → List ℕ → Scope
+in_body scope carried block = showing_fixed block (showing_each true scope carried)
 
 -- the names of a fold, which are declared at the fold
 abbrev pub names_faults : Setting → Scope → ℕ → RawFoldHead → List Fault
 names_faults here scope line head =
-    declared_faults here scope line head.carried
-    ++ (declared_faults here scope line head.block ++ when (bytes_eq head.carried head.block) Twice line)
+    each_declared_faults here scope line head.carried
+    ++ declared_faults here (showing_each false scope head.carried) line head.block
+
+-- a list of a construct's parts that isn't as long as its names
+abbrev pub width_faults : ℕ → ℕ → ℕ → List Fault
+width_faults line width count = when (not (nat_eq count width)) Arity line
+
+-- the lists of a fold's parts
+abbrev pub fold_widths_faults : ℕ → RawFoldHead → List Fault
+fold_widths_faults line head =
+    width_faults line (length head.carried) (count_of head.start)
+    ++ (width_faults line (length head.carried) (length head.predict) ++ width_faults line (length head.carried) (count_of head.next))
+
+-- the lists of a pair's parts
+abbrev pub pair_widths_faults : ℕ → RawPairHead → List Fault
+pair_widths_faults line head =
+    width_faults line (length head.carried) (count_of head.give) ++ width_faults line (length head.carried) (length head.predict)
 
 -- a fold, but for its body
 abbrev pub fold_faults : Setting → Scope → ℕ → RawFoldHead → List Fault
 fold_faults here scope line head =
     names_faults here scope line head
-    ++ (expression_faults here scope line a_number head.start
+    ++ (fold_widths_faults line head
+    ++ (arguments_faults here scope line head.start
     ++ (expression_faults here scope line a_number head.low
-    ++ (expression_faults here scope line a_number head.high ++ predictor_faults here (showing_fixed head.block scope) line head.predict)))
+    ++ (expression_faults here scope line a_number head.high
+    ++ predictors_faults here (showing_fixed head.block scope) line head.predict))))
 
 abbrev mutual
   -- a statement on a line
@@ -280,18 +326,23 @@ abbrev mutual
   statement_faults here scope line (For x low high body) =
       declared_faults here scope line x
       ++ (expression_faults here scope line a_number low
-      ++ (expression_faults here scope line a_number high ++ block_faults here (showing_fixed x scope) body))
-  statement_faults here scope line (While test most body) = expression_faults here scope line a_truth test ++ block_faults here scope body
+      ++ (expression_faults here scope line a_number high ++ block_faults (in_turn here) (showing_fixed x scope) body))
+  statement_faults here scope line (While test most body) =
+      expression_faults here scope line a_truth test ++ block_faults (in_turn here) scope body
   statement_faults here scope line (Do f given) =
       called_faults here scope line f (count_of given) [] ++ arguments_faults here scope line given
   statement_faults here scope line (Fold head body) =
       fold_faults here scope line head
-      ++ (block_faults here (in_body scope head.carried head.block) body
-      ++ expression_faults here (scope_at_end (in_body scope head.carried head.block) body) head.next_line a_number head.next)
+      ++ (block_faults (in_part here) (in_body scope head.carried head.block) body
+      ++ arguments_faults here (scope_at_end (in_body scope head.carried head.block) body) head.next_line head.next)
   statement_faults here scope line (Pair head producer consumer) =
-      declared_faults here scope line head.carried
-      ++ ((block_faults here scope producer ++ expression_faults here (scope_at_end scope producer) head.give_line a_number head.give)
-      ++ (predictor_faults here scope line head.predict ++ block_faults here (showing_fixed head.carried scope) consumer))
+      each_declared_faults here scope line head.carried
+      ++ (pair_widths_faults line head
+      ++ ((block_faults (in_part here) scope producer
+      ++ arguments_faults here (scope_at_end scope producer) head.give_line head.give)
+      ++ (predictors_faults here scope line head.predict
+      ++ block_faults (in_part here) (showing_each true scope head.carried) consumer)))
+  statement_faults here scope line Break = when (not here.in_loop) MisplacedBreak line
 
   -- a block: each statement in the scope after the ones before it
   pub block_faults : Setting → Scope → RawBlock → List Fault
@@ -303,22 +354,18 @@ abbrev pub valued_faults : Setting → Scope → RawBlock → ℕ → RawExpress
 valued_faults here scope body line value =
     block_faults here scope body ++ expression_faults here (scope_at_end scope body) line a_number value
 
+-- a part of a construct, and then a row on a line
+abbrev pub rowed_faults : Setting → Scope → RawBlock → ℕ → RawArguments → List Fault
+rowed_faults here scope body line row =
+    block_faults (in_part here) scope body ++ arguments_faults here (scope_at_end scope body) line row
+
 -- ---- programs
-
--- parameters, each of which is declared where the ones before it may be used
-abbrev pub params_faults : Setting → Scope → ℕ → List (List ℕ) → List Fault
-params_faults here scope line [] = []
-params_faults here scope line (x ∷ xs) = declared_faults here scope line x ++ params_faults here (showing x scope) line xs
-
--- the scope after parameters
-abbrev pub scope_of : Scope → List (List ℕ) → Scope
-scope_of scope [] = scope
-scope_of scope (x ∷ xs) = scope_of (showing x scope) xs
 
 -- a function, but for its name
 abbrev pub function_faults : Setting → RawFunction → List Fault
 function_faults here f =
-    params_faults here [] f.line f.params ++ valued_faults here (scope_of [] f.params) f.body f.answer_line f.answer
+    each_declared_faults here [] f.line f.params
+    ++ valued_faults here (showing_each false [] f.params) f.body f.answer_line f.answer
 
 -- arrays, after others of these names
 abbrev pub arrays_faults : List (List ℕ) → List Array → List Fault
@@ -330,7 +377,7 @@ abbrev pub functions_faults : Globals → List (List ℕ) → ℕ → List RawFu
 functions_faults globals names place [] = []
 functions_faults globals names place (f ∷ rest) =
     when (has names f.name) Twice f.line
-    ++ (function_faults (record { globals = globals; place = place; in_main = false }) f
+    ++ (function_faults (record { globals = globals; place = place; in_main = false; in_loop = false }) f
     ++ functions_faults globals (names ++ f.name ∷ []) (place + 1) rest)
 
 -- the faults of a program, in the order of its text
@@ -338,7 +385,7 @@ abbrev pub faults : RawProgram → List Fault
 faults p =
     arrays_faults [] p.arrays
     ++ (functions_faults (globals_of p.arrays p.functions) (map (λ (a : Array). a.name) p.arrays) 0 p.functions
-    ++ block_faults (record { globals = globals_of p.arrays p.functions; place = length p.functions; in_main = true }) [] p.main)
+    ++ block_faults (record { globals = globals_of p.arrays p.functions; place = length p.functions; in_main = true; in_loop = false }) [] p.main)
 
 -- the first of a list
 abbrev pub first : {A : Type 0} → List A → Option A

@@ -4,4 +4,4 @@ use Rattle.spf_scopes.specs.Faults.{Setting}
 
 -- the place
 abbrev pub setting : Here → Setting
-setting h = record { globals = h.globals.now; place = h.place; in_main = h.in_main }
+setting h = record { globals = h.globals.now; place = h.place; in_main = h.in_main; in_loop = h.in_loop }

@@ -1,5 +1,5 @@
 -- The forms that raw forms without faults stand for.
-use Rattle.std.specs.Prelude.{ℕ, ◌+◌, true, false, List, [], ◌∷◌, ◌++◌, length, map, Option, Some, None, ℤ, pos, negsuc}
+use Rattle.std.specs.Prelude.{ℕ, ◌+◌, Bool, true, false, List, [], ◌∷◌, ◌++◌, length, map, Option, Some, None, ℤ, pos, negsuc}
 use Rattle.spf_ast.specs.declared.syntax.Test.TheVariants as test
 use Rattle.spf_ast.specs.Syntax as s
 use Rattle.spf_ast.specs.Syntax.{Expression, Arguments, Condition, Predictor, FoldHead, PairHead, Statement, Block, Array, Function, Program}
@@ -22,6 +22,7 @@ use Rattle.spf_ast.specs.RawSyntax.{
   Do,
   Fold,
   Pair,
+  Break,
   RawBlock,
   end,
   on_line,
@@ -44,6 +45,16 @@ free x slot = record { name = x; slot = slot; fixed = false }
 
 abbrev pub fixed : List ℕ → ℕ → l.Local
 fixed x slot = record { name = x; slot = slot; fixed = true }
+
+-- locals of these names besides others, declared from left to right, the first of which has slot n
+abbrev pub with_each : Bool → List l.Local → ℕ → List (List ℕ) → List l.Local
+with_each fixed ls n [] = ls
+with_each fixed ls n (x ∷ xs) = with_each fixed (record { name = x; slot = n; fixed = fixed } ∷ ls) (n + 1) xs
+
+-- their slots
+abbrev pub row_slots : ℕ → List (List ℕ) → List ℕ
+row_slots n [] = []
+row_slots n (x ∷ xs) = n ∷ row_slots (n + 1) xs
 
 -- the scope of these locals
 abbrev pub scope : List l.Local → Scope
@@ -98,6 +109,11 @@ abbrev pub resolved_predictor : Globals → List l.Local → RawPredictor → Pr
 resolved_predictor g ls (By guess) = s.By (resolved_expression g ls guess)
 resolved_predictor g ls (Host number) = s.Host number
 
+-- the predictors of a row's parts
+abbrev pub resolved_predictors : Globals → List l.Local → List RawPredictor → List Predictor
+resolved_predictors g ls [] = []
+resolved_predictors g ls (first ∷ rest) = resolved_predictor g ls first ∷ resolved_predictors g ls rest
+
 -- ---- statements
 
 abbrev mutual
@@ -107,8 +123,8 @@ abbrev mutual
   names_of (If test a b) = names_in a ++ names_in b
   names_of (For x low high body) = x ∷ names_in body
   names_of (While test most body) = names_in body
-  names_of (Fold head body) = head.carried ∷ head.block ∷ names_in body
-  names_of (Pair head producer consumer) = head.carried ∷ (names_in producer ++ names_in consumer)
+  names_of (Fold head body) = head.carried ++ head.block ∷ names_in body
+  names_of (Pair head producer consumer) = head.carried ++ (names_in producer ++ names_in consumer)
   names_of _ = []
 
   -- the names that a block declares
@@ -123,8 +139,8 @@ slots_in b = length (names_in b)
 -- the locals after a statement whose first declaration has slot n
 abbrev pub locals_after : List l.Local → ℕ → RawStatement → List l.Local
 locals_after ls n (Let x value) = free x n ∷ ls
-locals_after ls n (Fold head body) = free head.carried n ∷ ls
-locals_after ls n (Pair head producer consumer) = free head.carried n ∷ ls
+locals_after ls n (Fold head body) = with_each false ls n head.carried
+locals_after ls n (Pair head producer consumer) = with_each false ls n head.carried
 locals_after ls n _ = ls
 
 -- the locals at the end of a block
@@ -132,9 +148,16 @@ abbrev pub locals_at_end : List l.Local → ℕ → RawBlock → List l.Local
 locals_at_end ls n end = ls
 locals_at_end ls n (on_line line first rest) = locals_at_end (locals_after ls n first) (n + length (names_of first)) rest
 
+-- the slot of a fold's block name, and the first slot of its body
+abbrev pub block_slot : ℕ → RawFoldHead → ℕ
+block_slot n head = n + length head.carried
+
+abbrev pub body_slot : ℕ → RawFoldHead → ℕ
+body_slot n head = n + length head.carried + 1
+
 -- the locals of a fold's body
 abbrev pub body_locals : List l.Local → ℕ → RawFoldHead → List l.Local
-body_locals ls n head = fixed head.block (n + 1) ∷ fixed head.carried n ∷ ls
+body_locals ls n head = fixed head.block (block_slot n head) ∷ with_each true ls n head.carried
 
 -- a number that isn't negative
 abbrev pub natural : ℤ → ℕ
@@ -159,22 +182,24 @@ abbrev mutual
   resolved_statement g ls n (Do f given) = s.Do (place_of g f) (resolved_arguments g ls given)
   resolved_statement g ls n (Fold head body) =
       s.Fold (record {
-        carried = n;
-        start = resolved_expression g ls head.start;
-        block = n + 1;
+        carried = row_slots n head.carried;
+        start = resolved_arguments g ls head.start;
+        block = block_slot n head;
         low = resolved_expression g ls head.low;
         high = resolved_expression g ls head.high;
-        predict = resolved_predictor g (fixed head.block (n + 1) ∷ ls) head.predict;
-        next = resolved_expression g (locals_at_end (body_locals ls n head) (n + 2) body) head.next;
+        predict = resolved_predictors g (fixed head.block (block_slot n head) ∷ ls) head.predict;
+        next = resolved_arguments g (locals_at_end (body_locals ls n head) (body_slot n head) body) head.next;
         next_line = head.next_line;
-      }) (resolved_block g (body_locals ls n head) (n + 2) body)
+      }) (resolved_block g (body_locals ls n head) (body_slot n head) body)
   resolved_statement g ls n (Pair head producer consumer) =
       s.Pair (record {
-        carried = n;
-        give = resolved_expression g (locals_at_end ls (n + 1) producer) head.give;
+        carried = row_slots n head.carried;
+        give = resolved_arguments g (locals_at_end ls (n + length head.carried) producer) head.give;
         give_line = head.give_line;
-        predict = resolved_predictor g ls head.predict;
-      }) (resolved_block g ls (n + 1) producer) (resolved_block g (fixed head.carried n ∷ ls) (n + 1 + slots_in producer) consumer)
+        predict = resolved_predictors g ls head.predict;
+      }) (resolved_block g ls (n + length head.carried) producer)
+      (resolved_block g (with_each true ls n head.carried) (n + length head.carried + slots_in producer) consumer)
+  resolved_statement g ls n Break = s.Break
 
   -- a block
   pub resolved_block : Globals → List l.Local → ℕ → RawBlock → Block
@@ -194,14 +219,9 @@ after_inner seen b = record { locals = seen.locals; slots = seen.slots ++ names_
 
 -- ---- programs
 
--- parameters as locals, the first of which has slot n, after others
-abbrev pub params_of : List l.Local → ℕ → List (List ℕ) → List l.Local
-params_of ls n [] = ls
-params_of ls n (x ∷ xs) = params_of (free x n ∷ ls) (n + 1) xs
-
--- the locals and the slots after parameters
-abbrev pub after_params : l.Seen → List (List ℕ) → l.Seen
-after_params seen names = record { locals = params_of seen.locals (length seen.slots) names; slots = seen.slots ++ names }
+-- the locals and the slots after names that are declared and may then be used
+abbrev pub after_names : l.Seen → List (List ℕ) → l.Seen
+after_names seen names = record { locals = with_each false seen.locals (length seen.slots) names; slots = seen.slots ++ names }
 
 -- a function
 abbrev pub resolved_function : Globals → RawFunction → Function
@@ -209,8 +229,8 @@ resolved_function g f = record {
   name = f.name;
   params = length f.params;
   slots = f.params ++ names_in f.body;
-  body = resolved_block g (params_of [] 0 f.params) (length f.params) f.body;
-  answer = resolved_expression g (locals_at_end (params_of [] 0 f.params) (length f.params) f.body) f.answer;
+  body = resolved_block g (with_each false [] 0 f.params) (length f.params) f.body;
+  answer = resolved_expression g (locals_at_end (with_each false [] 0 f.params) (length f.params) f.body) f.answer;
   answer_line = f.answer_line;
   line = f.line;
 }
@@ -218,6 +238,7 @@ resolved_function g f = record {
 -- a program
 abbrev pub resolved : RawProgram → Program
 resolved p = record {
+  version = p.version;
   arrays = p.arrays;
   functions = map (resolved_function (globals_of p.arrays p.functions)) p.functions;
   slots = names_in p.main;

@@ -12,7 +12,7 @@ pub enum TypeFault {
     /// A name is declared that is visible already, or is that of an array or a function.
     #[error("declared twice")]
     Twice,
-    /// A call has another number of arguments than the function has parameters.
+    /// A call has another number of arguments than the function has parameters, or a list of a construct's parts isn't as long as its names.
     #[error("wrong number of arguments")]
     Arity,
     /// A name or a value stands where one of another kind is wanted.
@@ -27,6 +27,9 @@ pub enum TypeFault {
     /// `emit` stands in a function.
     #[error("misplaced emit")]
     Misplaced,
+    /// `break` stands outside of a loop.
+    #[error("misplaced break")]
+    MisplacedBreak,
 }
 
 /// Why a raw program isn't resolved.

@@ -1,6 +1,6 @@
 // The names of arrays and functions, which are visible in the whole program.
 
-ghost use Rattle.std.specs.Prelude.{◌≡◌, ℕ, IfOk, IfErr, List, map, if◌then◌else◌};
+ghost use Rattle.std.specs.Prelude.{◌≡◌, ◌+◌, ℕ, IfOk, IfErr, List, map, if◌then◌else◌};
 ghost use Rattle.std.specs.Str.{bytes_eq};
 ghost use denote.Ref.{Bor};
 ghost use Rattle.spf_ast.specs.RawView.{raw_function};
@@ -49,6 +49,17 @@ pub fn short(count: usize) -> Result<u32, TypeError>
     ensures memory { IfErr result (λ e. e ≡ OutOfMemory) }
 {
     u32::try_from(count).map_err(|_| TypeError::OutOfMemory)
+}
+
+/// The number that comes so many after another.
+pub fn later(first: u32, count: usize) -> Result<u32, TypeError>
+    ensures value { IfOk result (λ n. n ≡ first + count) }
+    ensures memory { IfErr result (λ e. e ≡ OutOfMemory) }
+{
+    match (first as usize).checked_add(count) {
+        Some(sum) => short(sum),
+        None => Err(TypeError::OutOfMemory),
+    }
 }
 
 /// Enters a name, unless it is there.

@@ -2,11 +2,12 @@
 
 ghost use Rattle.std.specs.Prelude.{◌≡◌, ◌<◌, ◌≤◌, ◌-◌, ◌∷◌, ◌++◌, [], IfOk, IfErr, None, length, map, drop};
 ghost use Rattle.spf_ast.specs.View.{name as seen_name};
-ghost use Rattle.spf_scopes.specs.Locals.{binding_of, Seen};
+ghost use Rattle.spf_scopes.specs.Locals.{binding_of, Seen, AreNew};
+ghost use Rattle.spf_scopes.specs.Resolved.{with_each, row_slots as slots_of_row};
 ghost use Rattle.spf_scopes.specs.declared.fault.TypeError.TheVariants.{OutOfMemory};
 
 use crate::fault::TypeError;
-use crate::globals::short;
+use crate::globals::{later, short};
 use spf_ast::syntax::Name;
 use std::alloc::Global;
 use std::collections::BTreeMap;
@@ -74,6 +75,14 @@ impl<'a> LocalTable<'a> {
         self.visible.len()
     }
 
+    /// The slot of the next declaration.
+    pub fn next_slot(&self) -> Result<u32, TypeError>
+        ensures value { IfOk result (λ n. n ≡ length self.now.slots) }
+        ensures memory { IfErr result (λ e. e ≡ OutOfMemory) }
+    {
+        short(self.slots.len())
+    }
+
     /// Declares the next slot, which has this name.
     pub fn declare(&mut self, alloc: Global, name: &Name) -> Result<u32, TypeError>
         ensures slot { IfOk result (λ n. n ≡ length self.old.slots) }
@@ -108,6 +117,19 @@ impl<'a> LocalTable<'a> {
         }
     }
 
+    /// Makes locals usable whose names are new, from left to right; the first one has this slot.
+    pub fn show_each(&mut self, names: &'a [Name], first: u32, fixed: bool) -> Result<(), TypeError>
+        requires { AreNew self.old.locals (map seen_name names.now) }
+        ensures shown { IfOk result (λ _. self.new ≡ record { locals = with_each fixed self.old.locals first (map seen_name names.now); slots = self.old.slots }) }
+        ensures memory { IfErr result (λ e. e ≡ OutOfMemory) }
+    {
+        for (place, name) in names.iter().enumerate() {
+            let slot = later(first, place)?;
+            self.show(name, slot, fixed)?;
+        }
+        Ok(())
+    }
+
     /// Takes the last local away.
     fn hide(&mut self)
         ensures { self.new ≡ record { locals = drop 1 self.old.locals; slots = self.old.slots } }
@@ -132,4 +154,17 @@ impl<'a> LocalTable<'a> {
     {
         self.slots
     }
+}
+
+/// The slots of names, the first of which has this one.
+pub fn row_slots(alloc: Global, first: u32, names: &[Name]) -> Result<Vec<u32>, TypeError>
+    ensures value { IfOk result (λ v. v.items ≡ slots_of_row first (map seen_name names.now)) }
+    ensures memory { IfErr result (λ e. e ≡ OutOfMemory) }
+{
+    let mut slots = Vec::new(alloc);
+    for (place, _) in names.iter().enumerate() {
+        let slot = later(first, place)?;
+        slots.push(slot)?;
+    }
+    Ok(slots)
 }

@@ -1,13 +1,25 @@
 // Names that are declared or used.
 
-ghost use Rattle.std.specs.Prelude.{◌≡◌, [], Some, None, IfOk};
+ghost use Rattle.std.specs.Prelude.{◌≡◌, [], Some, None, IfOk, map, not, true, false};
 ghost use Rattle.spf_ast.specs.View.{name as seen_name};
 ghost use Rattle.spf_scopes.specs.HereView.{setting};
-ghost use Rattle.spf_scopes.specs.Faults.{misuse as misuse_fault, declared_faults, used_faults, assigned_faults, indexed_faults, callee_faults, called_faults};
-ghost use Rattle.spf_scopes.specs.Resolved.{scope, slot_of, place_of};
+ghost use Rattle.spf_scopes.specs.Faults.{
+  misuse as misuse_fault,
+  declared_faults,
+  each_declared_faults,
+  used_faults,
+  assigned_faults,
+  indexed_faults,
+  callee_faults,
+  called_faults,
+  width_faults,
+  when,
+};
+ghost use Rattle.spf_scopes.specs.Resolved.{scope, slot_of, place_of, after_names};
 ghost use Rattle.spf_scopes.specs.Globals.{global_named};
-ghost use Rattle.spf_scopes.specs.Locals.{binding_of};
+ghost use Rattle.spf_scopes.specs.Locals.{binding_of, AreNew};
 ghost use Rattle.spf_scopes.specs.declared.globals.Outer.TheVariants.{Function};
+ghost use Rattle.spf_scopes.specs.declared.fault.TypeFault.TheVariants.{MisplacedBreak};
 ghost use Rattle.spf_scopes.specs.Answers.{Answers};
 
 use crate::fault::{TypeError, TypeFault};
@@ -16,13 +28,42 @@ use crate::locals::LocalTable;
 use spf_ast::syntax::Name;
 use std::alloc::Global;
 
-/// Where a form stands: what is visible in the whole program, before which place functions may be called, and whether it is in `main`.
+/// Where a form stands: what is visible in the whole program, before which place functions may be called, and whether it is in `main` and in a loop.
 #[derive(Clone, Copy)]
 pub struct Here<'s, 'a> {
     pub alloc: Global,
     pub globals: &'s GlobalTable<'a>,
     pub place: usize,
     pub in_main: bool,
+    pub in_loop: bool,
+}
+
+impl<'s, 'a> Here<'s, 'a> {
+    /// The body of a loop there.
+    pub fn in_turn(&self) -> Here<'s, 'a>
+        ensures { result ≡ record self.now { in_loop = true } }
+    {
+        Here {
+            alloc: self.alloc,
+            globals: self.globals,
+            place: self.place,
+            in_main: self.in_main,
+            in_loop: true,
+        }
+    }
+
+    /// A part of a construct there.
+    pub fn in_part(&self) -> Here<'s, 'a>
+        ensures { result ≡ record self.now { in_loop = false } }
+    {
+        Here {
+            alloc: self.alloc,
+            globals: self.globals,
+            place: self.place,
+            in_main: self.in_main,
+            in_loop: false,
+        }
+    }
 }
 
 #[tactic(auto, using(crate::proofs::Scopes::scopes))]
@@ -50,6 +91,47 @@ pub fn declarable<'a>(
 {
     if locals.find(name).is_some() || here.globals.find(name).is_some() {
         let fault = TypeFault::Twice;
+        return Err(TypeError::Refused { fault, line });
+    }
+    Ok(())
+}
+
+/// Declares names from left to right, each where the ones before it may be used.
+pub fn declared_each<'a>(
+    here: &Here<'_, 'a>,
+    locals: &mut LocalTable<'a>,
+    line: u32,
+    raw: &'a [Name],
+) -> Result<(), TypeError>
+    ensures answers { Answers (each_declared_faults (setting here.now) (scope locals.old.locals) line (map seen_name raw.now)) (λ _. tt {0}) (tt {0}) result }
+    ensures after { IfOk result (λ _. locals.new ≡ after_names locals.old (map seen_name raw.now)) }
+    ensures new { IfOk result (λ _. AreNew locals.old.locals (map seen_name raw.now)) }
+{
+    for name in raw {
+        declarable(here, locals, line, name)?;
+        let slot = locals.declare(here.alloc, name)?;
+        locals.show(name, slot, false)?;
+    }
+    Ok(())
+}
+
+/// Tests that a list of a construct's parts is as long as its names.
+pub fn same_width(line: u32, width: usize, count: usize) -> Result<(), TypeError>
+    ensures { Answers (width_faults line width count) (λ _. tt {0}) (tt {0}) result }
+{
+    if count != width {
+        let fault = TypeFault::Arity;
+        return Err(TypeError::Refused { fault, line });
+    }
+    Ok(())
+}
+
+/// Tests that a `break` is in a loop.
+pub fn leaves_loop<'a>(here: &Here<'_, 'a>, line: u32) -> Result<(), TypeError>
+    ensures { Answers (when (not here.now.in_loop) MisplacedBreak line) (λ _. tt {0}) (tt {0}) result }
+{
+    if !here.in_loop {
+        let fault = TypeFault::MisplacedBreak;
         return Err(TypeError::Refused { fault, line });
     }
     Ok(())

@@ -1,13 +1,11 @@
 //! What the program does with the words after its name: the help and the version, the hosts, and the command.
 #![tactic(auto)]
 
-ghost use Rattle.std.specs.Prelude.{◌≡◌, ◌⊎◌, ℕ, List, map, drop, string_bytes, IfOk, IfErr, Err};
-ghost use Rattle.spf_edge.specs.Bytes.{AddsPrefix};
+ghost use Rattle.std.specs.Prelude.{◌≡◌, ℕ, List, map, drop, string_bytes, IfOk, IfErr, Err};
 ghost use Rattle.spf_host_words.specs.HostWords.{Reading, Say, SayNothing};
 ghost use Rattle.spf_host_words.specs.declared.host_words.WordsError.TheVariants.{NotUnderstood};
-ghost use Rattle.spf_commands.specs.Message.{words_line};
 ghost use Rattle.spf_commands.specs.Whole.{handed, Whole};
-ghost use Rattle.spf_cli.specs.Answered.{sinks, IsAnswered, IsUntouched};
+ghost use Rattle.spf_cli.specs.Answered.{sinks, IsAnswered};
 ghost use Rattle.spf_usage.specs.Pages.{IsAnswer};
 ghost use Rattle.spf_shell_hosts.specs.Hosts.{answers_of};
 ghost use Rattle.spf_shell.specs.Shell.{AskForNoPage, IsTextPut, IsShown, AreRefused};
@@ -21,6 +19,9 @@ use spf_usage::usage;
 use std::alloc::Global;
 use std::sync::Wait;
 use std::thread::Threads;
+
+/// The status where the help or the version is shown.
+const SHOWN: u8 = 0;
 
 /// The status where the words that ask for hosts aren't understood.
 const NOT_UNDERSTOOD: u8 = 2;
@@ -60,29 +61,20 @@ fn run_command<R: Threads + Wait + Sync, F: Files, S: Sink>(
     Ok(spf_main(rt, alloc, command, files, out, err, hosts, &Open))
 }
 
-/// The status where the words that ask for hosts aren't understood, after a line on the error stream. Where that can't be put, the status
-/// alone tells it.
-fn not_understood<S: Sink>(err: &mut S) -> u8
-    ensures status { result ≡ 2 }
-    ensures said { AddsPrefix (S.state err.old).taken (S.state err.new).taken words_line }
+/// Puts a text, and gives this status, or that of a put that failed or found no memory.
+fn put_text<S: Sink>(sink: &mut S, text: &str, status: u8) -> u8
+    ensures { IsTextPut text.now status result (S.state sink.old) (S.state sink.new) }
 {
-    let _ = err.put(b"words not understood\n");
-    NOT_UNDERSTOOD
-}
-
-/// Puts the help or the version, and gives the status.
-fn show<S: Sink>(out: &mut S, text: &str) -> u8
-    ensures { IsTextPut text.now result (S.state out.old) (S.state out.new) }
-{
-    match out.put(text.as_bytes()) {
-        Ok(()) => 0,
+    match sink.put(text.as_bytes()) {
+        Ok(()) => status,
         Err(PutError::Failed) => PUT_FAILED,
         Err(PutError::OutOfMemory) => NO_MEMORY,
     }
 }
 
 /// Does what the words after the program's name ask for, and gives the status with which the program ends: 0 where the help or the
-/// version is shown, 2 where the words for hosts aren't understood, and else that of [`spf_main`].
+/// version is shown, 2 where the words for hosts aren't understood and the error stream took the
+/// line that says so, and else that of [`spf_main`].
 pub fn answer<R: Threads + Wait + Sync, F: Files, S: Sink>(
     rt: &R,
     alloc: Global,
@@ -91,14 +83,15 @@ pub fn answer<R: Threads + Wait + Sync, F: Files, S: Sink>(
     out: &mut S,
     err: &mut S,
 ) -> u8
-    // The help or the version is shown.
+    // The help or the version is shown, and no file is fetched.
     ensures shown { (text : List ℕ) → IsAnswer (map string_bytes words.now) text
-        → IsShown text result (sinks (S.state out.old) (S.state out.new) (S.state err.old) (S.state err.new)) }
+        → IsShown text result (sinks (S.state out.old) (S.state out.new) (S.state err.old) (S.state err.new))
+        × (F.state files.new ≡ F.state files.old) }
 
-    // Words with a broken pair for a host aren't understood.
+    // Words with a broken pair for a host aren't understood, and no file is fetched.
     ensures not_understood { AskForNoPage (map string_bytes words.now) → SayNothing (map string_bytes words.now)
         → AreRefused result (sinks (S.state out.old) (S.state out.new) (S.state err.old) (S.state err.new))
-        ⊎ IsUntouched result (sinks (S.state out.old) (S.state out.new) (S.state err.old) (S.state err.new)) }
+        × (F.state files.new ≡ F.state files.old) }
 
     // Any others are answered as the words after the pairs are, with hosts of the kinds that these ask for.
     ensures answered { (reading : Reading) → AskForNoPage (map string_bytes words.now)
@@ -109,11 +102,11 @@ pub fn answer<R: Threads + Wait + Sync, F: Files, S: Sink>(
         (sinks (S.state out.old) (S.state out.new) (S.state err.old) (S.state err.new)) }
 {
     if let Some(text) = usage(words) {
-        return show(out, text);
+        return put_text(out, text, SHOWN);
     }
     match run_command(rt, alloc, words, files, out, err) {
         Ok(status) => status,
-        Err(WordsError::NotUnderstood) => not_understood(err),
+        Err(WordsError::NotUnderstood) => put_text(err, "words not understood\n", NOT_UNDERSTOOD),
         Err(WordsError::OutOfMemory) => NO_MEMORY,
     }
 }

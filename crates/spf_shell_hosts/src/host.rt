@@ -5,7 +5,6 @@ ghost use Rattle.spf_host_words.specs.Seen.{seen_kind};
 ghost use Rattle.spf_shell_hosts.specs.Hosts.{answers_of};
 ghost use Rattle.spf_shell_hosts.specs.Seen.{answer_by};
 
-use spf_ast::carried::Carried;
 use spf_host_words::HostKind;
 use spf_predictors::{Fixed, Last, Most, Predictor, Table};
 use std::alloc::{AllocError, Global};
@@ -52,7 +51,7 @@ impl Predictor for Host {
     ghost answer = { answer_by ⟦<Fixed as Predictor>⟧.answer ⟦<Last as Predictor>⟧.answer
         ⟦<Most as Predictor>⟧.answer ⟦<Table as Predictor>⟧.answer };
 
-    fn guess(&mut self, block: i64) -> Carried {
+    fn guess(&mut self, block: i64) -> i64 {
         match self {
             Host::Fixed(fixed) => fixed.guess(block),
             Host::Last(last) => last.guess(block),
@@ -61,7 +60,7 @@ impl Predictor for Host {
         }
     }
 
-    fn tell(&mut self, block: i64, real: Carried) {
+    fn tell(&mut self, block: i64, real: i64) {
         match self {
             Host::Fixed(fixed) => fixed.tell(block, real),
             Host::Last(last) => last.tell(block, real),

@@ -1,10 +1,11 @@
 -- Sizes put together.
-use Rattle.std.proofs.Common.{◌≡◌, ℕ, ◌+◌, ◌<◌, ◌≤◌, max, List, length, get_or, drop, sym, ap, subst, arith}
+use Rattle.std.proofs.Common.{◌≡◌, ℕ, ◌+◌, ◌<◌, ◌≤◌, max, List, length, get_or, drop, map, sym, ap, subst, arith}
 use Rattle.std.proofs.lemmas.List.{drop_all}
 use Rattle.spf_ast.specs.declared.syntax.Expr.{Expr}
+use Rattle.spf_ast.specs.declared.syntax.Predict.{Predict}
 use Rattle.spf_ast.specs.declared.syntax.Stmt.{Stmt}
-use Rattle.spf_ast.specs.View.{expression, arguments, statement, block}
-use Rattle.spf_ast.specs.Size.{Measure, by_size, by_depth, by_slots, expression_measure, arguments_measure, statement_measure, block_measure}
+use Rattle.spf_ast.specs.View.{expression, arguments, predictor, statement, block}
+use Rattle.spf_ast.specs.Size.{Measure, by_size, by_depth, by_slots, expression_measure, arguments_measure, predictor_measure, predictors_measure, statement_measure, block_measure}
 use Rattle.spf_size.specs.declared.size.Size.{Size}
 use Rattle.spf_size.specs.Sizes.{IsBeside, IsWithin, IsSize, Counts, HasSize}
 use Rattle.spf_size.proofs.Lists.{item_at}
@@ -123,6 +124,16 @@ arguments_split es i e h is m = ap (λ l. arguments_measure m (arguments l)) (it
 
 pub arguments_end : (es : List Expr) (i : ℕ) → length es ≤ i → (m : Measure) → arguments_from es i m ≡ 0
 arguments_end es i h m = ap (λ l. arguments_measure m (arguments l)) (drop_all i es h)
+
+-- predictors from an index on
+abbrev pub predictors_from : List Predict → ℕ → Measure → ℕ
+predictors_from ps i m = predictors_measure m (map predictor (drop i ps))
+
+pub predictors_split : (ps : List Predict) (i : ℕ) (p : Predict) → i < length ps → p ≡ get_or ps i p → (m : Measure) → predictors_from ps i m ≡ m.join (predictor_measure m (predictor p)) (predictors_from ps (i + 1) m)
+predictors_split ps i p h is m = ap (λ l. predictors_measure m (map predictor l)) (item_at ps i p h is)
+
+pub predictors_end : (ps : List Predict) (i : ℕ) → length ps ≤ i → (m : Measure) → predictors_from ps i m ≡ 0
+predictors_end ps i h m = ap (λ l. predictors_measure m (map predictor l)) (drop_all i ps h)
 
 -- statements from an index on
 abbrev pub block_from : List Stmt → ℕ → Measure → ℕ

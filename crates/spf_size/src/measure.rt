@@ -1,5 +1,6 @@
 // The sizes of forms, given those of the functions that they call.
 
+ghost use Rattle.std.specs.Prelude.{map};
 ghost use Rattle.spf_ast.specs.declared.syntax.Fold.{out-Fold};
 ghost use Rattle.spf_ast.specs.declared.syntax.Pair.{out-Pair};
 ghost use Rattle.spf_ast.specs.Syntax as form;
@@ -13,7 +14,7 @@ ghost use Rattle.spf_ast.specs.View.{
   fold_head,
   pair_head,
 };
-ghost use Rattle.spf_ast.specs.Size.{expression_measure, arguments_measure, condition_measure, predictor_measure, block_measure, statement_measure};
+ghost use Rattle.spf_ast.specs.Size.{expression_measure, arguments_measure, condition_measure, predictor_measure, predictors_measure, block_measure, statement_measure};
 ghost use Rattle.spf_size.specs.Sizes.{Counts, HasSize, IsSize, IsTable};
 
 use crate::size::{NONE, Size, beside, within};
@@ -93,6 +94,17 @@ fn predictor(sizes: &[Size], predict: &Predict) -> Size
     }
 }
 
+/// The predictors of a row's parts.
+fn predictors(sizes: &[Size], predict: &[Predict]) -> Size
+    ensures { (counts : Counts) → IsTable counts sizes.now → HasSize counts (λ m. predictors_measure m (map seen_predictor predict.now)) result }
+{
+    let mut size = NONE;
+    for part in predict {
+        size = beside(size, predictor(sizes, part));
+    }
+    size
+}
+
 /// Statements one after another.
 #[cycle(statement)]
 pub fn block(sizes: &[Size], statements: &[Stmt]) -> Size
@@ -141,6 +153,7 @@ fn statement(sizes: &[Size], kind: &StmtKind) -> Size
         }
         StmtKind::Fold(parts) => fold(sizes, parts),
         StmtKind::Pair(parts) => pair(sizes, parts),
+        StmtKind::Break => within(NONE),
     }
 }
 
@@ -152,9 +165,9 @@ fn fold(sizes: &[Size], fold: &Fold) -> Size
         (form.Fold (fold_head fold.now) (seen_block (out-Fold fold.now).body.items))) result }
 {
     let range = beside(expression(sizes, &fold.low), expression(sizes, &fold.high));
-    let header = beside(expression(sizes, &fold.start), range);
-    let body = beside(block(sizes, &fold.body), expression(sizes, &fold.next));
-    within(beside(header, beside(predictor(sizes, &fold.predict), body)))
+    let header = beside(arguments(sizes, &fold.start), range);
+    let body = beside(block(sizes, &fold.body), arguments(sizes, &fold.next));
+    within(beside(header, beside(predictors(sizes, &fold.predict), body)))
 }
 
 /// A pair.
@@ -165,9 +178,9 @@ fn pair(sizes: &[Size], pair: &Pair) -> Size
         (form.Pair (pair_head pair.now) (seen_block (out-Pair pair.now).producer.items)
         (seen_block (out-Pair pair.now).consumer.items))) result }
 {
-    let produced = beside(block(sizes, &pair.producer), expression(sizes, &pair.give));
+    let produced = beside(block(sizes, &pair.producer), arguments(sizes, &pair.give));
     let consumed = beside(
-        predictor(sizes, &pair.predict),
+        predictors(sizes, &pair.predict),
         block(sizes, &pair.consumer),
     );
     within(beside(produced, consumed))

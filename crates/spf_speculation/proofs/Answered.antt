@@ -28,7 +28,7 @@ begins-next laws e h n v next memory begin =
           ∙ sym (plain-outside laws e h n v memory c (not-own e n c out));
     }
 
--- the same values and the same result
+-- the same rows and the same result
 record ComesToAnswers (c : Chained) (a : Answered) : Type 0 where
   values : c.values ≡ a.values
   result : c.result ≡ a.result

@@ -1,4 +1,4 @@
--- One block: its attempts keep to its cells, and a whole one at the real value is its plain run.
+-- One block: its attempts keep to its cells, and a whole one at the real row is its plain run.
 use Rattle.std.proofs.Common.{◌≡◌, ◌≢◌, ℕ, zero, suc, ◌<◌, true, false, List, [], ◌++◌, length, Some, None, ℤ, pos, ◌+ℤ◌, refl, sym, ap, ◌∙◌, subst, arith, inl, inr, Contains}
 use Rattle.std.proofs.lemmas.Int.{ints}
 use Rattle.spf_lemmas.proofs.Members.{cases}
@@ -31,7 +31,7 @@ pub record BlockLaws : Type 0 where
 
 -- ---- setups
 
--- the setup of a block at a value
+-- the setup of a block at a row
 abbrev pub setup_at : Entry → ℕ → Carried → Setup
 setup_at e n v = block_setup e.input e.slots (number_of e n) v
 

@@ -1,16 +1,16 @@
 -- Whatever the guesses, there is a speculative run: each attempt is a plain run, without the loads of other blocks' cells.
 use Rattle.std.proofs.Common.{◌≡◌, ◌≢◌, ◌⊎◌, inl, inr, ℕ, zero, suc, ◌+◌, ◌<◌, ◌≤◌, Bool, true, false, List, [], ◌∷◌, ◌++◌, Some, ℤ, refl, sym, ◌∙◌, subst, arith, eq-eqb, Contains}
 use Rattle.std.specs.Prelude.{slice_set, if◌then◌else◌, ◌==◌, nat_le, Result, Ok, Err}
-use Rattle.std.specs.Ordering.{int_eq}
 use Rattle.std.proofs.lemmas.Bool.Decides.{Decides-eqb, Decides-int_eq}
 use Rattle.spf_lemmas.proofs.Members.{cases, first-in, later-in}
 use Rattle.spf_ast.specs.declared.outcome.Trap.{Trap}
-use Rattle.spf_ast.specs.Carried.{Carried}
+use Rattle.spf_ast.specs.Carried.{Carried, same_carried}
 use Rattle.spf_ast.specs.Event.{Event, Load, Store, Turn, word_at, after, IsConsistent}
 use Rattle.spf_ast.specs.Interaction.{Interaction, Answer, AskLoad, AskStore, AskTurn, Ended, Stopped, Ending, Value, Trapped, perform, every_cell}
 use Rattle.spf_ast.specs.Construct.{part_of}
 use Rattle.spf_ast.specs.Plain.{plain_events, plain_answer}
 use Rattle.spf_speculation.specs.Steps.{joined}
+use Rattle.spf_entry.proofs.Rows.{Decides-same_carried}
 use Rattle.spf_entry.specs.Entry.{Entry, IsEntry, own, asks_at, begins_at}
 use Rattle.spf_entry.specs.Attempts.{IsAttempt, IsWhole, OthersAreOf, on_cells}
 use Rattle.spf_speculation.specs.Runs.{IsRealLog, at_once, again, IsGuessedLog, LogsComeTo, no_more_blocks, gave_value, gave_trap}
@@ -66,7 +66,7 @@ plain-consistent laws e n v m = kept-consistent (own e n) (plain_events (asks_at
 
 -- ---- single blocks
 
--- at each value a block has a log as at its real one
+-- at each row a block has a log as at its real one
 record HasARealLog (e : Entry) (guess : ℕ → Carried) (n : ℕ) (v : Carried) : Type 0 where
   log : List Event
   answer : Ending Carried
@@ -74,7 +74,8 @@ record HasARealLog (e : Entry) (guess : ℕ → Carried) (n : ℕ) (v : Carried)
   consistent : IsConsistent log e.memory
 
 same-or-not : (v w : Carried) → (v ≡ w) ⊎ (v ≢ w)
-same-or-not v w = cases (true-or-false (int_eq v w)) (λ t. inl ((Decides-int_eq v w).0 t)) (λ f. inr (λ e. wrong (int_eq v w) ((Decides-int_eq v w).1 e) f))
+same-or-not v w =
+    cases (true-or-false (same_carried v w)) (λ t. inl ((Decides-same_carried v w).0 t)) (λ f. inr (λ e. wrong (same_carried v w) ((Decides-same_carried v w).1 e) f))
   where
     wrong : (b : Bool) → b ≡ true → b ≡ false → ⊥
     wrong b h k = cc

@@ -101,7 +101,7 @@ get-at : (xs : List Carried) (v : Carried) (rest : List Carried) (n : ℕ) → l
 get-at [] v rest n size = subst (λ k. slice_get (v ∷ rest) k ≡ Some v) size refl
 get-at (x ∷ xs) v rest n size = subst (λ k. slice_get (x ∷ (xs ++ v ∷ rest)) k ≡ Some v) size (get-at xs v rest (length xs) refl)
 
--- the first of the values to come
+-- the first of the rows to come
 first-real : (values rest : List Carried) (v : Carried) (x : Ending Carried) (memory : List ℤ) (others : Carried → Chained) (n : ℕ) → length values ≡ n → rest ≡ values ++ (chained_on v x memory others).values → slice_get rest n ≡ Some v
 first-real values rest v (Value next state) memory others n size is = ap (λ l. slice_get l n) is ∙ get-at values v (others next).values n size
 first-real values rest v (Trapped trap output) memory others n size is = ap (λ l. slice_get l n) is ∙ get-at values v [] n size

@@ -31,7 +31,7 @@ UnstoppedAttemptsAreWhole =
 
 -- ---- one block
 
--- the plain run of block n at v, on this memory, has this answer; where that is a value, it leaves in the cells of the block's spans what the log leaves there
+-- the plain run of block n at v, on this memory, has this answer; where that is a row, it leaves in the cells of the block's spans what the log leaves there
 pub record IsItsPlainRun (e : Entry) (n : ℕ) (v : Carried) (log : List Event) (answer : Ending Carried) (memory : List ℤ) : Type 0 where
   pub same : plain_answer (asks_at e n v) memory ≡ answer
   pub contents : (value : Carried) (state : State) (cell : ℕ) → answer ≡ Value value state → own e n cell ≡ true
@@ -43,14 +43,14 @@ abbrev pub MayBegin : Entry → ℕ → Carried → List ℤ → Type 0
 MayBegin e zero v memory = (v ≡ e.header.start) × (memory ≡ e.memory)
 MayBegin e (suc n) v memory = AgreeOnUnwritten e.program e.construct (length e.input) e.memory memory
 
--- a block's log at its real value is its plain run, whatever a wrong attempt left in its cells
+-- a block's log at its real row is its plain run, whatever a wrong attempt left in its cells
 abbrev pub RealLogsArePlainRuns : Type 0
 RealLogsArePlainRuns =
     (e : Entry) (guess : ℕ → Carried) (n : ℕ) (v : Carried) (log : List Event) (answer : Ending Carried) (memory : List ℤ)
     → IsEntry e → IsRealLog e guess n v log answer → IsConsistent log e.memory → MayBegin e n v memory
     → IsItsPlainRun e n v log answer memory
 
--- what a block's run at a value comes to on the entry's memory
+-- what a block's run at a row comes to on the entry's memory
 abbrev pub entry_answer : Entry → ℕ → Carried → Ending Carried
 entry_answer e n v = plain_answer (asks_at e n v) e.memory
 
@@ -59,8 +59,8 @@ abbrev pub IsBefore : Entry → ℕ → List Event → Type 0
 IsBefore e zero before = before ≡ []
 IsBefore e (suc n) before = (before ≡ []) ⊎ ((w : Carried) × (other : ℕ) × IsAttempt e (suc n) w other before)
 
--- Each whole attempt, at a wrong value too, comes to what the block's run at this value comes to on the entry's
--- memory. So the answer depends on the block and the value alone.
+-- Each whole attempt, at a wrong row too, comes to what the block's run at this row comes to on the entry's
+-- memory. So the answer depends on the block and the row alone.
 abbrev pub AttemptsAnswerAsOnTheEntry : Type 0
 AttemptsAnswerAsOnTheEntry =
     (e : Entry) (n : ℕ) (v : Carried) (attempt : ℕ) (before log : List Event) (answer : Ending Carried)
@@ -80,12 +80,12 @@ pub record IsLeftBy (e : Entry) (logs : ℕ → List Event) (n : ℕ) (memory : 
   pub outside : (cell : ℕ) → ((k : ℕ) → k < n → own e k cell ≡ false) → word_at memory cell ≡ word_at e.memory cell
 
 -- from a memory that is as the logs of the first n blocks leave it, the plain run of block n has the answer of this
--- block's log; where that is a value, it leaves the memory as one log more does
+-- block's log; where that is a row, it leaves the memory as one log more does
 pub record ContinuesAt (e : Entry) (logs : ℕ → List Event) (n : ℕ) (v : Carried) (answer : Ending Carried) (memory : List ℤ) : Type 0 where
   pub same : plain_answer (asks_at e n v) memory ≡ answer
   pub left : (value : Carried) (state : State) → answer ≡ Value value state → IsLeftBy e logs (suc n) (plain_memory (asks_at e n v) memory)
 
--- each log at a real value continues the plain run by one block
+-- each log at a real row continues the plain run by one block
 abbrev pub RealLogsContinueThePlainRun : Type 0
 RealLogsContinueThePlainRun =
     (e : Entry) (guess : ℕ → Carried) (logs : ℕ → List Event) (n : ℕ) (v : Carried) (answer : Ending Carried) (memory : List ℤ)
@@ -95,7 +95,7 @@ RealLogsContinueThePlainRun =
 
 -- ---- whole runs
 
--- a block's log begins with an attempt from its guess, and ends with it unless the block has a real value that is another one
+-- a block's log begins with an attempt from its guess, and ends with it unless the block has a real row that is another one
 pub record BeginsAtItsGuess (e : Entry) (guess : ℕ → Carried) (real : Option Carried) (n : ℕ) (log : List Event) : Type 0 where
   pub first : List Event
   pub rest : List Event
@@ -110,7 +110,7 @@ BlocksAreFirstAttemptedAtTheirGuess =
     → LogsComeTo e guess logs 0 e.header.start values result
     → (n : ℕ) → n < e.header.blocks → BeginsAtItsGuess e guess (slice_get values n) n (logs n)
 
--- the real values and the result are those of the plain run; where no block traps, so is this memory
+-- the real rows and the result are those of the plain run; where no block traps, so is this memory
 pub record IsThePlainRun (e : Entry) (values : List Carried) (result : Result Carried Trap) (memory : List ℤ) : Type 0 where
   pub same_values : values ≡ (plain_blocks e).values
   pub same_result : result ≡ (plain_blocks e).result
@@ -122,7 +122,7 @@ SpeculativeRunsMeanThePlainRun =
     (e : Entry) (guess : ℕ → Carried) (steps : List Step) (values : List Carried) (result : Result Carried Trap)
     → IsEntry e → IsSpeculativeRun e guess steps values result → IsThePlainRun e values result (after (events_of steps) e.memory)
 
--- the real values and the result of these logs are those of the plain run; where no block traps, its memory is as the logs leave it
+-- the real rows and the result of these logs are those of the plain run; where no block traps, its memory is as the logs leave it
 pub record AreThePlainRun (e : Entry) (logs : ℕ → List Event) (values : List Carried) (result : Result Carried Trap) : Type 0 where
   pub same_values : values ≡ (plain_blocks e).values
   pub same_result : result ≡ (plain_blocks e).result
@@ -161,22 +161,22 @@ EachGuessHasARun = (e : Entry) (guess : ℕ → Carried) → IsEntry e → HasAS
 
 -- ---- answers alone
 
--- what blocks come to by their answers: the value at which each begins, and the value after the last one or the first trap
+-- what blocks come to by their answers: the row at which each begins, and the row after the last one or the first trap
 pub record Answered : Type 0 where
   pub values : List Carried
   pub result : Result Carried Trap
 
--- a block that began at this value, and those after it where it gave one
+-- a block that began at this row, and those after it where it gave one
 abbrev pub answered_on : Carried → Ending Carried → (Carried → Answered) → Answered
 answered_on v (Value next state) others = record { values = v ∷ (others next).values; result = (others next).result }
 answered_on v (Trapped trap output) others = record { values = v ∷ []; result = Err trap }
 
--- so many blocks from block n on, from this value
+-- so many blocks from block n on, from this row
 abbrev pub answered : (ℕ → Carried → Ending Carried) → (n count : ℕ) → Carried → Answered
 answered answer n zero v = record { values = []; result = Ok v }
 answered answer n (suc count) v = answered_on v (answer n v) (λ next. answered answer (suc n) count next)
 
--- the plain run comes to what the blocks' answers on the entry's memory come to; no other memory is needed to tell the real values
+-- the plain run comes to what the blocks' answers on the entry's memory come to; no other memory is needed to tell the real rows
 abbrev pub PlainRunsAreAnswered : Type 0
 PlainRunsAreAnswered =
     (e : Entry) → IsEntry e

@@ -1,4 +1,4 @@
--- How far a run is validated: the blocks of a prefix have their real values, and the plain run stands after them.
+-- How far a run is validated: the blocks of a prefix have their real rows, and the plain run stands after them.
 use Rattle.std.specs.Prelude.{◌≡◌, ◌≤◌, ◌<◌, ◌+◌, ℕ, suc, List, [], ◌∷◌, ◌++◌, length, slice_get, Some, Result, Ok, Err, ℤ}
 use Rattle.spf_ast.specs.declared.outcome.Trap.{Trap}
 use Rattle.spf_ast.specs.Carried.{Carried}
@@ -11,25 +11,25 @@ use Rattle.spf_entry.specs.Entry.{Entry, IsEntry, number_of, asks_at, plain_bloc
 use Rattle.spf_speculation.specs.Runs.{IsRealLog, IsGuessedLog, LogsComeTo}
 use Rattle.spf_speculation.specs.Laws.{IsLeftBy}
 
--- what so many blocks from block n on come to, run plainly one after another from a value and a memory
+-- what so many blocks from block n on come to, run plainly one after another from a row and a memory
 abbrev pub plain_from : Entry → (n count : ℕ) → Carried → List ℤ → Chained
 plain_from e n count v memory = chained (environment_of e.program e.input) e.construct e.slots n count (number_of e n) v memory
 
--- these real values, and then what the rest of the plain run comes to, are what all blocks come to
+-- these real rows, and then what the rest of the plain run comes to, are what all blocks come to
 pub record IsTheRest (e : Entry) (values : List Carried) (rest : Chained) : Type 0 where
   pub all_values : (plain_blocks e).values ≡ values ++ rest.values
   pub end : (plain_blocks e).result ≡ rest.result
   pub memory : (plain_blocks e).memory ≡ rest.memory
 
--- all logs that are the same for the first n blocks come to these real values, and then to what they come to from block n at v
+-- all logs that are the same for the first n blocks come to these real rows, and then to what they come to from block n at v
 abbrev pub PrefixComesTo : Entry → (ℕ → Carried) → (ℕ → List Event) → ℕ → List Carried → Carried → Type 0
 PrefixComesTo e guess logs n values v =
     (others : ℕ → List Event) → ((k : ℕ) → k < n → others k ≡ logs k)
     → (later : List Carried) (result : Result Carried Trap) → LogsComeTo e guess others n v later result
     → LogsComeTo e guess others 0 e.header.start (values ++ later) result
 
--- The first n blocks are a validated prefix: their logs come to these real values, v is the real value of block n,
--- and on this memory the plain run stands at that block. Where n is the number of blocks, v is the value after the
+-- The first n blocks are a validated prefix: their logs come to these real rows, v is the real row of block n,
+-- and on this memory the plain run stands at that block. Where n is the number of blocks, v is the row after the
 -- last one.
 pub record IsValidatedPrefix (e : Entry) (guess : ℕ → Carried) (logs : ℕ → List Event) (n : ℕ) (values : List Carried)
     (v : Carried) (memory : List ℤ) : Type 0 where
@@ -40,7 +40,7 @@ pub record IsValidatedPrefix (e : Entry) (guess : ℕ → Carried) (logs : ℕ �
   pub left : IsLeftBy e logs n memory
   pub rest : (count : ℕ) → n + count ≡ e.header.blocks → IsTheRest e values (plain_from e n count v memory)
 
--- the plain run ends at block n with this trap and these real values, and so do all logs that are the same up to this block and guessed ones after it
+-- the plain run ends at block n with this trap and these real rows, and so do all logs that are the same up to this block and guessed ones after it
 pub record EndsAt (e : Entry) (guess : ℕ → Carried) (logs : ℕ → List Event) (n : ℕ) (values : List Carried) (trap : Trap) : Type 0 where
   pub plain_values : (plain_blocks e).values ≡ values
   pub plain_result : (plain_blocks e).result ≡ Err trap
@@ -48,7 +48,7 @@ pub record EndsAt (e : Entry) (guess : ℕ → Carried) (logs : ℕ → List Eve
       → ((k : ℕ) → n < k → k < e.header.blocks → IsGuessedLog e guess k (others k))
       → LogsComeTo e guess others 0 e.header.start values (Err trap)
 
--- all blocks have their real values: these, with this value as the result, and on this memory the plain run ends
+-- all blocks have their real rows: these, with this row as the result, and on this memory the plain run ends
 pub record IsComplete (e : Entry) (guess : ℕ → Carried) (logs : ℕ → List Event) (values : List Carried) (v : Carried) (memory : List ℤ) : Type 0 where
   pub come : LogsComeTo e guess logs 0 e.header.start values (Ok v)
   pub plain_values : (plain_blocks e).values ≡ values
@@ -60,7 +60,7 @@ pub record IsComplete (e : Entry) (guess : ℕ → Carried) (logs : ℕ → List
 abbrev pub PrefixesBegin : Type 0
 PrefixesBegin = (e : Entry) (guess : ℕ → Carried) (logs : ℕ → List Event) → IsValidatedPrefix e guess logs 0 [] e.header.start e.memory
 
--- where the log of block n at its real value has a value as its answer, the prefix grows by this block
+-- where the log of block n at its real row has a row as its answer, the prefix grows by this block
 abbrev pub PrefixesGrow : Type 0
 PrefixesGrow =
     (e : Entry) (guess : ℕ → Carried) (logs : ℕ → List Event) (n : ℕ) (values : List Carried) (v : Carried) (memory : List ℤ) (next : Carried) (state : State)
@@ -82,7 +82,7 @@ PrefixesComplete =
     (e : Entry) (guess : ℕ → Carried) (logs : ℕ → List Event) (n : ℕ) (values : List Carried) (v : Carried) (memory : List ℤ)
     → IsValidatedPrefix e guess logs n values v memory → n ≡ e.header.blocks → IsComplete e guess logs values v memory
 
--- the value at which the block after a prefix begins is its real value in the plain run
+-- the row at which the block after a prefix begins is its real row in the plain run
 abbrev pub PrefixesHaveRealValues : Type 0
 PrefixesHaveRealValues =
     (e : Entry) (guess : ℕ → Carried) (logs : ℕ → List Event) (n : ℕ) (values : List Carried) (v : Carried) (memory : List ℤ)

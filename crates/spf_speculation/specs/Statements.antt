@@ -36,13 +36,13 @@ pub record IsReached (e : Entry) (scope : Scope) (line : ℕ) (s : Statement) (m
   pub slots : entry.slots ≡ e.slots
   pub memory : plain_memory (header_means (environment_at e) e.construct m.state) m.memory ≡ e.memory
 
--- the real values of the construct in the plain run
+-- the real rows of the construct in the plain run
 abbrev pub reals_at : Entry → Moment → State → RealValues
 reals_at e m left =
     blocks_from (environment_at e) e.construct 0 e.header.blocks e.header.low e.header.start (moment_after (header_means (environment_at e) e.construct) m left)
 
--- the statement, run plainly, puts this result into its carried slot or ends with this trap; the memory after it is
--- the one that the steps leave, where no block traps; and its real values are these
+-- the statement, run plainly, puts this result into its carried slots or ends with this trap; the memory after it is
+-- the one that the steps leave, where no block traps; and its real rows are these
 pub record IsTheStatement (e : Entry) (scope : Scope) (line : ℕ) (s : Statement) (m : Moment) (left entry : State)
     (steps : List Step) (values : List Carried) (result : Result Carried Trap) : Type 0 where
   pub settled : IsSettledAs scope.visible entry (carried_of e.construct) result (plainly (statement_means (environment_at e) line s) m)

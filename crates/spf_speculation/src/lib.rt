@@ -37,9 +37,9 @@ pub fn block_runs_are_attempts()
     ensures unstopped { UnstoppedAttemptsAreWhole }
 {}
 
-/// The log of a block at its real value has the answer of the block's plain run, and leaves the same words in the block's cells,
-/// whatever a wrong attempt left there. The answer of each whole attempt, at a wrong value too, is that of a run on the entry's
-/// memory. So each log at a real value continues the plain run by one block.
+/// The log of a block at its real row has the answer of the block's plain run, and leaves the same words in the block's cells,
+/// whatever a wrong attempt left there. The answer of each whole attempt, at a wrong row too, is that of a run on the entry's
+/// memory. So each log at a real row continues the plain run by one block.
 pub fn real_logs_are_plain_runs()
     ensures blocks { RealLogsArePlainRuns }
     ensures attempts { AttemptsAnswerAsOnTheEntry }
@@ -55,7 +55,7 @@ pub fn blocks_are_first_attempted_at_their_guess()
     ensures { BlocksAreFirstAttemptedAtTheirGuess }
 {}
 
-/// In whatever order the steps of the blocks come, the real values and the result are those of the plain run, and where no block
+/// In whatever order the steps of the blocks come, the real rows and the result are those of the plain run, and where no block
 /// traps so is the memory. It is enough that each block's log is consistent alone. So a speculative run means what the construct's
 /// statement means in the plain run of `main`.
 pub fn speculative_runs_mean_the_plain_run()
@@ -74,9 +74,9 @@ pub fn every_merging_is_a_speculative_run()
     ensures { EveryMergingIsASpeculativeRun }
 {}
 
-/// Blocks are validated one by one. At first the validated prefix has no block; where the log of the next block at its real value
-/// has a value as its answer, the prefix grows by this block; where it has a trap, the run ends there. After each prefix the plain
-/// run stands at the same value, whatever the logs of the other blocks are.
+/// Blocks are validated one by one. At first the validated prefix has no block; where the log of the next block at its real row
+/// has a row as its answer, the prefix grows by this block; where it has a trap, the run ends there. After each prefix the plain
+/// run stands at the same row, whatever the logs of the other blocks are.
 pub fn prefixes_grow()
     ensures begin { PrefixesBegin }
     ensures grow { PrefixesGrow }

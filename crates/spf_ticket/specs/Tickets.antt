@@ -40,7 +40,7 @@ pub record IsTicketAt (e : Entry) (c : CellsValue) (t : Ticket) : Type 0 where
 
 -- ---- what a run does
 
--- An attempt that came to this ended as the stop says: with this value, whatever is in the slots then; with this
+-- An attempt that came to this ended as the stop says: with this row, whatever is in the slots then; with this
 -- trap; or at a turn that polled this number. Its log was read to the end, and it emitted nothing.
 abbrev pub EndsAs : Performed (Ending Carried) → Stop → Type 0
 EndsAs came (stop.Ended value) = (state : State) × (came ≡ Ended (Value value state) []) × (state.output ≡ [])
@@ -57,7 +57,7 @@ pub record IsSameTicket (p : Program) (k : Construct) (before after : Ticket) : 
   pub size : length after.frame ≡ length before.frame
   pub slots : AgreeOutside k (part_of k before.block) (main_slots p after.frame) (main_slots p before.frame)
 
--- The ticket made its attempt, of its block, at its carried value and with its number: its lane's log went on with
+-- The ticket made its attempt, of its block, at its carried row and with its number: its lane's log went on with
 -- the attempt's log, and the report's stop is what the attempt came to.
 pub record Ran (e : Entry) (t : Ticket) (r : Report) : Type 0 where
   pub log : List Event
@@ -66,8 +66,8 @@ pub record Ran (e : Entry) (t : Ticket) (r : Report) : Type 0 where
 
 -- ---- fresh and lawful
 
--- What a lane has logged before an attempt of block n at a carried value. A first attempt begins at the block's
--- guess, block 0 at the start, and nothing is logged before it. A second one begins at the real value where that
+-- What a lane has logged before an attempt of block n at a carried row. A first attempt begins at the block's
+-- guess, block 0 at the start, and nothing is logged before it. A second one begins at the real row where that
 -- isn't the first one's, and the log of the first one is before it.
 pub data IsReady (e : Entry) (guess : ℕ → Carried) (n attempt : ℕ) (carried : Carried) (before : List Event) : Type 0 where
   first : attempt ≡ 1 → carried ≡ begins_at e guess n → before ≡ [] → IsReady e guess n attempt carried before
@@ -80,7 +80,7 @@ pub record IsFresh (e : Entry) (guess : ℕ → Carried) (c : CellsValue) (t : T
   pub ready : IsReady e guess t.block t.attempt t.carried (events t.lane.log)
 
 -- the report is lawful: its ticket was fresh, the lane's log went on with the log of one attempt, at the ticket's
--- carried value and with its number, and the stop is what this attempt came to
+-- carried row and with its number, and the stop is what this attempt came to
 pub record IsLawfulReport (e : Entry) (guess : ℕ → Carried) (c : CellsValue) (r : Report) : Type 0 where
   pub at : IsTicketAt e c r.ticket
   pub before : List Event

@@ -46,7 +46,7 @@ impl Ticket {
         self.lane.log_facts();
     }
 
-    /// Makes the attempt: runs the ticket's block once at its carried value, and calls the gate before it and after it. A cell of
+    /// Makes the attempt: runs the ticket's block once at its carried row, and calls the gate before it and after it. A cell of
     /// the lane's spans goes through the lane, any other cell has its word of the entry, and each turn polls the block's flag once.
     ///
     /// The report's ticket is this one, but for its lane's log and for what the part left in its own slots of the frame. For every
@@ -93,7 +93,7 @@ impl Ticket {
             attempt,
         };
         gate.at(block, attempt, Place::Begin);
-        let stop = exec_block(job.instance, run, &mut frame, &mut memory);
+        let stop = exec_block(job.instance, &run, &mut frame, &mut memory);
         gate.at(block, attempt, Place::End);
         let LaneMemory {
             cells: _,

@@ -1,7 +1,7 @@
 //! Tickets, and what comes of their runs.
 ghost use Rattle.std.specs.Prelude.{◌≡◌};
 
-use spf_ast::carried::Carried;
+use spf_ast::row::Row;
 use spf_cells::lane::Lane;
 use spf_exec::frame::Frame;
 use spf_layout::stop::Stop;
@@ -12,7 +12,7 @@ pub struct Ticket {
     pub(crate) block: u64,
     pub(crate) number: i64,
     pub(crate) attempt: u64,
-    pub(crate) carried: Carried,
+    pub(crate) carried: Row,
     pub(crate) lane: Lane,
     pub(crate) frame: Frame,
     pub(crate) ghost own: { lane.block ≡ block },
@@ -26,9 +26,9 @@ pub struct Report {
 }
 
 impl Ticket {
-    /// The ticket of a block's first attempt: the block's index and number, the carried value at which it begins, its lane, and a
+    /// The ticket of a block's first attempt: the block's index and number, the carried row at which it begins, its lane, and a
     /// frame with the slots of the entry.
-    pub fn make(block: u64, number: i64, carried: Carried, lane: Lane, frame: Frame) -> Ticket
+    pub fn make(block: u64, number: i64, carried: Row, lane: Lane, frame: Frame) -> Ticket
         requires lane { lane.block ≡ block }
         ensures block { result.block ≡ block }
         ensures number { result.number ≡ number }
@@ -61,15 +61,15 @@ impl Ticket {
         self.attempt
     }
 
-    /// The carried value at which the attempt begins.
-    pub fn carried(&self) -> Carried
+    /// The carried row at which the attempt begins.
+    pub fn carried(&self) -> Row
         ensures { result ≡ self.now.carried }
     {
         self.carried
     }
 
-    /// The ticket of the block's second attempt, at its real value. All else stays.
-    pub fn again(mut self, real: Carried) -> Ticket
+    /// The ticket of the block's second attempt, at its real row. All else stays.
+    pub fn again(mut self, real: Row) -> Ticket
         requires first { self.attempt ≡ 1 }
         ensures block { result.block ≡ self.block }
         ensures number { result.number ≡ self.number }

@@ -14,7 +14,7 @@ use Rattle.spf_scopes.specs.declared.fault.TypeFault.TheVariants.{Twice}
 use Rattle.spf_scopes.specs.declared.globals.Outer.TheVariants as outer
 use Rattle.spf_scopes.specs.Names.{has, place_in}
 use Rattle.spf_scopes.specs.Globals.{Globals, either, global_named}
-use Rattle.spf_scopes.specs.Faults.{Setting, Scope, showing, when, params_faults, scope_of, function_faults, arrays_faults, functions_faults, faults}
+use Rattle.spf_scopes.specs.Faults.{Setting, Scope, showing, showing_each, when, each_declared_faults, function_faults, arrays_faults, functions_faults, faults}
 use Rattle.spf_scopes.proofs.Tables.{same_bytes}
 use Rattle.spf_typing.proofs.Steps.{none_in}
 use Rattle.spf_typing.proofs.Sound.{contains_here, contains_there, contains_cases}
@@ -49,7 +49,7 @@ has_parameters p place f w = let n = w.slots in omega (arith, length-take f.para
 different_back : (p : Program) → IsScoped p → AreDifferent ((globals_back p).arrays ++ (globals_back p).functions)
 different_back p w = subst (λ ns. AreDifferent ((globals_back p).arrays ++ ns)) (functions_are p) w.taken_are_different
 
-known_program : (p : Program) (place same : ℕ) (slots : List (List ℕ)) (in_main : Bool) → IsScoped p → place ≤ length p.functions → place ≡ same → Known (record { globals = globals_back p; place = same; in_main = in_main }) (names_at p place slots) (vocabulary p slots)
+known_program : (p : Program) (place same : ℕ) (slots : List (List ℕ)) (in_main : Bool) → IsScoped p → place ≤ length p.functions → place ≡ same → Known (record { globals = globals_back p; place = same; in_main = in_main; in_loop = false }) (names_at p place slots) (vocabulary p slots)
 known_program p place same slots in_main w h k =
     let g = globals_back p in
     let e = different_back p w in
@@ -77,22 +77,22 @@ range_back : (n k : ℕ) → Contains (n ∷ range_with_len 0 n) k → Contains 
 range_back n k c = elim (contains_cases n k (range_with_len 0 n) c) [ inl e ↦ in_range (n + 1) k (omega (arith, e)) | inr g ↦ in_range (n + 1) k (let r = range_in n k g in omega (arith, r)) ]
 
 params_none : (here : Setting) (names : Names) (v : Vocabulary) (line : ℕ) → Known here names v → (n : ℕ) (sc : Scope) → Shows names.slots (range_with_len 0 n) [] sc → (xs : List (List ℕ)) → Stand names.slots n xs → ((slot : ℕ) → n ≤ slot → slot < n + length xs → IsNew names (parameters slot) slot) →
-    (params_faults here sc line xs ≡ []) × Shows names.slots (range_with_len 0 (n + length xs)) [] (scope_of sc xs)
+    (each_declared_faults here sc line xs ≡ []) × Shows names.slots (range_with_len 0 (n + length xs)) [] (showing_each false sc xs)
 params_none here names v line known n sc shows [] k new = (refl, subst (λ q. Shows names.slots (range_with_len 0 q) [] sc) (let e : n ≡ n + 0 = omega arith in e) shows)
 params_none here names v line known n sc shows (x ∷ xs) k new =
     let h = fresh_in names (parameters n) n x k.0 (new n (omega arith) (omega arith)) in
     let more = shows_along names.slots (n ∷ range_with_len 0 n) (range_with_len 0 (n + 1)) [] (showing x sc) (range_back n) (range_step n) (shows_free names.slots (range_with_len 0 n) [] sc x n shows h.there h.new) in
     let rest = params_none here names v line known (n + 1) (showing x sc) more xs k.1 (λ slot a b. new slot (omega (arith, a)) (omega (arith, b))) in (
       none_in _ _ (declared_none here names v (range_with_len 0 n) [] sc line n x known shows h) rest.0,
-      subst (λ q. Shows names.slots (range_with_len 0 q) [] (scope_of (showing x sc) xs)) (let e : n + 1 + length xs ≡ n + length (x ∷ xs) = omega arith in e) rest.1,
+      subst (λ q. Shows names.slots (range_with_len 0 q) [] (showing_each false (showing x sc) xs)) (let e : n + 1 + length xs ≡ n + length (x ∷ xs) = omega arith in e) rest.1,
     )
 
 nothing_shown : (slots : List (List ℕ)) → Shows slots (range_with_len 0 0) [] []
 nothing_shown slots = record { sees = λ k c. absurd (omega (arith, c.1)); hides = λ x h. refl }
 
-function_none : (p : Program) (place : ℕ) (f : Function) → IsScoped p → place ≤ length p.functions → IsLawfulFunction p place f → function_faults (record { globals = globals_back p; place = place; in_main = false }) (spelled_function p f) ≡ []
+function_none : (p : Program) (place : ℕ) (f : Function) → IsScoped p → place ≤ length p.functions → IsLawfulFunction p place f → function_faults (record { globals = globals_back p; place = place; in_main = false; in_loop = false }) (spelled_function p f) ≡ []
 function_none p place f w h l =
-    let here : Setting = record { globals = globals_back p; place = place; in_main = false } in
+    let here : Setting = record { globals = globals_back p; place = place; in_main = false; in_loop = false } in
     let names = names_at p place f.slots in
     let v = vocabulary p f.slots in
     let known = known_program p place place f.slots false w h refl in
@@ -101,9 +101,9 @@ function_none p place f w h l =
     let n : length params ≡ f.params = has_parameters p place f l in
     let front = stand_left f.slots 0 params (drop f.params f.slots) (subst (λ k. Stand f.slots 0 k) (sym (take-append-drop f.params f.slots)) (stand_self f.slots)) in
     let ps = params_none here names v f.line known 0 [] (nothing_shown f.slots) params front (λ slot a b. l.parameters_are_new slot (omega (arith, b, n))) in
-    let shows = subst (λ q. Shows f.slots (range_with_len 0 q) [] (scope_of [] params)) (zero-add (length params) ∙ n) ps.1 in
-    let ready : Ready names (parameters f.params) (scope_of [] params) (declared_in f.body) = record { shows = shows; room = omega (arith, sl) } in
-    none_in _ _ ps.0 (valued_none here names v (parameters f.params) (scope_of [] params) f.answer_line known f.body f.answer ready l.body l.answer)
+    let shows = subst (λ q. Shows f.slots (range_with_len 0 q) [] (showing_each false [] params)) (zero-add (length params) ∙ n) ps.1 in
+    let ready : Ready here names (parameters f.params) (showing_each false [] params) (declared_in f.body) = record { shows = shows; room = omega (arith, sl); loop = refl } in
+    none_in _ _ ps.0 (valued_none here names v (parameters f.params) (showing_each false [] params) f.answer_line known f.body f.answer ready l.body l.answer)
 
 -- ---- programs
 
@@ -124,15 +124,15 @@ arrays_none names (a ∷ more) rest d =
     let ns = map (λ (a : Array). a.name) more ++ rest in
     none_in _ _ (ap (λ t. when t Twice a.line) (no_has names a.name ns d)) (arrays_none (names ++ a.name ∷ []) more rest (one_further names a.name ns d))
 
-functions_none : (g : Globals) (names : List (List ℕ)) (k : ℕ) (fs : List RawFunction) → AreDifferent (names ++ map (λ (f : RawFunction). f.name) fs) → ((i : ℕ) → IfSome (slice_get fs i) (λ f. function_faults (record { globals = g; place = k + i; in_main = false }) f ≡ [])) → functions_faults g names k fs ≡ []
+functions_none : (g : Globals) (names : List (List ℕ)) (k : ℕ) (fs : List RawFunction) → AreDifferent (names ++ map (λ (f : RawFunction). f.name) fs) → ((i : ℕ) → IfSome (slice_get fs i) (λ f. function_faults (record { globals = g; place = k + i; in_main = false; in_loop = false }) f ≡ [])) → functions_faults g names k fs ≡ []
 functions_none g names k [] d each = refl
 functions_none g names k (f ∷ fs) d each =
     let ns = map (λ (f : RawFunction). f.name) fs in
-    let first = subst (λ n. function_faults (record { globals = g; place = n; in_main = false }) f ≡ []) (let e : k + 0 ≡ k = omega arith in e) (each 0) in
+    let first = subst (λ n. function_faults (record { globals = g; place = n; in_main = false; in_loop = false }) f ≡ []) (let e : k + 0 ≡ k = omega arith in e) (each 0) in
     none_in _ _ (ap (λ t. when t Twice f.line) (no_has names f.name ns d)) (none_in _ _ first
-    (functions_none g (names ++ f.name ∷ []) (k + 1) fs (one_further names f.name ns d) (λ i. subst (λ n. IfSome (slice_get fs i) (λ q. function_faults (record { globals = g; place = n; in_main = false }) q ≡ [])) (let e : k + suc i ≡ k + 1 + i = omega arith in e) (each (suc i)))))
+    (functions_none g (names ++ f.name ∷ []) (k + 1) fs (one_further names f.name ns d) (λ i. subst (λ n. IfSome (slice_get fs i) (λ q. function_faults (record { globals = g; place = n; in_main = false; in_loop = false }) q ≡ [])) (let e : k + suc i ≡ k + 1 + i = omega arith in e) (each (suc i)))))
 
-each_none : (p : Program) → IsScoped p → (o : Option Function) (i : ℕ) → slice_get p.functions i ≡ o → IfSome o (IsLawfulFunction p i) → IfSome (option_map (spelled_function p) o) (λ f. function_faults (record { globals = globals_back p; place = i; in_main = false }) f ≡ [])
+each_none : (p : Program) → IsScoped p → (o : Option Function) (i : ℕ) → slice_get p.functions i ≡ o → IfSome o (IsLawfulFunction p i) → IfSome (option_map (spelled_function p) o) (λ f. function_faults (record { globals = globals_back p; place = i; in_main = false; in_loop = false }) f ≡ [])
 each_none p w (Some f) i e h = function_none p i f w (let k = place_inside p.functions i f e in omega (arith, k)) h
 each_none p w None i e h = tt
 
@@ -141,12 +141,12 @@ spelled_faultless main_line p w =
     let g = globals_back p in
     let fs = map (spelled_function p) p.functions in
     let n = length p.functions in
-    let here : Setting = record { globals = g; place = length fs; in_main = true } in
+    let here : Setting = record { globals = g; place = length fs; in_main = true; in_loop = false } in
     let sl = w.slots in
     let known = known_program p n (length fs) p.slots true w (omega arith) (sym (length-map p.functions (spelled_function p))) in
-    let ready : Ready (names_at p n p.slots) (parameters 0) [] (declared_in p.main) = record { shows = nothing_shown p.slots; room = omega (arith, sl) } in
+    let ready : Ready here (names_at p n p.slots) (parameters 0) [] (declared_in p.main) = record { shows = nothing_shown p.slots; room = omega (arith, sl); loop = refl } in
     let d = different_back p w in
-    let each : (i : ℕ) → IfSome (slice_get fs i) (λ f. function_faults (record { globals = g; place = 0 + i; in_main = false }) f ≡ []) = λ i.
-    subst (λ k. IfSome (slice_get fs i) (λ f. function_faults (record { globals = g; place = k; in_main = false }) f ≡ [])) (sym (zero-add i))
-    (subst (λ o. IfSome o (λ f. function_faults (record { globals = g; place = i; in_main = false }) f ≡ [])) (sym (slice_get-map (spelled_function p) p.functions i)) (each_none p w (slice_get p.functions i) i refl (w.functions i))) in
+    let each : (i : ℕ) → IfSome (slice_get fs i) (λ f. function_faults (record { globals = g; place = 0 + i; in_main = false; in_loop = false }) f ≡ []) = λ i.
+    subst (λ k. IfSome (slice_get fs i) (λ f. function_faults (record { globals = g; place = k; in_main = false; in_loop = false }) f ≡ [])) (sym (zero-add i))
+    (subst (λ o. IfSome o (λ f. function_faults (record { globals = g; place = i; in_main = false; in_loop = false }) f ≡ [])) (sym (slice_get-map (spelled_function p) p.functions i)) (each_none p w (slice_get p.functions i) i refl (w.functions i))) in
     none_in _ _ (arrays_none [] p.arrays g.functions d) (none_in _ _ (functions_none g g.arrays 0 fs d each) (block_none here (names_at p n p.slots) (vocabulary p p.slots) (parameters 0) [] known p.main ready w.main))

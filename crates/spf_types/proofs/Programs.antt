@@ -17,10 +17,11 @@ use Rattle.spf_scopes.specs.declared.fault.TypeFault.TheVariants.{Twice}
 use Rattle.spf_scopes.specs.declared.globals.Outer.TheVariants as outer
 use Rattle.spf_scopes.specs.Globals.{Globals, globals_of, either, global_named, is_array_at, is_function_at}
 use Rattle.spf_scopes.specs.Locals.{Local, Seen}
-use Rattle.spf_scopes.specs.Faults.{Setting, Fault, when, showing, declared_faults, params_faults, arrays_faults, function_faults, functions_faults, scope_of, valued_faults}
-use Rattle.spf_scopes.specs.Resolved.{scope, free, params_of, after_params, names_in, locals_at_end, resolved_expression, resolved_block, resolved_function}
+use Rattle.spf_scopes.specs.Faults.{Setting, Fault, when, showing_each, each_declared_faults, arrays_faults, function_faults, functions_faults, valued_faults}
+use Rattle.spf_scopes.specs.Resolved.{scope, free, with_each, after_names, names_in, locals_at_end, resolved_expression, resolved_block, resolved_function}
 use Rattle.spf_size.proofs.Lists.{item_at}
-use Rattle.spf_typing.proofs.Blocks.{append_nil}
+use Rattle.spf_scopes.proofs.Rows.{append_nil}
+use Rattle.spf_typing.proofs.Blocks.{scope_each-is}
 use Rattle.spf_scopes.proofs.Tables.{bytes_are, map_twice, global_named-seen}
 
 -- the first of these names that is this one stands at this place
@@ -104,36 +105,6 @@ array_behind raw i a h is so =
     so ∙ ap (λ xs. arrays_faults (take i (map array_name raw)) (map seen_array xs)) (item_at raw i a h is)
     ∙ ap (λ ns. when (has (take i (map array_name raw)) (array_name a)) Twice a.line ++ arrays_faults ns (map seen_array (drop (i + 1) raw))) (sym (names_more array_name raw i a h is))
 
--- ---- parameters
-
-pub record AreDeclared (here : Setting) (start now : Seen) (line : ℕ) (raw : List code_name.Name) (i : ℕ) : Type 0 where
-  pub faults : params_faults here (scope start.locals) line (map name raw) ≡ params_faults here (scope now.locals) line (map name (drop i raw))
-  pub after : after_params start (map name raw) ≡ after_params now (map name (drop i raw))
-
-pub one_param : (here : Setting) (start now next : Seen) (line : ℕ) (raw : List code_name.Name) (i slot : ℕ) (x : code_name.Name) → i < length raw → x ≡ get_or raw i x → AreDeclared here start now line raw i → declared_faults here (scope now.locals) line (name x) ≡ [] → slot ≡ length now.slots → next ≡ record { locals = free (name x) slot ∷ now.locals; slots = now.slots ++ name x ∷ [] } → AreDeclared here start next line raw (i + 1)
-one_param here start now next line raw i slot x h is so none k e =
-    let rest = map name (drop (i + 1) raw) in
-    let n : length now.slots + 1 ≡ length next.slots = sym (ap (λ (z : Seen). length z.slots) e ∙ length-append now.slots (name x ∷ [])) in
-    record {
-      faults =
-          so.faults ∙ ap (λ xs. params_faults here (scope now.locals) line (map name xs)) (item_at raw i x h is)
-          ∙ ap (λ (fs : List Fault). fs ++ params_faults here (showing (name x) (scope now.locals)) line rest) none
-          ∙ ap (λ (z : Seen). params_faults here (scope z.locals) line rest) (sym e);
-      after =
-          so.after ∙ ap (λ xs. after_params now (map name xs)) (item_at raw i x h is)
-          ∙ (λ j. record {
-            locals = params_of ((ap (λ m. free (name x) m ∷ now.locals) (sym k) ∙ ap (λ (z : Seen). z.locals) (sym e)) j) (n j) rest;
-            slots = (sym (append_assoc now.slots (name x ∷ []) rest) ∙ ap (λ (z : Seen). z.slots ++ rest) (sym e)) j;
-          });
-    }
-
-pub all_declared : (here : Setting) (start now : Seen) (line : ℕ) (raw : List code_name.Name) (i : ℕ) → length raw ≤ i → AreDeclared here start now line raw i → (params_faults here (scope start.locals) line (map name raw) ≡ []) × (now ≡ after_params start (map name raw))
-all_declared here start now line raw i h so =
-    let none = drop_all i raw h in (
-      so.faults ∙ ap (λ xs. params_faults here (scope now.locals) line (map name xs)) none,
-      sym (so.after ∙ ap (λ xs. after_params now (map name xs)) none ∙ (λ j. record { locals = now.locals; slots = append_nil now.slots j })),
-    )
-
 -- ---- functions
 
 pub function_twice : (arrays : List code_array.Array) (functions : List code_function.RawFunction) (g : Globals) (i : ℕ) (f : code_function.RawFunction) → g ≡ globals_of (map seen_array arrays) (map raw_function functions) → i < length functions → f ≡ get_or functions i f →
@@ -152,21 +123,21 @@ pub record FunctionsBehind (g : Globals) (raw : List code_function.RawFunction) 
   pub forms : map (resolved_function g) (map raw_function raw) ≡ map function done ++ map (resolved_function g) (map raw_function (drop i raw))
 
 pub function_behind : (g : Globals) (raw : List code_function.RawFunction) (done : List built_function.Function) (i : ℕ) (f : code_function.RawFunction) → i < length raw → f ≡ get_or raw i f → FunctionsBehind g raw done i →
-    functions_faults g g.arrays 0 (map raw_function raw) ≡ when (has (g.arrays ++ take i (map function_name raw)) (function_name f)) Twice f.line ++ (function_faults (record { globals = g; place = i; in_main = false }) (raw_function f) ++ functions_faults g (g.arrays ++ take (i + 1) (map function_name raw)) (i + 1) (map raw_function (drop (i + 1) raw)))
+    functions_faults g g.arrays 0 (map raw_function raw) ≡ when (has (g.arrays ++ take i (map function_name raw)) (function_name f)) Twice f.line ++ (function_faults (record { globals = g; place = i; in_main = false; in_loop = false }) (raw_function f) ++ functions_faults g (g.arrays ++ take (i + 1) (map function_name raw)) (i + 1) (map raw_function (drop (i + 1) raw)))
 function_behind g raw done i f h is so =
     so.faults ∙ ap (λ xs. functions_faults g (g.arrays ++ take i (map function_name raw)) i (map raw_function xs)) (item_at raw i f h is)
-    ∙ ap (λ ns. when (has (g.arrays ++ take i (map function_name raw)) (function_name f)) Twice f.line ++ (function_faults (record { globals = g; place = i; in_main = false }) (raw_function f) ++ functions_faults g ns (i + 1) (map raw_function (drop (i + 1) raw))))
+    ∙ ap (λ ns. when (has (g.arrays ++ take i (map function_name raw)) (function_name f)) Twice f.line ++ (function_faults (record { globals = g; place = i; in_main = false; in_loop = false }) (raw_function f) ++ functions_faults g ns (i + 1) (map raw_function (drop (i + 1) raw))))
     (append_assoc g.arrays (take i (map function_name raw)) (function_name f ∷ []) ∙ ap (λ ns. g.arrays ++ ns) (sym (names_more function_name raw i f h is)))
 
 pub one_function : (g : Globals) (raw : List code_function.RawFunction) (done now : List built_function.Function) (i : ℕ) (f : code_function.RawFunction) (b : built_function.Function) → i < length raw → f ≡ get_or raw i f → FunctionsBehind g raw done i →
-    has (g.arrays ++ take i (map function_name raw)) (function_name f) ≡ false → function_faults (record { globals = g; place = i; in_main = false }) (raw_function f) ≡ [] → function b ≡ resolved_function g (raw_function f) → now ≡ done ++ b ∷ [] → FunctionsBehind g raw now (i + 1)
+    has (g.arrays ++ take i (map function_name raw)) (function_name f) ≡ false → function_faults (record { globals = g; place = i; in_main = false; in_loop = false }) (raw_function f) ≡ [] → function b ≡ resolved_function g (raw_function f) → now ≡ done ++ b ∷ [] → FunctionsBehind g raw now (i + 1)
 one_function g raw done now i f b h is so new none form push =
     let rest = map (resolved_function g) (map raw_function (drop (i + 1) raw)) in
     let more = functions_faults g (g.arrays ++ take (i + 1) (map function_name raw)) (i + 1) (map raw_function (drop (i + 1) raw)) in
     record {
       faults =
           function_behind g raw done i f h is so
-          ∙ ap (λ t. when t Twice f.line ++ (function_faults (record { globals = g; place = i; in_main = false }) (raw_function f) ++ more)) new
+          ∙ ap (λ t. when t Twice f.line ++ (function_faults (record { globals = g; place = i; in_main = false; in_loop = false }) (raw_function f) ++ more)) new
           ∙ ap (λ (fs : List Fault). fs ++ more) none;
       forms =
           so.forms ∙ ap (λ xs. map function done ++ map (resolved_function g) (map raw_function xs)) (item_at raw i f h is)
@@ -191,22 +162,18 @@ no_functions g raw done e = record {
 
 -- ---- one function
 
-pub scope_params : (ls : List Local) (n : ℕ) (xs : List (List ℕ)) → scope (params_of ls n xs) ≡ scope_of (scope ls) xs
-scope_params ls n [] = refl
-scope_params ls n (x ∷ xs) = scope_params (free x n ∷ ls) (n + 1) xs
-
 -- the locals and slots after the parameters of a function
 abbrev pub behind_params : List (List ℕ) → Seen
-behind_params names = record { locals = params_of [] 0 names; slots = names }
+behind_params names = record { locals = with_each false [] 0 names; slots = names }
 
-pub from_none : (start now : Seen) (names : List (List ℕ)) → start.locals ≡ [] → start.slots ≡ [] → now ≡ after_params start names → now ≡ behind_params names
-from_none start now names a b e = e ∙ (λ i. after_params (record { locals = a i; slots = b i }) names)
+pub from_none : (start now : Seen) (names : List (List ℕ)) → start.locals ≡ [] → start.slots ≡ [] → now ≡ after_names start names → now ≡ behind_params names
+from_none start now names a b e = e ∙ (λ i. after_names (record { locals = a i; slots = b i }) names)
 
-pub params_none : (here : Setting) (start : Seen) (line : ℕ) (names same : List (List ℕ)) → start.locals ≡ [] → names ≡ same → params_faults here (scope start.locals) line names ≡ [] → params_faults here [] line same ≡ []
-params_none here start line names same a e h = (λ i. params_faults here (scope (sym a i)) line (sym e i)) ∙ h
+pub params_none : (here : Setting) (start : Seen) (line : ℕ) (names same : List (List ℕ)) → start.locals ≡ [] → names ≡ same → each_declared_faults here (scope start.locals) line names ≡ [] → each_declared_faults here [] line same ≡ []
+params_none here start line names same a e h = (λ i. each_declared_faults here (scope (sym a i)) line (sym e i)) ∙ h
 
-pub valued_is : (here : Setting) (now : Seen) (names : List (List ℕ)) (body : r.RawBlock) (line : ℕ) (value : r.RawExpression) → now ≡ behind_params names → valued_faults here (scope_of [] names) body line value ≡ valued_faults here (scope now.locals) body line value
-valued_is here now names body line value e = ap (λ sc. valued_faults here sc body line value) (sym (scope_params [] 0 names) ∙ ap (λ (z : Seen). scope z.locals) (sym e))
+pub valued_is : (here : Setting) (now : Seen) (names : List (List ℕ)) (body : r.RawBlock) (line : ℕ) (value : r.RawExpression) → now ≡ behind_params names → valued_faults here (showing_each false [] names) body line value ≡ valued_faults here (scope now.locals) body line value
+valued_is here now names body line value e = ap (λ sc. valued_faults here sc body line value) (sym (scope_each-is false [] 0 names) ∙ ap (λ (z : Seen). scope z.locals) (sym e))
 
 pub function_form : (g : Globals) (now : Seen) (raw : code_function.RawFunction) (built : built_function.Function) → now ≡ behind_params (map name raw.params.items) → name built.name ≡ name raw.name → built.params ≡ length (map name raw.params.items) → map name built.slots.items ≡ now.slots ++ names_in (raw_block raw.body.items) →
     block built.body.items ≡ resolved_block g now.locals (length now.slots) (raw_block raw.body.items) → expression built.answer ≡ resolved_expression g (locals_at_end now.locals (length now.slots) (raw_block raw.body.items)) (raw_expression raw.answer) → built.answer_line ≡ raw.answer_line → built.line ≡ raw.line →

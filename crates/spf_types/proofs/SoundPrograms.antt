@@ -9,23 +9,23 @@ use Rattle.std.proofs.lemmas.List.{length-map}
 use Rattle.std.proofs.lemmas.List.FromFn.{length-range_with_len, get_or-range_with_len}
 use Rattle.std.proofs.Math.Seq.{take-append_seam}
 use Rattle.spf_ast.specs.Syntax.{Array, Function}
-use Rattle.spf_ast.specs.RawSyntax.{RawStatement, Let, Assign, Store, Fill, Emit, Fail, If, For, While, Do, Fold, Pair, RawBlock, end, on_line, RawFunction, RawProgram}
+use Rattle.spf_ast.specs.RawSyntax.{RawStatement, Let, Assign, Store, Fill, Emit, Fail, If, For, While, Do, Fold, Pair, Break, RawBlock, end, on_line, RawFunction, RawProgram}
 use Rattle.spf_ast.specs.Lawful as lawful
 use Rattle.spf_ast.specs.Lawful.{IsName, AreDifferent, Names, IsNew, names_taken, names_at, parameters, IsLawfulFunction, IsScoped, IsLawfulBlock, IsLawfulExpression}
-use Rattle.spf_ast.specs.Spelling.{Vocabulary, name_at, vocabulary, spelled_function, spelled, IsWritableStatement, IsWritableBlock, IsWritableArray, IsWritableFunction, IsWritable}
+use Rattle.spf_ast.specs.Spelling.{Vocabulary, name_at, vocabulary, spelled_function, spelled, IsWritableStatement, IsWritableBlock, IsWritableArray, IsWritableFunction, IsWellFormed, holds_break}
 use Rattle.spf_scopes.specs.declared.globals.Outer.TheVariants as outer
 use Rattle.spf_scopes.specs.Names.{has, place_in}
 use Rattle.spf_scopes.specs.Globals.{Globals, globals_of, either}
 use Rattle.spf_scopes.specs.Locals as l
 use Rattle.spf_scopes.specs.Locals.{binding_of}
-use Rattle.spf_scopes.specs.Faults.{Setting, when, declared_faults, params_faults, function_faults, valued_faults, arrays_faults, functions_faults, block_faults, faults}
+use Rattle.spf_scopes.specs.Faults.{Setting, when, declared_faults, each_declared_faults, function_faults, valued_faults, arrays_faults, functions_faults, block_faults, faults}
 use Rattle.spf_scopes.specs.Resolved as z
 use Rattle.spf_scopes.specs.Resolved.{scope, free, names_of, names_in, resolved_block, resolved_function, resolved}
 use Rattle.spf_scopes.proofs.Tables.{same_bytes, bytes_are, map_twice}
-use Rattle.spf_types.proofs.Programs.{scope_params}
-use Rattle.spf_typing.proofs.Blocks.{append_nil}
+use Rattle.spf_scopes.proofs.Rows.{append_nil, declared_is}
+use Rattle.spf_typing.proofs.Blocks.{scope_each-is}
 use Rattle.spf_typing.proofs.Sound.{left_none, right_none, contains_here, contains_there, contains_cases, all_none, all_more, at_place, Holds, Fits, slots_of, fixed_slots, lawful_scope, no_when}
-use Rattle.spf_typing.proofs.SoundStatements.{Stand, stand_left, stand_right, declared_is, is_new, one_more, declared_in_is, block_ok, value_ok}
+use Rattle.spf_typing.proofs.SoundStatements.{Stand, stand_left, stand_right, is_new, one_more, declared_in_is, block_ok, value_ok}
 use Rattle.spf_typing.proofs.Alike.{Alike, new_along, alike_block, alike_expression, alike_end}
 
 -- ---- lists
@@ -82,8 +82,11 @@ mutual
   names_written (For x low high body) h = all_more IsName x (names_in body) h.0 (names_in_written body h.3)
   names_written (While test most body) h = names_in_written body h.2
   names_written (Do f given) h = all_none IsName
-  names_written (Fold head body) h = all_more IsName head.carried (head.block ∷ names_in body) h.0.0 (all_more IsName head.block (names_in body) h.0.2 (names_in_written body h.1))
-  names_written (Pair head p q) h = all_more IsName head.carried (names_in p ++ names_in q) h.0.0 (all_append IsName (names_in p) (names_in q) (names_in_written p h.1) (names_in_written q h.2))
+  names_written (Fold head body) h =
+      all_append IsName head.carried (head.block ∷ names_in body) h.0.0 (all_more IsName head.block (names_in body) h.0.2 (names_in_written body h.1))
+  names_written (Pair head p q) h =
+      all_append IsName head.carried (names_in p ++ names_in q) h.0.0 (all_append IsName (names_in p) (names_in q) (names_in_written p h.1) (names_in_written q h.2))
+  names_written Break h = all_none IsName
 
   names_in_written : (b : RawBlock) → IsWritableBlock b → All IsName (names_in b)
   names_in_written end h = all_none IsName
@@ -143,7 +146,7 @@ array_names p = map (λ (a : Array). a.name) p.arrays
 pub taken_is : (p : RawProgram) → names_taken (resolved p) ≡ map (λ (a : Array). a.name) p.arrays ++ map (λ (f : RawFunction). f.name) p.functions
 taken_is p = ap (λ ns. map (λ (a : Array). a.name) p.arrays ++ ns) (sym (map_twice (resolved_function (globals_of p.arrays p.functions)) (λ (f : Function). f.name) p.functions))
 
-pub fits_program : (p : RawProgram) (place : ℕ) (m : Bool) (slots : List (List ℕ)) → Fits (record { globals = globals_of p.arrays p.functions; place = place; in_main = m }) (names_at (resolved p) place slots) (vocabulary (resolved p) slots)
+pub fits_program : (p : RawProgram) (place : ℕ) (m : Bool) (slots : List (List ℕ)) → Fits (record { globals = globals_of p.arrays p.functions; place = place; in_main = m; in_loop = false }) (names_at (resolved p) place slots) (vocabulary (resolved p) slots)
 fits_program p place m slots =
     let g = globals_of p.arrays p.functions in
     record {
@@ -185,16 +188,16 @@ different_functions g names k [] d h = subst AreDifferent (sym (append_nil names
 different_functions g names k (f ∷ fs) d h =
     subst AreDifferent (append_assoc names (f.name ∷ []) (map (λ (q : RawFunction). q.name) fs))
     (different_functions g (names ++ f.name ∷ []) (k + 1) fs (different_push names f.name d (no_when (has names f.name) _ f.line (left_none _ _ h)))
-    (right_none (function_faults (record { globals = g; place = k; in_main = false }) f) _ (right_none (when (has names f.name) _ f.line) _ h)))
+    (right_none (function_faults (record { globals = g; place = k; in_main = false; in_loop = false }) f) _ (right_none (when (has names f.name) _ f.line) _ h)))
 
-functions_none : (g : Globals) (names : List (List ℕ)) (k : ℕ) (fs : List RawFunction) → functions_faults g names k fs ≡ [] → (i : ℕ) → IfSome (slice_get fs i) (λ f. function_faults (record { globals = g; place = k + i; in_main = false }) f ≡ [])
+functions_none : (g : Globals) (names : List (List ℕ)) (k : ℕ) (fs : List RawFunction) → functions_faults g names k fs ≡ [] → (i : ℕ) → IfSome (slice_get fs i) (λ f. function_faults (record { globals = g; place = k + i; in_main = false; in_loop = false }) f ≡ [])
 functions_none g names k [] h i = tt
 functions_none g names k (f ∷ fs) h zero =
-    let q = left_none (function_faults (record { globals = g; place = k; in_main = false }) f) _ (right_none (when (has names f.name) _ f.line) _ h) in
-    ap (λ n. function_faults (record { globals = g; place = n; in_main = false }) f) (let e : k + 0 ≡ k = omega arith in e) ∙ q
+    let q = left_none (function_faults (record { globals = g; place = k; in_main = false; in_loop = false }) f) _ (right_none (when (has names f.name) _ f.line) _ h) in
+    ap (λ n. function_faults (record { globals = g; place = n; in_main = false; in_loop = false }) f) (let e : k + 0 ≡ k = omega arith in e) ∙ q
 functions_none g names k (f ∷ fs) h (suc i) =
-    let r = functions_none g (names ++ f.name ∷ []) (k + 1) fs (right_none (function_faults (record { globals = g; place = k; in_main = false }) f) _ (right_none (when (has names f.name) _ f.line) _ h)) i in
-    subst (λ n. IfSome (slice_get fs i) (λ q. function_faults (record { globals = g; place = n; in_main = false }) q ≡ [])) (let e : k + 1 + i ≡ k + suc i = omega arith in e) r
+    let r = functions_none g (names ++ f.name ∷ []) (k + 1) fs (right_none (function_faults (record { globals = g; place = k; in_main = false; in_loop = false }) f) _ (right_none (when (has names f.name) _ f.line) _ h)) i in
+    subst (λ n. IfSome (slice_get fs i) (λ q. function_faults (record { globals = g; place = n; in_main = false; in_loop = false }) q ≡ [])) (let e : k + 1 + i ≡ k + suc i = omega arith in e) r
 
 -- ---- parameters
 
@@ -216,36 +219,37 @@ le_cases (suc n) (suc slot) h = elim (le_cases n slot (omega (arith, h))) [ inl 
 covers_more : (ls : List l.Local) (n : ℕ) (x : List ℕ) → ((k : ℕ) → k < n → Contains (slots_of ls) k) → (k : ℕ) → k < n + 1 → Contains (n ∷ slots_of ls) k
 covers_more ls n x c k h = elim (le_cases k n (omega (arith, h))) [ inl e ↦ contains_here n k (slots_of ls) (sym e) | inr g ↦ contains_there n k (slots_of ls) (c k (omega (arith, g))) ]
 
-pub params_new : (here : Setting) (names : Names) (v : Vocabulary) (line : ℕ) → Fits here names v → (ls : List l.Local) (n : ℕ) → Holds names.slots ls → ((k : ℕ) → k < n → Contains (slots_of ls) k) → (xs : List (List ℕ)) → Stand names.slots n xs → params_faults here (scope ls) line xs ≡ [] →
-    Holds names.slots (z.params_of ls n xs) × ((slot : ℕ) → n ≤ slot → slot < n + length xs → IsNew names (parameters slot) slot)
+pub params_new : (here : Setting) (names : Names) (v : Vocabulary) (line : ℕ) → Fits here names v → (ls : List l.Local) (n : ℕ) → Holds names.slots ls → ((k : ℕ) → k < n → Contains (slots_of ls) k) → (xs : List (List ℕ)) → Stand names.slots n xs → each_declared_faults here (scope ls) line xs ≡ [] →
+    Holds names.slots (z.with_each false ls n xs) × ((slot : ℕ) → n ≤ slot → slot < n + length xs → IsNew names (parameters slot) slot)
 params_new here names v line fits ls n holds c [] k h = (holds, λ slot a b. absurd (omega (arith, a, b)))
 params_new here names v line fits ls n holds c (x ∷ xs) k h =
     let d = declared_is here ls line x (left_none _ _ h) in
     let r = params_new here names v line fits (free x n ∷ ls) (n + 1) (one_more names.slots ls x n false holds d.0 k.0) (covers_more ls n x c) xs k.1 (right_none (declared_faults here (scope ls) line x) _ h) in
-    let new = new_along (slice_get names.slots n) (λ y. Contains names.taken y → ⊥) names.slots (slots_of ls) (range_with_len 0 n) (λ q g. c q (range_in n q g)) (is_new here names v ls n n x fits holds d.0 d.1 k.0) in
+    let new = new_along (slice_get names.slots n) (λ y. Contains names.taken y → ⊥) names.slots (slots_of ls) (range_with_len 0 n) (λ q g. c q (range_in n q g)) (is_new here names v ls n n false x fits holds d.0 d.1 k.0) in
     (r.0, λ slot a b. elim (le_cases n slot a) [ inl e ↦ subst (λ q. IsNew names (parameters q) q) e new | inr g ↦ r.1 slot g (omega (arith, b)) ])
 
-params_cover : (ls : List l.Local) (n : ℕ) (xs : List (List ℕ)) → ((k : ℕ) → k < n → Contains (slots_of ls) k) → (k : ℕ) → k < n + length xs → Contains (slots_of (z.params_of ls n xs)) k
+params_cover : (ls : List l.Local) (n : ℕ) (xs : List (List ℕ)) → ((k : ℕ) → k < n → Contains (slots_of ls) k) → (k : ℕ) → k < n + length xs → Contains (slots_of (z.with_each false ls n xs)) k
 params_cover ls n [] c k h = c k (omega (arith, h))
 params_cover ls n (x ∷ xs) c k h = params_cover (free x n ∷ ls) (n + 1) xs (covers_more ls n x c) k (omega (arith, h))
 
 back_more : (ls : List l.Local) (n : ℕ) → ((k : ℕ) → Contains (slots_of ls) k → k < n) → (k : ℕ) → Contains (n ∷ slots_of ls) k → k < n + 1
 back_more ls n c k h = elim (contains_cases n k (slots_of ls) h) [ inl e ↦ omega (arith, e) | inr g ↦ omega (arith, c k g) ]
 
-params_back : (ls : List l.Local) (n : ℕ) (xs : List (List ℕ)) → ((k : ℕ) → Contains (slots_of ls) k → k < n) → (k : ℕ) → Contains (slots_of (z.params_of ls n xs)) k → k < n + length xs
+params_back : (ls : List l.Local) (n : ℕ) (xs : List (List ℕ)) → ((k : ℕ) → Contains (slots_of ls) k → k < n) → (k : ℕ) → Contains (slots_of (z.with_each false ls n xs)) k → k < n + length xs
 params_back ls n [] c k h = omega (arith, c k h)
 params_back ls n (x ∷ xs) c k h = let r = params_back (free x n ∷ ls) (n + 1) xs (back_more ls n c) k h in omega (arith, r)
 
-params_free : (ls : List l.Local) (n : ℕ) (xs : List (List ℕ)) → fixed_slots ls ≡ [] → fixed_slots (z.params_of ls n xs) ≡ []
+params_free : (ls : List l.Local) (n : ℕ) (xs : List (List ℕ)) → fixed_slots ls ≡ [] → fixed_slots (z.with_each false ls n xs) ≡ []
 params_free ls n [] e = e
 params_free ls n (x ∷ xs) e = params_free (free x n ∷ ls) (n + 1) xs e
 
-pub params_alike : (xs : List (List ℕ)) → Alike (lawful_scope (z.params_of [] 0 xs) (length xs)) (parameters (length xs))
+pub params_alike : (xs : List (List ℕ)) → Alike (lawful_scope (z.with_each false [] 0 xs) (length xs) false) (parameters (length xs))
 params_alike xs = record {
   shown = λ k h. in_range (length xs) k (let r = params_back [] 0 xs (λ q g. absurd (omega (arith, g.1))) k h in omega (arith, r));
   shown_back = λ k h. params_cover [] 0 xs (λ q g. absurd (omega (arith, g))) k (let r = range_in (length xs) k h in omega (arith, r));
   fixed_back = λ k h. absurd (omega (arith, h.1));
   next = refl;
+  in_loop = refl;
 }
 
 -- ---- functions
@@ -253,28 +257,36 @@ params_alike xs = record {
 stand_at : (slots : List (List ℕ)) (n k : ℕ) (xs : List (List ℕ)) → n ≡ k → Stand slots n xs → Stand slots k xs
 stand_at slots n k xs e h = subst (λ q. Stand slots q xs) e h
 
-pub function_ok : (p : RawProgram) (place : ℕ) (f : RawFunction) → function_faults (record { globals = globals_of p.arrays p.functions; place = place; in_main = false }) f ≡ [] → IsWritableFunction f → IsLawfulFunction (resolved p) place (resolved_function (globals_of p.arrays p.functions) f) × (spelled_function (resolved p) (resolved_function (globals_of p.arrays p.functions) f) ≡ f)
+-- a function is written with names and numbers that a text can hold, and breaks off in version 2 alone
+abbrev IsWrittenIn : RawProgram → RawFunction → Type 0
+IsWrittenIn p f = IsWritableFunction f × (holds_break f.body ≡ true → p.version ≡ 2)
+
+may_break : (version : ℕ) (b : Bool) → (version ≡ 1) ⊎ (version ≡ 2) → (version ≡ 1 → b ≡ false) → b ≡ true → version ≡ 2
+may_break version b (inl e) h t = let f = h e in cc
+may_break version b (inr e) h t = e
+
+pub function_ok : (p : RawProgram) (place : ℕ) (f : RawFunction) → function_faults (record { globals = globals_of p.arrays p.functions; place = place; in_main = false; in_loop = false }) f ≡ [] → IsWrittenIn p f → IsLawfulFunction (resolved p) place (resolved_function (globals_of p.arrays p.functions) f) × (spelled_function (resolved p) (resolved_function (globals_of p.arrays p.functions) f) ≡ f)
 function_ok p place f h w =
     let g = globals_of p.arrays p.functions in
-    let here : Setting = record { globals = g; place = place; in_main = false } in
+    let here : Setting = record { globals = g; place = place; in_main = false; in_loop = false } in
     let slots = f.params ++ names_in f.body in
     let fits = fits_program p place false slots in
     let names = names_at (resolved p) place slots in
     let v = vocabulary (resolved p) slots in
     let n = length f.params in
-    let ls = z.params_of [] 0 f.params in
+    let ls = z.with_each false [] 0 f.params in
     let all = stand_self slots in
     let kb = stand_at slots (0 + n) n (names_in f.body) (zero-add n) (stand_right slots 0 f.params (names_in f.body) all) in
     let ps = params_new here names v f.line fits [] 0 (record { there = tt; apart = tt }) (λ q g. absurd (omega (arith, g))) f.params (stand_left slots 0 f.params (names_in f.body) all) (left_none _ _ h) in
-    let vh : valued_faults here (scope ls) f.body f.answer_line f.answer ≡ [] = ap (λ sc. valued_faults here sc f.body f.answer_line f.answer) (scope_params [] 0 f.params) ∙ right_none (params_faults here [] f.line f.params) _ h in
-    let bo = block_ok here names v ls n fits ps.0 f.body kb (left_none _ _ vh) w.2 in
-    let va = value_ok here names v ls n f.answer_line fits ps.0 f.body f.answer kb (left_none _ _ vh) (right_none (block_faults here (scope ls) f.body) _ vh) w.3 in
+    let vh : valued_faults here (scope ls) f.body f.answer_line f.answer ≡ [] = ap (λ sc. valued_faults here sc f.body f.answer_line f.answer) (scope_each-is false [] 0 f.params) ∙ right_none (each_declared_faults here [] f.line f.params) _ h in
+    let bo = block_ok here names v ls n fits ps.0 f.body kb (left_none _ _ vh) w.0.2 w.1 in
+    let va = value_ok here names v ls n false f.answer_line fits ps.0 f.body f.answer kb (left_none _ _ vh) (right_none (block_faults here (scope ls) f.body) _ vh) w.0.3 in
     let alike = params_alike f.params in (
       record {
-        names = all_append IsName f.params (names_in f.body) w.1 (names_in_written f.body w.2);
+        names = all_append IsName f.params (names_in f.body) w.0.1 (names_in_written f.body w.0.2);
         parameters_are_new = λ slot a. ps.1 slot (omega arith) (omega (arith, a));
-        body = alike_block names false (lawful_scope ls n) (parameters n) (resolved_block g ls n f.body) alike bo.0;
-        answer = alike_expression names (lawful.scope_at_end (lawful_scope ls n) (resolved_block g ls n f.body)) (lawful.scope_at_end (parameters n) (resolved_block g ls n f.body)) (z.resolved_expression g (z.locals_at_end ls n f.body) f.answer) (alike_end (lawful_scope ls n) (parameters n) (resolved_block g ls n f.body) alike) va.0;
+        body = alike_block names false (lawful_scope ls n false) (parameters n) (resolved_block g ls n f.body) alike bo.0;
+        answer = alike_expression names (lawful.scope_at_end (lawful_scope ls n false) (resolved_block g ls n f.body)) (lawful.scope_at_end (parameters n) (resolved_block g ls n f.body)) (z.resolved_expression g (z.locals_at_end ls n f.body) f.answer) (alike_end (lawful_scope ls n false) (parameters n) (resolved_block g ls n f.body) alike) va.0;
         slots = length-append f.params (names_in f.body) ∙ ap (λ q. n + q) (sym (declared_in_is g ls n f.body));
       },
       λ j. record { name = f.name; params = take-append_seam f.params (names_in f.body) j; body = bo.1 j; answer = va.1 j; answer_line = f.answer_line; line = f.line },
@@ -294,32 +306,34 @@ pub same_all : {A : Type 0} (f : A → A) (xs : List A) → ((i : ℕ) → IfSom
 same_all f [] h = refl
 same_all f (x ∷ xs) h = λ j. h 0 j ∷ same_all f xs (λ i. h (suc i)) j
 
-pub program_ok : (p : RawProgram) → faults p ≡ [] → IsWritable p → IsScoped (resolved p) × (spelled p.main_line (resolved p) ≡ p)
+pub program_ok : (p : RawProgram) → faults p ≡ [] → IsWellFormed p → IsScoped (resolved p) × (spelled p.main_line (resolved p) ≡ p)
 program_ok p h w =
     let g = globals_of p.arrays p.functions in
     let af = left_none (arrays_faults [] p.arrays) _ h in
     let rest = right_none (arrays_faults [] p.arrays) _ h in
     let ff = left_none (functions_faults g g.arrays 0 p.functions) _ rest in
     let mf = right_none (functions_faults g g.arrays 0 p.functions) _ rest in
-    let each : (i : ℕ) → IfSome (slice_get p.functions i) (λ f. function_faults (record { globals = g; place = i; in_main = false }) f ≡ []) = λ i. subst (λ q. IfSome (slice_get p.functions i) (λ f. function_faults (record { globals = g; place = q; in_main = false }) f ≡ [])) (zero-add i) (functions_none g g.arrays 0 p.functions ff i) in
-    let written : (i : ℕ) → IfSome (slice_get p.functions i) IsWritableFunction = λ i. all_at IsWritableFunction p.functions i w.functions in
+    let each : (i : ℕ) → IfSome (slice_get p.functions i) (λ f. function_faults (record { globals = g; place = i; in_main = false; in_loop = false }) f ≡ []) = λ i. subst (λ q. IfSome (slice_get p.functions i) (λ f. function_faults (record { globals = g; place = q; in_main = false; in_loop = false }) f ≡ [])) (zero-add i) (functions_none g g.arrays 0 p.functions ff i) in
+    let written : (i : ℕ) → IfSome (slice_get p.functions i) (IsWrittenIn p) = λ i. all_at (IsWrittenIn p) p.functions i (λ k d l. (w.functions k d l, may_break p.version _ w.version (λ e. w.breaks.functions e k d l))) in
     let slots = names_in p.main in
-    let here : Setting = record { globals = g; place = length p.functions; in_main = true } in
+    let here : Setting = record { globals = g; place = length p.functions; in_main = true; in_loop = false } in
     let fits = fits_program p (length p.functions) true slots in
-    let mo = block_ok here (names_at (resolved p) (length p.functions) slots) (vocabulary (resolved p) slots) [] 0 fits (record { there = tt; apart = tt }) p.main (stand_self slots) mf w.main in
+    let mo = block_ok here (names_at (resolved p) (length p.functions) slots) (vocabulary (resolved p) slots) [] 0 fits (record { there = tt; apart = tt }) p.main (stand_self slots) mf w.main (may_break p.version (holds_break p.main) w.version w.breaks.main) in
     let place : length p.functions ≡ length (resolved p).functions = sym (length-map p.functions (resolved_function g)) in (
       record {
         taken_are_names = subst (All IsName) (sym (taken_is p)) (all_append IsName (map (λ (a : Array). a.name) p.arrays) (map (λ (f : RawFunction). f.name) p.functions) (all_map IsWritableArray IsName (λ (a : Array). a.name) p.arrays (λ a q. q.0) w.arrays) (all_map IsWritableFunction IsName (λ (f : RawFunction). f.name) p.functions (λ f q. q.0) w.functions));
         taken_are_different = subst AreDifferent (sym (taken_is p)) (different_functions g g.arrays 0 p.functions (different_arrays [] p.arrays tt af) ff);
         sizes = λ k d q. (let a = w.arrays k d q in (a.1, a.2));
-        functions = λ i. subst (λ o. IfSome o (IsLawfulFunction (resolved p) i)) (sym (slice_get-map (resolved_function g) p.functions i)) (if_both (slice_get p.functions i) (λ f. function_faults (record { globals = g; place = i; in_main = false }) f ≡ []) IsWritableFunction (IsLawfulFunction (resolved p) i) (resolved_function g) (each i) (written i) (λ f a b. (function_ok p i f a b).0));
+        functions = λ i. subst (λ o. IfSome o (IsLawfulFunction (resolved p) i)) (sym (slice_get-map (resolved_function g) p.functions i)) (if_both (slice_get p.functions i) (λ f. function_faults (record { globals = g; place = i; in_main = false; in_loop = false }) f ≡ []) (IsWrittenIn p) (IsLawfulFunction (resolved p) i) (resolved_function g) (each i) (written i) (λ f a b. (function_ok p i f a b).0));
         slots_are_names = names_in_written p.main w.main;
-        main = subst (λ q. IsLawfulBlock (names_at (resolved p) q slots) true (lawful_scope [] 0) (resolved_block g [] 0 p.main)) place mo.0;
+        main = subst (λ q. IsLawfulBlock (names_at (resolved p) q slots) true (lawful_scope [] 0 false) (resolved_block g [] 0 p.main)) place mo.0;
         slots = sym (declared_in_is g [] 0 p.main);
+        version = w.version;
       },
       λ j. record {
+        version = p.version;
         arrays = p.arrays;
-        functions = (sym (map_twice (resolved_function g) (spelled_function (resolved p)) p.functions) ∙ same_all (λ f. spelled_function (resolved p) (resolved_function g f)) p.functions (λ i. if_each (slice_get p.functions i) (λ f. function_faults (record { globals = g; place = i; in_main = false }) f ≡ []) IsWritableFunction (λ f. spelled_function (resolved p) (resolved_function g f) ≡ f) (each i) (written i) (λ f a b. (function_ok p i f a b).1))) j;
+        functions = (sym (map_twice (resolved_function g) (spelled_function (resolved p)) p.functions) ∙ same_all (λ f. spelled_function (resolved p) (resolved_function g f)) p.functions (λ i. if_each (slice_get p.functions i) (λ f. function_faults (record { globals = g; place = i; in_main = false; in_loop = false }) f ≡ []) (IsWrittenIn p) (λ f. spelled_function (resolved p) (resolved_function g f) ≡ f) (each i) (written i) (λ f a b. (function_ok p i f a b).1))) j;
         main = mo.1 j;
         main_line = p.main_line;
       },

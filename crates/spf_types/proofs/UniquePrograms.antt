@@ -5,10 +5,10 @@ use Rattle.std.specs.List.{Contains, range_with_len}
 use Rattle.std.specs.Option.{option_map}
 use Rattle.std.specs.Str.{bytes_eq}
 use Rattle.std.proofs.lemmas.List.{length-map, length-take, drop_all, take-append-drop}
-use Rattle.spf_ast.specs.Syntax.{Statement, Let, Assign, Store, Fill, Emit, Fail, If, For, While, Do, Fold, Pair, Block, end, on_line, Array, Function, Program}
+use Rattle.spf_ast.specs.Syntax.{Statement, Let, Assign, Store, Fill, Emit, Fail, If, For, While, Do, Fold, Pair, Break, Block, end, on_line, Array, Function, Program}
 use Rattle.spf_ast.specs.RawSyntax.{RawFunction}
-use Rattle.spf_ast.specs.Lawful.{Names, Scope, behind, showing_fixed, in_body, scope_after, declared, declared_in, AreDifferent, IsNew, IsLawfulStatement, IsLawfulBlock, IsLawfulFunction, IsScoped, names_at, names_taken, parameters}
-use Rattle.spf_ast.specs.Spelling.{Vocabulary, vocabulary, name_at, spelled_statement, spelled_block, spelled_function, spelled}
+use Rattle.spf_ast.specs.Lawful.{Names, Scope, behind, showing, showing_fixed, showing_each, in_turn, in_body, in_producer, in_consumer, DeclaresEach, scope_after, declared, declared_in, AreDifferent, IsNew, IsLawfulStatement, IsLawfulBlock, IsLawfulFunction, IsScoped, names_at, names_taken, parameters}
+use Rattle.spf_ast.specs.Spelling.{Vocabulary, vocabulary, name_at, spelled_names, spelled_statement, spelled_block, spelled_function, spelled}
 use Rattle.spf_scopes.specs.declared.globals.Outer.TheVariants as outer
 use Rattle.spf_scopes.specs.Names.{place_in}
 use Rattle.spf_scopes.specs.Globals.{Globals, globals_of, either, global_named}
@@ -19,7 +19,7 @@ use Rattle.spf_scopes.proofs.Tables.{same_bytes, bytes_are, map_twice}
 use Rattle.spf_typing.proofs.Sound.{contains_here, contains_there, contains_cases}
 use Rattle.spf_typing.proofs.SoundStatements.{Stand, stand_left}
 use Rattle.spf_types.proofs.SoundPrograms.{stand_self, in_range, range_in, le_cases, same_all}
-use Rattle.spf_typing.proofs.Unique.{Back, Finds, finds_more, count_back, count_in_back, block_back, value_back}
+use Rattle.spf_typing.proofs.Unique.{Back, Finds, finds_more, next_each, count_names, count_back, count_in_back, block_back, value_back}
 
 -- ---- slots
 
@@ -35,6 +35,11 @@ stand_join : (slots : List (List ℕ)) (n : ℕ) (xs ys : List (List ℕ)) → S
 stand_join slots n [] ys a b = subst (λ k. Stand slots k ys) (let e : n + 0 ≡ n = omega arith in e) b
 stand_join slots n (x ∷ xs) ys a b = (a.0, stand_join slots (n + 1) xs ys a.1 (subst (λ k. Stand slots k ys) (let e : n + length (x ∷ xs) ≡ n + 1 + length xs = omega arith in e) b))
 
+stand_each : (names : Names) (v : Vocabulary) (s : Scope) (n : ℕ) → v.slots ≡ names.slots → s.next ≡ n → (slots : List ℕ) → n + length slots ≤ length names.slots → DeclaresEach names s slots → Stand names.slots n (spelled_names v slots)
+stand_each names v s n e at [] room h = tt
+stand_each names v s n e at (slot ∷ slots) room h =
+    (slot_named names v slot n e (h.0.0 ∙ at) (omega (arith, room)), stand_each names v (behind 1 (showing slot s)) (n + 1) e (ap (λ k. k + 1) at) slots (omega (arith, room)) h.1)
+
 mutual
   stand_back : (names : Names) (v : Vocabulary) (m : Bool) (s : Scope) (n : ℕ) → v.slots ≡ names.slots → s.next ≡ n → (st : Statement) → n + declared st ≤ length names.slots → IsLawfulStatement names m s st → Stand names.slots n (names_of (spelled_statement v st))
   stand_back names v m s n e at (Let slot value) room h = (slot_named names v slot n e (h.1.0 ∙ at) (omega (arith, room)), tt)
@@ -47,23 +52,28 @@ mutual
       let c = count_in_back v a in
       stand_join names.slots n (names_in (spelled_block v a)) (names_in (spelled_block v b)) (stand_in_back names v m s n e at a (omega (arith, room)) h.1) (stand_in_back names v m (behind (declared_in a) s) (n + length (names_in (spelled_block v a))) e (omega (arith, at, c)) b (omega (arith, c, room)) h.2)
   stand_back names v m s n e at (For slot low high body) room h =
-      (slot_named names v slot n e (h.2.0 ∙ at) (omega (arith, room)), stand_in_back names v m (behind 1 (showing_fixed slot s)) (n + 1) e (ap (λ k. k + 1) at) body (omega (arith, room)) h.3)
-  stand_back names v m s n e at (While test most body) room h = stand_in_back names v m s n e at body room h.2
+      (slot_named names v slot n e (h.2.0 ∙ at) (omega (arith, room)), stand_in_back names v m (in_turn (behind 1 (showing_fixed slot s))) (n + 1) e (ap (λ k. k + 1) at) body (omega (arith, room)) h.3)
+  stand_back names v m s n e at (While test most body) room h = stand_in_back names v m (in_turn s) n e at body room h.2
   stand_back names v m s n e at (Do f given) room h = tt
   stand_back names v m s n e at (Fold head body) room h =
-      let two : s.next + 2 ≡ n + 1 + 1 = omega (arith, at) in (
-        slot_named names v head.carried n e (h.3.0 ∙ at) (omega (arith, room)),
-        (
-          slot_named names v head.block (n + 1) e (h.4.0 ∙ ap (λ k. k + 1) at) (omega (arith, room)),
-          stand_in_back names v m (in_body s head.carried head.block) (n + 1 + 1) e two body (omega (arith, room)) h.6,
-        ),
-      )
+      let xs = spelled_names v head.carried in
+      let c = count_names v head.carried in
+      let k = n + length xs in
+      let d : head.block ≡ k = omega (arith, h.4.0, next_each head.carried s, at, c) in
+      let next : (in_body s head.carried head.block).next ≡ k + 1 = omega (arith, at, c) in
+      stand_join names.slots n xs (name_at v.slots head.block ∷ names_in (spelled_block v body)) (stand_each names v s n e at head.carried (omega (arith, room)) h.3)
+      (slot_named names v head.block k e d (omega (arith, c, room)), stand_in_back names v m (in_body s head.carried head.block) (k + 1) e next body (omega (arith, c, room)) h.6)
   stand_back names v m s n e at (Pair head a b) room h =
-      let c = count_in_back v a in (
-        slot_named names v head.carried n e (h.0.0 ∙ at) (omega (arith, room)),
-        stand_join names.slots (n + 1) (names_in (spelled_block v a)) (names_in (spelled_block v b)) (stand_in_back names v m (behind 1 s) (n + 1) e (ap (λ k. k + 1) at) a (omega (arith, room)) h.1)
-            (stand_in_back names v m (behind (1 + declared_in a) (showing_fixed head.carried s)) (n + 1 + length (names_in (spelled_block v a))) e (omega (arith, at, c)) b (omega (arith, c, room)) h.4),
-      )
+      let xs = spelled_names v head.carried in
+      let c = count_names v head.carried in
+      let q = count_in_back v a in
+      let k = n + length xs in
+      let next : (in_producer s head.carried).next ≡ k = omega (arith, at, c) in
+      let last : (in_consumer s head.carried a).next ≡ k + length (names_in (spelled_block v a)) = omega (arith, at, c, q) in
+      stand_join names.slots n xs (names_in (spelled_block v a) ++ names_in (spelled_block v b)) (stand_each names v s n e at head.carried (omega (arith, room)) h.0)
+      (stand_join names.slots k (names_in (spelled_block v a)) (names_in (spelled_block v b)) (stand_in_back names v m (in_producer s head.carried) k e next a (omega (arith, c, room)) h.1)
+      (stand_in_back names v m (in_consumer s head.carried a) (k + length (names_in (spelled_block v a))) e last b (omega (arith, q, c, room)) h.4))
+  stand_back names v m s n e at Break room h = tt
 
   stand_in_back : (names : Names) (v : Vocabulary) (m : Bool) (s : Scope) (n : ℕ) → v.slots ≡ names.slots → s.next ≡ n → (b : Block) → n + declared_in b ≤ length names.slots → IsLawfulBlock names m s b → Stand names.slots n (names_in (spelled_block v b))
   stand_in_back names v m s n e at end room h = tt
@@ -170,11 +180,11 @@ range_step n k c =
     let h = range_in (n + 1) k c in
     elim (le_cases k n (omega (arith, h))) [ inl e ↦ contains_here n k (range_with_len 0 n) (sym e) | inr g ↦ contains_there n k (range_with_len 0 n) (in_range n k (omega (arith, g))) ]
 
-finds_params : (names : Names) (ls : List l.Local) (n : ℕ) → Finds names.slots ls (range_with_len 0 n) → (xs : List (List ℕ)) → Stand names.slots n xs → ((slot : ℕ) → n ≤ slot → slot < n + length xs → IsNew names (parameters slot) slot) → Finds names.slots (z.params_of ls n xs) (range_with_len 0 (n + length xs))
+finds_params : (names : Names) (ls : List l.Local) (n : ℕ) → Finds names.slots ls (range_with_len 0 n) → (xs : List (List ℕ)) → Stand names.slots n xs → ((slot : ℕ) → n ≤ slot → slot < n + length xs → IsNew names (parameters slot) slot) → Finds names.slots (z.with_each false ls n xs) (range_with_len 0 (n + length xs))
 finds_params names ls n finds [] k new = subst (λ q. Finds names.slots ls (range_with_len 0 q)) (let e : n ≡ n + 0 = omega arith in e) finds
 finds_params names ls n finds (x ∷ xs) k new =
     let more = finds_more names ls (parameters n) n n false x finds (new n (omega arith) (omega arith)) refl k.0 in
-    subst (λ q. Finds names.slots (z.params_of (free x n ∷ ls) (n + 1) xs) (range_with_len 0 q)) (let e : n + 1 + length xs ≡ n + length (x ∷ xs) = omega arith in e)
+    subst (λ q. Finds names.slots (z.with_each false (free x n ∷ ls) (n + 1) xs) (range_with_len 0 q)) (let e : n + 1 + length xs ≡ n + length (x ∷ xs) = omega arith in e)
     (finds_params names (free x n ∷ ls) (n + 1) (λ slot c. more slot (range_step n slot c)) xs k.1 (λ slot a b. new slot (omega (arith, a)) (omega (arith, b))))
 
 pub function_same : (p : Program) (place : ℕ) (f : Function) → AreDifferent (names_taken p) → place ≤ length p.functions → IsLawfulFunction p place f → resolved_function (globals_back p) (spelled_function p f) ≡ f
@@ -188,11 +198,11 @@ function_same p place f d h w =
     let n : length params ≡ f.params = omega (arith, length-take f.params f.slots, sl) in
     let front = stand_left f.slots 0 params (drop f.params f.slots) (subst (λ k. Stand f.slots 0 k) (sym (take-append-drop f.params f.slots)) (stand_self f.slots)) in
     let none : Finds f.slots [] (range_with_len 0 0) = λ slot c. absurd (omega (arith, c.1)) in
-    let finds = subst (λ q. Finds f.slots (z.params_of [] 0 params) (range_with_len 0 q)) (zero-add (length params) ∙ n) (finds_params names [] 0 none params front (λ slot a b. w.parameters_are_new slot (omega (arith, b, n)))) in
+    let finds = subst (λ q. Finds f.slots (z.with_each false [] 0 params) (range_with_len 0 q)) (zero-add (length params) ∙ n) (finds_params names [] 0 none params front (λ slot a b. w.parameters_are_new slot (omega (arith, b, n)))) in
     let room : f.params + declared_in f.body ≤ length f.slots = omega (arith, sl) in
     let stands = stand_in_back names v false (parameters f.params) f.params refl refl f.body room w.body in
     let names_are : drop f.params f.slots ≡ names_in (spelled_block v f.body) = stand_drop f.slots f.params (names_in (spelled_block v f.body)) stands (sl ∙ ap (λ k. f.params + k) (sym (count_in_back v f.body))) in
-    let ls = z.params_of [] 0 params in
+    let ls = z.with_each false [] 0 params in
     λ j. record {
       name = f.name;
       params = n j;
@@ -226,6 +236,7 @@ program_same main_line p w =
     let room : 0 + declared_in p.main ≤ length p.slots = omega (arith, sl) in
     let stands = stand_in_back names v true (parameters 0) 0 refl refl p.main room w.main in
     λ j. record {
+      version = p.version;
       arrays = p.arrays;
       functions = (sym (map_twice (spelled_function p) (resolved_function g) p.functions) ∙ same_all (λ f. resolved_function g (spelled_function p f)) p.functions (λ i. each_same p w.taken_are_different (slice_get p.functions i) i refl (w.functions i))) j;
       slots = sym (stand_drop p.slots 0 (names_in (spelled_block v p.main)) stands (sl ∙ sym (zero-add (declared_in p.main)) ∙ ap (λ k. 0 + k) (sym (count_in_back v p.main)))) j;

@@ -6,7 +6,7 @@ use Rattle.spf_ast.specs.Syntax.{Program}
 use Rattle.spf_ast.specs.RawSyntax.{RawProgram}
 use Rattle.spf_ast.specs.View.{program}
 use Rattle.spf_ast.specs.Lawful.{IsScoped}
-use Rattle.spf_ast.specs.Spelling.{IsWritable, spelled}
+use Rattle.spf_ast.specs.Spelling.{IsWellFormed, spelled}
 use Rattle.spf_scopes.specs.declared.fault.TypeFault.{TypeFault}
 use Rattle.spf_scopes.specs.declared.fault.TypeError.{TypeError}
 use Rattle.spf_scopes.specs.declared.fault.TypeError.TheVariants.{Refused, OutOfMemory}
@@ -22,7 +22,7 @@ use Rattle.spf_types.proofs.UniquePrograms.{program_same}
 use Rattle.spf_types.proofs.FaultlessPrograms.{spelled_faultless}
 
 -- a raw program without faults that passes no limit stands for what it resolves to
-pub resolved_is : (raw : RawProgram) → faults raw ≡ [] → limits_passed raw.main_line (resolved raw) ≡ [] → IsWritable raw → IsResolved raw (resolved raw)
+pub resolved_is : (raw : RawProgram) → faults raw ≡ [] → limits_passed raw.main_line (resolved raw) ≡ [] → IsWellFormed raw → IsResolved raw (resolved raw)
 resolved_is raw h k w =
     let p = program_ok raw h w in
     record { spelling = p.1; lawful = record { scoped = p.0; limits = none_passed raw.main_line (resolved raw) k } }
@@ -50,7 +50,7 @@ first_of_refused raw what line (inr k) =
     behind (faults raw) (limits_passed raw.main_line (resolved raw)) (Refused what line) (none_of_scoped raw k.program k.spelling k.scoped)
     (subst (λ p. first (limits_passed raw.main_line p) ≡ Some (record { what = what; line = line })) (resolved_only raw k.program k.spelling k.scoped) k.passed)
 
-refused_of_first : (raw : RawProgram) → IsWritable raw → (what : TypeFault) (line : ℕ) → first (all_faults raw) ≡ Some (record { what = what; line = line }) → IsRefused raw what line
+refused_of_first : (raw : RawProgram) → IsWellFormed raw → (what : TypeFault) (line : ℕ) → first (all_faults raw) ≡ Some (record { what = what; line = line }) → IsRefused raw what line
 refused_of_first raw w what line h = elim (first_in (faults raw) (limits_passed raw.main_line (resolved raw)) (record { what = what; line = line }) h) [
   | inl k ↦ inl k
   | inr k ↦ inr (record { program = resolved raw; spelling = (program_ok raw k.0 w).1; scoped = (program_ok raw k.0 w).0; passed = k.1 })
@@ -58,7 +58,7 @@ refused_of_first raw w what line h = elim (first_in (faults raw) (limits_passed 
 
 -- ---- what a raw program comes to, on its faults alone
 
-pub resolves_or_refused : (raw : RawProgram) → IsWritable raw → ((p : Program) × IsResolved raw p) ⊎ ((what : TypeFault) × (line : ℕ) × IsRefused raw what line)
+pub resolves_or_refused : (raw : RawProgram) → IsWellFormed raw → ((p : Program) × IsResolved raw p) ⊎ ((what : TypeFault) × (line : ℕ) × IsRefused raw what line)
 resolves_or_refused raw w = go (all_faults raw) refl
   where
     go : (fs : List Fault) → all_faults raw ≡ fs → ((p : Program) × IsResolved raw p) ⊎ ((what : TypeFault) × (line : ℕ) × IsRefused raw what line)
@@ -95,7 +95,7 @@ pub record Whole (raw : RawProgram) (result : Result code_program.Program TypeEr
   pub refused : (what : TypeFault) (line : ℕ) → result ≡ Err (Refused what line) → IsRefused raw what line
   pub refused_exactly : (what : TypeFault) (line : ℕ) → IsRefused raw what line → (result ≡ Err (Refused what line)) ⊎ (result ≡ Err OutOfMemory)
 
-pub whole : (raw : RawProgram) → IsWritable raw → (result : Result code_program.Program TypeError) → Answers (all_faults raw) program (resolved raw) result → Whole raw result
+pub whole : (raw : RawProgram) → IsWellFormed raw → (result : Result code_program.Program TypeError) → Answers (all_faults raw) program (resolved raw) result → Whole raw result
 whole raw w (Ok p) h =
     let n = append_none (faults raw) (limits_passed raw.main_line (resolved raw)) h.0 in
     record {

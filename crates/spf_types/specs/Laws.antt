@@ -4,7 +4,7 @@ use Rattle.std.specs.Prelude.{◌≡◌, ◌⊎◌, ℕ, []}
 use Rattle.spf_ast.specs.Syntax.{Program}
 use Rattle.spf_ast.specs.RawSyntax.{RawProgram}
 use Rattle.spf_ast.specs.Lawful.{IsScoped, IsLawful}
-use Rattle.spf_ast.specs.Spelling.{IsWritable, spelled}
+use Rattle.spf_ast.specs.Spelling.{IsWellFormed, spelled}
 use Rattle.spf_scopes.specs.declared.fault.TypeFault.{TypeFault}
 use Rattle.spf_types.specs.Contract.{IsResolved, IsRefused}
 use Rattle.spf_scopes.specs.Faults.{faults}
@@ -20,7 +20,7 @@ LawfulProgramsHaveNoFaults = (main_line : ℕ) (p : Program) → IsLawful p → 
 
 -- and what has no faults spells a scoped program
 abbrev pub FaultlessProgramsAreScoped : Type 0
-FaultlessProgramsAreScoped = (raw : RawProgram) → IsWritable raw → faults raw ≡ [] → (p : Program) × IsScoped p × (spelled raw.main_line p ≡ raw)
+FaultlessProgramsAreScoped = (raw : RawProgram) → IsWellFormed raw → faults raw ≡ [] → (p : Program) × IsScoped p × (spelled raw.main_line p ≡ raw)
 
 -- the spelling of a scoped program resolves to that program
 abbrev pub SpellingsResolveToTheirPrograms : Type 0
@@ -29,7 +29,7 @@ SpellingsResolveToTheirPrograms = (main_line : ℕ) (p : Program) → IsScoped p
 -- a raw program whose names are names and whose numbers a text can hold resolves to a lawful one, or is refused
 abbrev pub ResolveOrAreRefused : Type 0
 ResolveOrAreRefused =
-    (raw : RawProgram) → IsWritable raw → ((p : Program) × IsResolved raw p) ⊎ ((what : TypeFault) × (line : ℕ) × IsRefused raw what line)
+    (raw : RawProgram) → IsWellFormed raw → ((p : Program) × IsResolved raw p) ⊎ ((what : TypeFault) × (line : ℕ) × IsRefused raw what line)
 
 -- a raw program resolves to at most one program
 abbrev pub ResolveToOne : Type 0

@@ -6,12 +6,12 @@ ghost use Rattle.spf_ast.specs.View.{program as seen_program, array as seen_arra
 ghost use Rattle.spf_ast.specs.RawView.{raw_function, raw_program};
 ghost use Rattle.spf_scopes.specs.HereView.{setting};
 ghost use Rattle.spf_scopes.specs.Globals.{globals_of, global_named, is_array_at, is_function_at};
-ghost use Rattle.spf_scopes.specs.Faults.{arrays_faults, functions_faults, function_faults, params_faults, faults};
-ghost use Rattle.spf_scopes.specs.Resolved.{scope, after_params, resolved_function, resolved};
+ghost use Rattle.spf_scopes.specs.Faults.{arrays_faults, functions_faults, function_faults, faults};
+ghost use Rattle.spf_scopes.specs.Resolved.{resolved_function, resolved};
 ghost use Rattle.spf_scopes.specs.Answers.{Answers};
 ghost use Rattle.spf_types.specs.TooLarge.{limits_passed};
 ghost use Rattle.spf_types.specs.Contract.{IsResolved, IsRefused};
-ghost use Rattle.spf_ast.specs.Spelling.{IsWritable};
+ghost use Rattle.spf_ast.specs.Spelling.{IsWellFormed};
 ghost use Rattle.spf_scopes.specs.declared.fault.TypeFault.{TypeFault as Fault};
 
 use crate::limits::keeps_limits;
@@ -20,7 +20,7 @@ use spf_ast::syntax::{Array, Function, Name, Program, Stmt};
 use spf_scopes::fault::{TypeError, TypeFault};
 use spf_scopes::globals::{GlobalTable, Outer, short};
 use spf_scopes::locals::LocalTable;
-use spf_scopes::names::{Here, declarable};
+use spf_scopes::names::{Here, declared_each};
 use spf_typing::statement::{block, valued};
 use std::alloc::Global;
 
@@ -71,24 +71,6 @@ fn is_function<'a>(globals: &GlobalTable<'a>, name: &'a Name, place: usize) -> b
     }
 }
 
-/// Declares parameters.
-fn parameters<'a>(
-    here: &Here<'_, 'a>,
-    locals: &mut LocalTable<'a>,
-    line: u32,
-    raw: &'a [Name],
-) -> Result<(), TypeError>
-    ensures answers { Answers (params_faults (setting here.now) (scope locals.old.locals) line (map seen_name raw.now)) (λ _. tt {0}) (tt {0}) result }
-    ensures after { IfOk result (λ _. locals.new ≡ after_params locals.old (map seen_name raw.now)) }
-{
-    for name in raw {
-        declarable(here, locals, line, name)?;
-        let slot = locals.declare(here.alloc, name)?;
-        locals.show(name, slot, false)?;
-    }
-    Ok(())
-}
-
 /// A function.
 fn function_of<'a>(here: &Here<'_, 'a>, raw: &'a RawFunction) -> Result<Function, TypeError>
     ensures { Answers (function_faults (setting here.now) (raw_function raw.now)) seen_function
@@ -96,7 +78,7 @@ fn function_of<'a>(here: &Here<'_, 'a>, raw: &'a RawFunction) -> Result<Function
 {
     let alloc = here.alloc;
     let mut locals = LocalTable::make(alloc);
-    parameters(here, &mut locals, raw.line, &raw.params)?;
+    declared_each(here, &mut locals, raw.line, &raw.params)?;
     let (body, answer) = valued(here, &mut locals, &raw.body, raw.answer_line, &raw.answer)?;
     let params = short(raw.params.len())?;
     let bytes = raw.name.bytes.to_vec(alloc)?;
@@ -134,6 +116,7 @@ fn functions_of<'a>(
             globals,
             place,
             in_main: false,
+            in_loop: false,
         };
         let resolved = function_of(&here, function)?;
         functions.push(resolved)?;
@@ -160,6 +143,7 @@ fn parts_of(alloc: Global, raw: &RawProgram) -> Result<Parts, TypeError>
         globals: &globals,
         place: functions.len(),
         in_main: true,
+        in_loop: false,
     };
     let mut locals = LocalTable::make(alloc);
     let main = block(&here, &mut locals, &raw.main)?;
@@ -176,6 +160,7 @@ fn resolved_of(alloc: Global, raw: RawProgram) -> Result<Program, TypeError>
 {
     let parts = parts_of(alloc, &raw)?;
     let program = Program {
+        version: raw.version,
         arrays: raw.arrays,
         functions: parts.functions,
         slots: parts.slots,
@@ -193,7 +178,7 @@ fn resolved_of(alloc: Global, raw: RawProgram) -> Result<Program, TypeError>
 /// first array or function at which it passes a limit, or at `main`. `OutOfMemory` comes where memory is short, as it
 /// is for lists of 2^32 names.
 pub fn resolve(alloc: Global, raw: RawProgram) -> Result<Program, TypeError>
-    requires { IsWritable (raw_program raw) }
+    requires { IsWellFormed (raw_program raw) }
     // What is given is the program that the raw one stands for, and there is no other.
     ensures program { IfOk result (λ p. IsResolved (raw_program raw) (seen_program p)) }
     ensures only { IfOk result (λ p. (q : Lawful) → IsResolved (raw_program raw) q → q ≡ seen_program p) }

@@ -1,6 +1,6 @@
 -- Arguments one after another.
-use Rattle.std.proofs.Common.{◌≡◌, ℕ, ◌+◌, ◌<◌, ◌≤◌, List, [], ◌∷◌, ◌++◌, length, get_or, drop, map, refl, sym, ap, ◌∙◌, arith}
-use Rattle.std.proofs.lemmas.List.{map-append, drop_all}
+use Rattle.std.proofs.Common.{◌≡◌, ℕ, ◌+◌, ◌<◌, ◌≤◌, List, [], ◌∷◌, ◌++◌, length, get_or, drop, map, refl, sym, ap, ◌∙◌, arith, append_assoc}
+use Rattle.std.proofs.lemmas.List.{map-append, drop_all, length-map}
 use Rattle.spf_ast.specs.declared.syntax.Expr.{Expr}
 use Rattle.std.specs.declared.vec.Vec.{Vec}
 use Rattle.std.specs.declared.alloc.Global.{Global}
@@ -11,13 +11,19 @@ use Rattle.spf_ast.specs.declared.raw.RawExpr.TheVariants as e
 use Rattle.spf_ast.proofs.Views.{expression-call}
 use Rattle.spf_ast.proofs.RawViews.{raw_expression-call}
 use Rattle.spf_ast.specs.Syntax.{Expression, Arguments, Call, no_more, argument, arguments_of}
-use Rattle.spf_ast.specs.View.{name, expression, arguments}
-use Rattle.spf_ast.specs.RawView.{raw_expression, raw_arguments}
+use Rattle.spf_ast.specs.declared.syntax.Predict.{Predict}
+use Rattle.spf_ast.specs.declared.raw.RawPredict.{RawPredict}
+use Rattle.spf_ast.specs.View.{name, expression, arguments, predictor}
+use Rattle.spf_ast.specs.RawView.{raw_expression, raw_arguments, raw_predictor, raw_fold_head, raw_pair_head}
+use Rattle.spf_ast.specs.declared.raw.RawFold.{out-RawFold}
+use Rattle.spf_ast.specs.declared.raw.RawFold as code_fold
+use Rattle.spf_ast.specs.declared.raw.RawPair.{out-RawPair}
+use Rattle.spf_ast.specs.declared.raw.RawPair as code_pair
 use Rattle.spf_scopes.specs.Globals.{Globals}
 use Rattle.spf_scopes.specs.Locals.{Local}
-use Rattle.spf_scopes.specs.Faults.{Setting, Scope, Fault, Value, arguments_faults, expression_faults, called_faults, count_of, no_truth, a_number}
-use Rattle.spf_scopes.specs.Resolved.{scope, place_of, resolved_expression, resolved_arguments}
-use Rattle.spf_size.proofs.Lists.{item_at}
+use Rattle.spf_scopes.specs.Faults.{Setting, Scope, Fault, Value, arguments_faults, expression_faults, predictor_faults, predictors_faults, width_faults, fold_widths_faults, pair_widths_faults, called_faults, count_of, no_truth, a_number}
+use Rattle.spf_scopes.specs.Resolved.{scope, place_of, resolved_expression, resolved_arguments, resolved_predictor, resolved_predictors}
+use Rattle.spf_scopes.proofs.Rows.{item_at, append_nil}
 
 -- these expressions, and then arguments
 abbrev pub joined : List Expression → Arguments → Arguments
@@ -77,3 +83,58 @@ pub call_form : (g : Globals) (ls : List Local) (raw : RawExpr) (f : Name) (give
 call_form g ls raw f given place done is at so =
     expression-call place done ∙ ap (λ n. Call n (arguments done.items)) at ∙ ap (Call (place_of g (name f))) so
     ∙ sym (ap (λ r. resolved_expression g ls (raw_expression r)) is ∙ ap (resolved_expression g ls) (raw_expression-call f given))
+
+-- ---- predictors
+
+-- so many raw predictors are resolved, and there is no fault in them
+pub record AreGuessed (here : Setting) (ls : List Local) (line : ℕ) (raw : List RawPredict) (done : List Predict) (count : ℕ) : Type 0 where
+  pub faults : predictors_faults here (scope ls) line (map raw_predictor raw) ≡ predictors_faults here (scope ls) line (map raw_predictor (drop count raw))
+  pub forms : resolved_predictors here.globals ls (map raw_predictor raw) ≡ map predictor done ++ resolved_predictors here.globals ls (map raw_predictor (drop count raw))
+
+pub one_guessed : (here : Setting) (ls : List Local) (line : ℕ) (raw : List RawPredict) (done : List Predict) (count : ℕ) (x : RawPredict) (e : Predict) (now : List Predict) → count < length raw → x ≡ get_or raw count x →
+    AreGuessed here ls line raw done count → predictor_faults here (scope ls) line (raw_predictor x) ≡ [] → predictor e ≡ resolved_predictor here.globals ls (raw_predictor x) → now ≡ done ++ e ∷ [] → AreGuessed here ls line raw now (count + 1)
+one_guessed here ls line raw done count x e now h is so none form push =
+    let split = item_at raw count x h is in
+    let rest = map raw_predictor (drop (count + 1) raw) in
+    record {
+      faults = so.faults ∙ ap (λ xs. predictors_faults here (scope ls) line (map raw_predictor xs)) split ∙ ap (λ (fs : List Fault). fs ++ predictors_faults here (scope ls) line rest) none;
+      forms =
+          so.forms
+          ∙ ap (λ xs. map predictor done ++ resolved_predictors here.globals ls (map raw_predictor xs)) split
+          ∙ ap (λ y. map predictor done ++ y ∷ resolved_predictors here.globals ls rest) (sym form)
+          ∙ sym (append_assoc (map predictor done) (predictor e ∷ []) (resolved_predictors here.globals ls rest))
+          ∙ ap (λ es. es ++ resolved_predictors here.globals ls rest) (sym (map-append predictor done (e ∷ [])))
+          ∙ ap (λ l. map predictor l ++ resolved_predictors here.globals ls rest) (sym push);
+    }
+
+pub all_guessed : (here : Setting) (ls : List Local) (line : ℕ) (raw : List RawPredict) (done : List Predict) (count : ℕ) → length raw ≤ count → AreGuessed here ls line raw done count →
+    (predictors_faults here (scope ls) line (map raw_predictor raw) ≡ []) × (map predictor done ≡ resolved_predictors here.globals ls (map raw_predictor raw))
+all_guessed here ls line raw done count h so =
+    let none = drop_all count raw h in (
+      so.faults ∙ ap (λ xs. predictors_faults here (scope ls) line (map raw_predictor xs)) none,
+      sym (so.forms ∙ ap (λ xs. map predictor done ++ resolved_predictors here.globals ls (map raw_predictor xs)) none ∙ append_nil (map predictor done)),
+    )
+
+pub none_guessed : (here : Setting) (ls : List Local) (line : ℕ) (raw : List RawPredict) (done : List Predict) → done ≡ [] → AreGuessed here ls line raw done 0
+none_guessed here ls line raw done e = record { faults = refl; forms = ap (λ l. map predictor l ++ resolved_predictors here.globals ls (map raw_predictor raw)) (sym e) }
+
+-- ---- how many parts the lists of a construct have
+
+pub fold_widths_is : (line : ℕ) (raw : code_fold.RawFold) (width start guess next : ℕ) → width ≡ length (out-RawFold raw).carried.items → start ≡ length (out-RawFold raw).start.items → guess ≡ length (out-RawFold raw).predict.items → next ≡ length (out-RawFold raw).next.items →
+    fold_widths_faults line (raw_fold_head raw) ≡ width_faults line width start ++ (width_faults line width guess ++ width_faults line width next)
+fold_widths_is line raw width start guess next a b c d =
+    let f = out-RawFold raw in
+    let n : length (map name f.carried.items) ≡ width = length-map f.carried.items name ∙ sym a in
+    let k : count_of (raw_arguments f.start.items) ≡ start = count_of_raw f.start.items ∙ sym b in
+    let p : length (map raw_predictor f.predict.items) ≡ guess = length-map f.predict.items raw_predictor ∙ sym c in
+    let q : count_of (raw_arguments f.next.items) ≡ next = count_of_raw f.next.items ∙ sym d in
+    λ j. width_faults line (n j) (k j) ++ (width_faults line (n j) (p j) ++ width_faults line (n j) (q j))
+
+pub pair_widths_is : (line : ℕ) (raw : code_pair.RawPair) (width give guess : ℕ) → width ≡ length (out-RawPair raw).carried.items → give ≡ length (out-RawPair raw).give.items → guess ≡ length (out-RawPair raw).predict.items →
+    pair_widths_faults line (raw_pair_head raw) ≡ width_faults line width give ++ width_faults line width guess
+pair_widths_is line raw width give guess a b c =
+    let f = out-RawPair raw in
+    let n : length (map name f.carried.items) ≡ width = length-map f.carried.items name ∙ sym a in
+    let k : count_of (raw_arguments f.give.items) ≡ give = count_of_raw f.give.items ∙ sym b in
+    let p : length (map raw_predictor f.predict.items) ≡ guess = length-map f.predict.items raw_predictor ∙ sym c in
+    λ j. width_faults line (n j) (k j) ++ width_faults line (n j) (p j)

@@ -1,5 +1,5 @@
 -- Statements one after another.
-use Rattle.std.proofs.Common.{◌≡◌, ℕ, ◌+◌, ◌<◌, ◌≤◌, List, [], ◌∷◌, ◌++◌, length, get_or, drop, refl, sym, ap, ◌∙◌, append_assoc, length-append}
+use Rattle.std.proofs.Common.{◌≡◌, ℕ, Bool, false, ◌+◌, ◌<◌, ◌≤◌, List, [], ◌∷◌, ◌++◌, length, get_or, drop, refl, sym, ap, ◌∙◌, append_assoc, length-append}
 use Rattle.std.proofs.lemmas.List.{drop_all}
 use Rattle.spf_ast.specs.declared.syntax.Stmt.{Stmt}
 use Rattle.spf_ast.specs.declared.raw.RawStmt.{RawStmt}
@@ -8,9 +8,14 @@ use Rattle.spf_ast.specs.RawSyntax as r
 use Rattle.spf_ast.specs.View.{statement, block}
 use Rattle.spf_ast.specs.RawView.{raw_statement, raw_block}
 use Rattle.spf_scopes.specs.Locals.{Local, Seen}
-use Rattle.spf_scopes.specs.Faults.{Setting, Fault, scope_after, scope_at_end, block_faults, statement_faults}
-use Rattle.spf_scopes.specs.Resolved.{scope, names_of, names_in, locals_after, locals_at_end, resolved_statement, resolved_block, after_statement, after_block}
-use Rattle.spf_size.proofs.Lists.{item_at}
+use Rattle.spf_scopes.specs.Faults.{Setting, Fault, showing_each, scope_after, scope_at_end, block_faults, statement_faults}
+use Rattle.spf_scopes.specs.Resolved.{scope, with_each, names_of, names_in, locals_after, locals_at_end, resolved_statement, resolved_block, after_statement, after_block}
+use Rattle.spf_scopes.proofs.Rows.{item_at, append_nil}
+
+-- the scope in which names may be used besides is that of the locals of these names
+pub scope_each-is : (fixed : Bool) (ls : List Local) (n : ℕ) (xs : List (List ℕ)) → scope (with_each fixed ls n xs) ≡ showing_each fixed (scope ls) xs
+scope_each-is fixed ls n [] = refl
+scope_each-is fixed ls n (x ∷ xs) = scope_each-is fixed (record { name = x; slot = n; fixed = fixed } ∷ ls) (n + 1) xs
 
 -- the scope after a statement is that of the locals after it
 pub scope_after-is : (ls : List Local) (n : ℕ) (s : r.RawStatement) → scope (locals_after ls n s) ≡ scope_after (scope ls) s
@@ -24,12 +29,9 @@ scope_after-is ls n (r.If test a b) = refl
 scope_after-is ls n (r.For x low high body) = refl
 scope_after-is ls n (r.While test most body) = refl
 scope_after-is ls n (r.Do f given) = refl
-scope_after-is ls n (r.Fold head body) = refl
-scope_after-is ls n (r.Pair head producer consumer) = refl
-
-pub append_nil : {A : Type 0} (xs : List A) → xs ++ [] ≡ xs
-append_nil [] = refl
-append_nil (x ∷ xs) = ap (λ ys. x ∷ ys) (append_nil xs)
+scope_after-is ls n (r.Fold head body) = scope_each-is false ls n head.carried
+scope_after-is ls n (r.Pair head producer consumer) = scope_each-is false ls n head.carried
+scope_after-is ls n r.Break = refl
 
 -- a block and one statement more
 pub block_push : (done : List Stmt) (s : Stmt) (rest : Block) → followed_by (block (done ++ s ∷ [])) rest ≡ followed_by (block done) (on_line s.line (statement s.kind) rest)

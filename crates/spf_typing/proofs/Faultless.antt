@@ -1,24 +1,25 @@
 -- A lawful form is spelled without faults.
-use Rattle.std.proofs.Common.{◌≡◌, ℕ, ◌+◌, ◌<◌, ◌≤◌, zero, suc, Bool, true, false, ◌||◌, inl, inr, not, nat_eq, nat_lt, cond, Option, Some, None, is_some, List, [], ◌∷◌, length, refl, sym, ap, ◌∙◌, subst, arith}
+use Rattle.std.proofs.Common.{◌≡◌, ℕ, ◌+◌, ◌<◌, ◌≤◌, zero, suc, Bool, true, false, ◌||◌, inl, inr, not, nat_eq, nat_lt, cond, Option, Some, None, is_some, List, [], ◌∷◌, ◌++◌, length, map, refl, sym, ap, ◌∙◌, subst, arith}
 use Rattle.std.specs.Prelude.{IfSome, slice_get, slice_index_or}
 use Rattle.std.specs.List.{All, Contains}
 use Rattle.std.specs.Str.{bytes_eq}
 use Rattle.std.proofs.lemmas.Bool.Decides.{nat_tests}
+use Rattle.std.proofs.lemmas.List.{length-map}
 use Rattle.std.proofs.lemmas.List.Elements.{All-contains}
 use Rattle.spf_ast.specs.Syntax.{Expression, Number, Local, Len, Input, Load, Call, Neg, Binary, Arguments, no_more, argument, Condition, Compare, Both, Either, Not, Predictor, By, Host, FoldHead}
-use Rattle.spf_ast.specs.Syntax.{Statement, Let, Assign, Store, Fill, Emit, Fail, If, For, While, Do, Fold, Pair, Block, end, on_line}
+use Rattle.spf_ast.specs.Syntax.{Statement, Let, Assign, Store, Fill, Emit, Fail, If, For, While, Do, Fold, Pair, Break, PairHead, Block, end, on_line}
 use Rattle.spf_ast.specs.Meaning as meaning
 use Rattle.spf_ast.specs.Lawful as w
-use Rattle.spf_ast.specs.Lawful.{Names, IsNew, Declares, IsCallable, IsLawfulExpression, AreLawfulArguments, IsLawfulCondition, IsLawfulPredictor, IsLawfulStatement, IsLawfulBlock, declared, declared_in}
-use Rattle.spf_ast.specs.Spelling.{Vocabulary, name_at, spelled_expression, spelled_arguments, spelled_condition, spelled_predictor, spelled_fold, spelled_statement, spelled_block}
+use Rattle.spf_ast.specs.Lawful.{Names, IsNew, Declares, DeclaresEach, IsCallable, IsLawfulExpression, AreLawfulArguments, IsLawfulCondition, IsLawfulPredictor, AreLawfulPredictors, IsLawfulStatement, IsLawfulBlock, declared, declared_in}
+use Rattle.spf_ast.specs.Spelling.{Vocabulary, name_at, spelled_expression, spelled_arguments, spelled_condition, spelled_names, spelled_predictor, spelled_fold, spelled_pair, spelled_statement, spelled_block}
 use Rattle.spf_scopes.specs.declared.fault.TypeFault.{TypeFault}
-use Rattle.spf_scopes.specs.declared.fault.TypeFault.TheVariants.{Twice, Arity, Kind, CallsLater, Misplaced}
+use Rattle.spf_scopes.specs.declared.fault.TypeFault.TheVariants.{Twice, Arity, Kind, CallsLater, Misplaced, MisplacedBreak}
 use Rattle.spf_scopes.specs.declared.globals.Outer.TheVariants as outer
 use Rattle.spf_scopes.specs.Globals.{global_named, params_of}
-use Rattle.spf_scopes.specs.Faults.{Setting, Fault, Scope, when, local_named, declared_faults, used_faults, assigned_faults, indexed_faults, callee_faults, later_faults, called_faults, count_of, expression_faults, arguments_faults, predictor_faults, names_faults, fold_faults, statement_faults, block_faults, is_byte, a_number, a_truth}
+use Rattle.spf_scopes.specs.Faults.{Setting, Fault, Scope, when, in_turn, in_part, local_named, declared_faults, each_declared_faults, used_faults, assigned_faults, indexed_faults, callee_faults, later_faults, called_faults, count_of, expression_faults, arguments_faults, predictor_faults, predictors_faults, names_faults, width_faults, fold_widths_faults, pair_widths_faults, fold_faults, statement_faults, block_faults, is_byte, a_number, a_truth}
 use Rattle.spf_scopes.specs.Faults as f
 use Rattle.spf_scopes.proofs.Tables.{same_bytes, bytes_are}
-use Rattle.spf_typing.proofs.Alike.{all_along}
+use Rattle.spf_typing.proofs.Alike.{all_along, to_front, from_front, each_is_there, there_is_each}
 use Rattle.spf_typing.proofs.Steps.{none_in}
 use Rattle.spf_typing.proofs.Sound.{contains_here, contains_there, contains_cases, at_place}
 
@@ -88,6 +89,15 @@ shows_fixed slots visible fixed sc x slot shows e new = shows_more slots visible
 pub shows_along : (slots : List (List ℕ)) (one other fixed : List ℕ) (sc : Scope) → ((k : ℕ) → Contains one k → Contains other k) → ((k : ℕ) → Contains other k → Contains one k) → Shows slots one fixed sc → Shows slots other fixed sc
 shows_along slots one other fixed sc there back shows = record {
   sees = λ k c. shows.sees k (back k c);
+  hides = λ x none. shows.hides x (all_along (λ (other : ℕ). slice_get slots other ≡ Some x → ⊥) other one there none);
+}
+
+-- the same slots in another order, and perhaps more that may not be assigned
+shows_in : (slots : List (List ℕ)) (one other fixed more : List ℕ) (sc : Scope) → ((k : ℕ) → Contains one k → Contains other k) → ((k : ℕ) → Contains other k → Contains one k) → ((k : ℕ) → Contains fixed k → Contains more k) → Shows slots one fixed sc → Shows slots other more sc
+shows_in slots one other fixed more sc there back wide shows = record {
+  sees = λ k c.
+      let q = shows.sees k (back k c) in
+      record { name = q.name; there = q.there; is_fixed = q.is_fixed; found = q.found; fixed_too = λ e. wide k (q.fixed_too e) };
   hides = λ x none. shows.hides x (all_along (λ (other : ℕ). slice_get slots other ≡ Some x → ⊥) other one there none);
 }
 
@@ -205,18 +215,54 @@ predictor_none : (here : Setting) (names : Names) (v : Vocabulary) (s : w.Scope)
 predictor_none here names v s sc line known shows (By e) h = number_none here names v s sc line known shows e h
 predictor_none here names v s sc line known shows (Host n) h = refl
 
+predictors_none : (here : Setting) (names : Names) (v : Vocabulary) (s : w.Scope) (sc : Scope) (line : ℕ) → Known here names v → Shows names.slots s.visible s.fixed sc → (ps : List Predictor) → AreLawfulPredictors names s ps → predictors_faults here sc line (map (spelled_predictor v) ps) ≡ []
+predictors_none here names v s sc line known shows [] h = refl
+predictors_none here names v s sc line known shows (p ∷ ps) h = none_in _ _ (predictor_none here names v s sc line known shows p h.0) (predictors_none here names v s sc line known shows ps h.1)
+
 -- ---- statements
 
--- what a statement or a block may rest on: the scope of names shows the slots, and there is room for those that it declares
-pub record Ready (names : Names) (s : w.Scope) (sc : Scope) (count : ℕ) : Type 0 where
+-- in a loop or not, the same is visible in the whole program
+known_in : (here : Setting) (names : Names) (v : Vocabulary) (in_loop : Bool) → Known here names v → Known (record here { in_loop = in_loop }) names v
+known_in here names v in_loop known = record { arrays = known.arrays; functions = known.functions; place = known.place; untaken = known.untaken; slots = known.slots }
+
+-- what a statement or a block may rest on: the scope of names shows the slots, there is room for those that it declares, and it is in a loop or not
+pub record Ready (here : Setting) (names : Names) (s : w.Scope) (sc : Scope) (count : ℕ) : Type 0 where
   pub shows : Shows names.slots s.visible s.fixed sc
   pub room : s.next + count ≤ length names.slots
+  pub loop : s.in_loop ≡ here.in_loop
 
 -- a declaration in a scope is of a new name
 declares : (here : Setting) (names : Names) (v : Vocabulary) (s : w.Scope) (slot : ℕ) → Known here names v → s.next < length names.slots → Declares names s slot → IsFresh names s.visible slot (name_at v.slots slot)
 declares here names v s slot known room h = fresh names v s slot known.slots (omega (arith, h.0, room)) h.1
 
-shows_after : (here : Setting) (names : Names) (v : Vocabulary) (m : Bool) (s : w.Scope) (sc : Scope) → Known here names v → (st : Statement) → Ready names s sc (declared st) → IsLawfulStatement names m s st → Shows names.slots (w.scope_after s st).visible s.fixed (f.scope_after sc (spelled_statement v st))
+-- declarations from left to right are of new names
+each_none : (here : Setting) (names : Names) (v : Vocabulary) (s : w.Scope) (sc : Scope) (line : ℕ) → Known here names v → (slots : List ℕ) → Shows names.slots s.visible s.fixed sc → s.next + length slots ≤ length names.slots → DeclaresEach names s slots → each_declared_faults here sc line (spelled_names v slots) ≡ []
+each_none here names v s sc line known [] shows room h = refl
+each_none here names v s sc line known (slot ∷ slots) shows room h =
+    let x = name_at v.slots slot in
+    let d = declares here names v s slot known (omega (arith, room)) h.0 in
+    none_in _ _ (declared_none here names v s.visible s.fixed sc line slot x known shows d)
+    (each_none here names v (w.behind 1 (w.showing slot s)) (f.showing x sc) line known slots (shows_free names.slots s.visible s.fixed sc x slot shows d.there d.new) (omega (arith, room)) h.1)
+
+-- and may then be used
+shows_each : (here : Setting) (names : Names) (v : Vocabulary) (s : w.Scope) (fixed : List ℕ) (sc : Scope) → Known here names v → (slots : List ℕ) → Shows names.slots s.visible fixed sc → s.next + length slots ≤ length names.slots → DeclaresEach names s slots → Shows names.slots (slots ++ s.visible) fixed (f.showing_each false sc (spelled_names v slots))
+shows_each here names v s fixed sc known [] shows room h = shows
+shows_each here names v s fixed sc known (slot ∷ slots) shows room h =
+    let x = name_at v.slots slot in
+    let d = declares here names v s slot known (omega (arith, room)) h.0 in
+    shows_in names.slots _ _ fixed fixed (f.showing_each false sc (spelled_names v (slot ∷ slots))) (to_front slots s.visible slot) (from_front slots s.visible slot) (λ k c. c)
+    (shows_each here names v (w.behind 1 (w.showing slot s)) fixed (f.showing x sc) known slots (shows_free names.slots s.visible fixed sc x slot shows d.there d.new) (omega (arith, room)) h.1)
+
+-- and not be assigned
+shows_each_fixed : (here : Setting) (names : Names) (v : Vocabulary) (s : w.Scope) (fixed : List ℕ) (sc : Scope) → Known here names v → (slots : List ℕ) → Shows names.slots s.visible fixed sc → s.next + length slots ≤ length names.slots → DeclaresEach names s slots → Shows names.slots (slots ++ s.visible) (slots ++ fixed) (f.showing_each true sc (spelled_names v slots))
+shows_each_fixed here names v s fixed sc known [] shows room h = shows
+shows_each_fixed here names v s fixed sc known (slot ∷ slots) shows room h =
+    let x = name_at v.slots slot in
+    let d = declares here names v s slot known (omega (arith, room)) h.0 in
+    shows_in names.slots _ _ _ _ (f.showing_each true sc (spelled_names v (slot ∷ slots))) (to_front slots s.visible slot) (from_front slots s.visible slot) (to_front slots fixed slot)
+    (shows_each_fixed here names v (w.behind 1 (w.showing slot s)) (slot ∷ fixed) (f.showing_fixed x sc) known slots (shows_fixed names.slots s.visible fixed sc x slot shows d.there d.new) (omega (arith, room)) h.1)
+
+shows_after : (here : Setting) (names : Names) (v : Vocabulary) (m : Bool) (s : w.Scope) (sc : Scope) → Known here names v → (st : Statement) → Ready here names s sc (declared st) → IsLawfulStatement names m s st → Shows names.slots (w.scope_after s st).visible s.fixed (f.scope_after sc (spelled_statement v st))
 shows_after here names v m s sc known (Let slot value) r h =
     let d = declares here names v s slot known (omega (arith, r.room)) h.1 in
     shows_free names.slots s.visible s.fixed sc (name_at v.slots slot) slot r.shows d.there d.new
@@ -229,58 +275,86 @@ shows_after here names v m s sc known (If test a b) r h = r.shows
 shows_after here names v m s sc known (For slot low high body) r h = r.shows
 shows_after here names v m s sc known (While test most body) r h = r.shows
 shows_after here names v m s sc known (Do k given) r h = r.shows
-shows_after here names v m s sc known (Fold head body) r h =
-    let d = declares here names v s head.carried known (omega (arith, r.room)) h.3 in
-    shows_free names.slots s.visible s.fixed sc (name_at v.slots head.carried) head.carried r.shows d.there d.new
-shows_after here names v m s sc known (Pair head a b) r h =
-    let d = declares here names v s head.carried known (omega (arith, r.room)) h.0 in
-    shows_free names.slots s.visible s.fixed sc (name_at v.slots head.carried) head.carried r.shows d.there d.new
+shows_after here names v m s sc known (Fold head body) r h = shows_each here names v s s.fixed sc known head.carried r.shows (omega (arith, r.room)) h.3
+shows_after here names v m s sc known (Pair head a b) r h = shows_each here names v s s.fixed sc known head.carried r.shows (omega (arith, r.room)) h.0
+shows_after here names v m s sc known Break r h = r.shows
 
-ready_after : (here : Setting) (names : Names) (v : Vocabulary) (m : Bool) (s : w.Scope) (sc : Scope) (count : ℕ) → Known here names v → (st : Statement) → Ready names s sc (declared st + count) → IsLawfulStatement names m s st → Ready names (w.scope_after s st) (f.scope_after sc (spelled_statement v st)) count
+ready_after : (here : Setting) (names : Names) (v : Vocabulary) (m : Bool) (s : w.Scope) (sc : Scope) (count : ℕ) → Known here names v → (st : Statement) → Ready here names s sc (declared st + count) → IsLawfulStatement names m s st → Ready here names (w.scope_after s st) (f.scope_after sc (spelled_statement v st)) count
 ready_after here names v m s sc count known st r h = record {
-  shows = shows_after here names v m s sc known st (record { shows = r.shows; room = omega (arith, r.room) }) h;
+  shows = shows_after here names v m s sc known st (record { shows = r.shows; room = omega (arith, r.room); loop = r.loop }) h;
   room = omega (arith, r.room);
+  loop = r.loop;
 }
 
 -- the scopes at the end of a block
-shows_end : (here : Setting) (names : Names) (v : Vocabulary) (m : Bool) (s : w.Scope) (sc : Scope) → Known here names v → (b : Block) → Ready names s sc (declared_in b) → IsLawfulBlock names m s b → Shows names.slots (w.scope_at_end s b).visible (w.scope_at_end s b).fixed (f.scope_at_end sc (spelled_block v b))
+shows_end : (here : Setting) (names : Names) (v : Vocabulary) (m : Bool) (s : w.Scope) (sc : Scope) → Known here names v → (b : Block) → Ready here names s sc (declared_in b) → IsLawfulBlock names m s b → Shows names.slots (w.scope_at_end s b).visible (w.scope_at_end s b).fixed (f.scope_at_end sc (spelled_block v b))
 shows_end here names v m s sc known end r h = r.shows
 shows_end here names v m s sc known (on_line line st rest) r h =
     shows_end here names v m (w.scope_after s st) (f.scope_after sc (spelled_statement v st)) known rest (ready_after here names v m s sc (declared_in rest) known st r h.0) h.1
 
 -- a number after a block
-value_none : (here : Setting) (names : Names) (v : Vocabulary) (s : w.Scope) (sc : Scope) (line : ℕ) → Known here names v → (b : Block) (e : Expression) → Ready names s sc (declared_in b) → IsLawfulBlock names here.in_main s b → IsLawfulExpression names (w.scope_at_end s b) e → expression_faults here (f.scope_at_end sc (spelled_block v b)) line a_number (spelled_expression v e) ≡ []
+value_none : (here : Setting) (names : Names) (v : Vocabulary) (s : w.Scope) (sc : Scope) (line : ℕ) → Known here names v → (b : Block) (e : Expression) → Ready here names s sc (declared_in b) → IsLawfulBlock names here.in_main s b → IsLawfulExpression names (w.scope_at_end s b) e → expression_faults here (f.scope_at_end sc (spelled_block v b)) line a_number (spelled_expression v e) ≡ []
 value_none here names v s sc line known b e r h k =
     number_none here names v (w.scope_at_end s b) (f.scope_at_end sc (spelled_block v b)) line known (shows_end here names v here.in_main s sc known b r h) e k
 
--- the two names of a fold differ
-two_names : (names : Names) (x y : List ℕ) (carried : ℕ) (t : Bool) → bytes_eq x y ≡ t → slice_get names.slots carried ≡ Some x → (slice_get names.slots carried ≡ Some y → ⊥) → t ≡ false
-two_names names x y carried true e h never = absurd (never (h ∙ ap Some (same_bytes x y e)))
-two_names names x y carried false e h never = refl
+-- a row after the statements of a part
+row_none : (here : Setting) (names : Names) (v : Vocabulary) (s : w.Scope) (sc : Scope) (line : ℕ) → Known here names v → (b : Block) (es : Arguments) → Ready (in_part here) names s sc (declared_in b) → IsLawfulBlock names here.in_main s b → AreLawfulArguments names (w.scope_at_end s b) es → arguments_faults here (f.scope_at_end sc (spelled_block v b)) line (spelled_arguments v es) ≡ []
+row_none here names v s sc line known b es r h k =
+    numbers_none here names v (w.scope_at_end s b) (f.scope_at_end sc (spelled_block v b)) line known (shows_end (in_part here) names v here.in_main s sc (known_in here names v false known) b r h) es k
 
--- what is declared by a fold: its carried value, and its block number, also where the carried value may not be used
+-- a list that is as long as the names
+width_none : (line width count : ℕ) → count ≡ width → width_faults line width count ≡ []
+width_none line width count e = when_not (nat_eq count width) Arity line (same_numbers count width e)
+
+fold_widths_none : (v : Vocabulary) (line : ℕ) (head : FoldHead) → w.FoldHasOneWidth head → fold_widths_faults line (spelled_fold v head) ≡ []
+fold_widths_none v line head h =
+    let width = length (spelled_names v head.carried) in
+    let n = sym (length-map head.carried (name_at v.slots)) in
+    none_in _ _ (width_none line width (count_of (spelled_arguments v head.start)) (count_is v head.start ∙ h.start ∙ n))
+    (none_in _ _ (width_none line width (length (map (spelled_predictor v) head.predict)) (length-map head.predict (spelled_predictor v) ∙ h.predict ∙ n))
+    (width_none line width (count_of (spelled_arguments v head.next)) (count_is v head.next ∙ h.next ∙ n)))
+
+pair_widths_none : (v : Vocabulary) (line : ℕ) (head : PairHead) → w.PairHasOneWidth head → pair_widths_faults line (spelled_pair v head) ≡ []
+pair_widths_none v line head h =
+    let width = length (spelled_names v head.carried) in
+    let n = sym (length-map head.carried (name_at v.slots)) in
+    none_in _ _ (width_none line width (count_of (spelled_arguments v head.give)) (count_is v head.give ∙ h.give ∙ n))
+    (width_none line width (length (map (spelled_predictor v) head.predict)) (length-map head.predict (spelled_predictor v) ∙ h.predict ∙ n))
+
+-- what is declared by a fold: its carried row, and its block number, also where the carried row may not be used
 record FoldNames (here : Setting) (names : Names) (v : Vocabulary) (s : w.Scope) (sc : Scope) (line : ℕ) (head : FoldHead) : Type 0 where
   pub faultless : names_faults here sc line (spelled_fold v head) ≡ []
   pub guess : Shows names.slots (head.block ∷ s.visible) (head.block ∷ s.fixed) (f.showing_fixed (name_at v.slots head.block) sc)
-  pub inside : Shows names.slots (head.block ∷ head.carried ∷ s.visible) (head.block ∷ head.carried ∷ s.fixed) (f.in_body sc (name_at v.slots head.carried) (name_at v.slots head.block))
+  pub inside : Shows names.slots (head.block ∷ (head.carried ++ s.visible)) (head.block ∷ (head.carried ++ s.fixed)) (f.in_body sc (spelled_names v head.carried) (name_at v.slots head.block))
 
-fold_names : (here : Setting) (names : Names) (v : Vocabulary) (s : w.Scope) (sc : Scope) (line : ℕ) (head : FoldHead) → Known here names v → Shows names.slots s.visible s.fixed sc → s.next + 2 ≤ length names.slots → Declares names s head.carried → Declares names (w.behind 1 (w.showing head.carried s)) head.block → FoldNames here names v s sc line head
+right_there : (front slots : List ℕ) (k : ℕ) → Contains slots k → Contains (front ++ slots) k
+right_there [] slots k h = h
+right_there (f ∷ front) slots k h = contains_there f k (front ++ slots) (right_there front slots k h)
+
+next_each : (slots : List ℕ) (s : w.Scope) → (w.showing_each slots s).next ≡ s.next + length slots
+next_each [] s = omega arith
+next_each (slot ∷ slots) s = let r = next_each slots (w.behind 1 (w.showing slot s)) in omega (arith, r)
+
+fold_names : (here : Setting) (names : Names) (v : Vocabulary) (s : w.Scope) (sc : Scope) (line : ℕ) (head : FoldHead) → Known here names v → Shows names.slots s.visible s.fixed sc → s.next + length head.carried + 1 ≤ length names.slots → DeclaresEach names s head.carried → Declares names (w.showing_each head.carried s) head.block → FoldNames here names v s sc line head
 fold_names here names v s sc line head known shows room hc hb =
-    let cn = name_at v.slots head.carried in
     let bn = name_at v.slots head.block in
-    let c = declares here names v s head.carried known (omega (arith, room)) hc in
-    let b = declares here names v (w.behind 1 (w.showing head.carried s)) head.block known (omega (arith, room)) hb in
-    let alone : IsFresh names s.visible head.block bn = record { there = b.there; untaken = b.untaken; new = all_along (λ (other : ℕ). slice_get names.slots other ≡ Some bn → ⊥) (head.carried ∷ s.visible) s.visible (λ k q. contains_there head.carried k s.visible q) b.new } in
-    let one = shows_fixed names.slots s.visible s.fixed sc cn head.carried shows c.there c.new in
-    let differ = two_names names cn bn head.carried (bytes_eq cn bn) refl c.there (b.new 0 head.carried (omega arith)) in
+    let cs = spelled_names v head.carried in
+    let few : s.next + length head.carried ≤ length names.slots = omega (arith, room) in
+    let after = w.showing_each head.carried s in
+    let b = declares here names v after head.block known (omega (arith, room, next_each head.carried s)) hb in
+    let never : ℕ → Type 0 = λ other. slice_get names.slots other ≡ Some bn → ⊥ in
+    let new : IsNameOfNone names.slots (head.carried ++ s.visible) bn = all_along never after.visible (head.carried ++ s.visible) (there_is_each head.carried s) b.new in
+    let alone : IsFresh names s.visible head.block bn = record { there = b.there; untaken = b.untaken; new = all_along never (head.carried ++ s.visible) s.visible (right_there head.carried s.visible) new } in
+    let both : IsFresh names (head.carried ++ s.visible) head.block bn = record { there = b.there; untaken = b.untaken; new = new } in
+    let one = shows_each here names v s s.fixed sc known head.carried shows few hc in
     record {
-      faultless = none_in _ _ (declared_none here names v s.visible s.fixed sc line head.carried cn known shows c) (none_in _ _ (declared_none here names v s.visible s.fixed sc line head.block bn known shows alone) (ap (λ t. when t Twice line) differ));
+      faultless = none_in _ _ (each_none here names v s sc line known head.carried shows few hc) (declared_none here names v (head.carried ++ s.visible) s.fixed (f.showing_each false sc cs) line head.block bn known one both);
       guess = shows_fixed names.slots s.visible s.fixed sc bn head.block shows b.there alone.new;
-      inside = shows_fixed names.slots (head.carried ∷ s.visible) (head.carried ∷ s.fixed) (f.showing_fixed cn sc) bn head.block one b.there b.new;
+      inside = shows_fixed names.slots (head.carried ++ s.visible) (head.carried ++ s.fixed) (f.showing_each true sc cs) bn head.block (shows_each_fixed here names v s s.fixed sc known head.carried shows few hc) b.there new;
     }
 
 mutual
-  pub statement_none : (here : Setting) (names : Names) (v : Vocabulary) (s : w.Scope) (sc : Scope) (line : ℕ) → Known here names v → (st : Statement) → Ready names s sc (declared st) → IsLawfulStatement names here.in_main s st → statement_faults here sc line (spelled_statement v st) ≡ []
+  pub statement_none : (here : Setting) (names : Names) (v : Vocabulary) (s : w.Scope) (sc : Scope) (line : ℕ) → Known here names v → (st : Statement) → Ready here names s sc (declared st) → IsLawfulStatement names here.in_main s st → statement_faults here sc line (spelled_statement v st) ≡ []
   statement_none here names v s sc line known (Let slot value) r h =
       none_in _ _ (declared_none here names v s.visible s.fixed sc line slot (name_at v.slots slot) known r.shows (declares here names v s slot known (omega (arith, r.room)) h.1)) (number_none here names v s sc line known r.shows value h.0)
   statement_none here names v s sc line known (Assign slot value) r h = none_in _ _ (assigned_none here names v s sc line slot known r.shows h.0 h.1) (number_none here names v s sc line known r.shows value h.2)
@@ -292,38 +366,44 @@ mutual
   statement_none here names v s sc line known (Fail number) r h = when_not (nat_lt number 256) Kind line (is_below number 256 (omega (arith, h)))
   statement_none here names v s sc line known (If test a b) r h =
       none_in _ _ (truth_none here names v s sc line known r.shows test h.0) (none_in _ _
-      (block_none here names v s sc known a (record { shows = r.shows; room = omega (arith, r.room) }) h.1)
-      (block_none here names v (w.behind (declared_in a) s) sc known b (record { shows = r.shows; room = omega (arith, r.room) }) h.2))
+      (block_none here names v s sc known a (record { shows = r.shows; room = omega (arith, r.room); loop = r.loop }) h.1)
+      (block_none here names v (w.behind (declared_in a) s) sc known b (record { shows = r.shows; room = omega (arith, r.room); loop = r.loop }) h.2))
   statement_none here names v s sc line known (For slot low high body) r h =
       let x = name_at v.slots slot in
       let d = declares here names v s slot known (omega (arith, r.room)) h.2 in
       none_in _ _ (declared_none here names v s.visible s.fixed sc line slot x known r.shows d) (none_in _ _ (number_none here names v s sc line known r.shows low h.0) (none_in _ _ (number_none here names v s sc line known r.shows high h.1)
-      (block_none here names v (w.behind 1 (w.showing_fixed slot s)) (f.showing_fixed x sc) known body (record { shows = shows_fixed names.slots s.visible s.fixed sc x slot r.shows d.there d.new; room = omega (arith, r.room) }) h.3)))
-  statement_none here names v s sc line known (While test most body) r h = none_in _ _ (truth_none here names v s sc line known r.shows test h.0) (block_none here names v s sc known body r h.2)
+      (block_none (in_turn here) names v (w.in_turn (w.behind 1 (w.showing_fixed slot s))) (f.showing_fixed x sc) (known_in here names v true known) body (record { shows = shows_fixed names.slots s.visible s.fixed sc x slot r.shows d.there d.new; room = omega (arith, r.room); loop = refl }) h.3)))
+  statement_none here names v s sc line known (While test most body) r h = none_in _ _ (truth_none here names v s sc line known r.shows test h.0) (block_none (in_turn here) names v (w.in_turn s) sc (known_in here names v true known) body (record { shows = r.shows; room = r.room; loop = refl }) h.2)
   statement_none here names v s sc line known (Do k given) r h =
       none_in _ _ (called_none here names v sc line k (count_of (spelled_arguments v given)) (meaning.count_of given) known h.0 (count_is v given)) (numbers_none here names v s sc line known r.shows given h.1)
   statement_none here names v s sc line known (Fold head body) r h =
       let two = fold_names here names v s sc line head known r.shows (omega (arith, r.room)) h.3 h.4 in
-      let inside : Ready names (w.in_body s head.carried head.block) (f.in_body sc (name_at v.slots head.carried) (name_at v.slots head.block)) (declared_in body) = record { shows = two.inside; room = omega (arith, r.room) } in
-      none_in _ _ (none_in _ _ two.faultless (none_in _ _ (number_none here names v s sc line known r.shows head.start h.0) (none_in _ _ (number_none here names v s sc line known r.shows head.low h.1) (none_in _ _ (number_none here names v s sc line known r.shows head.high h.2)
-      (predictor_none here names v (w.in_predictor s head.block) (f.showing_fixed (name_at v.slots head.block) sc) line known two.guess head.predict h.5)))))
-      (none_in _ _ (block_none here names v (w.in_body s head.carried head.block) (f.in_body sc (name_at v.slots head.carried) (name_at v.slots head.block)) known body inside h.6)
-      (value_none here names v (w.in_body s head.carried head.block) (f.in_body sc (name_at v.slots head.carried) (name_at v.slots head.block)) head.next_line known body head.next inside h.6 h.7))
+      let bn = name_at v.slots head.block in
+      let sp = w.in_body s head.carried head.block in
+      let scp = f.in_body sc (spelled_names v head.carried) bn in
+      let inside : Ready (in_part here) names sp scp (declared_in body) = record { shows = two.inside; room = omega (arith, r.room); loop = refl } in
+      none_in _ _ (none_in _ _ two.faultless (none_in _ _ (fold_widths_none v line head h.8) (none_in _ _ (numbers_none here names v s sc line known r.shows head.start h.0) (none_in _ _ (number_none here names v s sc line known r.shows head.low h.1) (none_in _ _ (number_none here names v s sc line known r.shows head.high h.2)
+      (predictors_none here names v (w.in_predictor s head.block) (f.showing_fixed bn sc) line known two.guess head.predict h.5))))))
+      (none_in _ _ (block_none (in_part here) names v sp scp (known_in here names v false known) body inside h.6) (row_none here names v sp scp head.next_line known body head.next inside h.6 h.7))
   statement_none here names v s sc line known (Pair head a b) r h =
-      let x = name_at v.slots head.carried in
-      let d = declares here names v s head.carried known (omega (arith, r.room)) h.0 in
-      none_in _ _ (declared_none here names v s.visible s.fixed sc line head.carried x known r.shows d) (none_in _ _
-      (none_in _ _ (block_none here names v (w.behind 1 s) sc known a (record { shows = r.shows; room = omega (arith, r.room) }) h.1)
-      (value_none here names v (w.behind 1 s) sc head.give_line known a head.give (record { shows = r.shows; room = omega (arith, r.room) }) h.1 h.2)) (none_in _ _
-      (predictor_none here names v s sc line known r.shows head.predict h.3)
-      (block_none here names v (w.behind (1 + declared_in a) (w.showing_fixed head.carried s)) (f.showing_fixed x sc) known b (record { shows = shows_fixed names.slots s.visible s.fixed sc x head.carried r.shows d.there d.new; room = omega (arith, r.room) }) h.4)))
+      let n = length head.carried in
+      let few : s.next + n ≤ length names.slots = omega (arith, r.room) in
+      let cs = spelled_names v head.carried in
+      let sp = w.in_producer s head.carried in
+      let made : Ready (in_part here) names sp sc (declared_in a) = record { shows = r.shows; room = omega (arith, r.room); loop = refl } in
+      let all = shows_each_fixed here names v s s.fixed sc known head.carried r.shows few h.0 in
+      none_in _ _ (each_none here names v s sc line known head.carried r.shows few h.0) (none_in _ _ (pair_widths_none v line head h.5) (none_in _ _
+      (none_in _ _ (block_none (in_part here) names v sp sc (known_in here names v false known) a made h.1) (row_none here names v sp sc head.give_line known a head.give made h.1 h.2)) (none_in _ _
+      (predictors_none here names v s sc line known r.shows head.predict h.3)
+      (block_none (in_part here) names v (w.in_consumer s head.carried a) (f.showing_each true sc cs) (known_in here names v false known) b (record { shows = all; room = omega (arith, r.room); loop = refl }) h.4))))
+  statement_none here names v s sc line known Break r h = when_not here.in_loop MisplacedBreak line (sym r.loop ∙ h.1)
 
-  pub block_none : (here : Setting) (names : Names) (v : Vocabulary) (s : w.Scope) (sc : Scope) → Known here names v → (b : Block) → Ready names s sc (declared_in b) → IsLawfulBlock names here.in_main s b → block_faults here sc (spelled_block v b) ≡ []
+  pub block_none : (here : Setting) (names : Names) (v : Vocabulary) (s : w.Scope) (sc : Scope) → Known here names v → (b : Block) → Ready here names s sc (declared_in b) → IsLawfulBlock names here.in_main s b → block_faults here sc (spelled_block v b) ≡ []
   block_none here names v s sc known end r h = refl
   block_none here names v s sc known (on_line line st rest) r h =
-      none_in _ _ (statement_none here names v s sc line known st (record { shows = r.shows; room = omega (arith, r.room) }) h.0)
+      none_in _ _ (statement_none here names v s sc line known st (record { shows = r.shows; room = omega (arith, r.room); loop = r.loop }) h.0)
       (block_none here names v (w.scope_after s st) (f.scope_after sc (spelled_statement v st)) known rest (ready_after here names v here.in_main s sc (declared_in rest) known st r h.0) h.1)
 
 -- a block, and then a number
-pub valued_none : (here : Setting) (names : Names) (v : Vocabulary) (s : w.Scope) (sc : Scope) (line : ℕ) → Known here names v → (b : Block) (e : Expression) → Ready names s sc (declared_in b) → IsLawfulBlock names here.in_main s b → IsLawfulExpression names (w.scope_at_end s b) e → f.valued_faults here sc (spelled_block v b) line (spelled_expression v e) ≡ []
+pub valued_none : (here : Setting) (names : Names) (v : Vocabulary) (s : w.Scope) (sc : Scope) (line : ℕ) → Known here names v → (b : Block) (e : Expression) → Ready here names s sc (declared_in b) → IsLawfulBlock names here.in_main s b → IsLawfulExpression names (w.scope_at_end s b) e → f.valued_faults here sc (spelled_block v b) line (spelled_expression v e) ≡ []
 valued_none here names v s sc line known b e r h k = none_in _ _ (block_none here names v s sc known b r h) (value_none here names v s sc line known b e r h k)

@@ -1,5 +1,5 @@
 -- What the code's statements with blocks stand for.
-use Rattle.std.proofs.Common.{◌≡◌, ℕ, ◌+◌, List, [], ◌∷◌, ◌++◌, length, Result, sym, ap, ◌∙◌, subst, length-append}
+use Rattle.std.proofs.Common.{◌≡◌, ℕ, ◌+◌, true, List, [], ◌∷◌, ◌++◌, length, map, Result, sym, ap, ◌∙◌, subst, arith, length-append}
 use Rattle.std.specs.Prelude.{IfOk}
 use Rattle.std.specs.declared.vec.Vec.{Vec}
 use Rattle.std.specs.declared.boxed.Box.{Box}
@@ -24,9 +24,9 @@ use Rattle.spf_ast.specs.declared.raw.RawFold as code_fold
 use Rattle.spf_ast.specs.declared.raw.RawPair.{out-RawPair}
 use Rattle.spf_ast.specs.declared.raw.RawPair as code_pair
 use Rattle.spf_ast.specs.Syntax as x
-use Rattle.spf_ast.specs.Syntax.{Expression, Condition, Block}
+use Rattle.spf_ast.specs.Syntax.{Expression, Arguments, Condition, Block}
 use Rattle.spf_ast.specs.RawSyntax as r
-use Rattle.spf_ast.specs.View.{name, expression, condition, predictor, fold_head, pair_head, statement, block}
+use Rattle.spf_ast.specs.View.{name, expression, arguments, condition, predictor, fold_head, pair_head, statement, block}
 use Rattle.spf_ast.specs.RawView.{raw_expression, raw_statement, raw_block, raw_fold_head, raw_pair_head}
 use Rattle.spf_ast.proofs.Views.{statement-if, statement-for, statement-while, statement-fold, statement-pair}
 use Rattle.spf_ast.proofs.RawViews.{raw_statement-if, raw_statement-for, raw_statement-while, raw_statement-fold, raw_statement-pair}
@@ -34,7 +34,7 @@ use Rattle.spf_scopes.specs.declared.fault.TypeError.{TypeError}
 use Rattle.spf_scopes.specs.Globals.{Globals}
 use Rattle.spf_scopes.specs.Locals.{Local, Seen}
 use Rattle.spf_scopes.specs.Faults.{Setting, statement_faults}
-use Rattle.spf_scopes.specs.Resolved.{scope, fixed, resolved_expression, resolved_condition, resolved_statement, resolved_block, resolved_predictor, locals_at_end, names_in, slots_in, after_statement}
+use Rattle.spf_scopes.specs.Resolved.{scope, fixed, with_each, row_slots, block_slot, body_slot, resolved_arguments, resolved_expression, resolved_condition, resolved_statement, resolved_block, resolved_predictors, locals_at_end, names_in, slots_in, after_statement}
 use Rattle.spf_scopes.specs.Answers.{Answers}
 
 -- the answer for a statement of this form
@@ -88,31 +88,31 @@ pub while_form : (g : Globals) (old : Seen) (c : Cond) (most : ℕ) (body : Vec 
     condition c ≡ resolved_condition g old.locals rc → block body.items ≡ resolved_block g old.locals (length old.slots) rb → statement (s.While c most body) ≡ resolved_statement g old.locals (length old.slots) (r.While rc most rb)
 while_form g old c most body rc rb h p = statement-while c most body ∙ (λ i. x.While (h i) most (p i))
 
-pub fold_form : (g : Globals) (old inside : Seen) (head : r.RawFoldHead) (rb : r.RawBlock) (f : Box built_fold.Fold Global) (built : built_fold.Fold) (carried blocks line : ℕ) (start low high next : Expr) (predict : Predict) (body : Vec Stmt Global) → f.value ≡ built →
-    fold_head built ≡ record { carried = carried; start = expression start; block = blocks; low = expression low; high = expression high; predict = predictor predict; next = expression next; next_line = head.next_line } → (out-Fold built).body ≡ body →
-    carried ≡ length old.slots → blocks ≡ length old.slots + 1 → inside ≡ record { locals = old.locals; slots = old.slots ++ head.carried ∷ head.block ∷ [] } →
-    expression start ≡ resolved_expression g old.locals head.start → expression low ≡ resolved_expression g old.locals head.low → expression high ≡ resolved_expression g old.locals head.high → predictor predict ≡ resolved_predictor g (fixed head.block (length old.slots + 1) ∷ old.locals) head.predict →
-    block body.items ≡ resolved_block g (fixed head.block blocks ∷ fixed head.carried carried ∷ inside.locals) (length inside.slots) rb → expression next ≡ resolved_expression g (locals_at_end (fixed head.block blocks ∷ fixed head.carried carried ∷ inside.locals) (length inside.slots) rb) head.next →
+pub fold_form : (g : Globals) (old inside : Seen) (head : r.RawFoldHead) (rb : r.RawBlock) (f : Box built_fold.Fold Global) (built : built_fold.Fold) (carried : List ℕ) (first blocks : ℕ) (start next : List Expr) (low high : Expr) (predict : List Predict) (body : Vec Stmt Global) → f.value ≡ built →
+    fold_head built ≡ record { carried = carried; start = arguments start; block = blocks; low = expression low; high = expression high; predict = map predictor predict; next = arguments next; next_line = head.next_line } → (out-Fold built).body ≡ body →
+    first ≡ length old.slots → carried ≡ row_slots (length old.slots) head.carried → blocks ≡ block_slot (length old.slots) head → inside ≡ record { locals = old.locals; slots = old.slots ++ (head.carried ++ head.block ∷ []) } →
+    arguments start ≡ resolved_arguments g old.locals head.start → expression low ≡ resolved_expression g old.locals head.low → expression high ≡ resolved_expression g old.locals head.high → map predictor predict ≡ resolved_predictors g (fixed head.block (block_slot (length old.slots) head) ∷ old.locals) head.predict →
+    block body.items ≡ resolved_block g (fixed head.block blocks ∷ with_each true inside.locals first head.carried) (length inside.slots) rb → arguments next ≡ resolved_arguments g (locals_at_end (fixed head.block blocks ∷ with_each true inside.locals first head.carried) (length inside.slots) rb) head.next →
     statement (s.Fold f) ≡ resolved_statement g old.locals (length old.slots) (r.Fold head rb)
-fold_form g old inside head rb f built carried blocks line start low high next predict body is hd bd c b i p q h k m n =
-    let two : length (old.slots ++ head.carried ∷ head.block ∷ []) ≡ length old.slots + 2 = length-append old.slots (head.carried ∷ head.block ∷ []) in
-    let final : (c0 b0 : ℕ) (e0 : Expression) (ls : List Local) (k0 : ℕ) → x.Statement = λ c0 b0 e0 ls k0. x.Fold (record { carried = c0; start = resolved_expression g old.locals head.start; block = b0; low = resolved_expression g old.locals head.low; high = resolved_expression g old.locals head.high; predict = resolved_predictor g (fixed head.block (length old.slots + 1) ∷ old.locals) head.predict; next = resolved_expression g (locals_at_end (fixed head.block b0 ∷ fixed head.carried c0 ∷ ls) k0 rb) head.next; next_line = head.next_line }) (resolved_block g (fixed head.block b0 ∷ fixed head.carried c0 ∷ ls) k0 rb) in
+fold_form g old inside head rb f built carried first blocks start next low high predict body is hd bd u c b i p q h k m n =
+    let two : length (old.slots ++ (head.carried ++ head.block ∷ [])) ≡ body_slot (length old.slots) head = omega (arith, length-append old.slots (head.carried ++ head.block ∷ []), length-append head.carried (head.block ∷ [])) in
+    let final : (cs : List ℕ) (u0 b0 : ℕ) (ls : List Local) (k0 : ℕ) → x.Statement = λ cs u0 b0 ls k0. x.Fold (record { carried = cs; start = resolved_arguments g old.locals head.start; block = b0; low = resolved_expression g old.locals head.low; high = resolved_expression g old.locals head.high; predict = resolved_predictors g (fixed head.block (block_slot (length old.slots) head) ∷ old.locals) head.predict; next = resolved_arguments g (locals_at_end (fixed head.block b0 ∷ with_each true ls u0 head.carried) k0 rb) head.next; next_line = head.next_line }) (resolved_block g (fixed head.block b0 ∷ with_each true ls u0 head.carried) k0 rb) in
     statement-fold f
     ∙ ap (λ z. x.Fold (fold_head z) (block (out-Fold z).body.items)) is
     ∙ (λ j. x.Fold (hd j) (block (bd j).items))
     ∙ (λ j. x.Fold (record { carried = carried; start = p j; block = blocks; low = q j; high = h j; predict = k j; next = n j; next_line = head.next_line }) (m j))
-    ∙ (λ j. final (c j) (b j) (expression next) (ap (λ (z : Seen). z.locals) i j) (ap (λ (z : Seen). length z.slots) i j))
-    ∙ (λ j. final (length old.slots) (length old.slots + 1) (expression next) old.locals (two j))
+    ∙ (λ j. final (c j) (u j) (b j) (ap (λ (z : Seen). z.locals) i j) (ap (λ (z : Seen). length z.slots) i j))
+    ∙ (λ j. final (row_slots (length old.slots) head.carried) (length old.slots) (block_slot (length old.slots) head) old.locals (two j))
 
-pub pair_form : (g : Globals) (old declared produced : Seen) (head : r.RawPairHead) (rp rc : r.RawBlock) (f : Box built_pair.Pair Global) (built : built_pair.Pair) (carried : ℕ) (give : Expr) (predict : Predict) (producer consumer : Vec Stmt Global) → f.value ≡ built →
-    pair_head built ≡ record { carried = carried; give = expression give; give_line = head.give_line; predict = predictor predict } → (out-Pair built).producer ≡ producer → (out-Pair built).consumer ≡ consumer →
-    carried ≡ length old.slots → declared ≡ record { locals = old.locals; slots = old.slots ++ head.carried ∷ [] } → produced ≡ record { locals = declared.locals; slots = declared.slots ++ names_in rp } →
-    block producer.items ≡ resolved_block g declared.locals (length declared.slots) rp → expression give ≡ resolved_expression g (locals_at_end declared.locals (length declared.slots) rp) head.give → predictor predict ≡ resolved_predictor g produced.locals head.predict →
-    block consumer.items ≡ resolved_block g (fixed head.carried carried ∷ produced.locals) (length produced.slots) rc →
+pub pair_form : (g : Globals) (old declared produced : Seen) (head : r.RawPairHead) (rp rc : r.RawBlock) (f : Box built_pair.Pair Global) (built : built_pair.Pair) (carried : List ℕ) (first : ℕ) (give : List Expr) (predict : List Predict) (producer consumer : Vec Stmt Global) → f.value ≡ built →
+    pair_head built ≡ record { carried = carried; give = arguments give; give_line = head.give_line; predict = map predictor predict } → (out-Pair built).producer ≡ producer → (out-Pair built).consumer ≡ consumer →
+    first ≡ length old.slots → carried ≡ row_slots first head.carried → declared ≡ record { locals = old.locals; slots = old.slots ++ head.carried } → produced ≡ record { locals = declared.locals; slots = declared.slots ++ names_in rp } →
+    block producer.items ≡ resolved_block g declared.locals (length declared.slots) rp → arguments give ≡ resolved_arguments g (locals_at_end declared.locals (length declared.slots) rp) head.give → map predictor predict ≡ resolved_predictors g produced.locals head.predict →
+    block consumer.items ≡ resolved_block g (with_each true produced.locals first head.carried) (length produced.slots) rc →
     statement (s.Pair f) ≡ resolved_statement g old.locals (length old.slots) (r.Pair head rp rc)
-pair_form g old declared produced head rp rc f built carried give predict producer consumer is hd bp bc c d p q k m h =
-    let one : length (old.slots ++ head.carried ∷ []) ≡ length old.slots + 1 = length-append old.slots (head.carried ∷ []) in
-    let final : (c0 k0 k1 : ℕ) (ls ms : List Local) → x.Statement = λ c0 k0 k1 ls ms. x.Pair (record { carried = c0; give = resolved_expression g (locals_at_end ls k0 rp) head.give; give_line = head.give_line; predict = resolved_predictor g ms head.predict }) (resolved_block g ls k0 rp) (resolved_block g (fixed head.carried c0 ∷ ms) k1 rc) in
+pair_form g old declared produced head rp rc f built carried first give predict producer consumer is hd bp bc u c d p q k m h =
+    let one : length (old.slots ++ head.carried) ≡ length old.slots + length head.carried = length-append old.slots head.carried in
+    let final : (cs : List ℕ) (u0 k0 k1 : ℕ) (ls ms : List Local) → x.Statement = λ cs u0 k0 k1 ls ms. x.Pair (record { carried = cs; give = resolved_arguments g (locals_at_end ls k0 rp) head.give; give_line = head.give_line; predict = resolved_predictors g ms head.predict }) (resolved_block g ls k0 rp) (resolved_block g (with_each true ms u0 head.carried) k1 rc) in
     let dl = ap (λ (z : Seen). z.locals) d in
     let ds = ap (λ (z : Seen). length z.slots) d ∙ one in
     let pl = ap (λ (z : Seen). z.locals) p ∙ dl in
@@ -120,5 +120,5 @@ pair_form g old declared produced head rp rc f built carried give predict produc
     statement-pair f
     ∙ ap (λ z. x.Pair (pair_head z) (block (out-Pair z).producer.items) (block (out-Pair z).consumer.items)) is
     ∙ (λ j. x.Pair (hd j) (block (bp j).items) (block (bc j).items))
-    ∙ (λ j. x.Pair (record { carried = carried; give = k j; give_line = head.give_line; predict = m j }) (q j) (h j))
-    ∙ (λ j. final (c j) (ds j) (ps j) (dl j) (pl j))
+    ∙ (λ j. x.Pair (record { carried = c j; give = k j; give_line = head.give_line; predict = m j }) (q j) (h j))
+    ∙ (λ j. final (row_slots (u j) head.carried) (u j) (ds j) (ps j) (dl j) (pl j))

@@ -1,9 +1,9 @@
 -- Locals that are closed again at the end of a block.
-use Rattle.std.proofs.Common.{◌≡◌, ℕ, ◌+◌, ◌-◌, List, [], ◌∷◌, ◌++◌, length, drop, refl, sym, ap, ◌∙◌, arith, append_assoc, length-append}
+use Rattle.std.proofs.Common.{◌≡◌, ℕ, Bool, false, ◌+◌, ◌-◌, List, [], ◌∷◌, ◌++◌, length, drop, refl, sym, ap, ◌∙◌, arith, append_assoc, length-append}
 use Rattle.std.proofs.Math.Seq.{drop-append_seam}
 use Rattle.spf_ast.specs.RawSyntax as r
 use Rattle.spf_scopes.specs.Locals.{Local, Seen}
-use Rattle.spf_scopes.specs.Resolved.{free, names_of, names_in, locals_after, locals_at_end, after_block}
+use Rattle.spf_scopes.specs.Resolved.{free, with_each, names_of, names_in, locals_after, locals_at_end, after_block}
 
 -- the one are the other with some before them
 abbrev pub IsGrown : List Local → List Local → Type 0
@@ -11,6 +11,13 @@ IsGrown ls now = (front : List Local) × (now ≡ front ++ ls)
 
 pub grown_through : (ls ms ks : List Local) → IsGrown ls ms → IsGrown ms ks → IsGrown ls ks
 grown_through ls ms ks p q = (q.0 ++ p.0, q.1 ∙ ap (λ (zs : List Local). q.0 ++ zs) p.1 ∙ sym (append_assoc q.0 p.0 ls))
+
+-- names that are made usable
+pub grown_each : (fixed : Bool) (ls : List Local) (n : ℕ) (xs : List (List ℕ)) → IsGrown ls (with_each fixed ls n xs)
+grown_each fixed ls n [] = ([], refl)
+grown_each fixed ls n (x ∷ xs) =
+    let one : Local = record { name = x; slot = n; fixed = fixed } in
+    grown_through ls (one ∷ ls) (with_each fixed (one ∷ ls) (n + 1) xs) (one ∷ [], refl) (grown_each fixed (one ∷ ls) (n + 1) xs)
 
 grown_after : (ls : List Local) (n : ℕ) (s : r.RawStatement) → IsGrown ls (locals_after ls n s)
 grown_after ls n (r.Let x value) = (free x n ∷ [], refl)
@@ -23,8 +30,9 @@ grown_after ls n (r.If test a b) = ([], refl)
 grown_after ls n (r.For x low high body) = ([], refl)
 grown_after ls n (r.While test most body) = ([], refl)
 grown_after ls n (r.Do f given) = ([], refl)
-grown_after ls n (r.Fold head body) = (free head.carried n ∷ [], refl)
-grown_after ls n (r.Pair head producer consumer) = (free head.carried n ∷ [], refl)
+grown_after ls n (r.Fold head body) = grown_each false ls n head.carried
+grown_after ls n (r.Pair head producer consumer) = grown_each false ls n head.carried
+grown_after ls n r.Break = ([], refl)
 
 pub grown : (ls : List Local) (n : ℕ) (b : r.RawBlock) → IsGrown ls (locals_at_end ls n b)
 grown ls n r.end = ([], refl)

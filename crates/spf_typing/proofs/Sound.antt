@@ -74,9 +74,9 @@ abbrev pub fixed_slots : List l.Local → List ℕ
 fixed_slots [] = []
 fixed_slots (v ∷ ls) = cond v.fixed (v.slot ∷ fixed_slots ls) (fixed_slots ls)
 
--- the scope of these locals before slot n
-abbrev pub lawful_scope : List l.Local → ℕ → w.Scope
-lawful_scope ls n = record { visible = slots_of ls; fixed = fixed_slots ls; next = n }
+-- the scope of these locals before slot n, in a loop or not
+abbrev pub lawful_scope : List l.Local → ℕ → Bool → w.Scope
+lawful_scope ls n in_loop = record { visible = slots_of ls; fixed = fixed_slots ls; next = n; in_loop = in_loop }
 
 found_step : (slots : List (List ℕ)) (v : l.Local) (ls : List l.Local) (x : List ℕ) (b : Binding) (t : Bool) → bytes_eq v.name x ≡ t → slice_get slots v.slot ≡ Some v.name → (binding_of ls x ≡ Some b → (slice_get slots b.slot ≡ Some x) × Contains (slots_of ls) b.slot) →
     cond t (Some (record { slot = v.slot; fixed = v.fixed })) (binding_of ls x) ≡ Some b → (slice_get slots b.slot ≡ Some x) × Contains (v.slot ∷ slots_of ls) b.slot
@@ -167,8 +167,8 @@ count_is g ls no_more = refl
 count_is g ls (argument first rest) = let r = count_is g ls rest in omega (arith, r)
 
 -- the local that a name stands for may be used, and is written so
-pub local_ok : (here : Setting) (names : Names) (v : Vocabulary) (ls : List l.Local) (n line : ℕ) (x : List ℕ) → Fits here names v → Holds names.slots ls → used_faults here (scope ls) line x ≡ [] → Contains (lawful_scope ls n).visible (slot_of ls x) × (name_at v.slots (slot_of ls x) ≡ x)
-local_ok here names v ls n line x fits holds h =
+pub local_ok : (here : Setting) (names : Names) (v : Vocabulary) (ls : List l.Local) (n : ℕ) (in_loop : Bool) (line : ℕ) (x : List ℕ) → Fits here names v → Holds names.slots ls → used_faults here (scope ls) line x ≡ [] → Contains (lawful_scope ls n in_loop).visible (slot_of ls x) × (name_at v.slots (slot_of ls x) ≡ x)
+local_ok here names v ls n in_loop line x fits holds h =
     let u = used_is here ls line x h in
     let f = found_there names.slots ls x u.0 holds.there u.1 in
     let e = slot_is ls x u.0 u.1 in
@@ -193,67 +193,67 @@ call_ok here names v sc line x count same fits h k =
     (subst Q (sym e) (omega (arith, p, t), subst P (sym (k ∙ c.2)) f.0), ap (λ q. name_at v.functions q) e ∙ f.1)
 
 mutual
-  pub number_ok : (here : Setting) (names : Names) (v : Vocabulary) (ls : List l.Local) (n line : ℕ) → Fits here names v → Holds names.slots ls → (e : RawExpression) → expression_faults here (scope ls) line a_number e ≡ [] → IsWritableExpression e →
-      IsLawfulExpression names (lawful_scope ls n) (resolved_expression here.globals ls e) × (spelled_expression v (resolved_expression here.globals ls e) ≡ e)
-  number_ok here names v ls n line fits holds (Number k) h w = (w, refl)
-  number_ok here names v ls n line fits holds (Local x) h w =
-      let r = local_ok here names v ls n line x fits holds (left_none _ _ h) in
+  pub number_ok : (here : Setting) (names : Names) (v : Vocabulary) (ls : List l.Local) (n : ℕ) (in_loop : Bool) (line : ℕ) → Fits here names v → Holds names.slots ls → (e : RawExpression) → expression_faults here (scope ls) line a_number e ≡ [] → IsWritableExpression e →
+      IsLawfulExpression names (lawful_scope ls n in_loop) (resolved_expression here.globals ls e) × (spelled_expression v (resolved_expression here.globals ls e) ≡ e)
+  number_ok here names v ls n in_loop line fits holds (Number k) h w = (w, refl)
+  number_ok here names v ls n in_loop line fits holds (Local x) h w =
+      let r = local_ok here names v ls n in_loop line x fits holds (left_none _ _ h) in
       (r.0, ap Local r.1)
-  number_ok here names v ls n line fits holds Len h w = (tt, refl)
-  number_ok here names v ls n line fits holds (Input i) h w =
-      let r = number_ok here names v ls n line fits holds i h w in
+  number_ok here names v ls n in_loop line fits holds Len h w = (tt, refl)
+  number_ok here names v ls n in_loop line fits holds (Input i) h w =
+      let r = number_ok here names v ls n in_loop line fits holds i h w in
       (r.0, ap Input r.1)
-  number_ok here names v ls n line fits holds (Load a i) h w =
+  number_ok here names v ls n in_loop line fits holds (Load a i) h w =
       let x = array_ok here names v (scope ls) line a fits (left_none _ _ h) in
-      let r = number_ok here names v ls n line fits holds i (right_none (indexed_faults here (scope ls) line a) _ h) w.1 in
+      let r = number_ok here names v ls n in_loop line fits holds i (right_none (indexed_faults here (scope ls) line a) _ h) w.1 in
       ((x.0, r.0), λ j. Load (x.1 j) (r.1 j))
-  number_ok here names v ls n line fits holds (Call f given) h w =
+  number_ok here names v ls n in_loop line fits holds (Call f given) h w =
       let x = call_ok here names v (scope ls) line f (count_of given) (m.count_of (resolved_arguments here.globals ls given)) fits (left_none _ _ h) (count_is here.globals ls given) in
-      let r = numbers_ok here names v ls n line fits holds given (right_none (called_faults here (scope ls) line f (count_of given) []) _ h) w.1 in
+      let r = numbers_ok here names v ls n in_loop line fits holds given (right_none (called_faults here (scope ls) line f (count_of given) []) _ h) w.1 in
       ((x.0, r.0), λ j. Call (x.1 j) (r.1 j))
-  number_ok here names v ls n line fits holds (Neg i) h w =
-      let r = number_ok here names v ls n line fits holds i h w in
+  number_ok here names v ls n in_loop line fits holds (Neg i) h w =
+      let r = number_ok here names v ls n in_loop line fits holds i h w in
       (r.0, ap Neg r.1)
-  number_ok here names v ls n line fits holds (Binary op a b) h w =
-      let r = number_ok here names v ls n line fits holds a (left_none _ _ h) w.0 in
-      let q = number_ok here names v ls n line fits holds b (right_none (expression_faults here (scope ls) line a_number a) _ h) w.1 in
+  number_ok here names v ls n in_loop line fits holds (Binary op a b) h w =
+      let r = number_ok here names v ls n in_loop line fits holds a (left_none _ _ h) w.0 in
+      let q = number_ok here names v ls n in_loop line fits holds b (right_none (expression_faults here (scope ls) line a_number a) _ h) w.1 in
       ((r.0, q.0), λ j. Binary op (r.1 j) (q.1 j))
-  number_ok here names v ls n line fits holds (Compare t a b) h w = cc
-  number_ok here names v ls n line fits holds (Both a b) h w = cc
-  number_ok here names v ls n line fits holds (Either a b) h w = cc
-  number_ok here names v ls n line fits holds (Not a) h w = cc
+  number_ok here names v ls n in_loop line fits holds (Compare t a b) h w = cc
+  number_ok here names v ls n in_loop line fits holds (Both a b) h w = cc
+  number_ok here names v ls n in_loop line fits holds (Either a b) h w = cc
+  number_ok here names v ls n in_loop line fits holds (Not a) h w = cc
 
-  pub numbers_ok : (here : Setting) (names : Names) (v : Vocabulary) (ls : List l.Local) (n line : ℕ) → Fits here names v → Holds names.slots ls → (es : RawArguments) → arguments_faults here (scope ls) line es ≡ [] → AreWritableArguments es →
-      AreLawfulArguments names (lawful_scope ls n) (resolved_arguments here.globals ls es) × (spelled_arguments v (resolved_arguments here.globals ls es) ≡ es)
-  numbers_ok here names v ls n line fits holds no_more h w = (tt, refl)
-  numbers_ok here names v ls n line fits holds (argument first rest) h w =
-      let r = number_ok here names v ls n line fits holds first (left_none _ _ h) w.0 in
-      let q = numbers_ok here names v ls n line fits holds rest (right_none (expression_faults here (scope ls) line a_number first) _ h) w.1 in
+  pub numbers_ok : (here : Setting) (names : Names) (v : Vocabulary) (ls : List l.Local) (n : ℕ) (in_loop : Bool) (line : ℕ) → Fits here names v → Holds names.slots ls → (es : RawArguments) → arguments_faults here (scope ls) line es ≡ [] → AreWritableArguments es →
+      AreLawfulArguments names (lawful_scope ls n in_loop) (resolved_arguments here.globals ls es) × (spelled_arguments v (resolved_arguments here.globals ls es) ≡ es)
+  numbers_ok here names v ls n in_loop line fits holds no_more h w = (tt, refl)
+  numbers_ok here names v ls n in_loop line fits holds (argument first rest) h w =
+      let r = number_ok here names v ls n in_loop line fits holds first (left_none _ _ h) w.0 in
+      let q = numbers_ok here names v ls n in_loop line fits holds rest (right_none (expression_faults here (scope ls) line a_number first) _ h) w.1 in
       ((r.0, q.0), λ j. argument (r.1 j) (q.1 j))
 
-pub truth_ok : (here : Setting) (names : Names) (v : Vocabulary) (ls : List l.Local) (n line : ℕ) → Fits here names v → Holds names.slots ls → (e : RawExpression) → expression_faults here (scope ls) line a_truth e ≡ [] → IsWritableExpression e →
-    IsLawfulCondition names (lawful_scope ls n) (resolved_condition here.globals ls e) × (spelled_condition v (resolved_condition here.globals ls e) ≡ e)
-truth_ok here names v ls n line fits holds (Compare t a b) h w =
-    let r = number_ok here names v ls n line fits holds a (left_none _ _ h) w.0 in
-    let q = number_ok here names v ls n line fits holds b (right_none (expression_faults here (scope ls) line a_number a) _ h) w.1 in
+pub truth_ok : (here : Setting) (names : Names) (v : Vocabulary) (ls : List l.Local) (n : ℕ) (in_loop : Bool) (line : ℕ) → Fits here names v → Holds names.slots ls → (e : RawExpression) → expression_faults here (scope ls) line a_truth e ≡ [] → IsWritableExpression e →
+    IsLawfulCondition names (lawful_scope ls n in_loop) (resolved_condition here.globals ls e) × (spelled_condition v (resolved_condition here.globals ls e) ≡ e)
+truth_ok here names v ls n in_loop line fits holds (Compare t a b) h w =
+    let r = number_ok here names v ls n in_loop line fits holds a (left_none _ _ h) w.0 in
+    let q = number_ok here names v ls n in_loop line fits holds b (right_none (expression_faults here (scope ls) line a_number a) _ h) w.1 in
     ((r.0, q.0), λ j. Compare t (r.1 j) (q.1 j))
-truth_ok here names v ls n line fits holds (Both a b) h w =
-    let r = truth_ok here names v ls n line fits holds a (left_none _ _ h) w.0 in
-    let q = truth_ok here names v ls n line fits holds b (right_none (expression_faults here (scope ls) line a_truth a) _ h) w.1 in
+truth_ok here names v ls n in_loop line fits holds (Both a b) h w =
+    let r = truth_ok here names v ls n in_loop line fits holds a (left_none _ _ h) w.0 in
+    let q = truth_ok here names v ls n in_loop line fits holds b (right_none (expression_faults here (scope ls) line a_truth a) _ h) w.1 in
     ((r.0, q.0), λ j. Both (r.1 j) (q.1 j))
-truth_ok here names v ls n line fits holds (Either a b) h w =
-    let r = truth_ok here names v ls n line fits holds a (left_none _ _ h) w.0 in
-    let q = truth_ok here names v ls n line fits holds b (right_none (expression_faults here (scope ls) line a_truth a) _ h) w.1 in
+truth_ok here names v ls n in_loop line fits holds (Either a b) h w =
+    let r = truth_ok here names v ls n in_loop line fits holds a (left_none _ _ h) w.0 in
+    let q = truth_ok here names v ls n in_loop line fits holds b (right_none (expression_faults here (scope ls) line a_truth a) _ h) w.1 in
     ((r.0, q.0), λ j. Either (r.1 j) (q.1 j))
-truth_ok here names v ls n line fits holds (Not a) h w =
-    let r = truth_ok here names v ls n line fits holds a h w in
+truth_ok here names v ls n in_loop line fits holds (Not a) h w =
+    let r = truth_ok here names v ls n in_loop line fits holds a h w in
     (r.0, ap Not r.1)
-truth_ok here names v ls n line fits holds (Number k) h w = cc
-truth_ok here names v ls n line fits holds (Local x) h w = let e = right_none (used_faults here (scope ls) line x) _ h in cc
-truth_ok here names v ls n line fits holds Len h w = cc
-truth_ok here names v ls n line fits holds (Input i) h w = cc
-truth_ok here names v ls n line fits holds (Load a i) h w = let e = right_none (indexed_faults here (scope ls) line a) _ h in cc
-truth_ok here names v ls n line fits holds (Call f given) h w =
+truth_ok here names v ls n in_loop line fits holds (Number k) h w = cc
+truth_ok here names v ls n in_loop line fits holds (Local x) h w = let e = right_none (used_faults here (scope ls) line x) _ h in cc
+truth_ok here names v ls n in_loop line fits holds Len h w = cc
+truth_ok here names v ls n in_loop line fits holds (Input i) h w = cc
+truth_ok here names v ls n in_loop line fits holds (Load a i) h w = let e = right_none (indexed_faults here (scope ls) line a) _ h in cc
+truth_ok here names v ls n in_loop line fits holds (Call f given) h w =
     let e = right_none (callee_faults here (scope ls) line f (count_of given)) _ (left_none _ (arguments_faults here (scope ls) line given) h) in cc
-truth_ok here names v ls n line fits holds (Neg i) h w = cc
-truth_ok here names v ls n line fits holds (Binary op a b) h w = cc
+truth_ok here names v ls n in_loop line fits holds (Neg i) h w = cc
+truth_ok here names v ls n in_loop line fits holds (Binary op a b) h w = cc

@@ -1,22 +1,23 @@
 -- A lawful form is what its spelling stands for.
-use Rattle.std.proofs.Common.{◌≡◌, ℕ, ◌+◌, ◌<◌, ◌≤◌, zero, suc, Bool, true, false, inl, inr, cond, Option, Some, List, [], ◌∷◌, length, refl, sym, ap, ◌∙◌, subst, arith, length-append}
+use Rattle.std.proofs.Common.{◌≡◌, ℕ, ◌+◌, ◌<◌, ◌≤◌, zero, suc, Bool, true, false, inl, inr, cond, Option, Some, List, [], ◌∷◌, ◌++◌, length, map, refl, sym, ap, ◌∙◌, subst, arith, length-append}
 use Rattle.std.specs.Prelude.{IfSome, slice_get, slice_index_or}
 use Rattle.std.specs.List.{All, Contains}
 use Rattle.std.specs.Str.{bytes_eq}
 use Rattle.std.proofs.lemmas.List.Elements.{All-contains}
 use Rattle.spf_ast.specs.Syntax.{Expression, Number, Local, Len, Input, Load, Call, Neg, Binary, Arguments, no_more, argument, Condition, Compare, Both, Either, Not, Predictor, By, Host}
-use Rattle.spf_ast.specs.Syntax.{Statement, Let, Assign, Store, Fill, Emit, Fail, If, For, While, Do, Fold, Pair, Block, end, on_line}
+use Rattle.spf_ast.specs.Syntax.{Statement, Let, Assign, Store, Fill, Emit, Fail, If, For, While, Do, Fold, Pair, Break, Block, end, on_line}
 use Rattle.spf_ast.specs.Meaning as meaning
-use Rattle.spf_ast.specs.Lawful.{Names, Scope, behind, showing, showing_fixed, scope_after, scope_at_end, declared, declared_in, in_predictor, in_body, IsNew, IsCallable, IsLawfulExpression, AreLawfulArguments, IsLawfulCondition, IsLawfulPredictor, IsLawfulStatement, IsLawfulBlock}
-use Rattle.spf_ast.specs.Spelling.{Vocabulary, name_at, spelled_expression, spelled_arguments, spelled_condition, spelled_predictor, spelled_statement, spelled_block}
+use Rattle.spf_ast.specs.Lawful.{Names, Scope, behind, showing, showing_fixed, showing_each, in_turn, in_part, in_producer, in_consumer, scope_after, scope_at_end, declared, declared_in, in_predictor, in_body, IsNew, DeclaresEach, IsCallable, IsLawfulExpression, AreLawfulArguments, IsLawfulCondition, IsLawfulPredictor, AreLawfulPredictors, IsLawfulStatement, IsLawfulBlock}
+use Rattle.spf_ast.specs.Spelling.{Vocabulary, name_at, spelled_names, spelled_fold, spelled_expression, spelled_arguments, spelled_condition, spelled_predictor, spelled_statement, spelled_block}
 use Rattle.spf_scopes.specs.declared.locals.Binding.{Binding}
 use Rattle.spf_scopes.specs.Globals.{Globals}
 use Rattle.spf_scopes.specs.Locals as l
 use Rattle.spf_scopes.specs.Locals.{binding_of}
-use Rattle.spf_scopes.specs.Resolved.{fixed, slot_of, place_of, names_of, names_in, locals_after, locals_at_end, resolved_expression, resolved_arguments, resolved_condition, resolved_predictor, resolved_statement, resolved_block}
+use Rattle.spf_scopes.specs.Resolved.{fixed, with_each, row_slots, block_slot, body_slot, body_locals, slot_of, place_of, names_of, names_in, locals_after, locals_at_end, resolved_expression, resolved_arguments, resolved_condition, resolved_predictor, resolved_predictors, resolved_statement, resolved_block}
 use Rattle.spf_scopes.proofs.Tables.{same_bytes, bytes_are}
-use Rattle.spf_typing.proofs.Alike.{new_along}
-use Rattle.spf_typing.proofs.Sound.{contains_cases, contains_there, at_place}
+use Rattle.std.proofs.lemmas.List.{length-map}
+use Rattle.spf_typing.proofs.Alike.{new_along, to_front, from_front, each_is_there, there_is_each}
+use Rattle.spf_typing.proofs.Sound.{contains_cases, contains_here, contains_there, at_place}
 
 -- the numbers of arrays and functions come back from their names
 pub record Back (g : Globals) (names : Names) (v : Vocabulary) : Type 0 where
@@ -69,6 +70,10 @@ predictor_back : (g : Globals) (names : Names) (v : Vocabulary) (ls : List l.Loc
 predictor_back g names v ls s back finds (By e) h = ap By (expression_back g names v ls s back finds e h)
 predictor_back g names v ls s back finds (Host n) h = refl
 
+predictors_back : (g : Globals) (names : Names) (v : Vocabulary) (ls : List l.Local) (s : Scope) → Back g names v → Finds names.slots ls s.visible → (ps : List Predictor) → AreLawfulPredictors names s ps → resolved_predictors g ls (map (spelled_predictor v) ps) ≡ ps
+predictors_back g names v ls s back finds [] h = refl
+predictors_back g names v ls s back finds (p ∷ ps) h = λ j. predictor_back g names v ls s back finds p h.0 j ∷ predictors_back g names v ls s back finds ps h.1 j
+
 -- ---- one slot more
 
 slot_there : (slots : List (List ℕ)) (n : ℕ) → n < length slots → slice_get slots n ≡ Some (slice_index_or slots n [])
@@ -115,6 +120,34 @@ finds_more names ls s slot n b x finds new at e k c =
 named : (g : Globals) (names : Names) (v : Vocabulary) (slot : ℕ) → Back g names v → slot < length names.slots → slice_get names.slots slot ≡ Some (name_at v.slots slot)
 named g names v slot back h = slot_there names.slots slot h ∙ ap (λ sl. Some (name_at sl slot)) (sym back.slots)
 
+-- the slots of a row come back from its names
+row_back : (names : Names) (v : Vocabulary) (s : Scope) (n : ℕ) (slots : List ℕ) → s.next ≡ n → DeclaresEach names s slots → row_slots n (spelled_names v slots) ≡ slots
+row_back names v s n [] at h = refl
+row_back names v s n (slot ∷ slots) at h = λ j. sym (h.0.0 ∙ at) j ∷ row_back names v (behind 1 (showing slot s)) (n + 1) slots (ap (λ k. k + 1) at) h.1 j
+
+-- slots that are declared from left to right may be used besides
+finds_each : (g : Globals) (names : Names) (v : Vocabulary) (b : Bool) (ls : List l.Local) (s : Scope) (n : ℕ) → Back g names v → (slots : List ℕ) → Finds names.slots ls s.visible → s.next ≡ n → n + length slots ≤ length names.slots → DeclaresEach names s slots → Finds names.slots (with_each b ls n (spelled_names v slots)) (showing_each slots s).visible
+finds_each g names v b ls s n back [] finds at room h = finds
+finds_each g names v b ls s n back (slot ∷ slots) finds at room h =
+    let x = name_at v.slots slot in
+    let e = h.0.0 ∙ at in
+    finds_each g names v b (record { name = x; slot = n; fixed = b } ∷ ls) (behind 1 (showing slot s)) (n + 1) back slots (finds_more names ls s slot n b x finds h.0.1 e (named g names v slot back (omega (arith, e, room)))) (ap (λ k. k + 1) at) (omega (arith, room)) h.1
+
+right_there : (front slots : List ℕ) (k : ℕ) → Contains slots k → Contains (front ++ slots) k
+right_there [] slots k h = h
+right_there (x ∷ front) slots k h = contains_there x k (front ++ slots) (right_there front slots k h)
+
+-- and so they are in another order
+finds_row : (g : Globals) (names : Names) (v : Vocabulary) (b : Bool) (ls : List l.Local) (s : Scope) (n : ℕ) → Back g names v → (slots : List ℕ) → Finds names.slots ls s.visible → s.next ≡ n → n + length slots ≤ length names.slots → DeclaresEach names s slots → Finds names.slots (with_each b ls n (spelled_names v slots)) (slots ++ s.visible)
+finds_row g names v b ls s n back slots finds at room h slot c = finds_each g names v b ls s n back slots finds at room h slot (there_is_each slots s slot c)
+
+pub next_each : (slots : List ℕ) (s : Scope) → (showing_each slots s).next ≡ s.next + length slots
+next_each [] s = omega arith
+next_each (slot ∷ slots) s = let r = next_each slots (behind 1 (showing slot s)) in omega (arith, r)
+
+pub count_names : (v : Vocabulary) (slots : List ℕ) → length (spelled_names v slots) ≡ length slots
+count_names v slots = length-map slots (name_at v.slots)
+
 -- ---- how many names a spelling declares
 
 mutual
@@ -129,8 +162,14 @@ mutual
   count_back v (For slot low high body) = let p = count_in_back v body in omega (arith, p)
   count_back v (While test most body) = count_in_back v body
   count_back v (Do f given) = refl
-  count_back v (Fold head body) = let p = count_in_back v body in omega (arith, p)
-  count_back v (Pair head a b) = let p = count_in_back v a in let q = count_in_back v b in omega (arith, p, q, length-append (names_in (spelled_block v a)) (names_in (spelled_block v b)))
+  count_back v (Fold head body) =
+      let p = count_in_back v body in
+      omega (arith, p, count_names v head.carried, length-append (spelled_names v head.carried) (name_at v.slots head.block ∷ names_in (spelled_block v body)))
+  count_back v (Pair head a b) =
+      let p = count_in_back v a in
+      let q = count_in_back v b in
+      omega (arith, p, q, count_names v head.carried, length-append (spelled_names v head.carried) (names_in (spelled_block v a) ++ names_in (spelled_block v b)), length-append (names_in (spelled_block v a)) (names_in (spelled_block v b)))
+  count_back v Break = refl
 
   pub count_in_back : (v : Vocabulary) (b : Block) → length (names_in (spelled_block v b)) ≡ declared_in b
   count_in_back v end = refl
@@ -149,8 +188,9 @@ finds_after g names v m ls s n back finds at (If test a b) room h = finds
 finds_after g names v m ls s n back finds at (For slot low high body) room h = finds
 finds_after g names v m ls s n back finds at (While test most body) room h = finds
 finds_after g names v m ls s n back finds at (Do f given) room h = finds
-finds_after g names v m ls s n back finds at (Fold head body) room h = finds_more names ls s head.carried n false (name_at v.slots head.carried) finds h.3.1 (h.3.0 ∙ at) (named g names v head.carried back (omega (arith, h.3.0, at, room)))
-finds_after g names v m ls s n back finds at (Pair head a b) room h = finds_more names ls s head.carried n false (name_at v.slots head.carried) finds h.0.1 (h.0.0 ∙ at) (named g names v head.carried back (omega (arith, h.0.0, at, room)))
+finds_after g names v m ls s n back finds at (Fold head body) room h = finds_row g names v false ls s n back head.carried finds at (omega (arith, room)) h.3
+finds_after g names v m ls s n back finds at (Pair head a b) room h = finds_row g names v false ls s n back head.carried finds at (omega (arith, room)) h.0
+finds_after g names v m ls s n back finds at Break room h = finds
 
 pub finds_end : (g : Globals) (names : Names) (v : Vocabulary) (m : Bool) (ls : List l.Local) (s : Scope) (n : ℕ) → Back g names v → Finds names.slots ls s.visible → s.next ≡ n → (b : Block) → n + declared_in b ≤ length names.slots → IsLawfulBlock names m s b → Finds names.slots (locals_at_end ls n (spelled_block v b)) (scope_at_end s b).visible
 finds_end g names v m ls s n back finds at end room h = finds
@@ -160,6 +200,10 @@ finds_end g names v m ls s n back finds at (on_line line st rest) room h =
 
 pub value_back : (g : Globals) (names : Names) (v : Vocabulary) (m : Bool) (ls : List l.Local) (s : Scope) (n : ℕ) → Back g names v → Finds names.slots ls s.visible → s.next ≡ n → (b : Block) (e : Expression) → n + declared_in b ≤ length names.slots → IsLawfulBlock names m s b → IsLawfulExpression names (scope_at_end s b) e → resolved_expression g (locals_at_end ls n (spelled_block v b)) (spelled_expression v e) ≡ e
 value_back g names v m ls s n back finds at b e room h k = expression_back g names v (locals_at_end ls n (spelled_block v b)) (scope_at_end s b) back (finds_end g names v m ls s n back finds at b room h) e k
+
+-- and a row after a block
+row_value_back : (g : Globals) (names : Names) (v : Vocabulary) (m : Bool) (ls : List l.Local) (s : Scope) (n : ℕ) → Back g names v → Finds names.slots ls s.visible → s.next ≡ n → (b : Block) (es : Arguments) → n + declared_in b ≤ length names.slots → IsLawfulBlock names m s b → AreLawfulArguments names (scope_at_end s b) es → resolved_arguments g (locals_at_end ls n (spelled_block v b)) (spelled_arguments v es) ≡ es
+row_value_back g names v m ls s n back finds at b es room h k = arguments_back g names v (locals_at_end ls n (spelled_block v b)) (scope_at_end s b) back (finds_end g names v m ls s n back finds at b room h) es k
 
 mutual
   pub statement_back : (g : Globals) (names : Names) (v : Vocabulary) (m : Bool) (ls : List l.Local) (s : Scope) (n : ℕ) → Back g names v → Finds names.slots ls s.visible → s.next ≡ n → (st : Statement) → n + declared st ≤ length names.slots → IsLawfulStatement names m s st → resolved_statement g ls n (spelled_statement v st) ≡ st
@@ -175,48 +219,57 @@ mutual
   statement_back g names v m ls s n back finds at (For slot low high body) room h =
       let e = h.2.0 ∙ at in
       let inside = finds_more names ls s slot n true (name_at v.slots slot) finds h.2.1 e (named g names v slot back (omega (arith, e, room))) in
-      λ j. For (sym e j) (expression_back g names v ls s back finds low h.0 j) (expression_back g names v ls s back finds high h.1 j) (block_back g names v m (fixed (name_at v.slots slot) n ∷ ls) (behind 1 (showing_fixed slot s)) (n + 1) back inside (ap (λ k. k + 1) at) body (omega (arith, room)) h.3 j)
-  statement_back g names v m ls s n back finds at (While test most body) room h = λ j. While (condition_back g names v ls s back finds test h.0 j) most (block_back g names v m ls s n back finds at body room h.2 j)
+      λ j. For (sym e j) (expression_back g names v ls s back finds low h.0 j) (expression_back g names v ls s back finds high h.1 j) (block_back g names v m (fixed (name_at v.slots slot) n ∷ ls) (in_turn (behind 1 (showing_fixed slot s))) (n + 1) back inside (ap (λ k. k + 1) at) body (omega (arith, room)) h.3 j)
+  statement_back g names v m ls s n back finds at (While test most body) room h = λ j. While (condition_back g names v ls s back finds test h.0 j) most (block_back g names v m ls (in_turn s) n back finds at body room h.2 j)
   statement_back g names v m ls s n back finds at (Do f given) room h = λ j. Do (back.functions f (meaning.count_of given) h.0 j) (arguments_back g names v ls s back finds given h.1 j)
   statement_back g names v m ls s n back finds at (Fold head body) room h =
-      let e = h.3.0 ∙ at in
-      let d = h.4.0 ∙ ap (λ k. k + 1) at in
-      let cn = name_at v.slots head.carried in
+      let xs = spelled_names v head.carried in
       let bn = name_at v.slots head.block in
-      let ct = named g names v head.carried back (omega (arith, e, room)) in
-      let bt = named g names v head.block back (omega (arith, d, room)) in
-      let alone = new_along (slice_get names.slots head.block) (λ y. Contains names.taken y → ⊥) names.slots (head.carried ∷ s.visible) s.visible (λ k c. contains_there head.carried k s.visible c) h.4.1 in
-      let guess = finds_more names ls s head.block (n + 1) true bn finds alone d bt in
-      let one = finds_more names ls s head.carried n true cn finds h.3.1 e ct in
-      let two = finds_more names (fixed cn n ∷ ls) (behind 1 (showing head.carried s)) head.block (n + 1) true bn one h.4.1 d bt in
-      let inside : List l.Local = fixed bn (n + 1) ∷ fixed cn n ∷ ls in
-      let next : s.next + 2 ≡ n + 2 = ap (λ k. k + 2) at in
-      let r : n + 2 + declared_in body ≤ length names.slots = omega (arith, room) in
+      let c = count_names v head.carried in
+      let k = n + length xs in
+      let few : n + length head.carried ≤ length names.slots = omega (arith, room) in
+      let after = showing_each head.carried s in
+      let d : head.block ≡ k = omega (arith, h.4.0, next_each head.carried s, at, c) in
+      let bt = named g names v head.block back (omega (arith, d, c, room)) in
+      let alone = new_along (slice_get names.slots head.block) (λ y. Contains names.taken y → ⊥) names.slots after.visible s.visible (λ q e. there_is_each head.carried s q (right_there head.carried s.visible q e)) h.4.1 in
+      let guess = finds_more names ls s head.block k true bn finds alone d bt in
+      let one = finds_each g names v true ls s n back head.carried finds at few h.3 in
+      let two = finds_more names (with_each true ls n xs) after head.block k true bn one h.4.1 d bt in
+      let sp = in_body s head.carried head.block in
+      let both : Finds names.slots (fixed bn k ∷ with_each true ls n xs) sp.visible = λ slot e. two slot (elim (contains_cases head.block slot (head.carried ++ s.visible) e) [ inl same ↦ contains_here head.block slot after.visible same | inr later ↦ contains_there head.block slot after.visible (there_is_each head.carried s slot later) ]) in
+      let inside : List l.Local = fixed bn k ∷ with_each true ls n xs in
+      let next : sp.next ≡ k + 1 = omega (arith, at, c) in
+      let r : k + 1 + declared_in body ≤ length names.slots = omega (arith, c, room) in
       λ j. Fold (record {
-        carried = sym e j;
-        start = expression_back g names v ls s back finds head.start h.0 j;
+        carried = row_back names v s n head.carried at h.3 j;
+        start = arguments_back g names v ls s back finds head.start h.0 j;
         block = sym d j;
         low = expression_back g names v ls s back finds head.low h.1 j;
         high = expression_back g names v ls s back finds head.high h.2 j;
-        predict = predictor_back g names v (fixed bn (n + 1) ∷ ls) (in_predictor s head.block) back guess head.predict h.5 j;
-        next = value_back g names v m inside (in_body s head.carried head.block) (n + 2) back two next body head.next r h.6 h.7 j;
+        predict = predictors_back g names v (fixed bn k ∷ ls) (in_predictor s head.block) back guess head.predict h.5 j;
+        next = row_value_back g names v m inside sp (k + 1) back both next body head.next r h.6 h.7 j;
         next_line = head.next_line;
-      }) (block_back g names v m inside (in_body s head.carried head.block) (n + 2) back two next body r h.6 j)
+      }) (block_back g names v m inside sp (k + 1) back both next body r h.6 j)
   statement_back g names v m ls s n back finds at (Pair head a b) room h =
-      let e = h.0.0 ∙ at in
-      let cn = name_at v.slots head.carried in
-      let ct = named g names v head.carried back (omega (arith, e, room)) in
-      let one = finds_more names ls s head.carried n true cn finds h.0.1 e ct in
-      let c = count_in_back v a in
-      let next : s.next + 1 ≡ n + 1 = ap (λ k. k + 1) at in
-      let r : n + 1 + declared_in a ≤ length names.slots = omega (arith, room) in
+      let xs = spelled_names v head.carried in
+      let c = count_names v head.carried in
+      let k = n + length xs in
+      let few : n + length head.carried ≤ length names.slots = omega (arith, room) in
+      let one = finds_row g names v true ls s n back head.carried finds at few h.0 in
+      let q = count_in_back v a in
+      let sp = in_producer s head.carried in
+      let next : sp.next ≡ k = omega (arith, at, c) in
+      let r : k + declared_in a ≤ length names.slots = omega (arith, c, room) in
+      let sq = in_consumer s head.carried a in
+      let last : sq.next ≡ k + length (names_in (spelled_block v a)) = omega (arith, at, c, q) in
       λ j. Pair (record {
-        carried = sym e j;
-        give = value_back g names v m ls (behind 1 s) (n + 1) back finds next a head.give r h.1 h.2 j;
+        carried = row_back names v s n head.carried at h.0 j;
+        give = row_value_back g names v m ls sp k back finds next a head.give r h.1 h.2 j;
         give_line = head.give_line;
-        predict = predictor_back g names v ls s back finds head.predict h.3 j;
-      }) (block_back g names v m ls (behind 1 s) (n + 1) back finds next a r h.1 j)
-      (block_back g names v m (fixed cn n ∷ ls) (behind (1 + declared_in a) (showing_fixed head.carried s)) (n + 1 + length (names_in (spelled_block v a))) back one (omega (arith, at, c)) b (omega (arith, c, room)) h.4 j)
+        predict = predictors_back g names v ls s back finds head.predict h.3 j;
+      }) (block_back g names v m ls sp k back finds next a r h.1 j)
+      (block_back g names v m (with_each true ls n xs) sq (k + length (names_in (spelled_block v a))) back one last b (omega (arith, q, c, room)) h.4 j)
+  statement_back g names v m ls s n back finds at Break room h = refl
 
   pub block_back : (g : Globals) (names : Names) (v : Vocabulary) (m : Bool) (ls : List l.Local) (s : Scope) (n : ℕ) → Back g names v → Finds names.slots ls s.visible → s.next ≡ n → (b : Block) → n + declared_in b ≤ length names.slots → IsLawfulBlock names m s b → resolved_block g ls n (spelled_block v b) ≡ b
   block_back g names v m ls s n back finds at end room h = refl

@@ -14,7 +14,7 @@ use Rattle.spf_ast.specs.declared.raw.RawFold.{out-RawFold}
 use Rattle.spf_ast.specs.declared.raw.RawFold as code_fold
 use Rattle.spf_ast.specs.declared.raw.RawPair.{out-RawPair}
 use Rattle.spf_ast.specs.declared.raw.RawPair as code_pair
-use Rattle.spf_ast.specs.RawSyntax.{RawStatement, Let, Assign, Store, Fill, Emit, Fail, If, For, While, Do, Fold, Pair, RawBlock, end, on_line}
+use Rattle.spf_ast.specs.RawSyntax.{RawStatement, Let, Assign, Store, Fill, Emit, Fail, If, For, While, Do, Fold, Pair, Break, RawBlock, end, on_line}
 use Rattle.spf_ast.specs.RawView.{raw_expression, raw_arguments, raw_statement, raw_block}
 use Rattle.spf_ast.proofs.RawViews.{raw_expression-call, raw_statement-if, raw_statement-for, raw_statement-while, raw_statement-fold, raw_statement-pair}
 
@@ -66,6 +66,7 @@ abbrev mutual
   statement_weight (Do f given) = 1
   statement_weight (Fold head body) = 2 + block_weight body
   statement_weight (Pair head producer consumer) = 2 + block_weight producer + block_weight consumer
+  statement_weight Break = 1
 
   pub block_weight : RawBlock → ℕ
   block_weight end = 0

@@ -1,6 +1,6 @@
 // Expressions: numbers, and truth values as conditions.
 
-ghost use Rattle.std.specs.Prelude.{◌≡◌, IfErr, Some, length};
+ghost use Rattle.std.specs.Prelude.{◌≡◌, IfErr, Some, length, map};
 ghost use Rattle.spf_ast.specs.View.{
   expression as seen_expression,
   arguments as seen_arguments,
@@ -12,8 +12,8 @@ ghost use Rattle.spf_ast.specs.RawView.{raw_expression, raw_arguments, raw_predi
 ghost use Rattle.spf_scopes.specs.declared.fault.TypeError.TheVariants.{Refused};
 ghost use Rattle.spf_scopes.specs.declared.fault.TypeFault.TheVariants.{Kind};
 ghost use Rattle.spf_scopes.specs.HereView.{setting};
-ghost use Rattle.spf_scopes.specs.Faults.{expression_faults, arguments_faults, predictor_faults, called_faults, no_truth, a_number, a_truth, first};
-ghost use Rattle.spf_scopes.specs.Resolved.{scope, resolved_expression, resolved_arguments, resolved_condition, resolved_predictor};
+ghost use Rattle.spf_scopes.specs.Faults.{expression_faults, arguments_faults, predictor_faults, predictors_faults, called_faults, no_truth, a_number, a_truth, first};
+ghost use Rattle.spf_scopes.specs.Resolved.{scope, resolved_expression, resolved_arguments, resolved_condition, resolved_predictor, resolved_predictors};
 ghost use Rattle.spf_scopes.specs.Answers.{Answers};
 
 use spf_ast::raw::{RawExpr, RawPredict};
@@ -182,21 +182,40 @@ pub(crate) fn boxed_truth<'a>(
     Ok(Box::new(here.alloc, cond)?)
 }
 
-/// A predictor, in a box.
-pub(crate) fn predictor<'a>(
+/// A predictor of one part of a row.
+fn predictor<'a>(
     here: &Here<'_, 'a>,
     locals: &LocalTable<'a>,
     line: u32,
     raw: &'a RawPredict,
-) -> Result<Box<Predict>, TypeError>
+) -> Result<Predict, TypeError>
     ensures { Answers (predictor_faults (setting here.now) (scope locals.now.locals) line (raw_predictor raw.now))
-        (λ b. seen_predictor b.value) (resolved_predictor here.now.globals.now locals.now.locals (raw_predictor raw.now)) result }
+        seen_predictor (resolved_predictor here.now.globals.now locals.now.locals (raw_predictor raw.now)) result }
 {
     match raw {
         RawPredict::Expr(guess) => {
             let guess = number(here, locals, line, guess)?;
-            Ok(Box::new(here.alloc, Predict::Expr(guess))?)
+            Ok(Predict::Expr(guess))
         }
-        RawPredict::Host(number) => Ok(Box::new(here.alloc, Predict::Host(*number))?),
+        RawPredict::Host(number) => Ok(Predict::Host(*number)),
     }
+}
+
+/// The predictors of a row's parts.
+pub(crate) fn predictors<'a>(
+    here: &Here<'_, 'a>,
+    locals: &LocalTable<'a>,
+    line: u32,
+    raw: &'a [RawPredict],
+) -> Result<Vec<Predict>, TypeError>
+    ensures { Answers (predictors_faults (setting here.now) (scope locals.now.locals) line (map raw_predictor raw.now))
+        (λ v. map seen_predictor v.items) (resolved_predictors here.now.globals.now locals.now.locals
+        (map raw_predictor raw.now)) result }
+{
+    let mut guesses = Vec::new(here.alloc);
+    for part in raw {
+        let guess = predictor(here, locals, line, part)?;
+        guesses.push(guess)?;
+    }
+    Ok(guesses)
 }

@@ -14,7 +14,7 @@ use spf_ast::raw::RawExpr;
 use spf_ast::syntax::{Name, StmtKind};
 use spf_scopes::fault::{TypeError, TypeFault};
 use spf_scopes::locals::LocalTable;
-use spf_scopes::names::{Here, assigned, called, declarable, indexed};
+use spf_scopes::names::{Here, assigned, called, declarable, indexed, leaves_loop};
 
 /// A `let`.
 pub(crate) fn declaration<'a>(
@@ -137,6 +137,20 @@ pub(crate) fn failure<'a>(
             Err(TypeError::Refused { fault, line })
         }
     }
+}
+
+/// A `break`.
+pub(crate) fn departure<'a>(
+    here: &Here<'_, 'a>,
+    locals: &LocalTable<'a>,
+    line: u32,
+) -> Result<StmtKind, TypeError>
+    ensures { Answers (statement_faults (setting here.now) (scope locals.now.locals) line raw_form.Break)
+        seen_statement (resolved_statement here.now.globals.now locals.now.locals (length locals.now.slots)
+        raw_form.Break) result }
+{
+    leaves_loop(here, line)?;
+    Ok(StmtKind::Break)
 }
 
 #[tactic(auto, using(crate::proofs::Arguments::count_of_raw))]

@@ -1,14 +1,14 @@
 // Statements and blocks, which lead to each other.
 
-ghost use Rattle.std.specs.Prelude.{◌≡◌, ◌∷◌, false, IfOk, None, length};
-ghost use Rattle.std.specs.Str.{bytes_eq};
+ghost use Rattle.std.specs.Prelude.{◌≡◌, ◌∷◌, true, false, IfOk, None, length, map};
 ghost use Rattle.spf_ast.specs.declared.syntax.Fold.{out-Fold};
 ghost use Rattle.spf_ast.specs.declared.syntax.Pair.{out-Pair};
-ghost use Rattle.spf_ast.specs.Syntax.{Block, Expression};
+ghost use Rattle.spf_ast.specs.Syntax.{Arguments, Block, Expression};
 ghost use Rattle.spf_ast.specs.declared.raw.RawFold.{out-RawFold};
 ghost use Rattle.spf_ast.specs.declared.raw.RawPair.{out-RawPair};
 ghost use Rattle.spf_ast.specs.View.{
   expression as seen_expression,
+  arguments as seen_arguments,
   predictor as seen_predictor,
   fold_head,
   pair_head,
@@ -16,15 +16,17 @@ ghost use Rattle.spf_ast.specs.View.{
   block as seen_block,
   name as seen_name,
 };
-ghost use Rattle.spf_ast.specs.RawView.{raw_expression, raw_statement, raw_block, raw_fold_head, raw_pair_head};
+ghost use Rattle.spf_ast.specs.RawView.{raw_expression, raw_arguments, raw_statement, raw_block, raw_fold_head, raw_pair_head};
 ghost use Rattle.spf_ast.specs.RawSyntax as raw_form;
 ghost use Rattle.spf_scopes.specs.HereView.{setting};
-ghost use Rattle.spf_scopes.specs.Locals.{binding_of};
-ghost use Rattle.spf_scopes.specs.Faults.{statement_faults, block_faults, valued_faults};
+ghost use Rattle.spf_scopes.specs.Locals.{binding_of, AreNew};
+ghost use Rattle.spf_scopes.specs.Faults.{statement_faults, block_faults, valued_faults, rowed_faults, in_part};
 ghost use Rattle.spf_scopes.specs.Resolved.{
   scope,
   fixed,
+  with_each,
   locals_at_end,
+  resolved_arguments,
   resolved_expression,
   resolved_statement,
   resolved_block,
@@ -34,13 +36,13 @@ ghost use Rattle.spf_scopes.specs.Resolved.{
 };
 ghost use Rattle.spf_scopes.specs.Answers.{Answers};
 
-use crate::expression::{boxed, boxed_truth, predictor};
-use crate::header::{Header, header_of};
-use crate::simple::{assignment, call, declaration, emission, failure, fill, store};
+use crate::expression::{boxed, boxed_truth, numbers, predictors};
+use crate::header::{Header, header_of, pair_names, pair_widths};
+use crate::simple::{assignment, call, declaration, departure, emission, failure, fill, store};
 use spf_ast::raw::{RawExpr, RawFold, RawPair, RawStmt, RawStmtKind};
 use spf_ast::syntax::{Expr, Fold, Name, Pair, Predict, Stmt, StmtKind};
 use spf_scopes::fault::TypeError;
-use spf_scopes::locals::LocalTable;
+use spf_scopes::locals::{LocalTable, row_slots};
 use spf_scopes::names::{Here, declarable};
 
 /// Statements one after another, whose locals may be used after them.
@@ -112,6 +114,7 @@ fn statement_kind<'a>(
         RawStmtKind::Call(name, given) => call(here, locals, line, name, given),
         RawStmtKind::Fold(raw) => fold(here, locals, line, raw),
         RawStmtKind::Pair(raw) => pair(here, locals, line, raw),
+        RawStmtKind::Break => departure(here, locals, line),
     }
 }
 
@@ -164,7 +167,8 @@ fn counted<'a>(
     let count = locals.count();
     let slot = locals.declare(here.alloc, name)?;
     locals.show(name, slot, true)?;
-    let body = block(here, locals, body)?;
+    let inside = here.in_turn();
+    let body = block(&inside, locals, body)?;
     locals.close(count);
     Ok(StmtKind::For(slot, Box::into_inner(low), Box::into_inner(high), body))
 }
@@ -186,12 +190,12 @@ fn repeated<'a>(
     ensures after { IfOk result (λ _. locals.new ≡ after_statement locals.old (raw_form.While (raw_expression test.now) most (raw_block body.now))) }
 {
     let test = boxed_truth(here, locals, line, test)?;
-    let body = inner(here, locals, body)?;
+    let inside = here.in_turn();
+    let body = inner(&inside, locals, body)?;
     Ok(StmtKind::While(Box::into_inner(test), most, body))
 }
 
 /// Statements, and then a number on a line. The locals may not be used after it.
-#[cycle(block)]
 pub fn valued<'a>(
     here: &Here<'_, 'a>,
     locals: &mut LocalTable<'a>,
@@ -215,35 +219,60 @@ pub fn valued<'a>(
     Ok((statements, value))
 }
 
+/// Statements of a construct's part, and then a row on a line. The locals may not be used after it.
+#[cycle(block)]
+fn rowed<'a>(
+    here: &Here<'_, 'a>,
+    locals: &mut LocalTable<'a>,
+    raw: &'a [RawStmt],
+    line: u32,
+    row: &'a [RawExpr],
+) -> Result<(Vec<Stmt>, Vec<Expr>), TypeError>
+    ensures answers { Answers {A = Block × Arguments} (rowed_faults (setting here.now) (scope locals.old.locals)
+        (raw_block raw.now) line (raw_arguments row.now)) (λ p. (seen_block p.0.items, seen_arguments p.1.items)) (
+          resolved_block here.now.globals.now locals.old.locals (length locals.old.slots) (raw_block raw.now),
+          resolved_arguments here.now.globals.now
+              (locals_at_end locals.old.locals (length locals.old.slots) (raw_block raw.now))
+              (raw_arguments row.now),
+        ) result }
+    ensures after { IfOk result (λ _. locals.new ≡ after_inner locals.old (raw_block raw.now)) }
+{
+    let count = locals.count();
+    let inside = here.in_part();
+    let statements = block(&inside, locals, raw)?;
+    let parts = numbers(here, locals, line, row)?;
+    locals.close(count);
+    Ok((statements, parts))
+}
+
 /// The body of a fold and its `next`.
 #[cycle(block)]
 fn folded<'a>(
     here: &Here<'_, 'a>,
     locals: &mut LocalTable<'a>,
     raw: &'a RawFold,
-    carried: u32,
+    first: u32,
     block: u32,
-) -> Result<(Vec<Stmt>, Box<Expr>), TypeError>
-    requires carried { binding_of locals.old.locals (seen_name (out-RawFold raw.now).carried) ≡ None }
-    requires block { binding_of locals.old.locals (seen_name (out-RawFold raw.now).block) ≡ None }
-    requires apart { bytes_eq (seen_name (out-RawFold raw.now).carried) (seen_name (out-RawFold raw.now).block) ≡ false }
-    ensures answers { let inside = fixed (seen_name (out-RawFold raw.now).block) block
-        ∷ fixed (seen_name (out-RawFold raw.now).carried) carried ∷ locals.old.locals in
-        Answers {A = Block × Expression} (valued_faults (setting here.now) (scope inside)
-        (raw_block (out-RawFold raw.now).body.items) (out-RawFold raw.now).next_line
-        (raw_expression (out-RawFold raw.now).next)) (λ p. (seen_block p.0.items, seen_expression p.1.value)) (
+) -> Result<(Vec<Stmt>, Vec<Expr>), TypeError>
+    requires carried { AreNew locals.old.locals (raw_fold_head raw.now).carried }
+    requires block { binding_of (with_each true locals.old.locals first (raw_fold_head raw.now).carried) (raw_fold_head raw.now).block ≡ None }
+    ensures answers { let inside = fixed (raw_fold_head raw.now).block block
+        ∷ with_each true locals.old.locals first (raw_fold_head raw.now).carried in
+        Answers {A = Block × Arguments} (rowed_faults (setting here.now) (scope inside)
+        (raw_block (out-RawFold raw.now).body.items) (raw_fold_head raw.now).next_line
+        (raw_fold_head raw.now).next) (λ p. (seen_block p.0.items, seen_arguments p.1.items)) (
           resolved_block here.now.globals.now inside (length locals.old.slots)
               (raw_block (out-RawFold raw.now).body.items),
-          resolved_expression here.now.globals.now
+          resolved_arguments here.now.globals.now
               (locals_at_end inside (length locals.old.slots) (raw_block (out-RawFold raw.now).body.items))
-              (raw_expression (out-RawFold raw.now).next),
+              (raw_fold_head raw.now).next,
         ) result }
     ensures after { IfOk result (λ _. locals.new ≡ after_inner locals.old (raw_block (out-RawFold raw.now).body.items)) }
 {
     let count = locals.count();
-    locals.show(&raw.carried, carried, true)?;
+    locals.show_each(&raw.carried, first, true)?;
     locals.show(&raw.block, block, true)?;
-    let answer = valued(here, locals, &raw.body, raw.next_line, &raw.next)?;
+    let answer = rowed(here, locals, &raw.body, raw.next_line, &raw.next)?;
     locals.close(count);
     Ok(answer)
 }
@@ -264,8 +293,8 @@ fn fold<'a>(
         (raw_form.Fold (raw_fold_head raw.now) (raw_block (out-RawFold raw.now).body.items))) }
 {
     let header = header_of(here, locals, line, raw)?;
-    let (body, next) = folded(here, locals, raw, header.carried, header.block)?;
-    locals.show(&raw.carried, header.carried, false)?;
+    let (body, next) = folded(here, locals, raw, header.first, header.block)?;
+    locals.show_each(&raw.carried, header.first, false)?;
     let fold = fold_of(header, body, next, raw.next_line);
     Ok(StmtKind::Fold(Box::new(here.alloc, fold)?))
 }
@@ -276,18 +305,19 @@ fn consumed<'a>(
     here: &Here<'_, 'a>,
     locals: &mut LocalTable<'a>,
     raw: &'a RawPair,
-    carried: u32,
+    first: u32,
 ) -> Result<Vec<Stmt>, TypeError>
-    requires { binding_of locals.old.locals (seen_name (out-RawPair raw.now).carried) ≡ None }
-    ensures answers { let inside = fixed (seen_name (out-RawPair raw.now).carried) carried ∷ locals.old.locals in
-        Answers (block_faults (setting here.now) (scope inside) (raw_block (out-RawPair raw.now).consumer.items))
+    requires { AreNew locals.old.locals (raw_pair_head raw.now).carried }
+    ensures answers { let inside = with_each true locals.old.locals first (raw_pair_head raw.now).carried in
+        Answers (block_faults (in_part (setting here.now)) (scope inside) (raw_block (out-RawPair raw.now).consumer.items))
         (λ v. seen_block v.items) (resolved_block here.now.globals.now inside (length locals.old.slots)
         (raw_block (out-RawPair raw.now).consumer.items)) result }
     ensures after { IfOk result (λ _. locals.new ≡ after_inner locals.old (raw_block (out-RawPair raw.now).consumer.items)) }
 {
     let count = locals.count();
-    locals.show(&raw.carried, carried, true)?;
-    let consumer = block(here, locals, &raw.consumer)?;
+    locals.show_each(&raw.carried, first, true)?;
+    let inside = here.in_part();
+    let consumer = block(&inside, locals, &raw.consumer)?;
     locals.close(count);
     Ok(consumer)
 }
@@ -310,62 +340,64 @@ fn pair<'a>(
         (raw_form.Pair (raw_pair_head raw.now) (raw_block (out-RawPair raw.now).producer.items)
         (raw_block (out-RawPair raw.now).consumer.items))) }
 {
-    declarable(here, locals, line, &raw.carried)?;
-    let carried = locals.declare(here.alloc, &raw.carried)?;
-    let (producer, give) = valued(here, locals, &raw.producer, raw.give_line, &raw.give)?;
-    let predict = predictor(here, locals, line, &raw.predict)?;
-    let consumer = consumed(here, locals, raw, carried)?;
-    locals.show(&raw.carried, carried, false)?;
+    let first = locals.next_slot()?;
+    pair_names(here, locals, line, raw)?;
+    pair_widths(line, raw)?;
+    let carried = row_slots(here.alloc, first, &raw.carried)?;
+    let (producer, give) = rowed(here, locals, &raw.producer, raw.give_line, &raw.give)?;
+    let predict = predictors(here, locals, line, &raw.predict)?;
+    let consumer = consumed(here, locals, raw, first)?;
+    locals.show_each(&raw.carried, first, false)?;
     let pair = pair_of(carried, producer, give, raw.give_line, predict, consumer);
     Ok(StmtKind::Pair(Box::new(here.alloc, pair)?))
 }
 
 /// A fold of these parts.
-fn fold_of(header: Header, body: Vec<Stmt>, next: Box<Expr>, next_line: u32) -> Fold
+fn fold_of(header: Header, body: Vec<Stmt>, next: Vec<Expr>, next_line: u32) -> Fold
     ensures head { fold_head result ≡ record {
-      carried = header.carried;
-      start = seen_expression header.start.value;
+      carried = header.carried.items;
+      start = seen_arguments header.start.items;
       block = header.block;
       low = seen_expression header.low.value;
       high = seen_expression header.high.value;
-      predict = seen_predictor header.predict.value;
-      next = seen_expression next.value;
+      predict = map seen_predictor header.predict.items;
+      next = seen_arguments next.items;
       next_line = next_line;
     } }
     ensures body { (out-Fold result).body ≡ body }
 {
     Fold {
         carried: header.carried,
-        start: Box::into_inner(header.start),
+        start: header.start,
         block: header.block,
         low: Box::into_inner(header.low),
         high: Box::into_inner(header.high),
-        predict: Box::into_inner(header.predict),
+        predict: header.predict,
         body,
-        next: Box::into_inner(next),
+        next,
         next_line,
     }
 }
 
 /// A pair of these parts.
 fn pair_of(
-    carried: u32,
+    carried: Vec<u32>,
     producer: Vec<Stmt>,
-    give: Box<Expr>,
+    give: Vec<Expr>,
     give_line: u32,
-    predict: Box<Predict>,
+    predict: Vec<Predict>,
     consumer: Vec<Stmt>,
 ) -> Pair
-    ensures head { pair_head result ≡ record { carried = carried; give = seen_expression give.value; give_line = give_line; predict = seen_predictor predict.value } }
+    ensures head { pair_head result ≡ record { carried = carried.items; give = seen_arguments give.items; give_line = give_line; predict = map seen_predictor predict.items } }
     ensures producer { (out-Pair result).producer ≡ producer }
     ensures consumer { (out-Pair result).consumer ≡ consumer }
 {
     Pair {
         carried,
         producer,
-        give: Box::into_inner(give),
+        give,
         give_line,
-        predict: Box::into_inner(predict),
+        predict,
         consumer,
     }
 }

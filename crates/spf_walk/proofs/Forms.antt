@@ -38,10 +38,10 @@ function_weight f = stmts_weight f.body.items + expr_weight f.answer
 
 abbrev pub fold_weight : code_fold.Fold → ℕ
 fold_weight f =
-    2 + expr_weight (out-Fold f).start + expr_weight (out-Fold f).low + expr_weight (out-Fold f).high + expr_weight (out-Fold f).next + stmts_weight (out-Fold f).body.items
+    2 + exprs_weight (out-Fold f).start.items + expr_weight (out-Fold f).low + expr_weight (out-Fold f).high + exprs_weight (out-Fold f).next.items + stmts_weight (out-Fold f).body.items
 
 abbrev pub pair_weight : code_pair.Pair → ℕ
-pair_weight p = 1 + stmts_weight (out-Pair p).producer.items + expr_weight (out-Pair p).give + stmts_weight (out-Pair p).consumer.items
+pair_weight p = 1 + stmts_weight (out-Pair p).producer.items + exprs_weight (out-Pair p).give.items + stmts_weight (out-Pair p).consumer.items
 
 pub expr_weight-call : (f : ℕ) (given : Vec Expr Global) → expr_weight (e.Call f given) ≡ 1 + exprs_weight given.items
 expr_weight-call f given = ap expression_weight (expression-call f given)

@@ -8,3 +8,4 @@ pub mod Sweeping
 pub mod Results
 pub mod Walked
 pub mod Assigns
+pub mod Breaks

@@ -2,6 +2,7 @@
 use Rattle.std.proofs.Common.{◌≡◌, ℕ, zero, suc, ◌+◌, ◌<◌, ◌≤◌, Bool, true, false, List, [], ◌∷◌, ◌++◌, length, get_or, set, take, drop, replicate, refl, sym, ap, ◌∙◌, arith}
 use Rattle.std.proofs.lemmas.Bool.Decides.{Decides-eqb, nat_tests}
 use Rattle.std.proofs.lemmas.List.{take_all, drop_all, get_or-set_same, get_or-set_other}
+use Rattle.std.proofs.Math.Seq.{drop-cons}
 use Rattle.std.specs.Prelude.{Result, Ok, Err, OnOk, ◌||◌, ◌==◌, is_ok, if◌then◌else◌}
 use Rattle.std.specs.declared.vec.Vec.{Vec}
 use Rattle.std.specs.declared.boxed.Box.{Box}
@@ -17,9 +18,9 @@ use Rattle.spf_ast.specs.Syntax.{Block, FoldHead, PairHead, If, For, While}
 use Rattle.spf_ast.specs.Syntax as syntax
 use Rattle.spf_ast.specs.View.{statement, block, fold_head, pair_head}
 use Rattle.spf_ast.proofs.Views.{statement-if, statement-for, statement-while, statement-fold, statement-pair}
-use Rattle.spf_ast.specs.Slots.{assigns, statement_assigns, declares, statement_declares}
+use Rattle.spf_ast.specs.Slots.{assigns, statement_assigns, is_among, declares, statement_declares}
 use Rattle.spf_walk.specs.declared.slot_sets.Slots as code
-use Rattle.spf_walk.specs.SlotSets.{SlotSets, sets_of, has_slot, no_slot, with_slot, with_statement, with_block}
+use Rattle.spf_walk.specs.SlotSets.{SlotSets, sets_of, has_slot, no_slot, with_slot, with_slots, with_statement, with_block}
 use Rattle.spf_findings.proofs.Then.{or_moves}
 use Rattle.spf_findings.proofs.Either.{or_none}
 use Rattle.spf_walk.proofs.Walks.{item_at}
@@ -55,6 +56,18 @@ flag_at flags place x h = at_test (x == place) refl
 -- a flag that is set
 pub flagged : (old flags : List Bool) (place : ℕ) → has_slot flags ≡ has_slot old → place < length flags → has_slot (set flags place true) ≡ with_slot place (has_slot old)
 flagged old flags place e h = (λ i x. flag_at flags place x h i) ∙ ap (with_slot place) e
+
+-- ---- a set that many slots are put into
+
+pub each_next : (slots : List ℕ) (i : ℕ) (now new whole : ℕ → Bool) → i < length slots → new ≡ with_slot (get_or slots i 0) now → with_slots (drop i slots) now ≡ whole → with_slots (drop (i + 1) slots) new ≡ whole
+each_next slots i now new whole h e k =
+    ap (with_slots (drop (i + 1) slots)) e
+    ∙ (λ j x. or_moves (x == get_or slots i 0) (is_among x (drop (i + 1) slots)) (now x) j)
+    ∙ ap (λ l. with_slots l now) (sym (drop-cons slots i 0 h ∙ ap (λ n. get_or slots i 0 ∷ drop n slots) (let n : suc i ≡ i + 1 = omega arith in n)))
+    ∙ k
+
+pub each_none : (slots : List ℕ) (i : ℕ) (now whole : ℕ → Bool) → length slots ≤ i → with_slots (drop i slots) now ≡ whole → now ≡ whole
+each_none slots i now whole h k = sym (ap (λ l. with_slots l now) (drop_all i slots h)) ∙ k
 
 same_slot : (x y : ℕ) → (x == y) ≡ (y == x)
 same_slot x y = grind (arith, nat_tests)
@@ -99,16 +112,16 @@ pub while_with : (kind : StmtKind) (test : Cond) (most : ℕ) (body : Vec Stmt G
 while_with kind test most body is sets =
     ap (λ t. with_statement t sets) (sym (statement-while test most body)) ∙ ap (λ k. with_statement (statement k) sets) (sym is)
 
-pub fold_with : (head : FoldHead) (body : Block) (sets : SlotSets) → with_block body (record { assigned = sets.assigned; declared = with_slot head.block (with_slot head.carried sets.declared) }) ≡ with_statement (syntax.Fold head body) sets
+pub fold_with : (head : FoldHead) (body : Block) (sets : SlotSets) → with_block body (record { assigned = sets.assigned; declared = with_slot head.block (with_slots head.carried sets.declared) }) ≡ with_statement (syntax.Fold head body) sets
 fold_with head body sets = λ i. record {
   assigned = λ x. assigns (λ other. other == x) body || sets.assigned x;
-  declared = λ x. or_three (x == head.carried) (x == head.block) (declares x body) (sets.declared x) i;
+  declared = λ x. or_three (is_among x head.carried) (x == head.block) (declares x body) (sets.declared x) i;
 }
 
-pub pair_with : (head : PairHead) (producer consumer : Block) (sets : SlotSets) → with_block consumer (with_block producer (record { assigned = sets.assigned; declared = with_slot head.carried sets.declared })) ≡ with_statement (syntax.Pair head producer consumer) sets
+pub pair_with : (head : PairHead) (producer consumer : Block) (sets : SlotSets) → with_block consumer (with_block producer (record { assigned = sets.assigned; declared = with_slots head.carried sets.declared })) ≡ with_statement (syntax.Pair head producer consumer) sets
 pair_with head producer consumer sets = λ i. record {
   assigned = λ x. or_moves (assigns (λ other. other == x) producer) (assigns (λ other. other == x) consumer) (sets.assigned x) i;
-  declared = λ x. or_three (x == head.carried) (declares x producer) (declares x consumer) (sets.declared x) i;
+  declared = λ x. or_three (is_among x head.carried) (declares x producer) (declares x consumer) (sets.declared x) i;
 }
 
 pub fold_kind_with : (kind : StmtKind) (fold : Box Fold Global) → kind ≡ s.Fold fold → (sets : SlotSets) → with_statement (syntax.Fold (fold_head fold.value) (block (out-Fold fold.value).body.items)) sets ≡ with_statement (statement kind) sets

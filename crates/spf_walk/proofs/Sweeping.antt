@@ -1,9 +1,10 @@
 -- Sweeps of the statements of a loop's body.
-use Rattle.std.proofs.Common.{◌≡◌, ℕ, ◌+◌, ◌<◌, ◌≤◌, true, List, [], length, get_or, drop, refl, sym, ap, subst, ◌∙◌, ℤ, pos}
+use Rattle.std.proofs.Common.{◌≡◌, ℕ, ◌+◌, ◌<◌, ◌≤◌, Bool, true, false, List, [], length, get_or, drop, refl, sym, ap, subst, ◌∙◌, ℤ, pos}
 use Rattle.std.proofs.lemmas.List.{drop_all}
 use Rattle.std.specs.Prelude.{Some, None, Option, if◌then◌else◌, ◌&&◌, ◌-ℤ◌, int_lt}
 use Rattle.std.specs.Ordering.{int_eq}
-use Rattle.spf_region.specs.declared.bound.Bound.TheVariants.{Known}
+use Rattle.spf_region.specs.declared.bound.Bound.{Bound}
+use Rattle.spf_region.specs.declared.bound.Bound.TheVariants.{Known, Unknown}
 use Rattle.spf_region.specs.Ranges.{Offsets, offsets_of, wholes_of}
 use Rattle.std.specs.declared.boxed.Box.{Box}
 use Rattle.std.specs.declared.alloc.Global.{Global}
@@ -13,10 +14,11 @@ use Rattle.spf_ast.specs.declared.syntax.StmtKind.TheVariants as s
 use Rattle.spf_ast.specs.declared.syntax.Fold as code_fold
 use Rattle.spf_ast.specs.declared.syntax.Pair as code_pair
 use Rattle.spf_ast.proofs.Views.{statement-fold, statement-pair}
-use Rattle.spf_ast.specs.Syntax.{Statement, Let, Assign, Store, Fill, Emit, Fail, If, For, While, Do, Fold, Pair, Block, on_line}
+use Rattle.spf_ast.specs.Syntax.{Statement, Let, Assign, Store, Fill, Emit, Fail, If, For, While, Do, Fold, Pair, Break, Block, on_line}
 use Rattle.spf_ast.specs.View.{statement, block}
+use Rattle.spf_ast.specs.Slots.{breaks}
 use Rattle.spf_findings.specs.Extends.{Lists, IsSwept}
-use Rattle.spf_findings.specs.Forms.{sweeps, sweep, distance}
+use Rattle.spf_findings.specs.Forms.{sweeps, loop_sweeps, sweep, distance}
 use Rattle.spf_findings.specs.Found.{Sweep, sweeps_joined, swept}
 use Rattle.spf_walk.specs.Sweeping.{sweeps_of}
 use Rattle.spf_findings.proofs.Between.{none_there, some_there}
@@ -44,6 +46,7 @@ sweeps_then name line f a b (While c most body) rest w = refl
 sweeps_then name line f a b (Do g given) rest w = refl
 sweeps_then name line f a b (Fold head body) rest w = refl
 sweeps_then name line f a b (Pair head producer consumer) rest w = refl
+sweeps_then name line f a b Break rest w = refl
 
 -- the sweeps of these statements from a place on are left
 pub record SweepsLead (name : ℕ) (f a b : ℤ) (all : List Stmt) (old : Lists) (i : ℕ) (now : Lists) : Type 0 where
@@ -80,6 +83,22 @@ pub between : (f l h g m i last : ℤ) → int_eq f g ≡ true → (if int_eq l 
 between f l h g m i last same e s w =
     let there = some_there (int_eq l h && (int_eq m i && int_lt l m)) (m -ℤ pos 1) last e in
     rw (same, there.0, there.1) refl
+
+same_either : {A : Type 0} (b : Bool) (x : A) → (if b then x else x) ≡ x
+same_either true x = refl
+same_either false x = refl
+
+-- no sweeps add nothing
+pub swept_by_none : (low high : Bound) (w : Offsets) → swept low high [] w ≡ w
+swept_by_none (Known f l h) (Known g m i) w = same_either _ w
+swept_by_none (Known f l h) Unknown w = refl
+swept_by_none Unknown high w = refl
+
+-- a loop that a `break` may end adds nothing
+pub broken_not_swept : (name : ℕ) (low high : Bound) (body : Block) (lists : Lists) → breaks body ≡ true → IsSwept (swept low high (loop_sweeps name body)) lists lists
+broken_not_swept name low high body lists e =
+    subst (λ (b : Bool). IsSwept (swept low high (if b then [] else sweeps name body)) lists lists) (sym e)
+    (subst (λ more. IsSwept more lists lists) (λ i w. sym (swept_by_none low high w) i) (not_swept lists))
 
 -- inner constructs have no sweeps
 pub fold_not_swept : (name : ℕ) (f a b : ℤ) (kind : StmtKind) (fold : Box code_fold.Fold Global) → kind ≡ s.Fold fold → (lists : Lists) → IsSwept (sweeps_joined f a b (sweeps_of name (statement kind))) lists lists

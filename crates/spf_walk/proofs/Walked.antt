@@ -1,13 +1,12 @@
 -- Forms that were walked.
-use Rattle.std.proofs.Common.{◌≡◌, ℕ, ◌<◌, ◌≤◌, Bool, true, false, List, [], ◌++◌, length, take, drop, refl, sym, ap, subst, ◌∙◌, arith}
+use Rattle.std.proofs.Common.{◌≡◌, ℕ, ◌<◌, ◌≤◌, Bool, false, List, [], ◌++◌, length, take, drop, refl, sym, ap, subst, ◌∙◌, arith}
 use Rattle.std.proofs.lemmas.List.{take_all, drop_all}
 use Rattle.std.proofs.Math.ListN.{length-map}
 use Rattle.std.proofs.Common.{append-nil}
 use Rattle.std.specs.Prelude.{Result, Ok, Err, OnOk, Some, slice_get, if◌then◌else◌}
 use Rattle.spf_region.specs.declared.bound.Bound.{Bound}
-use Rattle.spf_region.specs.declared.bound.Bound.TheVariants.{Known, Unknown}
 use Rattle.spf_region.specs.declared.range.Range.{Range}
-use Rattle.spf_region.specs.Ranges.{Offsets, offsets_of, wholes_of, in_both, whole_in_both}
+use Rattle.spf_region.specs.Ranges.{offsets_of, wholes_of, in_both, whole_in_both}
 use Rattle.spf_ast.specs.declared.syntax.Function as code_function
 use Rattle.spf_ast.specs.Syntax.{Function}
 use Rattle.spf_ast.specs.View.{function, name}
@@ -20,6 +19,7 @@ use Rattle.spf_walk.specs.SlotSets.{sets_of, has_slot, no_slot, with_block}
 use Rattle.spf_walk.proofs.Calls.{call_of}
 use Rattle.spf_findings.proofs.Either.{extends_either}
 use Rattle.spf_walk.proofs.SlotSets.{assigned_in}
+use Rattle.spf_walk.proofs.Sweeping.{swept_by_none}
 use Rattle.spf_findings.proofs.Then.{extends_then}
 
 -- one form, and then another that may fail
@@ -44,16 +44,6 @@ branched (Ok u) c f g old tested one between two new copy kept h o w a b k d n =
     same : record { uncovered = two.uncovered; may = two.may; written = new.written } ≡ new
     same = λ i. record { uncovered = sym n.uncovered i; may = sym n.may i; written = new.written }
 branched (Err e) c f g old tested one between two new copy kept h o w a b k d n = tt
-
-same_either : {A : Type 0} (b : Bool) (x : A) → (if b then x else x) ≡ x
-same_either true x = refl
-same_either false x = refl
-
--- no sweeps add nothing
-swept_by_none : (low high : Bound) (w : Offsets) → swept low high [] w ≡ w
-swept_by_none (Known f l h) (Known g m i) w = same_either _ w
-swept_by_none (Known f l h) Unknown w = refl
-swept_by_none Unknown high w = refl
 
 turns_are : (low high : Bound) (s : List Sweep) (body : Finds) → has_no_turn low high ≡ false → (λ w. record (body w) { written = swept low high s w }) ≡ turns low high s body
 turns_are low high s body e = λ i w. if sym e i then finds_nothing w else record (body w) { written = swept low high s w }

@@ -2,7 +2,7 @@
 use Rattle.std.specs.Prelude.{ℕ, zero, suc, ◌+◌, ◌*◌, List, Option, Some, None, slice_get}
 use Rattle.spf_ast.specs.Syntax.{Expression, Number, Local, Len, Input, Load, Call, Neg, Binary, Arguments, no_more, argument}
 use Rattle.spf_ast.specs.Syntax.{Condition, Compare, Both, Either, Not}
-use Rattle.spf_ast.specs.Syntax.{Statement, Let, Assign, Store, Fill, Emit, Fail, If, For, While, Do, Fold, Pair, Block, end, on_line, Function}
+use Rattle.spf_ast.specs.Syntax.{Statement, Let, Assign, Store, Fill, Emit, Fail, If, For, While, Do, Fold, Pair, Break, Block, end, on_line, Function}
 
 abbrev mutual
   pub expression_weight : Expression → ℕ
@@ -38,8 +38,9 @@ abbrev mutual
   statement_weight (While test most body) = 1 + condition_weight test + block_weight body
   statement_weight (Do f given) = 1 + arguments_weight given
   statement_weight (Fold head body) =
-      1 + (2 + expression_weight head.start + expression_weight head.low + expression_weight head.high + expression_weight head.next + block_weight body)
-  statement_weight (Pair head producer consumer) = 1 + (1 + block_weight producer + expression_weight head.give + block_weight consumer)
+      1 + (2 + arguments_weight head.start + expression_weight head.low + expression_weight head.high + arguments_weight head.next + block_weight body)
+  statement_weight (Pair head producer consumer) = 1 + (1 + block_weight producer + arguments_weight head.give + block_weight consumer)
+  statement_weight Break = 1
 
   pub block_weight : Block → ℕ
   block_weight end = 0

@@ -2,7 +2,7 @@
 use Rattle.std.specs.Prelude.{ℕ, Bool, false, ◌==◌, ◌||◌, List, slice_index_or}
 use Rattle.spf_ast.specs.Syntax.{Statement, Block}
 use Rattle.spf_walk.specs.declared.slot_sets.Slots as code
-use Rattle.spf_ast.specs.Slots.{assigns, statement_assigns, declares, statement_declares}
+use Rattle.spf_ast.specs.Slots.{assigns, statement_assigns, is_among, declares, statement_declares}
 
 -- a slot is in the set of a table that has a flag for each slot
 abbrev pub has_slot : List Bool → ℕ → Bool
@@ -11,6 +11,10 @@ has_slot flags slot = slice_index_or flags slot false
 -- the set with this slot
 abbrev pub with_slot : ℕ → (ℕ → Bool) → ℕ → Bool
 with_slot slot set x = (x == slot) || set x
+
+-- the set with these slots
+abbrev pub with_slots : List ℕ → (ℕ → Bool) → ℕ → Bool
+with_slots slots set x = is_among x slots || set x
 
 -- the assigned slots, and the declared ones
 pub record SlotSets : Type 0 where

@@ -4,7 +4,7 @@ ghost use Rattle.spf_ast.specs.declared.syntax.Fold.{out-Fold};
 ghost use Rattle.spf_ast.specs.declared.syntax.Pair.{out-Pair};
 ghost use Rattle.spf_ast.specs.Syntax.{Fold as fold_form, Pair as pair_form};
 ghost use Rattle.spf_ast.specs.View.{block as seen_block, statement as seen_statement, fold_head, pair_head};
-ghost use Rattle.spf_walk.specs.SlotSets.{sets_of, has_slot, no_slot, with_slot, with_statement, with_block};
+ghost use Rattle.spf_walk.specs.SlotSets.{sets_of, has_slot, no_slot, with_slot, with_slots, with_statement, with_block};
 
 use spf_ast::syntax::{Fold, Pair, Stmt, StmtKind};
 use std::alloc::{AllocError, Global};
@@ -52,6 +52,20 @@ impl SlotSet {
         let place = slot as usize;
         self.reach(place)?;
         self.flags[place] = true;
+        Ok(())
+    }
+
+    /// Puts slots into the set.
+    ///
+    /// # Errors
+    ///
+    /// `AllocError` where there is no memory for their flags.
+    pub fn insert_each(&mut self, slots: &[u32]) -> Result<(), AllocError>
+        ensures { OnOk result (has_slot self.new ≡ with_slots slots.now (has_slot self.old)) }
+    {
+        for slot in slots {
+            self.insert(*slot)?;
+        }
         Ok(())
     }
 
@@ -127,7 +141,8 @@ fn collect_statement(kind: &StmtKind, slots: &mut Slots) -> Result<(), AllocErro
         | StmtKind::Fill(_, _, _, _)
         | StmtKind::Emit(_)
         | StmtKind::Fail(_)
-        | StmtKind::Call(_, _) => Ok(()),
+        | StmtKind::Call(_, _)
+        | StmtKind::Break => Ok(()),
     }
 }
 
@@ -137,7 +152,7 @@ fn collect_fold(fold: &Fold, slots: &mut Slots) -> Result<(), AllocError>
     ensures { OnOk result (sets_of slots.new ≡ with_statement
         (fold_form (fold_head fold.now) (seen_block (out-Fold fold.now).body.items)) (sets_of slots.old)) }
 {
-    slots.declared.insert(fold.carried)?;
+    slots.declared.insert_each(&fold.carried)?;
     slots.declared.insert(fold.block)?;
     collect(&fold.body, slots)
 }
@@ -149,7 +164,7 @@ fn collect_pair(pair: &Pair, slots: &mut Slots) -> Result<(), AllocError>
         (pair_form (pair_head pair.now) (seen_block (out-Pair pair.now).producer.items)
         (seen_block (out-Pair pair.now).consumer.items)) (sets_of slots.old)) }
 {
-    slots.declared.insert(pair.carried)?;
+    slots.declared.insert_each(&pair.carried)?;
     collect(&pair.producer, slots)?;
     collect(&pair.consumer, slots)
 }

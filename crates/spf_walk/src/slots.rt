@@ -3,7 +3,7 @@ ghost use Rattle.std.specs.Prelude.{◌≡◌, ◌||◌, not};
 ghost use Rattle.spf_ast.specs.declared.syntax.Fold.{out-Fold};
 ghost use Rattle.spf_ast.specs.declared.syntax.Pair.{out-Pair};
 ghost use Rattle.spf_ast.specs.View.{block as seen_block, statement as seen_statement};
-ghost use Rattle.spf_ast.specs.Slots.{emits, statement_emits, assigns, statement_assigns};
+ghost use Rattle.spf_ast.specs.Slots.{emits, statement_emits, assigns, statement_assigns, breaks, statement_breaks};
 ghost use Rattle.spf_walk.specs.SlotSets.{has_slot};
 
 use crate::slot_sets::SlotSet;
@@ -39,7 +39,8 @@ fn statement_emits(kind: &StmtKind) -> bool
         | StmtKind::Store(_, _, _)
         | StmtKind::Fill(_, _, _, _)
         | StmtKind::Fail(_)
-        | StmtKind::Call(_, _) => false,
+        | StmtKind::Call(_, _)
+        | StmtKind::Break => false,
     }
 }
 
@@ -91,7 +92,8 @@ fn statement_assigns_other(kind: &StmtKind, declared: &SlotSet) -> bool
         | StmtKind::Fill(_, _, _, _)
         | StmtKind::Emit(_)
         | StmtKind::Fail(_)
-        | StmtKind::Call(_, _) => false,
+        | StmtKind::Call(_, _)
+        | StmtKind::Break => false,
     }
 }
 
@@ -111,4 +113,39 @@ fn pair_assigns_other(pair: &Pair, declared: &SlotSet) -> bool
         (seen_block (out-Pair pair.now).consumer.items)) }
 {
     assigns_other(&pair.producer, declared) || assigns_other(&pair.consumer, declared)
+}
+
+/// Whether one of these statements is a `break` that ends a loop around them, or holds one.
+#[cycle(breaks)]
+pub(crate) fn breaks(statements: &[Stmt]) -> bool
+    ensures { result ≡ breaks (seen_block statements.now) }
+{
+    for statement in statements {
+        if statement_breaks(&statement.kind) {
+            return true;
+        }
+    }
+    false
+}
+
+/// Whether a statement is a `break`, or holds one that isn't in a loop or a construct within it.
+#[cycle(breaks)]
+fn statement_breaks(kind: &StmtKind) -> bool
+    ensures { result ≡ statement_breaks (seen_statement kind.now) }
+{
+    match kind {
+        StmtKind::Break => true,
+        StmtKind::If(_, first, second) => breaks(first) || breaks(second),
+        StmtKind::Let(_, _)
+        | StmtKind::Assign(_, _)
+        | StmtKind::Store(_, _, _)
+        | StmtKind::Fill(_, _, _, _)
+        | StmtKind::Emit(_)
+        | StmtKind::Fail(_)
+        | StmtKind::For(_, _, _, _)
+        | StmtKind::While(_, _, _)
+        | StmtKind::Call(_, _) => false,
+        StmtKind::Fold(_) => false,
+        StmtKind::Pair(_) => false,
+    }
 }

@@ -3,11 +3,12 @@ ghost use Rattle.std.specs.Prelude.{◌≡◌, ℤ, ◌+ℤ◌, if◌then◌else
 ghost use Rattle.spf_region.specs.Bounds.{is_small};
 ghost use Rattle.spf_region.specs.Ranges.{Offsets};
 ghost use Rattle.spf_ast.specs.View.{expression as seen_expression, block as seen_block, statement as seen_statement};
-ghost use Rattle.spf_findings.specs.Forms.{distance, sweeps};
+ghost use Rattle.spf_findings.specs.Forms.{distance, sweeps, loop_sweeps};
 ghost use Rattle.spf_findings.specs.Found.{Sweep, sweep_joined, sweeps_joined, swept};
 ghost use Rattle.spf_findings.specs.Extends.{IsSwept};
 ghost use Rattle.spf_walk.specs.Sweeping.{slot_of, number_of, signed, moved, sweeps_of};
 
+use crate::slots::breaks;
 use spf_ast::syntax::{Expr, Op, Stmt, StmtKind};
 use spf_findings::findings::{Findings, last_of_one};
 use spf_region::bound::Bound;
@@ -195,7 +196,8 @@ fn sweep_statement(
         | StmtKind::If(_, _, _)
         | StmtKind::For(_, _, _, _)
         | StmtKind::While(_, _, _)
-        | StmtKind::Call(_, _) => Ok(()),
+        | StmtKind::Call(_, _)
+        | StmtKind::Break => Ok(()),
         StmtKind::Fold(_) => Ok(()),
         StmtKind::Pair(_) => Ok(()),
     }
@@ -217,7 +219,7 @@ fn sweep_each(
     Ok(())
 }
 
-/// Adds what the turns of a loop surely write.
+/// Adds what the turns of a loop surely write: nothing where a `break` may end it before its last turn.
 pub(crate) fn sweep(
     alloc: Global,
     name: u32,
@@ -226,8 +228,11 @@ pub(crate) fn sweep(
     body: &[Stmt],
     found: &mut Findings,
 ) -> Result<(), AllocError>
-    ensures { OnOk result (IsSwept (swept low high (sweeps name (seen_block body.now))) found.old found.new) }
+    ensures { OnOk result (IsSwept (swept low high (loop_sweeps name (seen_block body.now))) found.old found.new) }
 {
+    if breaks(body) {
+        return Ok(());
+    }
     match turns_between(low, high) {
         Some(turns) => sweep_each(alloc, name, turns, body, found),
         None => Ok(()),

@@ -24,10 +24,11 @@ ghost use Rattle.spf_findings.specs.Forms.{
   statement_finds,
   block_finds,
   block_then,
+  block_then_row,
   bounds_behind,
   bounds_at_end,
   declared,
-  sweeps,
+  loop_sweeps,
 };
 ghost use Rattle.spf_findings.specs.Parts.{call_before, entered};
 ghost use Rattle.spf_walk.specs.Settings.{setting};
@@ -213,7 +214,7 @@ pub fn block(
 
 /// Examines statements and then an expression in which what they declare is visible, and gives its bound.
 #[cycle(walk)]
-pub fn block_and(
+fn block_and(
     alloc: Global,
     context: &Context,
     below: usize,
@@ -229,6 +230,25 @@ pub fn block_and(
 {
     let behind = block(alloc, context, below, bounds, statements, found)?;
     expression(alloc, context, below, &behind, last, found)
+}
+
+/// Examines statements and then a row in whose parts what they declare is visible.
+#[cycle(walk)]
+pub fn block_and_row(
+    alloc: Global,
+    context: &Context,
+    below: usize,
+    bounds: &[Bound],
+    statements: &[Stmt],
+    last: &[Expr],
+    found: &mut Findings,
+) -> Result<(), AllocError>
+    ensures finds { OnOk result (Extends (block_then_row (setting context.now below) bounds.now (seen_block statements.now)
+        (seen_arguments last.now)) found.old found.new) }
+{
+    let behind = block(alloc, context, below, bounds, statements, found)?;
+    arguments(alloc, context, below, &behind, last, found)?;
+    Ok(())
 }
 
 /// Examines a statement, and makes the bound of a slot known that it declares.
@@ -264,7 +284,7 @@ fn statement(
                 alloc, context, below, bounds, *array, low, high, value, found,
             )
         }
-        StmtKind::Fail(_) => Ok(()),
+        StmtKind::Fail(_) | StmtKind::Break => Ok(()),
         StmtKind::If(cond, first, second) => {
             branches(alloc, context, below, bounds, cond, first, second, found)
         }
@@ -344,7 +364,7 @@ fn for_turns(
     body: &[Stmt],
     found: &mut Findings,
 ) -> Result<(), AllocError>
-    ensures finds { OnOk result (Extends (turns low high (sweeps slot (seen_block body.now))
+    ensures finds { OnOk result (Extends (turns low high (loop_sweeps slot (seen_block body.now))
         (block_finds (setting context.now below)
         (declared (setting context.now below) slot (turn_bound low high) bounds.now) (seen_block body.now)))
         found.old found.new) }
@@ -395,7 +415,7 @@ fn inner_fold(
     ensures finds { OnOk result (Extends (statement_finds (setting context.now below) bounds.now
         (fold_form (fold_head fold.now) (seen_block (out-Fold fold.now).body.items))) found.old found.new) }
 {
-    expression(alloc, context, below, bounds, &fold.start, found)?;
+    arguments(alloc, context, below, bounds, &fold.start, found)?;
     let low = expression(alloc, context, below, bounds, &fold.low, found)?;
     let high = expression(alloc, context, below, bounds, &fold.high, found)?;
     fold_turns(
@@ -414,13 +434,13 @@ fn fold_turns(
     low: Bound,
     high: Bound,
     body: &[Stmt],
-    next: &Expr,
+    next: &[Expr],
     found: &mut Findings,
 ) -> Result<(), AllocError>
     ensures finds { OnOk result (Extends (turns low high []
-        (block_then (setting context.now below)
+        (block_then_row (setting context.now below)
         (declared (setting context.now below) slot (turn_bound low high) bounds.now) (seen_block body.now)
-        (seen_expression next.now))) found.old found.new) }
+        (seen_arguments next.now))) found.old found.new) }
 {
     if has_no_turn(low, high) {
         return Ok(());
@@ -428,12 +448,12 @@ fn fold_turns(
     let mut inner = Vec::from_slice(alloc, bounds)?;
     declare(context.assigned, slot, turn_bound(low, high), &mut inner);
     let before = found.surely_written(alloc)?;
-    block_and(alloc, context, below, &inner, body, next, found)?;
+    block_and_row(alloc, context, below, &inner, body, next, found)?;
     found.leave_loop(before);
     Ok(())
 }
 
-/// Examines a pair that isn't the examined one: the producer with what it gives, and the consumer.
+/// Examines a pair that isn't the examined one: the producer with the row that it gives, and the consumer.
 #[cycle(walk)]
 fn inner_pair(
     alloc: Global,
@@ -447,7 +467,7 @@ fn inner_pair(
         (pair_form (pair_head pair.now) (seen_block (out-Pair pair.now).producer.items)
         (seen_block (out-Pair pair.now).consumer.items))) found.old found.new) }
 {
-    block_and(
+    block_and_row(
         alloc,
         context,
         below,

@@ -1,7 +1,7 @@
 use Rattle.spf_ast.specs.Meaning.{environment_before}
 use Rattle.spf_ast.specs.Lawful.{Agree}
-use Rattle.spf_laws.proofs.Primitives.{performed, agreeing}
-use Rattle.spf_laws.proofs.Forms.{calls-see, expression-sees, condition-sees, statement-sees, block-sees}
+use Rattle.spf_laws.proofs.Primitives.{performed, performed-left, agreeing}
+use Rattle.spf_laws.proofs.Forms.{calls-see, expression-sees, condition-sees, statement-sees, block-sees, main-sees}
 use Rattle.spf_laws.proofs.Parts.{part-sees, header-sees}
 use Rattle.spf_laws.proofs.each_form_sees_visible_slots_alone.Goals as goal
 
@@ -15,11 +15,11 @@ returns-clause-conditions c names scope condition l input extents functions plac
 
 pub returns-clause-statements : goal.returns-clause-statements
 returns-clause-statements c names in_main scope s l input extents functions place line =
-    performed (statement-sees (environment_before input extents functions place) (calls-see input extents functions place) names in_main scope line s l)
+    performed-left (statement-sees (environment_before input extents functions place) (calls-see input extents functions place) names in_main scope line s l)
 
 pub returns-clause-blocks : goal.returns-clause-blocks
 returns-clause-blocks c names in_main scope block l input extents functions place =
-    performed (block-sees (environment_before input extents functions place) (calls-see input extents functions place) names in_main scope block l)
+    performed-left (block-sees (environment_before input extents functions place) (calls-see input extents functions place) names in_main scope block l)
 
 pub returns-clause-parts : goal.returns-clause-parts
 returns-clause-parts c names scope line s construct is l input extents functions place part number carried =
@@ -28,3 +28,7 @@ returns-clause-parts c names scope line s construct is l input extents functions
 pub returns-clause-headers : goal.returns-clause-headers
 returns-clause-headers c names scope line s construct is l input extents functions place =
     performed (header-sees (environment_before input extents functions place) (calls-see input extents functions place) names scope line s construct is l)
+
+pub returns-clause-main : goal.returns-clause-main
+returns-clause-main c names scope block l out input extents functions place =
+    performed (main-sees (environment_before input extents functions place) (calls-see input extents functions place) names scope block l out)

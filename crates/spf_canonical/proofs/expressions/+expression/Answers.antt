@@ -1,5 +1,4 @@
-use Rattle.std.proofs.Common.{rules, ◌++◌, List, codes, refl, sym, append_assoc}
-use Rattle.std.proofs.lemmas.List.{nil_from_length}
+use Rattle.std.proofs.Common.{rules, ◌++◌, List, codes, sym, append_assoc}
 use Rattle.std.proofs.lemmas.Result.{IfOk-equal}
 use Rattle.spf_ast.specs.declared.syntax.Expr.{Expr}
 use Rattle.spf_ast.specs.View.{expression, arguments}
@@ -7,9 +6,8 @@ use Rattle.spf_ast.specs.Spelling.{spelled_expression, spelled_arguments}
 use Rattle.spf_canonical.specs.Canonical.{expression_text, further_arguments_text}
 use Rattle.spf_canonical.specs.Printing.{vocabulary_of}
 use Rattle.spf_canonical.proofs.Printing.{call_text, both, in_parentheses, with_no_parentheses}
-use Rattle.spf_canonical.proofs.Repeating.{one_more, none_left}
+use Rattle.spf_canonical.proofs.Repeating.{one_more}
 use Rattle.spf_canonical.proofs.expressions.+expression.Goals as goal
-use Rattle.spf_canonical.proofs.expressions.+expression.Goals.{push_arguments-in-Some+in_ok-push_expression+else-loop-other-test, push_arguments-in_default}
 
 pub push_operand-returns-in_ok-push_expression : goal.push_operand-returns-in_ok-push_expression
 push_operand-returns-in_ok-push_expression t c =
@@ -19,13 +17,9 @@ pub push_operand-returns-else-level-least : goal.push_operand-returns-else-level
 push_operand-returns-else-level-least t c =
     rw (with_no_parentheses c.level.result _ c.args.least (expression_text (spelled_expression (vocabulary_of c.args.names.now) (expression c.args.expr.now))) (c.level.ensures (vocabulary_of c.args.names.now)) c.if-level-least.false) c.push_expression-else-level-least.ensures
 
-pub push_arguments-loop-other-preserved : goal.push_arguments-loop-other-preserved
-push_arguments-loop-other-preserved t c =
-    one_more (λ (l : List Expr). further_arguments_text (spelled_arguments (vocabulary_of c.args.names.now) (arguments l))) (λ (x : Expr). codes ", " ++ expression_text (spelled_expression (vocabulary_of c.args.names.now) (expression x))) (λ x xs. sym (append_assoc (codes ", ") (expression_text (spelled_expression (vocabulary_of c.args.names.now) (expression x))) (further_arguments_text (spelled_arguments (vocabulary_of c.args.names.now) (arguments xs))))) _ _ _ c.in-Some.others.now c.loop-other.other-index c.other-item.result c.other-item.is c.loop-other-test.true (both _ _ _ _ _ (c.in_ok-push-2.ensures {u = tt}) (c.in_ok-push_expression-2.ensures {u = tt})) c.loop-other.invariant
-
-pub push_arguments-returns : goal.push_arguments-returns
-push_arguments-returns t c =
-    IfOk-equal c.push-2.result _ _ _ c.push-2.ensures (elim c.match-split_first.branch [ push_arguments-in-Some+in_ok-push_expression+else-loop-other-test w ↦ let d = none_left (λ (l : List Expr). further_arguments_text (spelled_arguments (vocabulary_of c.args.names.now) (arguments l))) refl _ _ w.in-Some.others.now w.loop-other.other-index w.loop-other-test.false w.loop-other.invariant in rw (w.text-is, d, w.in_ok-push_expression.ensures {u = tt}, c.in_ok-push.ensures {u = tt}, w.in-Some.ensures.cases.0) (simp append_assoc) | push_arguments-in_default w ↦ rw (w.text-is, c.in_ok-push.ensures {u = tt}, nil_from_length c.args.given.now w.in_default.ensures.cases) (simp append_assoc) ])
+pub push_list-loop-other-preserved : goal.push_list-loop-other-preserved
+push_list-loop-other-preserved t c =
+    one_more (λ (l : List Expr). further_arguments_text (spelled_arguments (vocabulary_of c.args.names.now) (arguments l))) (λ (x : Expr). codes ", " ++ expression_text (spelled_expression (vocabulary_of c.args.names.now) (expression x))) (λ x xs. sym (append_assoc (codes ", ") (expression_text (spelled_expression (vocabulary_of c.args.names.now) (expression x))) (further_arguments_text (spelled_arguments (vocabulary_of c.args.names.now) (arguments xs))))) _ _ _ c.in-Some.others.now c.loop-other.other-index c.other-item.result c.other-item.is c.loop-other-test.true (both _ _ _ _ _ (c.in_ok-push.ensures {u = tt}) (c.in_ok-push_expression-2.ensures {u = tt})) c.loop-other.invariant
 
 pub push_expression-returns-in_ok-push-in-Call : goal.push_expression-returns-in_ok-push-in-Call
 push_expression-returns-in_ok-push-in-Call t c =

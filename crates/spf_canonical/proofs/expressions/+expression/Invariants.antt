@@ -6,7 +6,7 @@ use Rattle.spf_canonical.specs.Printing.{vocabulary_of}
 use Rattle.spf_canonical.proofs.expressions.+expression.Given as goal
 
 -- the text with what is left to add
-abbrev pub invariant-push_arguments-loop-other : goal.invariant-push_arguments-loop-other
-invariant-push_arguments-loop-other l =
+abbrev pub invariant-push_list-loop-other : goal.invariant-push_list-loop-other
+invariant-push_list-loop-other l =
     l.text.items ++ further_arguments_text (spelled_arguments (vocabulary_of l.names) (arguments (drop l.other-index l.others)))
     ≡ l.initial.text.items ++ further_arguments_text (spelled_arguments (vocabulary_of l.names) (arguments l.others))

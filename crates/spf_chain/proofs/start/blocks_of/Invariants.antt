@@ -4,4 +4,4 @@ use Rattle.spf_chain.proofs.start.blocks_of.Given as goal
 
 -- block 0 and the blocks of the guesses so far
 abbrev pub invariant-loop-guess : goal.invariant-loop-guess
-invariant-loop-guess l = l.blocks.items ≡ unvalidated 0 l.start (None ∷ map (λ g. Some g.value) (take l.guess-index l.guesses))
+invariant-loop-guess l = l.blocks.items ≡ unvalidated 0 l.fn.start (None ∷ map (λ g. Some g.value) (take l.guess-index l.guesses))

@@ -22,12 +22,15 @@ returns-clause-answered g c =
 
 pub returns-in-Ok-put-clause-understood : goal.returns-in-Ok-put-clause-understood
 returns-in-Ok-put-clause-understood g c =
-    words_cause c.each_status_has_its_cause.ensures _ (map string_bytes c.args.words.now) _ _ _ _ (returns-in-Ok-put-clause-answered g c)
+    let given = handed (map (λ h. (goal.Predictor-dyn g (h.vtable, h.value)).answer h.value) c.args.hosts.items) in
+    words_cause c.each_status_has_its_cause.ensures given (map string_bytes c.args.words.now) _ _ _ _ (returns-in-Ok-put-clause-answered g c)
 
 pub returns-in-Ok-put-clause-file_fault : goal.returns-in-Ok-put-clause-file_fault
 returns-in-Ok-put-clause-file_fault g c =
-    file_cause c.each_status_has_its_cause.ensures _ (map string_bytes c.args.words.now) _ _ _ _ (returns-in-Ok-put-clause-answered g c)
+    let given = handed (map (λ h. (goal.Predictor-dyn g (h.vtable, h.value)).answer h.value) c.args.hosts.items) in
+    file_cause c.each_status_has_its_cause.ensures given (map string_bytes c.args.words.now) _ _ _ _ (returns-in-Ok-put-clause-answered g c)
 
 pub returns-in-Ok-put-clause-put_fault : goal.returns-in-Ok-put-clause-put_fault
 returns-in-Ok-put-clause-put_fault g c =
-    sink_cause c.each_status_has_its_cause.ensures _ (map string_bytes c.args.words.now) _ _ _ _ (returns-in-Ok-put-clause-answered g c)
+    let given = handed (map (λ h. (goal.Predictor-dyn g (h.vtable, h.value)).answer h.value) c.args.hosts.items) in
+    sink_cause c.each_status_has_its_cause.ensures given (map string_bytes c.args.words.now) _ _ _ _ (returns-in-Ok-put-clause-answered g c)

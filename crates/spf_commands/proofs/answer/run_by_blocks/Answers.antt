@@ -1,6 +1,7 @@
 use Rattle.std.proofs.Common.{rules, ◌≡◌, ◌<◌, subst, length, ◌∙◌, sym, ap, map}
 use Rattle.std.proofs.lemmas.List.{length-map}
 use Rattle.std.specs.Prelude.{if◌then◌else◌, None, Some}
+use Rattle.spf_ast.specs.Lawful.{IsLawful}
 use Rattle.spf_ast.specs.View.{program as seen_program}
 use Rattle.spf_ast.specs.Program.{outcome, seen_outcome, cell_count_of, max_cells}
 use Rattle.spf_ast.specs.Construct.{constructs_in}
@@ -11,8 +12,14 @@ use Rattle.spf_commands.specs.Answer.{ran}
 use Rattle.spf_words.specs.Asked.{seen_options}
 use Rattle.spf_commands.specs.Whole.{Handed, handed, stats_of, host_wanted}
 use Rattle.spf_commands.proofs.Steps.{run_done, host_left}
-use Rattle.spf_commands.proofs.AtHand.{told_nothing, told_all, told_along}
+use Rattle.spf_commands.proofs.AtHand.{told_nothing, told_all, told_along, unrun_told}
 use Rattle.spf_commands.proofs.answer.run_by_blocks.Goals as goal
+
+pub make-requires : goal.make-requires
+make-requires g c = record {
+  orderly = c.breaks_stay_in_their_loops.ensures.programs (seen_program c.program-program.result.now)
+      (subst IsLawful (sym (ap seen_program c.program-program.ensures.program)) c.program-program.ensures.lawful);
+}
 
 pub returns-in-Some-clause-answer : goal.returns-in-Some-clause-answer
 returns-in-Some-clause-answer g c =
@@ -24,8 +31,8 @@ returns-in-Some-clause-answer g c =
     let wanted : host_wanted options given p ≡ Some c.in-Some.host =
     ap (λ b. if b then None else missing_host given.count (constructs_in p.main)) c.requires.blocks
     ∙ ap (λ n. missing_host n (constructs_in p.main)) (sym counted) ∙ missing in
-    let few : max_cells < cell_count_of p (length c.args.input.now) → ⊥ =
-    subst (λ q. max_cells < cell_count_of (seen_program q) (length c.args.input.now) → ⊥) c.program-program.ensures.program (λ many. c.in-Ok.ensures.too_many many) in
+    let few : max_cells p < cell_count_of p (length c.args.input.now) → ⊥ =
+    subst (λ q. max_cells (seen_program q) < cell_count_of (seen_program q) (length c.args.input.now) → ⊥) c.program-program.ensures.program (λ many. c.in-Ok.ensures.too_many many) in
     host_left (ran options p (length c.args.input.now)) options given p c.args.input.now c.in-Some.host _ few wanted c.in_ok-without_host.ensures
 
 pub returns-clause-answer : goal.returns-clause-answer
@@ -44,10 +51,13 @@ returns-clause-answer g c =
     let stats : c.in_ok-report.report.stats ≡ stats_of options given p c.args.input.now =
     c.in_ok-report.ensures.statistics ∙ (λ i. (tally given.hosts (same i) (content i)).stats)
     ∙ ap (λ b. if b then none else (tally given.hosts p c.args.input.now).stats) (sym c.requires.blocks) in
-    let few : max_cells < cell_count_of p (length c.args.input.now) → ⊥ =
-    subst (λ q. max_cells < cell_count_of (seen_program q) (length c.args.input.now) → ⊥) c.program-program.ensures.program (λ many. c.in-Ok.ensures.too_many many) in
+    let few : max_cells p < cell_count_of p (length c.args.input.now) → ⊥ =
+    subst (λ q. max_cells (seen_program q) < cell_count_of (seen_program q) (length c.args.input.now) → ⊥) c.program-program.ensures.program (λ many. c.in-Ok.ensures.too_many many) in
     run_done (ran options p (length c.args.input.now)) options given p c.args.input.now _ few asked
     (c.in_ok-ran.ensures ∙ (λ i. ran options (same i) (length (content i)) (came i) (stats i)))
+
+pub returns-in-Err-clause-told : goal.returns-in-Err-clause-told
+returns-in-Err-clause-told g c = unrun_told _ (seen_program c.program-program.result.now) c.in-Err.error _ c.not_run.ensures
 
 pub returns-in-Err-clause-told_first : goal.returns-in-Err-clause-told_first
 returns-in-Err-clause-told_first g c = told_nothing _ _ _

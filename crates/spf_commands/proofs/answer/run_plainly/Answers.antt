@@ -11,6 +11,9 @@ use Rattle.spf_commands.specs.Whole.{stats_of, host_wanted}
 use Rattle.spf_commands.proofs.Steps.{run_done}
 use Rattle.spf_commands.proofs.answer.run_plainly.Goals as goal
 
+pub make-requires : goal.make-requires
+make-requires c = record { orderly = c.breaks_stay_in_their_loops.ensures.programs (seen_program c.args.program.now) c.requires.lawful }
+
 pub returns : goal.returns
 returns c given =
     let options = seen_options c.args.options in

@@ -1,5 +1,6 @@
-use Rattle.std.proofs.Common.{rules, ◌≡◌, ◌<◌, [], subst, length, ◌∙◌, ap}
+use Rattle.std.proofs.Common.{rules, ◌≡◌, ◌<◌, [], subst, length, ◌∙◌, sym, ap}
 use Rattle.std.specs.Prelude.{None}
+use Rattle.spf_ast.specs.Lawful.{IsLawful}
 use Rattle.spf_ast.specs.View.{program as seen_program}
 use Rattle.spf_ast.specs.Program.{outcome, seen_outcome, cell_count_of, max_cells}
 use Rattle.spf_ast.specs.Construct.{constructs_in}
@@ -11,6 +12,12 @@ use Rattle.spf_layout.specs.Instance.{program_of as instance_program}
 use Rattle.spf_commands.proofs.Steps.{run_done}
 use Rattle.spf_commands.proofs.Decoders.{no_hosts}
 use Rattle.spf_commands.proofs.decoding.demonstrate.Goals as goal
+
+pub make-requires : goal.make-requires
+make-requires g c = record {
+  orderly = c.breaks_stay_in_their_loops.ensures.programs (seen_program c.program-program.result.now)
+      (subst IsLawful (sym (ap seen_program c.program-program.ensures.program)) c.program-program.ensures.lawful);
+}
 
 pub returns : goal.returns
 returns g c =
@@ -24,6 +31,6 @@ returns g c =
     let counted = no_hosts _ _ P c.new-hosts.ensures.items c.in_ok-report.ensures.statistics in
     let stats : c.in_ok-report.report.stats ≡ stats_of by_blocks given p c.args.input.now =
     counted ∙ (λ i. (tally given.hosts (same i) (content i)).stats) in
-    let few : max_cells < cell_count_of p (length c.args.input.now) → ⊥ =
-    subst (λ q. max_cells < cell_count_of (seen_program q) (length c.args.input.now) → ⊥) c.program-program.ensures.program (λ many. c.in-Ok.ensures.too_many many) in
+    let few : max_cells p < cell_count_of p (length c.args.input.now) → ⊥ =
+    subst (λ q. max_cells (seen_program q) < cell_count_of (seen_program q) (length c.args.input.now) → ⊥) c.program-program.ensures.program (λ many. c.in-Ok.ensures.too_many many) in
     run_done shown by_blocks given p c.args.input.now _ few asked (c.in_ok-shown.ensures ∙ (λ i. shown (came i) (stats i)))

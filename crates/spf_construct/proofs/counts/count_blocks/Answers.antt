@@ -27,7 +27,7 @@ loop-place-preserved c =
     let test = c.loop-place-test.true in
     let enough = c.requires.enough in
     let size = cases.1 in
-    let p = pair-step c.args.guesses.now c.in-Some.others.now c.loop-place.place _ _ (omega (arith, test, enough, size)) (omega (arith, test)) in
+    let p = pair-step c.args.guesses.now c.in-Some.others.now c.loop-place.place c.index-guesses-place.result c.index-others-place.result (omega (arith, test, enough, size)) (omega (arith, test)) c.index-guesses-place.is c.index-others-place.is in
     rw (add-one c.loop-place.place) (record {
       blocks = w.blocks ∙ inv.blocks;
       hits = add-step _ _ _ _ _ _ w.hits (ap (how_many is_hit) p) inv.hits;

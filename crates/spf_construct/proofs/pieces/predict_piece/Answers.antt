@@ -10,8 +10,8 @@ pub loop-n-preserved : goal.loop-n-preserved
 loop-n-preserved c =
     let inv = c.loop-n.invariant in
     let fits : FitsSigned w64 c.number_at.result = search rules in
-    let number : to_z w64 (of_z w64 c.number_at.result) ≡ c.args.header.low +ℤ pos (c.args.from + c.loop-n.n) = to_z-of_z w64 c.number_at.result fits ∙ c.number_at.ensures in
-    let of : ℕ → Guess = predicted_at c.args.at c.args.header in
+    let number : to_z w64 (of_z w64 c.number_at.result) ≡ c.args.header.now.low +ℤ pos (c.args.from + c.loop-n.n) = to_z-of_z w64 c.number_at.result fits ∙ c.number_at.ensures in
+    let of : ℕ → Guess = predicted_at c.args.at c.args.header.now in
     let guess : seen_guess c.predict.result ≡ of (c.args.from + c.loop-n.n) = c.predict.ensures.guess ∙ ap (predicted c.args.at) number in
     let count : suc c.loop-n.n ≡ c.loop-n.n + 1 = omega arith in
     record {

@@ -13,5 +13,5 @@ pub returns-clause-pieces : goal.returns-clause-pieces
 returns-clause-pieces g c =
     both_ok c.map_indices.result c.map_indices.ensures.len c.map_indices.ensures.each (λ v len each.
     let long : vec_len v ≡ length v.items = search rules in
-    each_given (λ i piece. IfOk piece (λ r. map seen_guess r.items ≡ piece_of (predicted_at c.args.at c.args.header) (c.args.header.blocks - 1) c.args.size i)) v.items
+    each_given (λ i piece. IfOk piece (λ r. map seen_guess r.items ≡ piece_of (predicted_at c.args.at c.args.header.now) (c.args.header.now.blocks - 1) c.args.size i)) v.items
     (λ i d l. let given = (each i d (omega (arith, l, len, long))).1 in given.met))

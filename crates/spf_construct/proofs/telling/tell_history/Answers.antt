@@ -1,15 +1,17 @@
-use Rattle.std.proofs.Common.{◌∙◌, sym, ap, List, ◌++◌}
+use Rattle.std.proofs.Common.{◌∙◌, sym, ap, drop, List, ◌++◌, pos, ◌+ℤ◌}
+use Rattle.spf_ast.specs.Construct.{predictors_of}
 use Rattle.spf_ast.specs.ConstructView.{construct as seen_construct}
-use Rattle.spf_exec.specs.Pieces.{seen_header}
-use Rattle.spf_guess.specs.Guess.{predictor_of, tells}
+use Rattle.spf_guess.specs.Guess.{tells_from}
 use Rattle.spf_chain.specs.declared.validated.Validated.{Validated}
 use Rattle.spf_construct.specs.Guesses.{real_values}
-use Rattle.spf_construct.proofs.Hosts.{host-tells, retold}
+use Rattle.spf_construct.proofs.Hosts.{retold}
 use Rattle.spf_construct.proofs.telling.tell_history.Goals as goal
 
-pub returns-in-Some-split_first-clause-told : goal.returns-in-Some-split_first-clause-told
-returns-in-Some-split_first-clause-told g c = λ before telling were.
-    let blocks = (c.in-Some-split_first.ensures {u = tt}).cases.0 in
-    let tells_it = host-tells (predictor_of (seen_construct c.args.construct)) c.in-Some.host (c.in-Some.ensures {u = tt}) c.args.header.low c.in-Some-split_first.field-0-0.now.real (real_values c.in-Some-split_first.others.now) in
-    retold before _ _ _ (ap (λ more. telling ++ more) (tells_it ∙ ap (λ (l : List Validated). tells (seen_construct c.args.construct) (seen_header c.args.header) (real_values l)) (sym blocks)))
+pub returns-in-Some-clause-told : goal.returns-in-Some-clause-told
+returns-in-Some-clause-told g c = λ before telling were.
+    let blocks = (c.in-Some.ensures {u = tt}).cases.0 in
+    retold before _ _ _
+    (ap (λ more. telling ++ more)
+    ((λ i. tells_from (c.predictors.ensures i) (c.args.header.now.low +ℤ pos 1) (real_values c.in-Some.others.now))
+    ∙ ap (λ (l : List Validated). tells_from (predictors_of (seen_construct c.args.construct)) (c.args.header.now.low +ℤ pos 1) (drop 1 (real_values l))) (sym blocks)))
     (c.tell_from_one.ensures.told before telling were)

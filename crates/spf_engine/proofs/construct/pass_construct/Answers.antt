@@ -1,14 +1,11 @@
-use Rattle.std.proofs.Common.{◌≡◌, ◌∙◌, sym, ap, subst, arith, rules, w64, FitsSigned, ◌≤◌, List}
-use Rattle.std.proofs.lemmas.Int.{to_z-of_z}
+use Rattle.std.proofs.Common.{sym, ap, subst, arith, ◌≤◌}
 use Rattle.spf_ast.specs.ConstructView.{construct as seen_construct}
 use Rattle.spf_ast.specs.Lawful.{IsLawful}
 use Rattle.spf_ast.specs.Program.{environment_of}
 use Rattle.spf_layout.specs.Instance.{program_of}
 use Rattle.spf_check.specs.Accepting.{IsAccepted}
-use Rattle.spf_chain.specs.declared.validated.Settled.TheVariants.{Carried}
 use Rattle.spf_exec.specs.Pieces.{Stand, moment_of, seen_header}
 use Rattle.spf_entry.specs.Entry.{plain_blocks}
-use Rattle.spf_rollback.specs.Rules.{KeepsTheRules}
 use Rattle.spf_guess.specs.declared.stats.Stats.{Stats}
 use Rattle.spf_construct.specs.Guesses.{AreAtMost}
 use Rattle.spf_progress.specs.Progress.{entry_there, guess_there}
@@ -31,12 +28,11 @@ returns-in-Err-clause-few g c = subst (λ (s : Stats). AreAtMost s 4096) (sym c.
 pub returns-then-header-eq0-clause-came : goal.returns-then-header-eq0-clause-came
 returns-then-header-eq0-clause-came g c = λ before progress were goes.
     let p = program_of c.args.instance.now in
-    let fits : FitsSigned w64 c.in-Ok.header.start = search rules in
     leads-nothing c.runs_in_pieces_go_on.ensures.settle c.runs_in_pieces_go_on.ensures.blocks before p c.args.instance.now.input c.args.run.now c.header.new.self progress (seen_construct c.args.construct)
     (seen_header c.in-Ok.header) c.without_blocks-then-header-eq0.result _ goes c.requires.next c.in-Ok.ensures.header
     (c.lawful_programs_are_quiet_and_small.ensures.functions p (subst IsLawful (sym c.requires.program) c.program-program.ensures.lawful))
     (subst IsAccepted (sym c.requires.program) c.program-program.ensures.accepted c.args.number (seen_construct c.args.construct) c.requires.construct)
-    c.header.ensures.place c.if-header-eq0.true (c.without_blocks-then-header-eq0.ensures.settled ∙ ap Carried (to_z-of_z w64 c.in-Ok.header.start fits)) c.without_blocks-then-header-eq0.ensures.stats c.without_blocks-then-header-eq0.ensures.trace were
+    c.header.ensures.place c.if-header-eq0.true c.without_blocks-then-header-eq0.ensures.settled c.without_blocks-then-header-eq0.ensures.stats c.without_blocks-then-header-eq0.ensures.trace were
 
 pub returns-then-header-eq0-clause-few : goal.returns-then-header-eq0-clause-few
 returns-then-header-eq0-clause-few g c = subst (λ (s : Stats). AreAtMost s 4096) (sym c.without_blocks-then-header-eq0.ensures.stats) (few-none 4096)

@@ -1,7 +1,8 @@
-use Rattle.std.proofs.Common.{◌≡◌, ◌∙◌, sym, ap, subst, refl, [], length}
+use Rattle.std.proofs.Common.{◌∙◌, sym, subst, refl, [], map}
 use Rattle.spf_ast.specs.Lawful.{IsLawful}
 use Rattle.spf_ast.specs.Construct.{constructs_in, reals}
 use Rattle.spf_layout.specs.Instance.{program_of}
+use Rattle.spf_predictors.specs.Answers.{handed_in}
 use Rattle.spf_progress.specs.Progress.{no_progress}
 use Rattle.spf_progress.specs.Traces.{AreTraces}
 use Rattle.spf_engine.specs.Runs.{AreFew, GoesFurther}
@@ -58,8 +59,9 @@ returns-in-Finished-clause-statistics g c =
 pub returns-in-Finished-clause-traces : goal.returns-in-Finished-clause-traces
 returns-in-Finished-clause-traces g c =
     let i = c.loop-account.invariant in
-    subst (AreTraces _ (program_of c.args.instance.now) c.args.instance.now.input (constructs_in (program_of c.args.instance.now).main) (reals (program_of c.args.instance.now) c.args.instance.now.input) []) (sym c.finished.ensures.traces)
-    (finishes-so _ (program_of c.args.instance.now) c.args.instance.now.input c.in_ok-take_step.field-0 c.take_step.new.run c.take_step.new.account _ (c.in_ok-take_step.ensures.steps _ i.progress i.agrees i.told i.goes) c.in-Finished.is).traces
+    let hosts = (handed_in (map (λ h. (goal.Predictor-dyn g (h.vtable, h.value)).answer h.value) c.args.hosts.now.items)) in
+    subst (AreTraces hosts (program_of c.args.instance.now) c.args.instance.now.input (constructs_in (program_of c.args.instance.now).main) (reals (program_of c.args.instance.now) c.args.instance.now.input) []) (sym c.finished.ensures.traces)
+    (finishes-so hosts (program_of c.args.instance.now) c.args.instance.now.input c.in_ok-take_step.field-0 c.take_step.new.run c.take_step.new.account _ (c.in_ok-take_step.ensures.steps _ i.progress i.agrees i.told i.goes) c.in-Finished.is).traces
 
 pub returns-in-Finished-clause-told : goal.returns-in-Finished-clause-told
 returns-in-Finished-clause-told g c =
@@ -81,8 +83,9 @@ returns-in-Trapped-clause-statistics g c =
 pub returns-in-Trapped-clause-traces : goal.returns-in-Trapped-clause-traces
 returns-in-Trapped-clause-traces g c =
     let i = c.loop-account.invariant in
-    subst (AreTraces _ (program_of c.args.instance.now) c.args.instance.now.input (constructs_in (program_of c.args.instance.now).main) (reals (program_of c.args.instance.now) c.args.instance.now.input) []) (sym c.trapped.ensures.traces)
-    (traps-so _ (program_of c.args.instance.now) c.args.instance.now.input c.in_ok-take_step.field-0 c.in-Trapped.trap c.take_step.new.run c.take_step.new.account _ (c.in_ok-take_step.ensures.steps _ i.progress i.agrees i.told i.goes) c.in-Trapped.is).traces
+    let hosts = (handed_in (map (λ h. (goal.Predictor-dyn g (h.vtable, h.value)).answer h.value) c.args.hosts.now.items)) in
+    subst (AreTraces hosts (program_of c.args.instance.now) c.args.instance.now.input (constructs_in (program_of c.args.instance.now).main) (reals (program_of c.args.instance.now) c.args.instance.now.input) []) (sym c.trapped.ensures.traces)
+    (traps-so hosts (program_of c.args.instance.now) c.args.instance.now.input c.in_ok-take_step.field-0 c.in-Trapped.trap c.take_step.new.run c.take_step.new.account _ (c.in_ok-take_step.ensures.steps _ i.progress i.agrees i.told i.goes) c.in-Trapped.is).traces
 
 pub returns-in-Trapped-clause-told : goal.returns-in-Trapped-clause-told
 returns-in-Trapped-clause-told g c =

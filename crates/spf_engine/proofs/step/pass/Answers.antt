@@ -1,11 +1,9 @@
-use Rattle.std.proofs.Common.{◌≡◌, ◌∙◌, sym, ap, subst, length, List}
+use Rattle.std.proofs.Common.{sym, subst, length}
 use Rattle.spf_ast.specs.ConstructView.{construct as seen_construct}
 use Rattle.spf_ast.specs.Construct.{constructs_in}
-use Rattle.spf_ast.specs.Lawful.{IsLawful}
 use Rattle.spf_layout.specs.Instance.{program_of}
 use Rattle.spf_guess.specs.declared.stats.Stats.{Stats}
-use Rattle.spf_guess.specs.Statistics.{plus}
-use Rattle.spf_engine.specs.Runs.{AreFew, GoesFurther}
+use Rattle.spf_engine.specs.Runs.{GoesFurther}
 use Rattle.spf_engine.proofs.Missing.{handed-in}
 use Rattle.spf_engine.proofs.Places.{numbered}
 use Rattle.spf_engine.proofs.Stepping.{all-told-first, all-first-after, steps-after, further-after, if-err}

@@ -1,4 +1,4 @@
-use Rattle.std.proofs.Common.{◌≡◌, ◌∙◌, sym, ap, subst, length, List}
+use Rattle.std.proofs.Common.{sym, subst}
 use Rattle.spf_ast.specs.Lawful.{IsLawful}
 use Rattle.spf_layout.specs.Instance.{program_of}
 use Rattle.spf_exec.specs.Pieces.{Advanced}

@@ -8,5 +8,5 @@ use Rattle.spf_exec.proofs.block_run.run_quietly.Goals as goal
 pub returns-clause-performs : goal.returns-clause-performs
 returns-clause-performs g c =
     let p = program_of c.args.instance.now in
-    quiet_run p c.args.instance.now.input (construct c.args.block.construct) c.args.block.part (main_slots p c.args.frame.now) _ full_output.bytes c.args.block.number c.args.block.value
+    quiet_run p c.args.instance.now.input (construct c.args.block.now.construct) c.args.block.now.part (main_slots p c.args.frame.now) _ full_output.bytes c.args.block.now.number c.args.block.now.value
     c.requires.silent c.requires.functions_silent c.run_part.ensures.performs

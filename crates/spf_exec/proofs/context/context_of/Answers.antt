@@ -16,7 +16,7 @@ returns-clause-fits c =
     let input = c.args.instance.now.input in
     subst (λ (x : List ℕ × List FunctionCode). FitsProgram p input (setting_before x.0 c.extents.result.now x.1 (length x.1)))
     (λ t. (sym c.input.ensures.same t, sym c.deref.ensures.value t))
-    (fits_main p input c.extents.result.now c.code.result.now c.code.ensures (c.extents.ensures ∙ c.layout.ensures.extents))
+    (fits_main p input c.extents.result.now c.code.result.now c.code.ensures.code c.code.ensures.orderly (c.extents.ensures ∙ c.layout.ensures.extents))
 
 pub returns-clause-within : goal.returns-clause-within
 returns-clause-within c =
@@ -25,4 +25,4 @@ returns-clause-within c =
 pub returns-clause-functions : goal.returns-clause-functions
 returns-clause-functions c =
     let p = program_of c.args.instance.now in
-    subst (FunctionsFit (rooms p)) (sym c.deref.ensures.value) (functions_fit p.functions c.code.result.now.functions.items c.code.ensures.count c.code.ensures.functions)
+    subst (FunctionsFit (rooms p)) (sym c.deref.ensures.value) (functions_fit p.functions c.code.result.now.functions.items c.code.ensures.code.count c.code.ensures.code.functions)

@@ -4,9 +4,10 @@ use Rattle.spf_layout.specs.Instance.{program_of}
 use Rattle.spf_layout.specs.Frame.{main_slots}
 use Rattle.spf_memory.specs.Performs.{state}
 use Rattle.spf_instructions.specs.Instructions.{setting}
-use Rattle.spf_code.specs.Code.{code_means}
+use Rattle.spf_exec.specs.Sources.{wholly}
+use Rattle.spf_machine.specs.Machine.{whole_means}
 use Rattle.spf_code.specs.NodeView.{code}
-use Rattle.spf_exec.proofs.Sources.{source-performed}
+use Rattle.spf_exec.proofs.Sources.{answer-performed, runs-whole}
 use Rattle.spf_exec.proofs.entry.run.Goals as goal
 
 pub returns-clause-performs : goal.returns-clause-performs
@@ -15,8 +16,9 @@ returns-clause-performs g c = λ room form runs wide.
     let registers = state c.args.registers.now (g.M.Memory.output c.args.memory.now) in
     let slots = state (main_slots p c.args.registers.now) (g.M.Memory.output c.args.memory.now) in
     let context = c.context_of-context.result in
-    source-performed (length p.slots) (length c.args.registers.now) (code_means (setting context (length context.functions.now)) (code c.args.code.now) registers) (form slots)
-    ((runs (setting context (length context.functions.now)) c.context_of-context.ensures.fits).ends registers slots (record { slots = refl; output = refl }) wide)
+    let here = setting context (length context.functions.now) in
+    answer-performed (length p.slots) (length c.args.registers.now) (whole_means here (code c.args.code.now) registers) (wholly form slots)
+    (runs-whole here (length p.slots) room (code c.args.code.now) form (runs here c.context_of-context.ensures.fits) registers slots (record { slots = refl; output = refl }) wide)
     c.perform.ensures.performs
 
 pub perform-requires-clause-fits : goal.perform-requires-clause-fits

@@ -8,9 +8,9 @@ use Rattle.spf_layout.specs.Frame.{main_slots}
 use Rattle.spf_memory.specs.Performs.{state}
 use Rattle.spf_memory.proofs.Steps.{at_once, then_value, exit_halt}
 use Rattle.spf_instructions.specs.Instructions.{setting}
-use Rattle.spf_code.specs.Code.{code_means}
+use Rattle.spf_machine.specs.Machine.{whole_means}
 use Rattle.spf_code.specs.NodeView.{code}
-use Rattle.spf_exec.proofs.Sources.{value-performed}
+use Rattle.spf_exec.proofs.Sources.{answer-performed}
 use Rattle.spf_exec.proofs.entry.value_of.Goals as goal
 
 pub returns-in_err-perform-clause-performs : goal.returns-in_err-perform-clause-performs
@@ -20,7 +20,7 @@ returns-in_err-perform-clause-performs g c = λ room form gives wide.
     let slots = state (main_slots p c.args.registers.now) (g.M.Memory.output c.args.memory.now) in
     let context = c.context_of-context.result in
     let here = setting context (length context.functions.now) in
-    value-performed (length p.slots) (length c.args.registers.now) ((code_means here (code c.args.code.now.nodes.items) >> reads c.args.code.now.register) registers) (form slots)
+    answer-performed (length p.slots) (length c.args.registers.now) ((whole_means here (code c.args.code.now.nodes.items) >> reads c.args.code.now.register) registers) (form slots)
     (gives here c.context_of-context.ensures.fits registers slots (record { slots = refl; output = refl }) wide)
     (exit_halt _ c.from_residual.ensures.1 (rw c.deref.ensures.value at c.in_err-perform.ensures.performs))
 
@@ -32,7 +32,7 @@ returns-clause-performs g c = λ room form gives wide.
     let context = c.context_of-context.result in
     let fits : FitsSigned w64 c.read.result = search rules in
     let here = setting context (length context.functions.now) in
-    value-performed (length p.slots) (length c.args.registers.now) ((code_means here (code c.args.code.now.nodes.items) >> reads c.args.code.now.register) registers) (form slots)
+    answer-performed (length p.slots) (length c.args.registers.now) ((whole_means here (code c.args.code.now.nodes.items) >> reads c.args.code.now.register) registers) (form slots)
     (gives here c.context_of-context.ensures.fits registers slots (record { slots = refl; output = refl }) wide)
     (then_value (λ _. reads c.args.code.now.register) g.met.M.Memory.laws (rw c.deref.ensures.value at c.in_ok-perform.ensures.performs) (rw (to_z-of_z w64 c.read.result fits, c.read.ensures) (at_once g.met.M.Memory.laws _ _ _)))
 

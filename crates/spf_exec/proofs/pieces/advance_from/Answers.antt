@@ -2,7 +2,7 @@ use Rattle.std.proofs.Common.{rules, ◌≡◌, ◌+◌, Err, Some, subst, ap, �
 use Rattle.std.specs.Prelude.{MatchOption}
 use Rattle.spf_ast.specs.View.{block}
 use Rattle.spf_ast.specs.Syntax.{end}
-use Rattle.spf_ast.specs.Meaning.{block_means}
+use Rattle.spf_ast.specs.Meaning.{main_means}
 use Rattle.spf_ast.specs.Program.{environment_of}
 use Rattle.spf_ast.specs.Construct.{constructs_in}
 use Rattle.spf_ast.specs.ConstructView.{construct}
@@ -24,7 +24,7 @@ returns-in-Ok-clause-advanced c =
     let e = part_from c.deref.result.now c.args.place ∙ ap (drop c.args.place) statements in
     let prefix = prefix_is xs _ c.args.place c.plain_prefix-prefix.result.count e c.plain_prefix-prefix.ensures.before in
     let back = back_is xs _ c.args.place c.plain_prefix-prefix.result.count e c.plain_prefix-prefix.ensures.rest in
-    let went = subst (λ b. EndsAt p (block_means (environment_of p c.args.instance.now.input) b) before after tt) prefix (record { answer = c.in-Ok.ensures.outcome.0; memory = c.in-Ok.ensures.outcome.1 }) in
+    let went = subst (λ b. EndsAt p (main_means (environment_of p c.args.instance.now.input) b) before after tt) prefix (record { answer = c.in-Ok.ensures.outcome.0; memory = c.in-Ok.ensures.outcome.1 }) in
     let next = subst (λ b. MatchOption c.plain_prefix-prefix.result.construct (from_construct b ≡ end) (λ k. construct_first (from_construct b) ≡ Some (construct k))) (ap block e ∙ rest_is xs c.args.place) c.plain_prefix-prefix.ensures.construct in
     advanced_ok p c.args.instance.now.input before after c.args.passed c.plain_prefix-prefix.result.construct c.pause.result went back c.requires.passed next c.pause.ensures
 
@@ -47,4 +47,4 @@ returns-in-Err-Trapped-clause-advanced c =
     let e = part_from c.deref.result.now c.args.place ∙ ap (drop c.args.place) statements in
     let prefix = prefix_is xs _ c.args.place c.plain_prefix-prefix.result.count e c.plain_prefix-prefix.ensures.before in
     let stopped = trapped_outcome _ _ _ _ (c.in-Err-Trapped.is ∙ ap Err c.in-Err-Trapped.field-0-is) c.perform_between.ensures.outcome in
-    rw c.in-Err-Trapped.field-0-is (subst (λ b. TrapsAt p (block_means (environment_of p c.args.instance.now.input) b) before after c.in-Err-Trapped.trap) prefix stopped.0)
+    rw c.in-Err-Trapped.field-0-is (subst (λ b. TrapsAt p (main_means (environment_of p c.args.instance.now.input) b) before after c.in-Err-Trapped.trap) prefix stopped.0)

@@ -7,37 +7,36 @@ use Rattle.spf_exec.proofs.pieces.perform_header.Goals as goal
 pub returns-in_err-start-clause-performs : goal.returns-in_err-start-clause-performs
 returns-in_err-start-clause-performs g c =
     let p = err_from_is_err_and c.from_residual.result c.from_residual.ensures.1 in
-    rw (p.1, p.2) (then_halt _ c.in_err-start.ensures.performs)
+    rw (p.1, p.2) (then_halt _ (rw c.deref.ensures.value at c.in_err-start.ensures.performs))
 
 pub returns-in_err-low-clause-performs : goal.returns-in_err-low-clause-performs
 returns-in_err-low-clause-performs g c =
     let p = err_from_is_err_and c.from_residual-in_err-low.result c.from_residual-in_err-low.ensures.1 in
-    rw (p.1, p.2) (then_value _ g.met.M.Memory.laws c.in_ok-start.ensures.performs (then_halt _ (rw c.in_ok-start.ensures.kept at c.in_err-low.ensures.performs)))
+    rw (p.1, p.2) (then_value _ g.met.M.Memory.laws (rw c.deref.ensures.value at c.in_ok-start.ensures.performs) (then_halt _ (rw c.in_ok-start.ensures.kept at c.in_err-low.ensures.performs)))
 
 pub returns-in_err-high-clause-performs : goal.returns-in_err-high-clause-performs
 returns-in_err-high-clause-performs g c =
     let p = err_from_is_err_and c.from_residual-in_err-high.result c.from_residual-in_err-high.ensures.1 in
-    rw (p.1, p.2) (then_value _ g.met.M.Memory.laws c.in_ok-start.ensures.performs (then_value _ g.met.M.Memory.laws (rw c.in_ok-start.ensures.kept at c.in_ok-low.ensures.performs) (then_halt _ (rw (c.in_ok-low.ensures.kept, c.in_ok-start.ensures.kept) at c.in_err-high.ensures.performs))))
+    rw (p.1, p.2) (then_value _ g.met.M.Memory.laws (rw c.deref.ensures.value at c.in_ok-start.ensures.performs) (then_value _ g.met.M.Memory.laws (rw c.in_ok-start.ensures.kept at c.in_ok-low.ensures.performs) (then_halt _ (rw (c.in_ok-low.ensures.kept, c.in_ok-start.ensures.kept) at c.in_err-high.ensures.performs))))
 
 pub returns-then-are_too_many-clause-performs : goal.returns-then-are_too_many-clause-performs
 returns-then-are_too_many-clause-performs g c =
     let fl : FitsSigned w64 c.in_ok-low.low = search rules in
     let fh : FitsSigned w64 c.in_ok-high.high = search rules in
     let e = rw (to_z-of_z w64 c.in_ok-low.low fl, to_z-of_z w64 c.in_ok-high.high fh) at (sym c.are_too_many.ensures ∙ c.if-are_too_many.true) in
-    then_value _ g.met.M.Memory.laws c.in_ok-start.ensures.performs
+    then_value _ g.met.M.Memory.laws (rw c.deref.ensures.value at c.in_ok-start.ensures.performs)
     (then_value _ g.met.M.Memory.laws (rw c.in_ok-start.ensures.kept at c.in_ok-low.ensures.performs)
     (then_value _ g.met.M.Memory.laws (rw (c.in_ok-low.ensures.kept, c.in_ok-start.ensures.kept) at c.in_ok-high.ensures.performs)
     (rw e (traps_now g.met.M.Memory.laws _ _ _ _))))
 
 pub returns-clause-performs : goal.returns-clause-performs
 returns-clause-performs g c =
-    let fs : FitsSigned w64 c.in_ok-start.start = search rules in
     let fl : FitsSigned w64 c.in_ok-low.low = search rules in
     let fh : FitsSigned w64 c.in_ok-high.high = search rules in
     let e = rw (to_z-of_z w64 c.in_ok-low.low fl, to_z-of_z w64 c.in_ok-high.high fh) at (sym c.are_too_many.ensures ∙ c.if-are_too_many.false) in
     let b = rw (to_z-of_z w64 c.in_ok-low.low fl, to_z-of_z w64 c.in_ok-high.high fh) at c.block_count.ensures.count in
-    rw (to_z-of_z w64 c.in_ok-start.start fs, to_z-of_z w64 c.in_ok-low.low fl, b)
-    (then_value _ g.met.M.Memory.laws c.in_ok-start.ensures.performs
+    rw (to_z-of_z w64 c.in_ok-low.low fl, b)
+    (then_value _ g.met.M.Memory.laws (rw c.deref.ensures.value at c.in_ok-start.ensures.performs)
     (then_value _ g.met.M.Memory.laws (rw c.in_ok-start.ensures.kept at c.in_ok-low.ensures.performs)
     (then_value _ g.met.M.Memory.laws (rw (c.in_ok-low.ensures.kept, c.in_ok-start.ensures.kept) at c.in_ok-high.ensures.performs)
     (rw e (at_once g.met.M.Memory.laws _ _ _)))))

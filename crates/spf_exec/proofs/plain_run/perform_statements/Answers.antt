@@ -1,5 +1,5 @@
 use Rattle.std.proofs.Common.{rules, ◌≡◌, ◌<◌, ◌≤◌, ◌+◌, length, ap, ◌∙◌, arith}
-use Rattle.spf_ast.specs.Meaning.{statement_means, block_means}
+use Rattle.spf_ast.specs.Meaning.{statement_means, main_means}
 use Rattle.spf_ast.specs.Program.{environment_of}
 use Rattle.spf_ast.specs.View.{statement}
 use Rattle.spf_registers.specs.Registers.{rooms, statement_needs}
@@ -10,7 +10,7 @@ use Rattle.spf_memory.proofs.Steps.{along, exit_halt, steps}
 use Rattle.spf_memory.proofs.Turns.{still}
 use Rattle.spf_exec.specs.Sources.{callable_of}
 use Rattle.spf_exec.proofs.Rooms.{statement_room}
-use Rattle.spf_exec.proofs.Sources.{between, next_between, runs_statement, statement_at}
+use Rattle.spf_exec.proofs.Sources.{between, next_between, orderly_at, whole-then, runs_statement, statement_at}
 use Rattle.spf_exec.proofs.plain_run.perform_statements.Goals as goal
 
 pub index-requires : goal.index-requires
@@ -22,7 +22,7 @@ index-requires g c =
     let xs = c.args.instance.now.code.main.items in
     let i = c.loop-index.index in
     let less : i < length xs = omega (arith, c.loop-index-test.true, c.requires.within) in
-    let here = statement_at (callable_of p) (rooms p) own xs c.code-code.result.now.main.items i (c.code-code.ensures.main (rooms p)) less in
+    let here = statement_at (callable_of p) (rooms p) own xs c.code-code.result.now.main.items i (c.code-code.ensures.code.main (rooms p)) less in
     let x = here.statement_is in
     let inside = here.inside in
     let long : c.code-code.result.now.main.len ≡ length c.code-code.result.now.main.items = search rules in
@@ -37,11 +37,13 @@ returns-in_err-run-clause-performs g c =
     let xs = c.args.instance.now.code.main.items in
     let i = c.loop-index.index in
     let less : i < length xs = omega (arith, c.loop-index-test.true, c.requires.within) in
-    let here = statement_at (callable_of p) (rooms p) own xs c.code-code.result.now.main.items i (c.code-code.ensures.main (rooms p)) less in
+    let here = statement_at (callable_of p) (rooms p) own xs c.code-code.result.now.main.items i (c.code-code.ensures.code.main (rooms p)) less in
     let x = here.statement_is in
     let form = statement_means env x.line (statement x.kind) in
-    let next = ap (block_means env) (next_between xs i c.args.to x c.loop-index-test.true here.there) in
-    let runs = runs_statement p input x.line (statement x.kind) (code c.index.result.now.items) (here.coded c.index.result.now c.index.ensures) in
+    let rest = main_means env (between xs (i + 1) c.args.to) in
+    let next = ap (main_means env) (next_between xs i c.args.to x c.loop-index-test.true here.there) ∙ whole-then form rest in
+    let orderly = orderly_at xs i x here.there c.code-code.ensures.orderly.main in
+    let runs = runs_statement p input x.line (statement x.kind) (code c.index.result.now.items) orderly (here.coded c.index.result.now c.index.ensures) in
     let room = statement_room (rooms p) xs i x here.there in
     let wide : own + statement_needs (rooms p) (statement x.kind) ≤ length c.loop-index.registers = omega (arith, room, c.requires.frame, c.loop-index.invariant.count) in
     c.loop-index.invariant.goes.with _ _ _
@@ -56,15 +58,17 @@ loop-index-preserved g c =
     let xs = c.args.instance.now.code.main.items in
     let i = c.loop-index.index in
     let less : i < length xs = omega (arith, c.loop-index-test.true, c.requires.within) in
-    let here = statement_at (callable_of p) (rooms p) own xs c.code-code.result.now.main.items i (c.code-code.ensures.main (rooms p)) less in
+    let here = statement_at (callable_of p) (rooms p) own xs c.code-code.result.now.main.items i (c.code-code.ensures.code.main (rooms p)) less in
     let x = here.statement_is in
     let form = statement_means env x.line (statement x.kind) in
-    let next = ap (block_means env) (next_between xs i c.args.to x c.loop-index-test.true here.there) in
-    let runs = runs_statement p input x.line (statement x.kind) (code c.index.result.now.items) (here.coded c.index.result.now c.index.ensures) in
+    let rest = main_means env (between xs (i + 1) c.args.to) in
+    let next = ap (main_means env) (next_between xs i c.args.to x c.loop-index-test.true here.there) ∙ whole-then form rest in
+    let orderly = orderly_at xs i x here.there c.code-code.ensures.orderly.main in
+    let runs = runs_statement p input x.line (statement x.kind) (code c.index.result.now.items) orderly (here.coded c.index.result.now c.index.ensures) in
     let room = statement_room (rooms p) xs i x here.there in
     let wide : own + statement_needs (rooms p) (statement x.kind) ≤ length c.loop-index.registers = omega (arith, room, c.requires.frame, c.loop-index.invariant.count) in
     record {
-      goes = steps (λ _. block_means env (between xs (i + 1) c.args.to)) g.met.M.Memory.laws (still next c.loop-index.invariant.goes)
+      goes = steps (λ _. main_means env (between xs (i + 1) c.args.to)) g.met.M.Memory.laws (still next c.loop-index.invariant.goes)
           (rw c.deref.ensures.value at c.in_ok-run.ensures.performs (own + statement_needs (rooms p) (statement x.kind)) form runs wide);
       cells = c.in_ok-run.ensures.cells ∙ c.loop-index.invariant.cells;
       count = c.run.auto.registers ∙ c.loop-index.invariant.count;
@@ -77,7 +81,7 @@ run-requires-clause-fits g c =
     let xs = c.args.instance.now.code.main.items in
     let i = c.loop-index.index in
     let less : i < length xs = omega (arith, c.loop-index-test.true, c.requires.within) in
-    let here = statement_at (callable_of p) (rooms p) own xs c.code-code.result.now.main.items i (c.code-code.ensures.main (rooms p)) less in
+    let here = statement_at (callable_of p) (rooms p) own xs c.code-code.result.now.main.items i (c.code-code.ensures.code.main (rooms p)) less in
     let x = here.statement_is in
     let room = statement_room (rooms p) xs i x here.there in
     let wide : own + statement_needs (rooms p) (statement x.kind) ≤ length c.loop-index.registers = omega (arith, room, c.requires.frame, c.loop-index.invariant.count) in

@@ -1,22 +1,23 @@
 use Rattle.std.specs.Prelude.{◌==◌}
-use Rattle.std.proofs.Common.{◌≡◌, ℕ, ◌+◌, ◌*◌, ◌<◌, suc, false, ◌∷◌, drop, refl, sym, ap, ◌∙◌, subst, arith}
+use Rattle.std.proofs.Common.{◌≡◌, ℕ, ◌+◌, ◌*◌, ◌<◌, ◌≤◌, suc, false, ◌⊎◌, List, [], ◌∷◌, length, drop, refl, sym, ap, ◌∙◌, subst, arith}
 use Rattle.std.proofs.lemmas.List.{drop_all}
 use Rattle.std.proofs.Math.Seq.{drop-cons}
 use Rattle.spf_ast.specs.declared.syntax.Fold.{out-Fold}
 use Rattle.spf_ast.specs.declared.syntax.Pair.{out-Pair}
 use Rattle.spf_ast.specs.View.{expression, condition, statement, block, fold_head, pair_head}
-use Rattle.spf_ast.specs.Syntax.{Let, Assign, Fail, If, For, While, Fold, Pair, on_line}
+use Rattle.spf_ast.specs.Syntax.{Let, Assign, Fail, If, For, While, Fold, Pair, Break, on_line}
 use Rattle.spf_ast.proofs.Views.{statement-if, statement-for, statement-while, statement-fold, statement-pair}
 use Rattle.spf_code.specs.declared.node.Node.TheVariants as v
 use Rattle.spf_code.specs.Code.{Code, stop, only, ◌then◌, Blocks, node_sets, code_sets}
 use Rattle.spf_code.specs.NodeView.{node, code}
-use Rattle.spf_lowering.specs.Lowering.{IsLeft, AreLeft}
-use Rattle.spf_lowering.proofs.Lowering.{code-append, then-then, more, mapped, as_well, finish, alone, HeldIn}
+use Rattle.spf_lowering.specs.Computes.{copies}
+use Rattle.spf_lowering.specs.Lowering.{SetsNone, IsLeft, AreLeft}
+use Rattle.spf_lowering.proofs.Lowering.{code-append, then-then, one, more, mapped, as_well, finish, alone, HeldIn, PassedIn}
 use Rattle.spf_code.proofs.NodeViews.{node-repeat, node-turning, node-blocks}
 use Rattle.spf_lowering.proofs.Telling.{whole}
-use Rattle.spf_lowering.proofs.Running.{RunIn, BlockIn, then-stop, no_block, block_run, assign_run, loop_run, while_run, fold_run, pair_run}
+use Rattle.spf_lowering.proofs.Running.{RunIn, BlockIn, then-stop, no_block, block_run, assign_run, loop_run, while_run, fold_run, pair_run, break_run}
 use Rattle.spf_lowering.proofs.Weight.{statement_weight, stmts_weight, weight_at}
-use Rattle.spf_lowering.proofs.Spared.{fewer, both-spared, finished, alone-spared, none-set, either, let-changes, assign-changes, if-changes, written-elsewhere, for-changes, fold-changes, pair-changes, in-statement}
+use Rattle.spf_lowering.proofs.Spared.{fewer, both-spared, one-more, finished, alone-spared, none-set, either, let-changes, assign-changes, if-changes, written-elsewhere, for-changes, fold-changes, pair-changes, in-statement}
 use Rattle.spf_lowering.proofs.statement.+statement.Goals as goal
 
 pub append-loop-stmt-preserved : goal.append-loop-stmt-preserved
@@ -58,30 +59,34 @@ fold-returns-clause-wrote t c = λ calls.
     let line = c.args.line in
     let head = fold_head c.args.fold.now in
     let all = block (out-Fold c.args.fold.now).body.items in
-    let r = c.in_ok-start.start.register in
-    let between = c.in_ok-start.start.next in
-    let q = c.in_ok-low.low.register in
-    let further = c.in_ok-low.low.next in
-    let u = c.in_ok-high.high.register in
-    let last = c.in_ok-high.high.next in
-    let held = c.in_ok-next.next.register in
-    let after = c.in_ok-next.next.next in
-    let whole_block = c.hold.new.out in
-    let carried = c.register_of-carried.result in
-    let counter = c.register_of-counter.result in
-    let x = v.Blocks carried counter r q u whole_block held line in
-    let body : BlockIn s calls all (code c.in_ok-one_block.one_block.items) = rw c.deref.ensures.value at c.in_ok-one_block.ensures.runs calls in
-    let value = c.in_ok-next.ensures.wrote calls in
-    let split = ap code value.appended ∙ code-append c.in_ok-one_block.one_block.items value.made in
-    let seen = node-blocks carried counter r q u whole_block held line ∙ ap (λ k. Blocks carried counter r q u k held line) split in
+    let row = copies s.own head.carried s.own in
+    let between = c.in_ok-low.low.next in
+    let r = c.in_ok-low.low.register in
+    let next = c.in_ok-high.high.next in
+    let q = c.in_ok-high.high.register in
+    let whole_block = c.pass.new.out in
+    let counter = c.counter_of-counter.result in
+    let x = v.Blocks counter r q whole_block line in
+    let wide : c.in_ok-free.free ≡ s.own + length head.carried = c.in_ok-free.ensures {u = tt} ∙ ap (λ n. s.own + n) (c.in_ok-count_of.ensures {u = tt} ∙ ap length c.deref.ensures.value) in
+    let few = c.in_ok-low.ensures.next.1 in
+    let bodies = more (λ made. (body : Code) × (made ≡ (row then body)) × BlockIn s calls all body)
+    (rw (c.new-one_block.ensures.items, c.deref-2.ensures.value) at c.in_ok-copy_row.ensures.wrote) (rw c.deref-3.ensures.value at c.in_ok-append.ensures.wrote calls)
+    (λ m k e b. (k, ap (λ m. m then k) e, b)) in
+    let blocks = whole whole_block.items (λ made. (body : Code) × (value : Code) × (made ≡ (row then (body then value))) × BlockIn s calls all body × PassedIn s calls head.next_line s.own head.next value)
+    (more (λ made. (body : Code) × (value : Code) × (made ≡ (row then (body then value))) × BlockIn s calls all body × PassedIn s calls head.next_line s.own head.next value)
+    bodies (rw c.deref-4.ensures.value at c.in_ok-pass.ensures.wrote calls)
+    (λ m k p w. (p.0, k, ap (λ m. m then k) p.1 ∙ then-then row p.0 k, p.2, w))) in
+    let seen = node-blocks counter r q whole_block line ∙ ap (λ k. Blocks counter r q k line) blocks.2 in
     let R = RunIn s calls line (Fold head all) in
-    let two = more (λ made. (k : Code) → HeldIn s calls line further last u head.high k → R (made then (k then only (node x))))
-    (c.in_ok-start.ensures.wrote calls) (c.in_ok-low.ensures.wrote calls)
-    (λ m k p w. λ l z. subst R (sym (then-then m k (l then only (node x)))) (subst (λ y. R (m then (k then (l then only y)))) (sym seen)
-    (fold_run s calls line between further last after r q u held carried counter head all m k l (code c.in_ok-one_block.one_block.items) (code value.made) c.in_ok-start.ensures.next.1 c.in_ok-low.ensures.next.1
-    c.register_of-carried.ensures.written c.register_of-carried.ensures.there c.register_of-counter.ensures.written c.register_of-counter.ensures.there p w z body value.asked))) in
-    let three = more (λ made. R (made then only (node x))) two (c.in_ok-high.ensures.wrote calls) (λ m k p w. subst R (sym (then-then m k (only (node x)))) (p k w)) in
-    finish c.add.result _ _ _ x (λ made. R (made then only (node x))) R three c.add.ensures.appended (λ made p. p)
+    let two = more (λ made. (k : Code) → HeldIn s calls line between next q head.high k → R (made then (k then (only (node x) then row))))
+    (rw c.deref-5.ensures.value at c.in_ok-pass-2.ensures.wrote calls) (c.in_ok-low.ensures.wrote calls)
+    (λ m k p w. λ l z. subst R (sym (then-then m k (l then (only (node x) then row)))) (subst (λ y. R (m then (k then (l then (only y then row))))) (sym seen)
+    (fold_run s calls line between next r q counter head all m k l blocks.0 blocks.1 (omega (arith, few, wide)) c.counter_of-counter.ensures.written
+    (subst (λ n. (counter < s.own) ⊎ (n ≤ counter)) wide c.counter_of-counter.ensures.apart) (subst (λ n. counter ≤ n) wide c.counter_of-counter.ensures.there) p (subst (λ n. HeldIn s calls line n between r head.low k) wide w) z blocks.3 blocks.4))) in
+    let three = more (λ made. R (made then (only (node x) then row))) two (c.in_ok-high.ensures.wrote calls) (λ m k p w. subst R (sym (then-then m k (only (node x) then row))) (p k w)) in
+    let four = more (λ made. R (made then row)) three (one _ _ x (λ made. made ≡ only (node x)) (c.in_ok-add.ensures {u = tt}).appended refl)
+    (λ m k p e. subst (λ z. R ((m then z) then row)) (sym e) (subst R (sym (then-then m (only (node x)) row)) p)) in
+    mapped c.copy_row-2.result (rw c.deref-6.ensures.value at c.copy_row-2.ensures.wrote) (λ u w. more R four w (λ m k p e. subst (λ z. R (m then z)) (sym e) p))
 
 pub pair-returns-clause-wrote : goal.pair-returns-clause-wrote
 pair-returns-clause-wrote t c = λ calls.
@@ -89,10 +94,13 @@ pair-returns-clause-wrote t c = λ calls.
     let head = pair_head c.args.pair.now in
     let a = block (out-Pair c.args.pair.now).producer.items in
     let b = block (out-Pair c.args.pair.now).consumer.items in
+    let row = copies s.own head.carried s.own in
     let R = RunIn s calls c.args.line (Pair head a b) in
-    let two = more (λ made. (k : Code) → BlockIn s calls b k → R (made then k)) (rw c.deref.ensures.value at c.in_ok-append.ensures.wrote calls) (c.in_ok-assign.ensures.wrote calls)
-    (λ m k p q. λ l z. subst R (sym (then-then m k l)) (pair_run s calls c.args.line head a b m k l p q z)) in
-    mapped c.append-2.result (rw c.deref-2.ensures.value at (c.append-2.ensures.wrote calls)) (λ u w. more R two w (λ m k p z. p k z))
+    let two = more (λ made. (k : Code) → BlockIn s calls b k → R (made then (row then k))) (rw c.deref.ensures.value at c.in_ok-append.ensures.wrote calls) (rw c.deref-2.ensures.value at c.in_ok-pass.ensures.wrote calls)
+    (λ m k p q. λ l z. subst R (sym (then-then m k (row then l))) (pair_run s calls c.args.line head a b m k l p q z)) in
+    let three = more (λ made. (k : Code) → BlockIn s calls b k → R (made then k)) two (rw c.deref-3.ensures.value at c.in_ok-copy_row.ensures.wrote)
+    (λ m k p e. λ l z. subst R (sym (then-then m k l)) (subst (λ y. R (m then (y then l))) (sym e) (p l z))) in
+    mapped c.append-2.result (rw c.deref-4.ensures.value at (c.append-2.ensures.wrote calls)) (λ u w. more R three w (λ m k p z. p k z))
 
 pub repeat-returns-clause-wrote : goal.repeat-returns-clause-wrote
 repeat-returns-clause-wrote t c = λ calls.
@@ -249,23 +257,26 @@ fold-returns-clause-spares t c =
     let head = fold_head c.args.fold.now in
     let all = block (out-Fold c.args.fold.now).body.items in
     let left = IsLeft s.own (Fold head all) in
-    let r = c.in_ok-start.start.register in
-    let q = c.in_ok-low.low.register in
-    let u = c.in_ok-high.high.register in
-    let held = c.in_ok-next.next.register in
-    let whole_block = c.hold.new.out in
-    let carried = c.register_of-carried.result in
-    let counter = c.register_of-counter.result in
-    let x = v.Blocks carried counter r q u whole_block held c.args.line in
-    let body : (k : ℕ) → AreLeft s.own all k → code_sets k (code c.in_ok-one_block.one_block.items) ≡ false = rw c.deref.ensures.value at c.in_ok-one_block.ensures.spares in
-    let wider = c.in_ok-start.ensures.next.0 in
-    let wider_still = c.in_ok-low.ensures.next.0 in
-    finished c.add.result _ _ _ x
-    (both-spared (fewer left c.in_ok-start.ensures.spares (λ k p. p.0)) (both-spared (fewer left c.in_ok-low.ensures.spares (λ k p. let l = p.0 in omega (arith, l, wider))) (fewer left c.in_ok-high.ensures.spares (λ k p. let l = p.0 in omega (arith, l, wider, wider_still))))) c.add.ensures.appended
-    (λ k p. let parts = fold-changes head all k p.1 in
-    ap (node_sets k) (node-blocks carried counter r q u whole_block held c.args.line)
-    ∙ either (k == carried) _ (written-elsewhere s.own head.carried carried k c.register_of-carried.ensures.written p.0 parts.0)
-    (either (k == counter) _ (written-elsewhere s.own head.block counter k c.register_of-counter.ensures.written p.0 parts.1) (c.in_ok-next.ensures.spares.each k p.0 (body k (p.0, parts.2)))))
+    let r = c.in_ok-low.low.register in
+    let q = c.in_ok-high.high.register in
+    let whole_block = c.pass.new.out in
+    let counter = c.counter_of-counter.result in
+    let x = v.Blocks counter r q whole_block c.args.line in
+    let free_is : c.in_ok-free.free ≡ s.own + c.in_ok-count_of.field-0 = c.in_ok-free.ensures {u = tt} in
+    let wide : s.own ≤ c.in_ok-free.free = omega (arith, free_is) in
+    let wider = c.in_ok-low.ensures.next.0 in
+    let inner : SetsNone left [] whole_block.items =
+    both-spared (fewer left (rw (c.new-one_block.ensures.items, c.deref-2.ensures.value) at c.in_ok-copy_row.ensures.spares) (λ k p. (p.0, (fold-changes head all k p.1).0)))
+    (both-spared (fewer left (rw c.deref-3.ensures.value at c.in_ok-append.ensures.spares) (λ k p. (p.0, (fold-changes head all k p.1).2)))
+    (fewer left c.in_ok-pass.ensures.spares (λ k p. p.0))) in
+    let set : (k : ℕ) → left k → node_sets k (node x) ≡ false
+    = λ k p. ap (node_sets k) (node-blocks counter r q whole_block c.args.line)
+    ∙ either (k == counter) _ (written-elsewhere s.own head.block counter k c.counter_of-counter.ensures.written p.0 (fold-changes head all k p.1).1) (none-set inner k p) in
+    let so_far = both-spared (fewer left c.in_ok-pass-2.ensures.spares (λ k p. p.0))
+    (both-spared (fewer left c.in_ok-low.ensures.spares (λ k p. let l = p.0 in omega (arith, l, wide)))
+    (fewer left c.in_ok-high.ensures.spares (λ k p. let l = p.0 in omega (arith, l, wide, wider)))) in
+    mapped c.copy_row-2.result (rw c.deref-6.ensures.value at c.copy_row-2.ensures.spares) (λ u w.
+    both-spared so_far (both-spared (one-more left x (c.in_ok-add.ensures {u = tt}).appended set) (fewer left w (λ k p. (p.0, (fold-changes head all k p.1).0)))))
 
 pub pair-returns-clause-spares : goal.pair-returns-clause-spares
 pair-returns-clause-spares t c =
@@ -274,10 +285,11 @@ pair-returns-clause-spares t c =
     let a = block (out-Pair c.args.pair.now).producer.items in
     let b = block (out-Pair c.args.pair.now).consumer.items in
     let left = IsLeft s.own (Pair head a b) in
-    mapped c.append-2.result (rw c.deref-2.ensures.value at c.append-2.ensures.spares) (λ u w.
+    mapped c.append-2.result (rw c.deref-4.ensures.value at c.append-2.ensures.spares) (λ u w.
     both-spared (fewer left (rw c.deref.ensures.value at c.in_ok-append.ensures.spares) (λ k p. (p.0, (pair-changes head a b k p.1).1)))
-    (both-spared (fewer left c.in_ok-assign.ensures.spares (λ k p. (p.0, (pair-changes head a b k p.1).0)))
-    (fewer left w (λ k p. (p.0, (pair-changes head a b k p.1).2)))))
+    (both-spared (fewer left c.in_ok-pass.ensures.spares (λ k p. p.0))
+    (both-spared (fewer left (rw c.deref-3.ensures.value at c.in_ok-copy_row.ensures.spares) (λ k p. (p.0, (pair-changes head a b k p.1).0)))
+    (fewer left w (λ k p. (p.0, (pair-changes head a b k p.1).2))))))
 
 pub statement-returns-in-Let-clause-spares : goal.statement-returns-in-Let-clause-spares
 statement-returns-in-Let-clause-spares t c =
@@ -290,6 +302,10 @@ statement-returns-in-Assign-clause-spares t c =
 pub statement-returns-in-Fail-clause-spares : goal.statement-returns-in-Fail-clause-spares
 statement-returns-in-Fail-clause-spares t c =
     rw c.in-Fail.is (alone-spared c.add.result _ _ (v.Fail c.in-Fail.number c.args.line) (IsLeft c.args.scope.now.own (Fail c.in-Fail.number)) c.add.ensures.appended (λ r p. refl))
+
+pub statement-returns-in-Break-clause-spares : goal.statement-returns-in-Break-clause-spares
+statement-returns-in-Break-clause-spares t c =
+    rw c.in-Break.is (alone-spared c.add-in-Break.result _ _ v.Break (IsLeft c.args.scope.now.own Break) c.add-in-Break.ensures.appended (λ r p. refl))
 
 pub statement-returns-in-If-clause-spares : goal.statement-returns-in-If-clause-spares
 statement-returns-in-If-clause-spares t c =

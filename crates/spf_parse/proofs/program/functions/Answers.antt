@@ -15,7 +15,7 @@ found-init c =
 
 pub returns-in_err-first : goal.returns-in_err-first
 returns-in_err-first c =
-    let l = next_function (map raw_function c.found.found.items) (c.is_next.ensures.0 c.found-test.true) c.found.invariant in
+    let l = next_function c.args.breaks (map raw_function c.found.found.items) (c.is_next.ensures.0 c.found-test.true) c.found.invariant in
     let p = err_from_is_err_and c.from_residual.result c.from_residual.ensures.1 in
     rw (p.1, p.2) (halt0 c.in_err-first.field-0.0 refl (λ x. refl)
     l
@@ -23,14 +23,14 @@ returns-in_err-first c =
 
 pub found-smaller : goal.found-smaller
 found-smaller c =
-    takes function c.found.rest.now c.in_ok-first.end.now _ (λ y ws d. function_some 0 y ws d) c.in_ok-first.ensures
+    takes (function c.args.breaks) c.found.rest.now c.in_ok-first.end.now _ (λ y ws d. function_some c.args.breaks 0 y ws d) c.in_ok-first.ensures
 
 pub found-preserved : goal.found-preserved
 found-preserved c =
-    let l = next_function (map raw_function c.found.found.items) (c.is_next.ensures.0 c.found-test.true) c.found.invariant in
+    let l = next_function c.args.breaks (map raw_function c.found.found.items) (c.is_next.ensures.0 c.found-test.true) c.found.invariant in
     rw (c.in_ok-push.ensures.items, map-append)
-    (regroup function (λ zs. give zs) (map raw_function c.found.found.items) (raw_function c.in_ok-first.first) (go0 refl l c.in_ok-first.ensures))
+    (regroup (function c.args.breaks) (λ zs. give zs) (map raw_function c.found.found.items) (raw_function c.in_ok-first.first) (go0 refl l c.in_ok-first.ensures))
 
 pub returns : goal.returns
 returns c =
-    functions_done (map raw_function c.found.found.items) (λ h. absurd (search (rules, c.is_next.ensures.1 h))) c.found.invariant
+    functions_done c.args.breaks (map raw_function c.found.found.items) (λ h. absurd (search (rules, c.is_next.ensures.1 h))) c.found.invariant

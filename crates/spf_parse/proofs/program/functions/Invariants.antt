@@ -9,7 +9,7 @@ use Rattle.spf_parse.proofs.program.functions.Given as goal
 
 -- what is left of them, after these
 abbrev pub invariant-found : goal.invariant-found
-invariant-found l = Leads 13 (all (many function)) (lexemes l.tokens) (part (many function) (last_of (map raw_function l.found.items))) (lexemes l.rest)
+invariant-found l = Leads 13 (all (many (function l.breaks))) (lexemes l.tokens) (part (many (function l.breaks)) (last_of (map raw_function l.found.items))) (lexemes l.rest)
 
 abbrev pub decreases-found : goal.decreases-found
 decreases-found l = length l.rest

@@ -22,7 +22,7 @@ push_nested-loop-statement-preserved t c =
 pub push_fold-returns : goal.push_fold-returns
 push_fold-returns t c =
     let e2 = rw c.deref.ensures.value at (c.in_ok-push_nested.ensures {u = tt}) in
-    let e3 = rw (c.deref-2.ensures.value, c.in_ok-inner.ensures {u = tt}) at (c.in_ok-push_with_word.ensures {u = tt}) in
+    let e3 = rw (c.deref-2.ensures.value, c.deref-3.ensures.value, c.in_ok-inner.ensures {u = tt}) at (c.in_ok-push_with_row.ensures {u = tt}) in
     IfOk-equal c.push_close.result _ _ _ c.push_close.ensures (and_then _ _ _ _ (both _ _ _ _ _ (both _ _ _ _ _ (c.in_ok-push_fold_head.ensures {u = tt}) e2) e3))
 
 pub push_otherwise-returns : goal.push_otherwise-returns
@@ -33,10 +33,12 @@ push_otherwise-returns t c =
 
 pub push_pair-returns : goal.push_pair-returns
 push_pair-returns t c =
-    let e2 = rw c.deref.ensures.value at (c.in_ok-push_nested.ensures {u = tt}) in
-    let e3 = rw (c.deref-2.ensures.value, c.in_ok-inner.ensures {u = tt}) at (c.in_ok-push_with_word.ensures {u = tt}) in
-    let e5 = rw c.deref-3.ensures.value at (c.in_ok-push_nested-2.ensures {u = tt}) in
-    IfOk-equal c.push_close.result _ _ _ c.push_close.ensures (and_then _ _ _ _ (both _ _ _ _ _ (both _ _ _ _ _ (both _ _ _ _ _ (both _ _ _ _ _ (c.in_ok-push_pair_head.ensures {u = tt}) e2) e3) (c.in_ok-push_consumer_head.ensures {u = tt})) e5))
+    let e1 = rw c.deref.ensures.value at (c.in_ok-push_pair_head.ensures {u = tt}) in
+    let e2 = rw c.deref-2.ensures.value at (c.in_ok-push_nested.ensures {u = tt}) in
+    let e3 = rw (c.deref-3.ensures.value, c.deref-4.ensures.value, c.in_ok-inner.ensures {u = tt}) at (c.in_ok-push_with_row.ensures {u = tt}) in
+    let e4 = rw c.deref-5.ensures.value at (c.in_ok-push_consumer_head.ensures {u = tt}) in
+    let e5 = rw c.deref-6.ensures.value at (c.in_ok-push_nested-2.ensures {u = tt}) in
+    IfOk-equal c.push_close.result _ _ _ c.push_close.ensures (and_then _ _ _ _ (both _ _ _ _ _ (both _ _ _ _ _ (both _ _ _ _ _ (both _ _ _ _ _ e1 e2) e3) e4) e5))
 
 pub push_statement-returns-in_ok-push_nested-in-If :
     goal.push_statement-returns-in_ok-push_nested-in-If

@@ -1,4 +1,4 @@
-use Rattle.std.proofs.Common.{rules, ◌≡◌, suc, ◌+◌, ◌-◌, refl, sym, ◌∙◌, ap, arith, map, Some, FitsSigned, w64}
+use Rattle.std.proofs.Common.{true, rules, ◌≡◌, suc, ◌+◌, ◌-◌, refl, sym, ◌∙◌, ap, arith, map, Some, FitsSigned, w64}
 use Rattle.std.proofs.Math.Numerals.{add-one}
 use Rattle.std.proofs.lemmas.Result.{err_from_is_err_and}
 use Rattle.std.proofs.lemmas.Int.{to_z-of_z}
@@ -12,11 +12,12 @@ use Rattle.spf_ast.proofs.RawViews.{raw_expression-call}
 use Rattle.spf_grammar.specs.Parts.{token, give, part, next_argument, level, expression}
 use Rattle.spf_grammar.specs.Rules.{all, named}
 use Rattle.spf_rules.specs.declared.fault.Fault.TheVariants as fault
-use Rattle.spf_rules.specs.Answers.{value_before}
+use Rattle.spf_rules.specs.Answers.{value_before, after_operand}
+use Rattle.spf_rules.proofs.Rows.{follows_operand, whole_operand, level_start, of_rank, rank_follows, continued_start, continued_halts, continued_further, continued_through}
 use Rattle.spf_rules.proofs.Follows.{anything}
-use Rattle.spf_rules.proofs.Steps.{start, go, halt, go0, halt0, go_rule0, halt_rule0, unfold_part, decide, through, through_rule}
+use Rattle.spf_rules.proofs.Steps.{start, go, halt, go0, halt0, go_rule, go_rule0, halt_rule0, unfold_part, decide, through, through_rule}
 use Rattle.spf_rules.proofs.Tokens.{next_token, seen_ahead, operator_next, operator_over, shorter, not_longer, none_fails, length_fails, followed_by}
-use Rattle.spf_rules.proofs.Expressions.{regroup, chain_start, comparison_start, further_next, further_done, compared_next, compared_done, no_argument, some_argument, next_argument_is, no_next_argument, last_done, name_alone, operand_start, word_operand, sign_operand, end_operand}
+use Rattle.spf_rules.proofs.Expressions.{regroup, further_next, further_done, compared_next, compared_done, no_argument, some_argument, next_argument_is, no_next_argument, last_done, name_alone, operand_start, word_operand, sign_operand, end_operand}
 use Rattle.spf_grammar.specs.Lexemes.{lexemes}
 use Rattle.spf_rules.proofs.expression.+expression.Goals as goal
 
@@ -71,16 +72,9 @@ pub arguments-returns : goal.arguments-returns
 arguments-returns t c =
     last_done (map raw_expression c.inside.inside.items) _ (no_next_argument c.args.nesting (map raw_expression c.inside.inside.items) c.in_default-after.ensures c.inside.invariant) c.in_ok-end.ensures
 
-pub chain-returns-in_err-left-clause-answers : goal.chain-returns-in_err-left-clause-answers
-chain-returns-in_err-left-clause-answers t c =
-    let p = err_from_is_err_and c.from_residual.result c.from_residual.ensures.1 in
-    rw (p.1, p.2) (halt c.in_err-left.field-0.0 (λ x. (omega arith, λ y. omega arith)) (λ x. refl)
-    (chain_start c.args.nesting c.args.rank c.args.used c.requires.no_comparison)
-    c.in_err-left.ensures.answers)
-
 pub chain-further-init : goal.chain-further-init
 chain-further-init t c =
-    record { leads = go (λ x. (omega arith, λ y. omega arith)) (chain_start c.args.nesting c.args.rank c.args.used c.requires.no_comparison) c.in_ok-left.ensures.answers; used_in = search rules }
+    record { leads = rw c.split_at.ensures.back start; used_in = c.requires.used_in }
 
 pub chain-returns-then-so_far-ge-MAX_OPERATORS-clause-answers : goal.chain-returns-then-so_far-ge-MAX_OPERATORS-clause-answers
 chain-returns-then-so_far-ge-MAX_OPERATORS-clause-answers t c =
@@ -97,7 +91,7 @@ chain-returns-in_err-right-clause-answers t c =
     let a = seen_ahead c.further.rest.now x.0 c.in-Some.behind.now x.2 ∙ ap Some x.1 in
     let l = further_next c.args.nesting c.args.rank (raw_expression c.further.left.value) c.further.so_far c.in-Some.sign a r c.further.invariant.leads in
     let m = go (λ x. omega arith) l (operator_next c.further.rest.now x.0 c.in-Some.behind.now x.2 (suc c.args.rank) c.further.so_far c.in-Some.sign x.1 r (omega (arith, c.if-so_far-ge-MAX_OPERATORS.false))) in
-    let p = err_from_is_err_and c.from_residual-in_err-right.result c.from_residual-in_err-right.ensures.1 in
+    let p = err_from_is_err_and c.from_residual.result c.from_residual.ensures.1 in
     rw (p.1, p.2) (halt c.in_err-right.field-0.0 (λ x. (omega arith, λ y. omega arith)) (λ x. refl)
     m
     c.in_err-right.ensures.answers)
@@ -114,51 +108,40 @@ chain-further-preserved t c =
     let a = seen_ahead c.further.rest.now x.0 c.in-Some.behind.now x.2 ∙ ap Some x.1 in
     let l = further_next c.args.nesting c.args.rank (raw_expression c.further.left.value) c.further.so_far c.in-Some.sign a r c.further.invariant.leads in
     let m = go (λ x. omega arith) l (operator_next c.further.rest.now x.0 c.in-Some.behind.now x.2 (suc c.args.rank) c.further.so_far c.in-Some.sign x.1 r (omega (arith, c.if-so_far-ge-MAX_OPERATORS.false))) in
-    record { leads = rw c.in_ok-left-2.ensures.value (go (λ x. (omega arith, λ y. omega arith)) m c.in_ok-right.ensures.answers); used_in = search rules }
+    record { leads = rw c.in_ok-left.ensures.value (go (λ x. (omega arith, λ y. omega arith)) m c.in_ok-right.ensures.answers); used_in = search rules }
 
 pub chain-returns-clause-answers : goal.chain-returns-clause-answers
 chain-returns-clause-answers t c =
     further_done c.args.nesting c.args.rank (raw_expression c.further.left.value) c.further.so_far (λ s is r. c.in_default.ensures s is (r ∙ sym (add-one c.args.rank))) c.further.invariant.leads
 
-pub comparison-returns-in_err-left-clause-answers : goal.comparison-returns-in_err-left-clause-answers
-comparison-returns-in_err-left-clause-answers t c =
-    let p = err_from_is_err_and c.from_residual.result c.from_residual.ensures.1 in
-    rw (p.1, p.2) (halt c.in_err-left.field-0.0 (λ x. (omega arith, λ y. omega arith)) (λ x. refl)
-    (comparison_start c.args.nesting c.args.used)
-    c.in_err-left.ensures.answers)
-
 pub comparison-returns-in_default-clause-answers : goal.comparison-returns-in_default-clause-answers
 comparison-returns-in_default-clause-answers t c =
-    let b = go (λ x. (omega arith, λ y. omega arith)) (comparison_start c.args.nesting c.args.used) c.in_ok-left.ensures.answers in
-    compared_done c.args.nesting 6 (raw_expression c.in_ok-left.left.value) c.in_ok-left.so_far c.in_default.ensures b
+    compared_done c.args.nesting 6 (raw_expression c.args.left.value) c.args.used c.in_default.ensures start
 
-pub comparison-returns-then-so_far-ge-MAX_OPERATORS-clause-answers : goal.comparison-returns-then-so_far-ge-MAX_OPERATORS-clause-answers
-comparison-returns-then-so_far-ge-MAX_OPERATORS-clause-answers t c =
-    let b = go (λ x. (omega arith, λ y. omega arith)) (comparison_start c.args.nesting c.args.used) c.in_ok-left.ensures.answers in
+pub comparison-returns-then-used-ge-MAX_OPERATORS-clause-answers : goal.comparison-returns-then-used-ge-MAX_OPERATORS-clause-answers
+comparison-returns-then-used-ge-MAX_OPERATORS-clause-answers t c =
     let x = c.in-Some.ensures in
-    let a = seen_ahead c.in_ok-left.rest.now x.0 c.in-Some.behind.now x.2 ∙ ap Some x.1 in
-    let l = compared_next c.args.nesting 6 (raw_expression c.in_ok-left.left.value) c.in_ok-left.so_far c.in-Some.sign a x.3 b in
-    halt (fault.TooDeep _) (λ x. omega arith) (λ x. refl) l (operator_over c.in_ok-left.rest.now x.0 c.in-Some.behind.now x.2 7 c.in_ok-left.so_far c.in-Some.sign x.1 x.3 (omega (arith, c.if-so_far-ge-MAX_OPERATORS.true)))
+    let a = seen_ahead c.args.tokens.now x.0 c.in-Some.behind.now x.2 ∙ ap Some x.1 in
+    let l = compared_next c.args.nesting 6 (raw_expression c.args.left.value) c.args.used c.in-Some.sign a x.3 start in
+    halt (fault.TooDeep _) (λ x. omega arith) (λ x. refl) l (operator_over c.args.tokens.now x.0 c.in-Some.behind.now x.2 7 c.args.used c.in-Some.sign x.1 x.3 (omega (arith, c.if-used-ge-MAX_OPERATORS.true)))
 
 pub comparison-returns-in_err-right-clause-answers : goal.comparison-returns-in_err-right-clause-answers
 comparison-returns-in_err-right-clause-answers t c =
-    let b = go (λ x. (omega arith, λ y. omega arith)) (comparison_start c.args.nesting c.args.used) c.in_ok-left.ensures.answers in
     let x = c.in-Some.ensures in
-    let a = seen_ahead c.in_ok-left.rest.now x.0 c.in-Some.behind.now x.2 ∙ ap Some x.1 in
-    let l = compared_next c.args.nesting 6 (raw_expression c.in_ok-left.left.value) c.in_ok-left.so_far c.in-Some.sign a x.3 b in
-    let m = go (λ x. omega arith) l (operator_next c.in_ok-left.rest.now x.0 c.in-Some.behind.now x.2 7 c.in_ok-left.so_far c.in-Some.sign x.1 x.3 (omega (arith, c.if-so_far-ge-MAX_OPERATORS.false))) in
-    let p = err_from_is_err_and c.from_residual-in_err-right.result c.from_residual-in_err-right.ensures.1 in
+    let a = seen_ahead c.args.tokens.now x.0 c.in-Some.behind.now x.2 ∙ ap Some x.1 in
+    let l = compared_next c.args.nesting 6 (raw_expression c.args.left.value) c.args.used c.in-Some.sign a x.3 start in
+    let m = go (λ x. omega arith) l (operator_next c.args.tokens.now x.0 c.in-Some.behind.now x.2 7 c.args.used c.in-Some.sign x.1 x.3 (omega (arith, c.if-used-ge-MAX_OPERATORS.false))) in
+    let p = err_from_is_err_and c.from_residual.result c.from_residual.ensures.1 in
     rw (p.1, p.2) (halt c.in_err-right.field-0.0 (λ x. omega arith) (λ x. refl)
     m
     c.in_err-right.ensures.answers)
 
 pub comparison-returns-clause-answers : goal.comparison-returns-clause-answers
 comparison-returns-clause-answers t c =
-    let b = go (λ x. (omega arith, λ y. omega arith)) (comparison_start c.args.nesting c.args.used) c.in_ok-left.ensures.answers in
     let x = c.in-Some.ensures in
-    let a = seen_ahead c.in_ok-left.rest.now x.0 c.in-Some.behind.now x.2 ∙ ap Some x.1 in
-    let l = compared_next c.args.nesting 6 (raw_expression c.in_ok-left.left.value) c.in_ok-left.so_far c.in-Some.sign a x.3 b in
-    let m = go (λ x. omega arith) l (operator_next c.in_ok-left.rest.now x.0 c.in-Some.behind.now x.2 7 c.in_ok-left.so_far c.in-Some.sign x.1 x.3 (omega (arith, c.if-so_far-ge-MAX_OPERATORS.false))) in
+    let a = seen_ahead c.args.tokens.now x.0 c.in-Some.behind.now x.2 ∙ ap Some x.1 in
+    let l = compared_next c.args.nesting 6 (raw_expression c.args.left.value) c.args.used c.in-Some.sign a x.3 start in
+    let m = go (λ x. omega arith) l (operator_next c.args.tokens.now x.0 c.in-Some.behind.now x.2 7 c.args.used c.in-Some.sign x.1 x.3 (omega (arith, c.if-used-ge-MAX_OPERATORS.false))) in
     rw c.in_ok-join.ensures.value (go (λ x. omega arith) m c.in_ok-right.ensures.answers)
 
 pub expr-returns-in_err-a : goal.expr-returns-in_err-a
@@ -172,23 +155,40 @@ pub expr-returns : goal.expr-returns
 expr-returns t c =
     go (λ x. omega arith) (unfold_part (expression c.args.nesting) (λ x. give x) start) c.in_ok-a.ensures.answers
 
-pub level-returns-in_err-a-clause-answers : goal.level-returns-in_err-a-clause-answers
-level-returns-in_err-a-clause-answers t c =
+pub level-returns-in_err-first-clause-answers : goal.level-returns-in_err-first-clause-answers
+level-returns-in_err-first-clause-answers t c =
     let p = err_from_is_err_and c.from_residual.result c.from_residual.ensures.1 in
-    rw (p.1, p.2, c.if-rank-eq0.true) (halt c.in_err-a.field-0.0 (λ x. omega arith) (λ x. refl) (unfold_part (level c.args.nesting 0 c.args.used) (λ x. give x) start) c.in_err-a.ensures)
-
-pub level-returns-then-rank-eq0-clause-answers : goal.level-returns-then-rank-eq0-clause-answers
-level-returns-then-rank-eq0-clause-answers t c =
-    rw c.if-rank-eq0.true (go (λ x. omega arith) (unfold_part (level c.args.nesting 0 c.args.used) (λ x. give x) start) c.in_ok-a.ensures)
-
-pub level-returns-then-rank-eq-COMPARISONS-clause-answers : goal.level-returns-then-rank-eq-COMPARISONS-clause-answers
-level-returns-then-rank-eq-COMPARISONS-clause-answers t c =
-    rw c.if-rank-eq-COMPARISONS.true c.comparison.ensures.answers
+    rw (p.1, p.2) (halt c.in_err-first.field-0.0 (λ x. follows_operand (suc c.args.rank) c.args.nesting c.args.rank x c.args.used (λ y. give y) (λ y. omega arith)) (λ x. whole_operand c.args.nesting c.args.rank x c.args.used (λ y. give y) (λ y. refl))
+    (level_start c.args.nesting c.args.rank c.args.used)
+    c.in_err-first.ensures)
 
 pub level-returns-clause-answers : goal.level-returns-clause-answers
 level-returns-clause-answers t c =
-    let l : suc (c.args.rank - 1) ≡ c.args.rank = omega (arith, c.if-rank-eq0.false) in
-    rw l at c.chain.ensures.answers
+    let l = go (λ x. follows_operand (suc c.args.rank) c.args.nesting c.args.rank x c.args.used (λ y. give y) (λ y. omega arith)) (level_start c.args.nesting c.args.rank c.args.used) c.in_ok-first.ensures in
+    through _ _ c.continued.result l c.continued.ensures.answers
+
+pub continued-returns-then-rank-eq0-clause-answers : goal.continued-returns-then-rank-eq0-clause-answers
+continued-returns-then-rank-eq0-clause-answers t c =
+    rw c.if-rank-eq0.true start
+
+pub continued-returns-in_err-left-clause-answers : goal.continued-returns-in_err-left-clause-answers
+continued-returns-in_err-left-clause-answers t c =
+    let r = c.args.rank - 1 in
+    let is : c.args.rank ≡ suc (c.args.rank - 1) = omega (arith, c.if-rank-eq0.false) in
+    let p = err_from_is_err_and c.from_residual.result c.from_residual.ensures.1 in
+    rw (p.1, p.2) (continued_halts (lexemes c.args.tokens.now) c.args.nesting c.args.rank (c.args.rank - 1) (raw_expression c.args.operand.value) c.args.used c.in_err-left.field-0.0 is c.in_err-left.ensures.answers)
+
+pub continued-returns-then-rank-eq-COMPARISONS-clause-answers : goal.continued-returns-then-rank-eq-COMPARISONS-clause-answers
+continued-returns-then-rank-eq-COMPARISONS-clause-answers t c =
+    let e = c.if-rank-eq-COMPARISONS.true in
+    let l = go_rule {R = after_operand c.args.nesting 6 (raw_expression c.args.operand.value) c.args.used (λ x. give x)} (of_rank c.args.nesting 6 true) (rank_follows c.args.nesting 6 true) (continued_start c.args.nesting 7 6 (raw_expression c.args.operand.value) c.args.used refl) (rw e at c.in_ok-left.ensures.answers) in
+    rw e (through _ _ c.comparison.result l c.comparison.ensures.answers)
+
+pub continued-returns-clause-answers : goal.continued-returns-clause-answers
+continued-returns-clause-answers t c =
+    let is : c.args.rank ≡ suc (c.args.rank - 1) = omega (arith, c.if-rank-eq0.false) in
+    let l = continued_further c.args.nesting c.args.rank (c.args.rank - 1) (raw_expression c.args.operand.value) c.args.used is (λ h. c.if-rank-eq-COMPARISONS.false (omega (arith, is, h))) c.in_ok-left.ensures.answers in
+    continued_through _ _ c.chain.result c.args.rank (c.args.rank - 1) is l c.chain.ensures.answers
 
 pub named-returns-in_err-x : goal.named-returns-in_err-x
 named-returns-in_err-x t c =

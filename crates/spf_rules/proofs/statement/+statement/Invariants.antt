@@ -38,7 +38,7 @@ decreases-form l = (65 - l.nesting) * 8 + 4
 -- what is left of the statements, after these
 abbrev pub invariant-opened-inside : goal.invariant-opened-inside
 invariant-opened-inside l = record {
-  leads : Leads 12 (opened_statements l.nesting) (lexemes l.tokens) (part (many (statement (l.nesting + 1))) (last_statements (map stated l.inside.items))) (lexemes l.rest);
+  leads : Leads 12 (opened_statements l.breaks l.nesting) (lexemes l.tokens) (part (many (statement l.breaks (l.nesting + 1))) (last_statements (map stated l.inside.items))) (lexemes l.rest);
   below : l.nesting + 1 ≤ 64;
 }
 

@@ -6,5 +6,5 @@ use Rattle.spf_exec.proofs.frame.Frame.TheSendSync as frame
 use Rattle.spf_runtime_tests.proofs.Crossing.{job_sync}
 use Rattle.spf_runtime_tests.proofs.threads.raised_meanwhile.Goals as goal
 
-pub join-requires-send-F : goal.join-requires-send-F
-join-requires-send-F g c κs within = search (job_sync, cells.the_sync, lane.the_send, frame.the_send, crosses, sendable) depth 60
+pub join-stops-requires-send-F : goal.join-stops-requires-send-F
+join-stops-requires-send-F g c κs within = search (job_sync, cells.the_sync, lane.the_send, frame.the_send, crosses, sendable) depth 60

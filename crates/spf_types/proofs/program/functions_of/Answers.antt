@@ -13,7 +13,7 @@ returns-then-not-is_function c =
     let f = c.index-raw-place.result in
     let g = c.args.globals.now in
     ap first (function_behind g c.args.raw.now c.loop-place.functions.items i f c.loop-place-test.true c.index-raw-place.is c.loop-place.invariant)
-    ∙ ap (λ t. first (when t Twice f.line ++ (function_faults (record { globals = g; place = i; in_main = false }) (raw_function f) ++ functions_faults g (g.arrays ++ take (i + 1) (map function_name c.args.raw.now)) (i + 1) (map raw_function (drop (i + 1) c.args.raw.now))))) (function_twice c.args.arrays.now c.args.raw.now g i f c.requires c.loop-place-test.true c.index-raw-place.is ∙ ap not (sym c.is_function.ensures) ∙ ap not c.if-not-is_function.true)
+    ∙ ap (λ t. first (when t Twice f.line ++ (function_faults (record { globals = g; place = i; in_main = false; in_loop = false }) (raw_function f) ++ functions_faults g (g.arrays ++ take (i + 1) (map function_name c.args.raw.now)) (i + 1) (map raw_function (drop (i + 1) c.args.raw.now))))) (function_twice c.args.arrays.now c.args.raw.now g i f c.requires c.loop-place-test.true c.index-raw-place.is ∙ ap not (sym c.is_function.ensures) ∙ ap not c.if-not-is_function.true)
 
 pub returns-in_err-resolved : goal.returns-in_err-resolved
 returns-in_err-resolved c =
@@ -22,7 +22,7 @@ returns-in_err-resolved c =
     let g = c.args.globals.now in
     let p = err_from_is_err_and c.from_residual.result c.from_residual.ensures.1 in
     rw (p.1, p.2) (along _ _ _ (function_behind g c.args.raw.now c.loop-place.functions.items i f c.loop-place-test.true c.index-raw-place.is c.loop-place.invariant
-    ∙ ap (λ t. when t Twice f.line ++ (function_faults (record { globals = g; place = i; in_main = false }) (raw_function f) ++ functions_faults g (g.arrays ++ take (i + 1) (map function_name c.args.raw.now)) (i + 1) (map raw_function (drop (i + 1) c.args.raw.now)))) (function_twice c.args.arrays.now c.args.raw.now g i f c.requires c.loop-place-test.true c.index-raw-place.is ∙ ap not (sym c.is_function.ensures) ∙ ap not c.if-not-is_function.false)) (ahead _ _ _ c.in_err-resolved.ensures))
+    ∙ ap (λ t. when t Twice f.line ++ (function_faults (record { globals = g; place = i; in_main = false; in_loop = false }) (raw_function f) ++ functions_faults g (g.arrays ++ take (i + 1) (map function_name c.args.raw.now)) (i + 1) (map raw_function (drop (i + 1) c.args.raw.now)))) (function_twice c.args.arrays.now c.args.raw.now g i f c.requires c.loop-place-test.true c.index-raw-place.is ∙ ap not (sym c.is_function.ensures) ∙ ap not c.if-not-is_function.false)) (ahead _ _ _ c.in_err-resolved.ensures))
 
 pub loop-place-preserved : goal.loop-place-preserved
 loop-place-preserved c =

@@ -5,7 +5,7 @@ use Rattle.spf_scopes.specs.HereView.{setting}
 use Rattle.spf_scopes.specs.Faults.{arguments_faults, a_number}
 use Rattle.spf_scopes.specs.Resolved.{scope}
 use Rattle.spf_typing.proofs.Weight.{expr_weight, exprs_weight, expr_weight-call, weight_at}
-use Rattle.spf_size.proofs.Lists.{item_at}
+use Rattle.spf_scopes.proofs.Rows.{item_at}
 use Rattle.spf_typing.proofs.Arguments.{one_more, all_resolved, call_faults, call_form}
 use Rattle.spf_typing.proofs.Steps.{ahead, behind, along, none_in}
 use Rattle.spf_typing.proofs.expression.+number.Goals as goal

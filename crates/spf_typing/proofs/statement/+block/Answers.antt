@@ -1,18 +1,18 @@
-use Rattle.std.proofs.Common.{◌≡◌, ℕ, ◌+◌, ◌*◌, ◌<◌, List, [], ◌∷◌, ◌++◌, refl, sym, ap, ◌∙◌, arith, append_assoc}
+use Rattle.std.proofs.Common.{◌≡◌, ℕ, ◌+◌, ◌*◌, ◌<◌, true, false, map, List, [], ◌∷◌, ◌++◌, refl, sym, ap, ◌∙◌, arith, append_assoc}
 use Rattle.std.proofs.lemmas.Result.{err_from_is_err_and}
 use Rattle.spf_ast.specs.declared.raw.RawFold.{out-RawFold}
 use Rattle.spf_ast.specs.declared.raw.RawPair.{out-RawPair}
-use Rattle.spf_ast.specs.Syntax.{Expression, Predictor, Block}
-use Rattle.spf_ast.specs.View.{name, expression, condition}
+use Rattle.spf_ast.specs.Syntax.{Expression, Arguments, Predictor, Block}
+use Rattle.spf_ast.specs.View.{name, expression, arguments, condition}
 use Rattle.spf_ast.specs.RawView.{raw_expression, raw_block, raw_fold_head, raw_pair_head, raw_predictor}
 use Rattle.spf_scopes.specs.HereView.{setting}
 use Rattle.spf_scopes.specs.Locals.{Seen}
-use Rattle.spf_scopes.specs.Faults.{block_faults, predictor_faults, valued_faults, in_body, showing_fixed}
-use Rattle.spf_scopes.specs.Resolved.{scope, free, fixed, names_in, after_inner}
+use Rattle.spf_scopes.specs.Faults.{block_faults, predictors_faults, rowed_faults, in_turn, in_part, showing_fixed, showing_each}
+use Rattle.spf_scopes.specs.Resolved.{scope, fixed, with_each, names_in, after_inner}
 use Rattle.spf_typing.proofs.Weight.{kind_weight, stmts_weight, kind_weight-if, kind_weight-for, kind_weight-while, kind_weight-fold, kind_weight-pair, stmt_weight_at}
-use Rattle.spf_size.proofs.Lists.{item_at}
-use Rattle.spf_typing.proofs.Blocks.{one_statement, all_statements, scope_at_end-is}
-use Rattle.spf_typing.proofs.Grown.{closed, shown}
+use Rattle.spf_scopes.proofs.Rows.{item_at}
+use Rattle.spf_typing.proofs.Blocks.{one_statement, all_statements, scope_each-is, scope_at_end-is}
+use Rattle.spf_typing.proofs.Grown.{closed, closed_front, grown_each, shown}
 use Rattle.spf_typing.proofs.Forms.{form_along, after_along, if_is, for_is, while_is, fold_is, pair_is, if_form, for_form, while_form, fold_form, pair_form}
 use Rattle.spf_typing.proofs.Steps.{ahead, behind, along, none_in}
 use Rattle.spf_typing.proofs.statement.+block.Goals as goal
@@ -51,51 +51,9 @@ choice-returns-clause-answers t c =
       if_form c.args.here.now.globals.now c.args.locals.now c.inner.new.locals c.into_inner.result c.in_ok-first.first c.in_ok-second.second (raw_expression c.args.test.now) (raw_block c.args.first.now) (raw_block c.args.second.now) (names_in (raw_block c.args.first.now)) a.after refl (ap condition c.into_inner.ensures ∙ (c.in_ok-test.ensures {u = tt}).1) a.answers.1 (c.in_ok-second.ensures {u = tt}).answers.1,
     )
 
-pub counted-returns-clause-answers : goal.counted-returns-clause-answers
-counted-returns-clause-answers t c =
-    let s = shown c.args.locals.now c.declare.new.self c.show.new.self (fixed (name c.args.name.now) c.in_ok-slot.slot) (name c.args.name.now) (c.in_ok-slot.ensures {u = tt}).declared (c.in_ok-show.ensures {u = tt}).shown in
-    let b = (c.in_ok-body.ensures {u = tt}).answers in (
-      none_in _ _ (c.in_ok-declarable.ensures {u = tt}).answers.0 (none_in _ _ (c.in_ok-low.ensures {u = tt}).0 (none_in _ _ (c.in_ok-high.ensures {u = tt}).0 (ap (λ (z : Seen). block_faults (setting c.args.here.now) (scope z.locals) (raw_block c.args.body.now)) (sym s) ∙ b.0))),
-      for_form c.args.here.now.globals.now c.args.locals.now c.show.new.self (name c.args.name.now) c.in_ok-slot.slot c.into_inner.result c.into_inner-2.result c.in_ok-body.body (raw_expression c.args.low.now) (raw_expression c.args.high.now) (raw_block c.args.body.now) s (c.in_ok-slot.ensures {u = tt}).slot (ap expression c.into_inner.ensures ∙ (c.in_ok-low.ensures {u = tt}).1) (ap expression c.into_inner-2.ensures ∙ (c.in_ok-high.ensures {u = tt}).1) b.1,
-    )
-
-pub counted-returns-clause-after : goal.counted-returns-clause-after
-counted-returns-clause-after t c =
-    let s = shown c.args.locals.now c.declare.new.self c.show.new.self (fixed (name c.args.name.now) c.in_ok-slot.slot) (name c.args.name.now) (c.in_ok-slot.ensures {u = tt}).declared (c.in_ok-show.ensures {u = tt}).shown in
-    closed c.args.locals.now c.show.new.self c.block.new.locals c.close.new.self (fixed (name c.args.name.now) c.in_ok-slot.slot ∷ []) (raw_block c.args.body.now) c.count-count.result (ap (λ (z : Seen). z.locals) s) (c.in_ok-body.ensures {u = tt}).after c.count-count.ensures c.close.ensures
-    ∙ ap (λ (z : Seen). record { locals = c.args.locals.now.locals; slots = z.slots ++ names_in (raw_block c.args.body.now) }) s
-    ∙ ap (λ (sl : List (List ℕ)). record { locals = c.args.locals.now.locals; slots = sl }) (append_assoc c.args.locals.now.slots (name c.args.name.now ∷ []) (names_in (raw_block c.args.body.now)))
-
 pub inner-returns-clause-after : goal.inner-returns-clause-after
 inner-returns-clause-after t c =
     closed c.args.locals.now c.args.locals.now c.block.new.locals c.close.new.self [] (raw_block c.args.raw.now) c.count-count.result refl (c.in_ok-statements.ensures {u = tt}).after c.count-count.ensures c.close.ensures
-
-pub valued-returns-clause-after : goal.valued-returns-clause-after
-valued-returns-clause-after t c =
-    closed c.args.locals.now c.args.locals.now c.block.new.locals c.close.new.self [] (raw_block c.args.raw.now) c.count-count.result refl (c.in_ok-statements.ensures {u = tt}).after c.count-count.ensures c.close.ensures
-
-pub valued-returns-clause-answers : goal.valued-returns-clause-answers
-valued-returns-clause-answers t c =
-    let b = c.in_ok-statements.ensures {u = tt} in
-    let v = rw (b.after, scope_at_end-is) at (c.in_ok-value.ensures {u = tt}) in
-    (none_in _ _ b.answers.0 v.0, λ i. (b.answers.1 i, v.1 i))
-
-pub valued-returns-in_err-value-clause-answers : goal.valued-returns-in_err-value-clause-answers
-valued-returns-in_err-value-clause-answers t c =
-    let b = c.in_ok-statements.ensures {u = tt} in
-    let p = err_from_is_err_and c.from_residual-in_err-value.result c.from_residual-in_err-value.ensures.1 in
-    rw (p.1, p.2) (behind _ _ _ b.answers.0 (rw (b.after, scope_at_end-is) at (c.in_err-value.ensures {u = tt})))
-
-pub consumed-returns-clause-after : goal.consumed-returns-clause-after
-consumed-returns-clause-after t c =
-    let s = (c.in_ok-show.ensures {u = tt}).shown in
-    closed c.args.locals.now c.show.new.self c.block.new.locals c.close.new.self (fixed (name (out-RawPair c.args.raw.now).carried) c.args.carried ∷ []) (raw_block c.deref.result.now) c.count-count.result (ap (λ (z : Seen). z.locals) s) (c.in_ok-consumer.ensures {u = tt}).after c.count-count.ensures c.close.ensures
-    ∙ (λ i. record { locals = c.args.locals.now.locals; slots = (ap (λ (z : Seen). z.slots) s i) ++ names_in (raw_block (c.deref.ensures.value i)) })
-
-pub repeated-returns-clause-answers : goal.repeated-returns-clause-answers
-repeated-returns-clause-answers t c =
-    let b = (c.in_ok-body.ensures {u = tt}).answers in
-    (none_in _ _ (c.in_ok-test.ensures {u = tt}).0 b.0, while_form c.args.here.now.globals.now c.args.locals.now c.into_inner.result c.args.most c.in_ok-body.body (raw_expression c.args.test.now) (raw_block c.args.body.now) (ap condition c.into_inner.ensures ∙ (c.in_ok-test.ensures {u = tt}).1) b.1)
 
 pub statement_kind-choice-requires : goal.statement_kind-choice-requires
 statement_kind-choice-requires t c =
@@ -179,15 +137,62 @@ pub statement_kind-returns-in-Pair-clause-after : goal.statement_kind-returns-in
 statement_kind-returns-in-Pair-clause-after t c =
     after_along c.args.locals.now c.pair.new.locals c.pair.result _ _ (pair_is c.args.raw.now c.in-Pair.raw c.deref-in-Pair.result.now c.in-Pair.is c.deref-in-Pair.ensures) c.pair.ensures.after
 
+pub counted-returns-clause-answers : goal.counted-returns-clause-answers
+counted-returns-clause-answers t c =
+    let s = shown c.args.locals.now c.declare.new.self c.show.new.self (fixed (name c.args.name.now) c.in_ok-slot.slot) (name c.args.name.now) (c.in_ok-slot.ensures {u = tt}).declared (c.in_ok-show.ensures {u = tt}).shown in
+    let b = rw c.in_turn-inside.ensures at (c.in_ok-body.ensures {u = tt}).answers in (
+      none_in _ _ (c.in_ok-declarable.ensures {u = tt}).answers.0 (none_in _ _ (c.in_ok-low.ensures {u = tt}).0 (none_in _ _ (c.in_ok-high.ensures {u = tt}).0 (ap (λ (z : Seen). block_faults (in_turn (setting c.args.here.now)) (scope z.locals) (raw_block c.args.body.now)) (sym s) ∙ b.0))),
+      for_form c.args.here.now.globals.now c.args.locals.now c.show.new.self (name c.args.name.now) c.in_ok-slot.slot c.into_inner.result c.into_inner-2.result c.in_ok-body.body (raw_expression c.args.low.now) (raw_expression c.args.high.now) (raw_block c.args.body.now) s (c.in_ok-slot.ensures {u = tt}).slot (ap expression c.into_inner.ensures ∙ (c.in_ok-low.ensures {u = tt}).1) (ap expression c.into_inner-2.ensures ∙ (c.in_ok-high.ensures {u = tt}).1) b.1,
+    )
+
+pub counted-returns-clause-after : goal.counted-returns-clause-after
+counted-returns-clause-after t c =
+    let s = shown c.args.locals.now c.declare.new.self c.show.new.self (fixed (name c.args.name.now) c.in_ok-slot.slot) (name c.args.name.now) (c.in_ok-slot.ensures {u = tt}).declared (c.in_ok-show.ensures {u = tt}).shown in
+    closed c.args.locals.now c.show.new.self c.block.new.locals c.close.new.self (fixed (name c.args.name.now) c.in_ok-slot.slot ∷ []) (raw_block c.args.body.now) c.count-count.result (ap (λ (z : Seen). z.locals) s) (c.in_ok-body.ensures {u = tt}).after c.count-count.ensures c.close.ensures
+    ∙ ap (λ (z : Seen). record { locals = c.args.locals.now.locals; slots = z.slots ++ names_in (raw_block c.args.body.now) }) s
+    ∙ ap (λ (sl : List (List ℕ)). record { locals = c.args.locals.now.locals; slots = sl }) (append_assoc c.args.locals.now.slots (name c.args.name.now ∷ []) (names_in (raw_block c.args.body.now)))
+
+pub repeated-returns-clause-answers : goal.repeated-returns-clause-answers
+repeated-returns-clause-answers t c =
+    let b = rw c.in_turn-inside.ensures at (c.in_ok-body.ensures {u = tt}).answers in
+    (none_in _ _ (c.in_ok-test.ensures {u = tt}).0 b.0, while_form c.args.here.now.globals.now c.args.locals.now c.into_inner.result c.args.most c.in_ok-body.body (raw_expression c.args.test.now) (raw_block c.args.body.now) (ap condition c.into_inner.ensures ∙ (c.in_ok-test.ensures {u = tt}).1) b.1)
+
+pub rowed-returns-clause-after : goal.rowed-returns-clause-after
+rowed-returns-clause-after t c =
+    closed c.args.locals.now c.args.locals.now c.block.new.locals c.close.new.self [] (raw_block c.args.raw.now) c.count-count.result refl (c.in_ok-statements.ensures {u = tt}).after c.count-count.ensures c.close.ensures
+
+pub rowed-returns-clause-answers : goal.rowed-returns-clause-answers
+rowed-returns-clause-answers t c =
+    let b = rw c.in_part-inside.ensures at (c.in_ok-statements.ensures {u = tt}) in
+    let v = rw (b.after, scope_at_end-is) at (c.in_ok-parts.ensures {u = tt}) in
+    (none_in _ _ b.answers.0 v.0, λ i. (b.answers.1 i, v.1 i))
+
+pub rowed-returns-in_err-parts-clause-answers : goal.rowed-returns-in_err-parts-clause-answers
+rowed-returns-in_err-parts-clause-answers t c =
+    let b = rw c.in_part-inside.ensures at (c.in_ok-statements.ensures {u = tt}) in
+    let p = err_from_is_err_and c.from_residual-in_err-parts.result c.from_residual-in_err-parts.ensures.1 in
+    rw (p.1, p.2) (behind _ _ _ b.answers.0 (rw (b.after, scope_at_end-is) at (c.in_err-parts.ensures {u = tt})))
+
+pub consumed-returns-clause-after : goal.consumed-returns-clause-after
+consumed-returns-clause-after t c =
+    let s = (c.in_ok-show_each.ensures {u = tt}).shown in
+    let g = grown_each true c.args.locals.now.locals c.args.first (map name c.deref.result.now) in
+    closed c.args.locals.now c.show_each.new.self c.block.new.locals c.close.new.self g.0 (raw_block c.deref-2.result.now) c.count-count.result (ap (λ (z : Seen). z.locals) s ∙ g.1) (c.in_ok-consumer.ensures {u = tt}).after c.count-count.ensures c.close.ensures
+    ∙ (λ i. record { locals = c.args.locals.now.locals; slots = (ap (λ (z : Seen). z.slots) s i) ++ names_in (raw_block (c.deref-2.ensures.value i)) })
+
 pub fold-returns-clause-answers : goal.fold-returns-clause-answers
 fold-returns-clause-answers t c =
     let h = c.in_ok-header.ensures {u = tt} in
     let b = c.in_ok-body.ensures {u = tt} in
-    let raw = out-RawFold c.args.raw.now in (
-      none_in _ _ h.answers.0 (ap (λ (z : Seen). valued_faults (setting c.args.here.now) (in_body (scope z.locals) (name raw.carried) (name raw.block)) (raw_block raw.body.items) raw.next_line (raw_expression raw.next)) (sym h.after) ∙ b.answers.0),
-      fold_form c.args.here.now.globals.now c.args.locals.now c.header_of.new.locals (raw_fold_head c.args.raw.now) (raw_block raw.body.items) c.in_ok-new.field-0 c.fold_of-fold.result c.in_ok-header.header.carried c.in_ok-header.header.block c.args.line c.in_ok-header.header.start.value c.in_ok-header.header.low.value c.in_ok-header.header.high.value c.in_ok-body.next.value c.in_ok-header.header.predict.value c.in_ok-body.body (c.in_ok-new.ensures {u = tt}).ok c.fold_of-fold.ensures.head c.fold_of-fold.ensures.body h.slots.0 h.slots.1 h.after
-          (ap (λ (z : Expression × Expression × Expression × Predictor). z.0) h.answers.1) (ap (λ (z : Expression × Expression × Expression × Predictor). z.1) h.answers.1) (ap (λ (z : Expression × Expression × Expression × Predictor). z.2) h.answers.1) (ap (λ (z : Expression × Expression × Expression × Predictor). z.3) h.answers.1)
-          (ap (λ (z : Block × Expression). z.0) b.answers.1) (ap (λ (z : Block × Expression). z.1) b.answers.1),
+    let raw = out-RawFold c.args.raw.now in
+    let head = raw_fold_head c.args.raw.now in
+    let old = c.args.locals.now in
+    let first = c.in_ok-header.header.first in
+    let is = ap (showing_fixed head.block) (scope_each-is true c.header_of.new.locals.locals first head.carried ∙ ap (λ (z : Seen). showing_each true (scope z.locals) head.carried) h.after) in (
+      none_in _ _ h.answers.0 (ap (λ sc. rowed_faults (setting c.args.here.now) sc (raw_block raw.body.items) head.next_line head.next) (sym is) ∙ b.answers.0),
+      fold_form c.args.here.now.globals.now old c.header_of.new.locals head (raw_block raw.body.items) c.in_ok-new.field-0 c.fold_of-fold.result c.in_ok-header.header.carried.items first c.in_ok-header.header.block c.in_ok-header.header.start.items c.in_ok-body.next.items c.in_ok-header.header.low.value c.in_ok-header.header.high.value c.in_ok-header.header.predict.items c.in_ok-body.body (c.in_ok-new.ensures {u = tt}).ok c.fold_of-fold.ensures.head c.fold_of-fold.ensures.body h.slots.0 h.slots.1 h.slots.2 h.after
+          (ap (λ (z : Arguments × Expression × Expression × List Predictor). z.0) h.answers.1) (ap (λ (z : Arguments × Expression × Expression × List Predictor). z.1) h.answers.1) (ap (λ (z : Arguments × Expression × Expression × List Predictor). z.2) h.answers.1) (ap (λ (z : Arguments × Expression × Expression × List Predictor). z.3) h.answers.1)
+          (ap (λ (z : Block × Arguments). z.0) b.answers.1) (ap (λ (z : Block × Arguments). z.1) b.answers.1),
     )
 
 pub fold-returns-clause-after : goal.fold-returns-clause-after
@@ -195,34 +200,90 @@ fold-returns-clause-after t c =
     let h = c.in_ok-header.ensures {u = tt} in
     let b = c.in_ok-body.ensures {u = tt} in
     let raw = out-RawFold c.args.raw.now in
-    (c.in_ok-show.ensures {u = tt}).shown
-    ∙ ap (λ (z : Seen). record { locals = free (name raw.carried) c.in_ok-header.header.carried ∷ z.locals; slots = z.slots }) (b.after ∙ ap (λ (z : Seen). after_inner z (raw_block raw.body.items)) h.after)
-    ∙ (λ i. record { locals = free (name raw.carried) (h.slots.0 i) ∷ c.args.locals.now.locals; slots = append_assoc c.args.locals.now.slots (name raw.carried ∷ name raw.block ∷ []) (names_in (raw_block raw.body.items)) i })
+    let head = raw_fold_head c.args.raw.now in
+    let old = c.args.locals.now in
+    let nb = names_in (raw_block raw.body.items) in
+    let s = rw c.deref.ensures.value at (c.in_ok-show_each.ensures {u = tt}).shown in
+    s
+    ∙ ap (λ (z : Seen). record { locals = with_each false z.locals c.in_ok-header.header.first head.carried; slots = z.slots }) (b.after ∙ ap (λ (z : Seen). after_inner z (raw_block raw.body.items)) h.after)
+    ∙ (λ i. record { locals = with_each false old.locals (h.slots.0 i) head.carried; slots = (append_assoc old.slots (head.carried ++ head.block ∷ []) nb ∙ ap (λ (k : List (List ℕ)). old.slots ++ k) (append_assoc head.carried (head.block ∷ []) nb)) i })
 
 pub pair-returns-clause-answers : goal.pair-returns-clause-answers
 pair-returns-clause-answers t c =
     let raw = out-RawPair c.args.raw.now in
-    let d = c.in_ok-carried.ensures {u = tt} in
-    let p = rw c.deref.ensures.value at (c.in_ok-producer.ensures {u = tt}) in
+    let head = raw_pair_head c.args.raw.now in
+    let old = c.args.locals.now in
+    let here = setting c.args.here.now in
+    let n = c.in_ok-pair_names.ensures {u = tt} in
+    let sl = rw c.deref.ensures.value at (c.in_ok-carried.ensures {u = tt}).value in
+    let p = rw (c.deref-2.ensures.value, c.deref-3.ensures.value) at (c.in_ok-producer.ensures {u = tt}) in
+    let q = rw c.deref-4.ensures.value at (c.in_ok-predict.ensures {u = tt}) in
     let b = c.in_ok-consumer.ensures {u = tt} in
-    let produced = p.after ∙ ap (λ (z : Seen). after_inner z (raw_block raw.producer.items)) d.declared in
-    let e = ap (λ (z : Seen). z.locals) d.declared in
-    let f = ap (λ (z : Seen). z.locals) produced in (
-      none_in _ _ (c.in_ok-declarable.ensures {u = tt}).answers.0
-          (none_in _ _ (ap (λ ls. valued_faults (setting c.args.here.now) (scope ls) (raw_block raw.producer.items) raw.give_line (raw_expression raw.give)) (sym e) ∙ p.answers.0)
-          (none_in _ _ (ap (λ ls. predictor_faults (setting c.args.here.now) (scope ls) c.args.line (raw_predictor raw.predict)) (sym f) ∙ (c.in_ok-predict.ensures {u = tt}).0)
-          (ap (λ ls. block_faults (setting c.args.here.now) (showing_fixed (name raw.carried) (scope ls)) (raw_block raw.consumer.items)) (sym f) ∙ b.answers.0))),
-      pair_form c.args.here.now.globals.now c.args.locals.now c.declare.new.self c.valued.new.locals (raw_pair_head c.args.raw.now) (raw_block raw.producer.items) (raw_block raw.consumer.items) c.in_ok-new.field-0 c.pair_of-pair.result c.in_ok-carried.carried c.in_ok-producer.give.value c.in_ok-predict.predict.value c.in_ok-producer.producer c.in_ok-consumer.consumer (c.in_ok-new.ensures {u = tt}).ok c.pair_of-pair.ensures.head c.pair_of-pair.ensures.producer c.pair_of-pair.ensures.consumer d.slot d.declared p.after
-          (ap (λ (z : Block × Expression). z.0) p.answers.1) (ap (λ (z : Block × Expression). z.1) p.answers.1) (c.in_ok-predict.ensures {u = tt}).1 b.answers.1,
+    let first = c.in_ok-first.first in
+    let produced = p.after ∙ ap (λ (z : Seen). after_inner z (raw_block raw.producer.items)) n.after in
+    let e = ap (λ (z : Seen). z.locals) n.after in
+    let f = ap (λ (z : Seen). z.locals) produced in
+    let is = scope_each-is true c.rowed.new.locals.locals first head.carried ∙ ap (λ ls. showing_each true (scope ls) head.carried) f in (
+      none_in _ _ n.answers.0 (none_in _ _ (c.in_ok-pair_widths.ensures {u = tt}).0
+          (none_in _ _ (ap (λ ls. rowed_faults here (scope ls) (raw_block raw.producer.items) head.give_line head.give) (sym e) ∙ p.answers.0)
+          (none_in _ _ (ap (λ ls. predictors_faults here (scope ls) c.args.line head.predict) (sym f) ∙ q.0)
+          (ap (λ sc. block_faults (in_part here) sc (raw_block raw.consumer.items)) (sym is) ∙ b.answers.0)))),
+      pair_form c.args.here.now.globals.now old c.pair_names.new.locals c.rowed.new.locals head (raw_block raw.producer.items) (raw_block raw.consumer.items) c.in_ok-new.field-0 c.pair_of-pair.result c.in_ok-carried.carried.items first c.in_ok-producer.give.items c.in_ok-predict.predict.items c.in_ok-producer.producer c.in_ok-consumer.consumer (c.in_ok-new.ensures {u = tt}).ok c.pair_of-pair.ensures.head c.pair_of-pair.ensures.producer c.pair_of-pair.ensures.consumer (c.in_ok-first.ensures {u = tt}).value sl n.after p.after
+          (ap (λ (z : Block × Arguments). z.0) p.answers.1) (ap (λ (z : Block × Arguments). z.1) p.answers.1) q.1 b.answers.1,
     )
 
 pub pair-returns-clause-after : goal.pair-returns-clause-after
 pair-returns-clause-after t c =
     let raw = out-RawPair c.args.raw.now in
-    let d = c.in_ok-carried.ensures {u = tt} in
-    let p = rw c.deref.ensures.value at (c.in_ok-producer.ensures {u = tt}) in
+    let head = raw_pair_head c.args.raw.now in
+    let old = c.args.locals.now in
+    let n = c.in_ok-pair_names.ensures {u = tt} in
+    let p = rw (c.deref-2.ensures.value, c.deref-3.ensures.value) at (c.in_ok-producer.ensures {u = tt}) in
     let b = c.in_ok-consumer.ensures {u = tt} in
-    (c.in_ok-show.ensures {u = tt}).shown
-    ∙ ap (λ (z : Seen). record { locals = free (name raw.carried) c.in_ok-carried.carried ∷ z.locals; slots = z.slots })
-    (b.after ∙ ap (λ (z : Seen). after_inner z (raw_block raw.consumer.items)) (p.after ∙ ap (λ (z : Seen). after_inner z (raw_block raw.producer.items)) d.declared))
-    ∙ (λ i. record { locals = free (name raw.carried) (d.slot i) ∷ c.args.locals.now.locals; slots = (append_assoc (c.args.locals.now.slots ++ name raw.carried ∷ []) (names_in (raw_block raw.producer.items)) (names_in (raw_block raw.consumer.items)) ∙ append_assoc c.args.locals.now.slots (name raw.carried ∷ []) (names_in (raw_block raw.producer.items) ++ names_in (raw_block raw.consumer.items))) i })
+    let np = names_in (raw_block raw.producer.items) in
+    let nc = names_in (raw_block raw.consumer.items) in
+    let s = rw c.deref-5.ensures.value at (c.in_ok-show_each.ensures {u = tt}).shown in
+    s
+    ∙ ap (λ (z : Seen). record { locals = with_each false z.locals c.in_ok-first.first head.carried; slots = z.slots })
+    (b.after ∙ ap (λ (z : Seen). after_inner z (raw_block raw.consumer.items)) (p.after ∙ ap (λ (z : Seen). after_inner z (raw_block raw.producer.items)) n.after))
+    ∙ (λ i. record { locals = with_each false old.locals ((c.in_ok-first.ensures {u = tt}).value i) head.carried; slots = (append_assoc (old.slots ++ head.carried) np nc ∙ append_assoc old.slots head.carried (np ++ nc)) i })
+
+pub fold-returns-in_err-body-clause-answers : goal.fold-returns-in_err-body-clause-answers
+fold-returns-in_err-body-clause-answers t c =
+    let h = c.in_ok-header.ensures {u = tt} in
+    let raw = out-RawFold c.args.raw.now in
+    let head = raw_fold_head c.args.raw.now in
+    let is = ap (showing_fixed head.block) (scope_each-is true c.header_of.new.locals.locals c.in_ok-header.header.first head.carried ∙ ap (λ (z : Seen). showing_each true (scope z.locals) head.carried) h.after) in
+    let p = err_from_is_err_and c.from_residual-in_err-body.result c.from_residual-in_err-body.ensures.1 in
+    rw (p.1, p.2) (behind _ _ _ h.answers.0 (along _ _ _ (ap (λ sc. rowed_faults (setting c.args.here.now) sc (raw_block raw.body.items) head.next_line head.next) (sym is)) (c.in_err-body.ensures {u = tt}).answers))
+
+pub folded-returns-clause-after : goal.folded-returns-clause-after
+folded-returns-clause-after t c =
+    let raw = out-RawFold c.args.raw.now in
+    let old = c.args.locals.now in
+    let one = (c.in_ok-show_each.ensures {u = tt}).shown in
+    let two = (c.in_ok-show.ensures {u = tt}).shown in
+    let g = grown_each true old.locals c.args.first (map name c.deref.result.now) in
+    let last = fixed (name raw.block) c.args.block in
+    let inside = ap (λ (z : Seen). z.locals) two ∙ ap (λ (z : Seen). last ∷ z.locals) one ∙ ap (λ ls. last ∷ ls) g.1 in
+    let slots = ap (λ (z : Seen). z.slots) two ∙ ap (λ (z : Seen). z.slots) one in
+    closed_front old c.show.new.self c.rowed.new.locals c.close.new.self (last ∷ g.0) (names_in (raw_block c.deref-2.result.now)) c.count-count.result inside (c.in_ok-answer.ensures {u = tt}).after c.count-count.ensures c.close.ensures
+    ∙ (λ i. record { locals = old.locals; slots = slots i ++ names_in (raw_block (c.deref-2.ensures.value i)) })
+
+pub pair-returns-in_err-consumer-clause-answers : goal.pair-returns-in_err-consumer-clause-answers
+pair-returns-in_err-consumer-clause-answers t c =
+    let raw = out-RawPair c.args.raw.now in
+    let head = raw_pair_head c.args.raw.now in
+    let here = setting c.args.here.now in
+    let n = c.in_ok-pair_names.ensures {u = tt} in
+    let p = rw (c.deref-2.ensures.value, c.deref-3.ensures.value) at (c.in_ok-producer.ensures {u = tt}) in
+    let q = rw c.deref-4.ensures.value at (c.in_ok-predict.ensures {u = tt}) in
+    let produced = p.after ∙ ap (λ (z : Seen). after_inner z (raw_block raw.producer.items)) n.after in
+    let e = ap (λ (z : Seen). z.locals) n.after in
+    let f = ap (λ (z : Seen). z.locals) produced in
+    let is = scope_each-is true c.rowed.new.locals.locals c.in_ok-first.first head.carried ∙ ap (λ ls. showing_each true (scope ls) head.carried) f in
+    let r = err_from_is_err_and c.from_residual-in_err-consumer.result c.from_residual-in_err-consumer.ensures.1 in
+    rw (r.1, r.2) (behind _ _ _ n.answers.0 (behind _ _ _ (c.in_ok-pair_widths.ensures {u = tt}).0
+    (behind _ _ _ (ap (λ ls. rowed_faults here (scope ls) (raw_block raw.producer.items) head.give_line head.give) (sym e) ∙ p.answers.0)
+    (behind _ _ _ (ap (λ ls. predictors_faults here (scope ls) c.args.line head.predict) (sym f) ∙ q.0)
+    (along _ _ _ (ap (λ sc. block_faults (in_part here) sc (raw_block raw.consumer.items)) (sym is)) (c.in_err-consumer.ensures {u = tt}).answers)))))

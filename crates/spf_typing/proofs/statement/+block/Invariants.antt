@@ -24,8 +24,8 @@ decreases-counted l = 2 * stmts_weight l.body.now + 1
 abbrev pub decreases-repeated : goal.decreases-repeated
 decreases-repeated l = 2 * stmts_weight l.body.now + 2
 
-abbrev pub decreases-valued : goal.decreases-valued
-decreases-valued l = 2 * stmts_weight l.raw.now + 1
+abbrev pub decreases-rowed : goal.decreases-rowed
+decreases-rowed l = 2 * stmts_weight l.raw.now + 1
 
 abbrev pub decreases-folded : goal.decreases-folded
 decreases-folded l = 2 * stmts_weight (out-RawFold l.raw.now).body.items + 2

@@ -18,17 +18,17 @@ collect-returns t c =
 pub collect_fold-returns : goal.collect_fold-returns
 collect_fold-returns t c =
     let f = out-Fold c.args.fold.now in
-    let both = c.in_ok-insert-2.ensures {u = tt} ∙ ap (with_slot f.block) (c.in_ok-insert.ensures {u = tt}) in
-    on_ok c.collect.result (rw c.deref.ensures.value at c.collect.ensures) (λ e.
+    let both = c.in_ok-insert.ensures {u = tt} ∙ ap (with_slot f.block) (rw c.deref.ensures.value at (c.in_ok-insert_each.ensures {u = tt})) in
+    on_ok c.collect.result (rw c.deref-2.ensures.value at c.collect.ensures) (λ e.
     e ∙ (λ i. with_block (block f.body.items) (record { assigned = has_slot c.args.slots.now.assigned; declared = both i }))
     ∙ fold_with (fold_head c.args.fold.now) (block f.body.items) (sets_of c.args.slots.now))
 
 pub collect_pair-returns : goal.collect_pair-returns
 collect_pair-returns t c =
     let p = out-Pair c.args.pair.now in
-    let one = c.in_ok-insert.ensures {u = tt} in
-    on_ok c.collect-2.result (rw c.deref-2.ensures.value at c.collect-2.ensures) (λ e.
-    e ∙ ap (with_block (block p.consumer.items)) (rw c.deref.ensures.value at (c.in_ok-collect.ensures {u = tt}))
+    let one = rw c.deref.ensures.value at (c.in_ok-insert_each.ensures {u = tt}) in
+    on_ok c.collect-2.result (rw c.deref-3.ensures.value at c.collect-2.ensures) (λ e.
+    e ∙ ap (with_block (block p.consumer.items)) (rw c.deref-2.ensures.value at (c.in_ok-collect.ensures {u = tt}))
     ∙ (λ i. with_block (block p.consumer.items) (with_block (block p.producer.items) (record { assigned = has_slot c.args.slots.now.assigned; declared = one i })))
     ∙ pair_with (pair_head c.args.pair.now) (block p.producer.items) (block p.consumer.items) (sets_of c.args.slots.now))
 

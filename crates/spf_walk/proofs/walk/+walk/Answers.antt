@@ -6,7 +6,7 @@ use Rattle.spf_ast.specs.View.{function, expression, arguments, condition, block
 use Rattle.spf_ast.proofs.Views.{expression-call, statement-if, statement-for, statement-while, statement-fold, statement-pair}
 use Rattle.spf_region.specs.Bounds.{negated}
 use Rattle.spf_findings.specs.Extends.{Extends}
-use Rattle.spf_findings.specs.Forms.{Entered, binary_bound, expression_bound, expression_finds, argument_bounds, arguments_find, condition_finds, statement_finds, block_finds, block_then, bounds_behind, bounds_at_end, declared, sweeps}
+use Rattle.spf_findings.specs.Forms.{Entered, binary_bound, expression_bound, expression_finds, argument_bounds, arguments_find, condition_finds, statement_finds, block_finds, block_then_row, bounds_behind, bounds_at_end, declared, loop_sweeps}
 use Rattle.spf_findings.specs.Found.{◌then◌, perhaps, reads_element, writes_element, writes_range, turns, turn_bound}
 use Rattle.spf_findings.specs.Parts.{call_before}
 use Rattle.spf_walk.specs.Settings.{setting}
@@ -71,6 +71,15 @@ block_and-returns-clause-finds t c =
     let known = c.deref.ensures.value ∙ e.bounds in
     then_on c.expression.result (block_finds (setting c.args.context.now c.args.below) c.args.bounds.now (block c.args.statements.now)) (expression_finds (setting c.args.context.now c.args.below) (bounds_at_end (setting c.args.context.now c.args.below) c.args.bounds.now (block c.args.statements.now)) (expression c.args.last.now)) c.args.found.now c.block.new.found c.expression.new.found e.finds
     (rw known at c.expression.ensures.finds)
+
+pub block_and_row-returns : goal.block_and_row-returns
+block_and_row-returns t c =
+    let e = c.in_ok-behind.ensures {u = tt} in
+    let known = c.deref.ensures.value ∙ e.bounds in
+    let row = rw known at (c.in_ok-arguments.ensures {u = tt}).finds in
+    record {
+      finds = extends_then (block_finds (setting c.args.context.now c.args.below) c.args.bounds.now (block c.args.statements.now)) (arguments_find (setting c.args.context.now c.args.below) (bounds_at_end (setting c.args.context.now c.args.below) c.args.bounds.now (block c.args.statements.now)) (arguments c.args.last.now)) c.args.found.now c.block.new.found c.arguments.new.found e.finds row;
+    }
 
 pub branches-returns : goal.branches-returns
 branches-returns t c =
@@ -193,9 +202,9 @@ fold_turns-returns t c =
     let long : c.in_ok-inner.inner.len ≡ length c.in_ok-inner.inner.items = search rules in
     let same : length c.declare.new.bounds ≡ length c.in_ok-inner.inner.items = c.declare.auto.bounds ∙ ap length c.deref_mut.ensures.value in
     let known = c.deref.ensures.value ∙ written_back c.in_ok-inner.inner.items c.declare.new.bounds c.in_ok-inner.inner.len same long ∙ made in
-    let walked = rw known at (c.in_ok-block_and.ensures {u = tt}).finds in
+    let walked = rw known at (c.in_ok-block_and_row.ensures {u = tt}).finds in
     record {
-      finds = turned_plainly c.args.low c.args.high (block_then (setting c.args.context.now c.args.below) (declared (setting c.args.context.now c.args.below) c.args.slot (turn_bound c.args.low c.args.high) c.args.bounds.now) (block c.args.body.now) (expression c.args.next.now)) c.args.found.now c.block_and.new.found c.leave_loop.new.self c.in_ok-before.before (sym c.has_no_turn.ensures ∙ c.if-has_no_turn.false) walked copy.offsets copy.wholes c.leave_loop.ensures;
+      finds = turned_plainly c.args.low c.args.high (block_then_row (setting c.args.context.now c.args.below) (declared (setting c.args.context.now c.args.below) c.args.slot (turn_bound c.args.low c.args.high) c.args.bounds.now) (block c.args.body.now) (arguments c.args.next.now)) c.args.found.now c.block_and_row.new.found c.leave_loop.new.self c.in_ok-before.before (sym c.has_no_turn.ensures ∙ c.if-has_no_turn.false) walked copy.offsets copy.wholes c.leave_loop.ensures;
     }
 
 pub for_turns-returns : goal.for_turns-returns
@@ -209,7 +218,7 @@ for_turns-returns t c =
     let known = c.deref.ensures.value ∙ written_back c.in_ok-inner.inner.items c.declare.new.bounds c.in_ok-inner.inner.len same long ∙ made in
     let walked = rw known at (c.in_ok-block.ensures {u = tt}).finds in
     record {
-      finds = turned c.sweep.result c.args.low c.args.high (sweeps c.args.slot (block c.args.body.now)) (block_finds (setting c.args.context.now c.args.below) (declared (setting c.args.context.now c.args.below) c.args.slot (turn_bound c.args.low c.args.high) c.args.bounds.now) (block c.args.body.now)) c.args.found.now c.block.new.found c.leave_loop.new.self c.sweep.new.found c.in_ok-before.before (sym c.has_no_turn.ensures ∙ c.if-has_no_turn.false) walked copy.offsets copy.wholes c.leave_loop.ensures c.sweep.ensures;
+      finds = turned c.sweep.result c.args.low c.args.high (loop_sweeps c.args.slot (block c.args.body.now)) (block_finds (setting c.args.context.now c.args.below) (declared (setting c.args.context.now c.args.below) c.args.slot (turn_bound c.args.low c.args.high) c.args.bounds.now) (block c.args.body.now)) c.args.found.now c.block.new.found c.leave_loop.new.self c.sweep.new.found c.in_ok-before.before (sym c.has_no_turn.ensures ∙ c.if-has_no_turn.false) walked copy.offsets copy.wholes c.leave_loop.ensures c.sweep.ensures;
     }
 
 pub while_turns-returns : goal.while_turns-returns
@@ -224,23 +233,23 @@ while_turns-returns t c =
 
 pub inner_fold-returns : goal.inner_fold-returns
 inner_fold-returns t c =
-    let start = c.in_ok-expression.ensures {u = tt} in
+    let start = rw c.deref.ensures.value at (c.in_ok-arguments.ensures {u = tt}).finds in
     let low = c.in_ok-low.ensures {u = tt} in
     let high = c.in_ok-high.ensures {u = tt} in
-    let turns_of = turns (expression_bound (setting c.args.context.now c.args.below) c.args.bounds.now (expression (out-Fold c.args.fold.now).low)) (expression_bound (setting c.args.context.now c.args.below) c.args.bounds.now (expression (out-Fold c.args.fold.now).high)) [] (block_then (setting c.args.context.now c.args.below) (declared (setting c.args.context.now c.args.below) (out-Fold c.args.fold.now).block (turn_bound (expression_bound (setting c.args.context.now c.args.below) c.args.bounds.now (expression (out-Fold c.args.fold.now).low)) (expression_bound (setting c.args.context.now c.args.below) c.args.bounds.now (expression (out-Fold c.args.fold.now).high))) c.args.bounds.now) (block (out-Fold c.args.fold.now).body.items) (expression (out-Fold c.args.fold.now).next)) in
-    let k = rw (c.deref.ensures.value, low.bound, high.bound) at c.fold_turns.ensures.finds in
+    let turns_of = turns (expression_bound (setting c.args.context.now c.args.below) c.args.bounds.now (expression (out-Fold c.args.fold.now).low)) (expression_bound (setting c.args.context.now c.args.below) c.args.bounds.now (expression (out-Fold c.args.fold.now).high)) [] (block_then_row (setting c.args.context.now c.args.below) (declared (setting c.args.context.now c.args.below) (out-Fold c.args.fold.now).block (turn_bound (expression_bound (setting c.args.context.now c.args.below) c.args.bounds.now (expression (out-Fold c.args.fold.now).low)) (expression_bound (setting c.args.context.now c.args.below) c.args.bounds.now (expression (out-Fold c.args.fold.now).high))) c.args.bounds.now) (block (out-Fold c.args.fold.now).body.items) (arguments (out-Fold c.args.fold.now).next.items)) in
+    let k = rw (c.deref-2.ensures.value, c.deref-3.ensures.value, low.bound, high.bound) at c.fold_turns.ensures.finds in
     record {
-      finds = then_on c.fold_turns.result (expression_finds (setting c.args.context.now c.args.below) c.args.bounds.now (expression (out-Fold c.args.fold.now).start)) ((expression_finds (setting c.args.context.now c.args.below) c.args.bounds.now (expression (out-Fold c.args.fold.now).low)) then (expression_finds (setting c.args.context.now c.args.below) c.args.bounds.now (expression (out-Fold c.args.fold.now).high)) then turns_of) c.args.found.now c.expression.new.found c.fold_turns.new.found start.finds
-          (then_on c.fold_turns.result (expression_finds (setting c.args.context.now c.args.below) c.args.bounds.now (expression (out-Fold c.args.fold.now).low)) ((expression_finds (setting c.args.context.now c.args.below) c.args.bounds.now (expression (out-Fold c.args.fold.now).high)) then turns_of) c.expression.new.found c.expression-2.new.found c.fold_turns.new.found low.finds
-          (then_on c.fold_turns.result (expression_finds (setting c.args.context.now c.args.below) c.args.bounds.now (expression (out-Fold c.args.fold.now).high)) turns_of c.expression-2.new.found c.expression-3.new.found c.fold_turns.new.found high.finds k));
+      finds = then_on c.fold_turns.result (arguments_find (setting c.args.context.now c.args.below) c.args.bounds.now (arguments (out-Fold c.args.fold.now).start.items)) ((expression_finds (setting c.args.context.now c.args.below) c.args.bounds.now (expression (out-Fold c.args.fold.now).low)) then (expression_finds (setting c.args.context.now c.args.below) c.args.bounds.now (expression (out-Fold c.args.fold.now).high)) then turns_of) c.args.found.now c.arguments.new.found c.fold_turns.new.found start
+          (then_on c.fold_turns.result (expression_finds (setting c.args.context.now c.args.below) c.args.bounds.now (expression (out-Fold c.args.fold.now).low)) ((expression_finds (setting c.args.context.now c.args.below) c.args.bounds.now (expression (out-Fold c.args.fold.now).high)) then turns_of) c.arguments.new.found c.expression.new.found c.fold_turns.new.found low.finds
+          (then_on c.fold_turns.result (expression_finds (setting c.args.context.now c.args.below) c.args.bounds.now (expression (out-Fold c.args.fold.now).high)) turns_of c.expression.new.found c.expression-2.new.found c.fold_turns.new.found high.finds k));
     }
 
 pub inner_pair-returns : goal.inner_pair-returns
 inner_pair-returns t c =
-    let one = rw c.deref.ensures.value at (c.in_ok-block_and.ensures {u = tt}).finds in
-    let two = rw c.deref-2.ensures.value at (c.in_ok-block.ensures {u = tt}).finds in
+    let one = rw (c.deref.ensures.value, c.deref-2.ensures.value) at (c.in_ok-block_and_row.ensures {u = tt}).finds in
+    let two = rw c.deref-3.ensures.value at (c.in_ok-block.ensures {u = tt}).finds in
     record {
-      finds = extends_regrouped (block_finds (setting c.args.context.now c.args.below) c.args.bounds.now (block (out-Pair c.args.pair.now).producer.items)) (expression_finds (setting c.args.context.now c.args.below) (bounds_at_end (setting c.args.context.now c.args.below) c.args.bounds.now (block (out-Pair c.args.pair.now).producer.items)) (expression (out-Pair c.args.pair.now).give)) (block_finds (setting c.args.context.now c.args.below) c.args.bounds.now (block (out-Pair c.args.pair.now).consumer.items)) c.args.found.now c.block_and.new.found c.block.new.found one two;
+      finds = extends_regrouped (block_finds (setting c.args.context.now c.args.below) c.args.bounds.now (block (out-Pair c.args.pair.now).producer.items)) (arguments_find (setting c.args.context.now c.args.below) (bounds_at_end (setting c.args.context.now c.args.below) c.args.bounds.now (block (out-Pair c.args.pair.now).producer.items)) (arguments (out-Pair c.args.pair.now).give.items)) (block_finds (setting c.args.context.now c.args.below) c.args.bounds.now (block (out-Pair c.args.pair.now).consumer.items)) c.args.found.now c.block_and_row.new.found c.block.new.found one two;
     }
 
 pub statement-branches-requires : goal.statement-branches-requires
@@ -324,7 +333,7 @@ pub statement-returns-in_ok-high-in-For-clause-finds : goal.statement-returns-in
 statement-returns-in_ok-high-in-For-clause-finds t c =
     let low = c.in_ok-low-in-For.ensures {u = tt} in
     let high = c.in_ok-high-in-For.ensures {u = tt} in
-    let turns_of = turns (expression_bound (setting c.args.context.now c.args.below) c.args.bounds.now (expression c.in-For.low)) (expression_bound (setting c.args.context.now c.args.below) c.args.bounds.now (expression c.in-For.high)) (sweeps c.in-For.slot (block c.in-For.body.items)) (block_finds (setting c.args.context.now c.args.below) (declared (setting c.args.context.now c.args.below) c.in-For.slot (turn_bound (expression_bound (setting c.args.context.now c.args.below) c.args.bounds.now (expression c.in-For.low)) (expression_bound (setting c.args.context.now c.args.below) c.args.bounds.now (expression c.in-For.high))) c.args.bounds.now) (block c.in-For.body.items)) in
+    let turns_of = turns (expression_bound (setting c.args.context.now c.args.below) c.args.bounds.now (expression c.in-For.low)) (expression_bound (setting c.args.context.now c.args.below) c.args.bounds.now (expression c.in-For.high)) (loop_sweeps c.in-For.slot (block c.in-For.body.items)) (block_finds (setting c.args.context.now c.args.below) (declared (setting c.args.context.now c.args.below) c.in-For.slot (turn_bound (expression_bound (setting c.args.context.now c.args.below) c.args.bounds.now (expression c.in-For.low)) (expression_bound (setting c.args.context.now c.args.below) c.args.bounds.now (expression c.in-For.high))) c.args.bounds.now) (block c.in-For.body.items)) in
     let k = rw (c.deref-in-For.ensures.value, low.bound, high.bound) at c.for_turns.ensures.finds in
     rw c.in-For.is (subst (λ form. OnOk c.for_turns.result (Extends (statement_finds (setting c.args.context.now c.args.below) c.args.bounds.now form) c.args.found.now c.for_turns.new.found)) (sym (statement-for c.in-For.slot c.in-For.low c.in-For.high c.in-For.body))
     (then_on c.for_turns.result (expression_finds (setting c.args.context.now c.args.below) c.args.bounds.now (expression c.in-For.low)) ((expression_finds (setting c.args.context.now c.args.below) c.args.bounds.now (expression c.in-For.high)) then turns_of) c.args.found.now c.expression-in-For.new.found c.for_turns.new.found low.finds

@@ -29,6 +29,9 @@ decreases-block l = weight_before (map function l.context.now.functions.now) l.b
 abbrev pub decreases-block_and : goal.decreases-block_and
 decreases-block_and l = weight_before (map function l.context.now.functions.now) l.below + 2 * (stmts_weight l.statements.now + expr_weight l.last.now) + 1
 
+abbrev pub decreases-block_and_row : goal.decreases-block_and_row
+decreases-block_and_row l = weight_before (map function l.context.now.functions.now) l.below + 2 * (stmts_weight l.statements.now + exprs_weight l.last.now) + 1
+
 abbrev pub decreases-statement : goal.decreases-statement
 decreases-statement l = weight_before (map function l.context.now.functions.now) l.below + 2 * kind_weight l.kind.now + 1
 
@@ -48,7 +51,7 @@ abbrev pub decreases-inner_fold : goal.decreases-inner_fold
 decreases-inner_fold l = weight_before (map function l.context.now.functions.now) l.below + 2 * fold_weight l.fold.now
 
 abbrev pub decreases-fold_turns : goal.decreases-fold_turns
-decreases-fold_turns l = weight_before (map function l.context.now.functions.now) l.below + 2 * (stmts_weight l.body.now + expr_weight l.next.now) + 2
+decreases-fold_turns l = weight_before (map function l.context.now.functions.now) l.below + 2 * (stmts_weight l.body.now + exprs_weight l.next.now) + 2
 
 abbrev pub decreases-inner_pair : goal.decreases-inner_pair
 decreases-inner_pair l = weight_before (map function l.context.now.functions.now) l.below + 2 * pair_weight l.pair.now

@@ -1,7 +1,4 @@
-use Rattle.std.proofs.Common.{◌≡◌, ◌≢◌, ◌∙◌, ◌<◌, ◌≤◌, arith, sym, ap, length, refl, Some, None, slice_get, set, subst, ℤ, true}
-use Rattle.std.proofs.lemmas.Int.{to_z-of_z}
-use mir.Syntax.{w64}
-use mir.Val.{to_z, of_z}
+use Rattle.std.proofs.Common.{◌≡◌, ◌≢◌, ◌∙◌, ◌<◌, ◌≤◌, arith, sym, ap, length, refl, Some, None, slice_get, set, subst, List, ℤ, true}
 use Rattle.std.proofs.lemmas.List.{length-set}
 use Rattle.std.proofs.lemmas.Option.{slice_get_read}
 use Rattle.spf_chain.specs.declared.validated.Settled.TheVariants.{Carried}
@@ -22,7 +19,7 @@ use Rattle.spf_chain.proofs.Keeping.{over-set, homes-set-none, next-is, next-val
 use Rattle.spf_chain.proofs.chain.Chain.answer_next.Goals as goal
 
 -- what is so where the next block's report is home
-record AtNext (a : Inside) (real : ℤ) (r : Report) : Type 0 where
+record AtNext (a : Inside) (real : List ℤ) (r : Report) : Type 0 where
   at : slice_get a.homes.items a.validation.count ≡ Some (Some r)
   low : a.validation.count < length a.homes.items
   value : slice_get (plain_blocks (entry_at a.site.value)).values a.validation.count ≡ Some real
@@ -31,7 +28,7 @@ record AtNext (a : Inside) (real : ℤ) (r : Report) : Type 0 where
   first : IsFirstAt (entry_at a.site.value) (guess_at a.site.value) a.validation.count r
   carried : a.validation.settled ≡ Carried real
 
-at-next : PrefixesHaveRealValues → UnstoppedAttemptsAreWhole → LanesStopNoSecondAttempt → (a : Inside) (v : ChainValue) (real : ℤ) (r : Report) → IsKept a → chain_value a ≡ v → v.settled ≡ Carried real → known_in real (slice_get v.homes (next_block v)) ≡ None
+at-next : PrefixesHaveRealValues → UnstoppedAttemptsAreWhole → LanesStopNoSecondAttempt → (a : Inside) (v : ChainValue) (real : List ℤ) (r : Report) → IsKept a → chain_value a ≡ v → v.settled ≡ Carried real → known_in real (slice_get v.homes (next_block v)) ≡ None
     → a.validation.count < length a.homes.items → slice_get a.homes.items a.validation.count ≡ Some (Some r) → AtNext a real r
 at-next law whole second a v real r h is carried done low at =
     let mine : a.validation.settled ≡ Carried real = ap (λ (w : ChainValue). w.settled) is ∙ carried in
@@ -41,7 +38,7 @@ at-next law whole second a v real r h is carried done low at =
     let wrong = wrong-home whole second (entry_at a.site.value) (guess_at a.site.value) (cells_inside a) a.validation.count real r h.ground.raisable home value (ap (known_in real) (sym here) ∙ done) in
     record { at = at; low = low; value = value; home = home; wrong = wrong; first = first-home (entry_at a.site.value) (guess_at a.site.value) (cells_inside a) a.validation.count real r home value wrong; carried = mine }
 
-needs-rerun : (a : Inside) (v : ChainValue) (real : ℤ) (r : Report) → IsKept a → chain_value a ≡ v → AtNext a real r → NeedsRerun v real r
+needs-rerun : (a : Inside) (v : ChainValue) (real : List ℤ) (r : Report) → IsKept a → chain_value a ≡ v → AtNext a real r → NeedsRerun v real r
 needs-rerun a v real r h is f = subst (λ w. NeedsRerun w real r) is (
     let same : next_block (chain_value a) ≡ a.validation.count = next-is a (chain_value a) h refl in record {
       home = ap (slice_get a.homes.items) same ∙ f.at;
@@ -51,7 +48,7 @@ needs-rerun a v real r h is f = subst (λ w. NeedsRerun w real r) is (
       wrong = f.wrong;
     })
 
-is-again : (a : Inside) (v : ChainValue) (real : ℤ) (r : Report) (t : Ticket) → IsKept a → chain_value a ≡ v → AtNext a real r
+is-again : (a : Inside) (v : ChainValue) (real : List ℤ) (r : Report) (t : Ticket) → IsKept a → chain_value a ≡ v → AtNext a real r
     → t.block ≡ r.ticket.block → t.number ≡ r.ticket.number → t.attempt ≡ 2 → t.carried ≡ real → t.lane ≡ r.ticket.lane → t.frame ≡ r.ticket.frame → IsAgain v real t
 is-again a v real r t h is f block number attempt carried lane frame = record {
   fresh = subst (λ (w : ChainValue). IsFresh (entry_at w.site) (guess_at w.site) (cells_of w) t) is
@@ -114,12 +111,11 @@ returns c =
     slice_get_read a.homes.items (length a.homes.items) a.validation.count c.index_mut.result.now refl low c.index_mut.ensures.value ∙ ap (λ x. Some x) (sym c.take.ensures.value ∙ c.in-Some.is) in
     let f = at-next c.prefixes_grow.ensures.real c.block_runs_are_attempts.ensures.unstopped c.lanes_make_speculative_runs.ensures.second a c.args.self.now c.args.real c.in-Some.report h c.self.view_is c.requires.carried c.requires.done low at in
     let k = c.again.ensures in
-    let real : to_z w64 (of_z w64 c.args.real) ≡ c.args.real = to_z-of_z w64 c.args.real c.ranges.real in
     let same : set a.homes.items a.validation.count c.take.new.self ≡ set a.homes.items (next_block (chain_value a)) None =
     ap (set a.homes.items a.validation.count) c.take.ensures.after ∙ ap (λ n. set a.homes.items n None) (sym (next-is a (chain_value a) h refl)) in (
       c.args.real,
       c.in-Some.report,
       needs-rerun a c.args.self.now c.args.real c.in-Some.report h c.self.view_is f,
-      is-again a c.args.self.now c.args.real c.in-Some.report c.again.result h c.self.view_is f k.block k.number k.attempt (k.carried ∙ real) k.lane k.frame,
+      is-again a c.args.self.now c.args.real c.in-Some.report c.again.result h c.self.view_is f k.block k.number k.attempt k.carried k.lane k.frame,
       (λ t. home_value a (same t) true) ∙ ap sent_again c.self.view_is,
     )

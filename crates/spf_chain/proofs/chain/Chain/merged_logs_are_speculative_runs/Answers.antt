@@ -1,4 +1,4 @@
-use Rattle.std.proofs.Common.{◌≡◌, ◌∙◌, ap, map, subst, slice_get}
+use Rattle.std.proofs.Common.{◌≡◌, map, subst}
 use Rattle.spf_entry.specs.Entry.{plain_blocks}
 use Rattle.spf_entry.specs.Sites.{entry_at}
 use Rattle.spf_chain.specs.Chains.{ChainValue}

@@ -59,7 +59,6 @@ begin-requires c =
     let h = c.args.header in
     let s = site_of i c.args.construct h c.args.frame.now c.args.entry.now c.args.guesses.now in
     let low : to_z w64 (of_z w64 h.low) ≡ h.low = grind (arith, to_z-of_z) in
-    let start : to_z w64 (of_z w64 h.start) ≡ h.start = grind (arith, to_z-of_z) in
     let bytes : All (λ b. b < 256) i.input = subst (All (λ b. b < 256)) c.input.ensures.same c.are_bytes.ensures in
     let parts = parts-of i c.args.checked.now c.args.construct h c.args.frame.now c.requires.construct.0 c.requires.program c.program-program.ensures.free bytes c.requires.frame c.requires.construct.1 c.requires.construct.2 in
     let setting = c.in_ok-cells.ensures.setting in
@@ -70,11 +69,11 @@ begin-requires c =
     let same : (let k : CellsValue = record { table = c.in_ok-cells.warden.table; setting = c.in_ok-cells.warden.setting } in k) ≡ c.in_ok-cells.cells
     = ap (λ (w : WardenValue). let k : CellsValue = record { table = w.table; setting = w.setting } in k) warden in
     let many : length c.in_ok-cells.cells.setting.plan ≡ h.blocks = ground.made.blocks in
-    subst (λ (x : Site). IsBegin x c.in_ok-cells.warden (to_z w64 (of_z w64 h.start)) c.args.guesses.now) (sym c.key_of_site-site.ensures) record {
+    subst (λ (x : Site). IsBegin x c.in_ok-cells.warden h.start c.args.guesses.now) (sym c.key_of_site-site.ensures) record {
       ground = subst (IsGround s) (sym same) ground;
       flags = subst (λ n. h.blocks ≤ n) (sym (ap (λ (w : WardenValue). length w.view.flags) warden ∙ length-replicate (length c.in_ok-cells.cells.setting.plan) 0 ∙ many)) (omega arith);
       none_taken = ap (λ (w : WardenValue). w.view.taken) warden;
-      same_start = start;
+      same_start = refl;
       same_guesses = refl;
       count = c.requires.guesses;
     }

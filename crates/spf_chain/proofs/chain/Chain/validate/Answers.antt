@@ -7,7 +7,7 @@ use Rattle.spf_chain.specs.Chains.{ChainValue}
 use Rattle.spf_chain.specs.Kept.{cells_inside}
 use Rattle.spf_chain.proofs.Lists.{take-grown}
 use Rattle.spf_chain.proofs.Keeping.{both-at, not-less}
-use Rattle.std.proofs.Common.{ℕ, ◌<◌, Some, None}
+use Rattle.std.proofs.Common.{ℕ, ◌<◌, Some}
 use Rattle.spf_ticket.specs.declared.ticket.Report.{Report}
 use Rattle.spf_speculation.specs.Prefixes.{PrefixesHaveRealValues}
 use Rattle.spf_speculation.specs.Laws.{UnstoppedAttemptsAreWhole}

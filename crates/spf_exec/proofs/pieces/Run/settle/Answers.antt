@@ -1,12 +1,10 @@
 use Rattle.std.proofs.Common.{rules, ◌≡◌, ◌∙◌, arith, refl, length, ap, w64}
-use Rattle.std.proofs.lemmas.Int.{to_z-of_z}
-use Rattle.std.proofs.Math.ListN.{length-set}
 use Rattle.spf_ast.specs.ConstructView.{construct}
 use Rattle.spf_ast.specs.Construct.{carried_of}
 use Rattle.spf_layout.specs.Frame.{main_slots}
 use Rattle.spf_layout.specs.Instance.{program_of}
 use Rattle.spf_exec.proofs.Constructs.{within, one_less, few_constructs}
-use Rattle.spf_exec.proofs.Prefixes.{take_set, count_is}
+use Rattle.spf_exec.proofs.Prefixes.{take_carried, same_length, count_is}
 use Rattle.spf_exec.proofs.pieces.Run.settle.Goals as goal
 
 pub prove-unreachable-requires : goal.prove-unreachable-requires
@@ -29,10 +27,10 @@ overflow_add-self-2 c =
 pub returns-clause-settled : goal.returns-clause-settled
 returns-clause-settled c =
     let p = program_of c.args.instance.now in
-    let frame = rw (to_z-of_z w64 c.args.value c.ranges.value, c.carried_slot.ensures) at c.set_carried.ensures in
+    let frame = rw c.carried_slots.ensures at c.set_carried.ensures in
     rw (← c.self.view_is)
     (record {
-      slots = ap (main_slots p) frame ∙ take_set (length p.slots) c.self.inside.frame (carried_of (construct c.args.construct)) c.args.value;
+      slots = ap (main_slots p) frame ∙ take_carried (length p.slots) (carried_of (construct c.args.construct)) _ c.self.inside.frame;
       cells = refl;
       output = refl;
       place = refl;
@@ -47,7 +45,7 @@ returns-clause-run c =
     let w = within p.main c.self.inside.place (construct c.args.construct) k in
     let less = one_less p.main c.self.inside.place (construct c.args.construct) k in
     record {
-      frame = ap length c.set_carried.ensures ∙ length-set c.self.inside.frame c.carried_slot.result _ ∙ r.frame;
+      frame = same_length c.carried_slots.result.now c.args.value c.self.inside.frame _ c.set_carried.ensures ∙ r.frame;
       cells = r.cells;
       place = omega (arith, w);
       passed = omega (arith, r.passed, less);

@@ -27,7 +27,7 @@ returns-clause-same g c =
       block = refl;
       number = grind (arith, to_z-of_z);
       attempt = refl;
-      carried = grind (arith, to_z-of_z);
+      carried = refl;
       lane = c.exec_block-stop.ensures.performs.performs.led.lane;
       size = c.exec_block-stop.ensures.size;
       slots = subst (λ x. AgreeOutside k x (main_slots p c.exec_block-stop.new.frame) (main_slots p t.frame)) c.part_of.ensures kept;
@@ -41,21 +41,20 @@ returns-clause-ran g c e entry made of at =
     let m = c.exec_block-stop.new.memory in
     let done = c.exec_block-stop.ensures.performs.performs in
     let number : to_z w64 (of_z w64 t.number) ≡ t.number = grind (arith, to_z-of_z) in
-    let carried : to_z w64 (of_z w64 t.carried) ≡ t.carried = grind (arith, to_z-of_z) in
     let agree : AgreeOutside e.construct (part_of e.construct t.block) (main_slots p t.frame) e.slots =
     subst (λ q. AgreeOutside e.construct (part_of e.construct t.block) (main_slots q t.frame) e.slots) (sym of.program) at.slots in
-    let runs : Runs e t.block t.carried p k c.part_of.result c.args.job.now.instance.now.input (to_z w64 (of_z w64 t.number)) (to_z w64 (of_z w64 t.carried)) = record {
+    let runs : Runs e t.block t.carried p k c.part_of.result c.args.job.now.instance.now.input (to_z w64 (of_z w64 t.number)) t.carried = record {
       program = of.program;
       same_construct = of.same_construct;
       its_part = c.part_of.ensures ∙ ap (λ x. part_of x t.block) of.same_construct;
       same_input = of.input;
       its_number = number ∙ at.number;
-      its_value = carried;
+      its_value = refl;
     } in
     let h : Made e t.block t.carried t.attempt c.exec_block-stop.result t.lane m.lane =
     made-run c.block_runs_are_attempts.ensures.runs c.each_part_declares_its_slots_anew.ensures.parts
     e t.block t.carried t.attempt c.exec_block-stop.result t.lane (in_lane m.lane m.entry.now m.attempt) done.events
-    p k c.args.job.now.index c.part_of.result c.args.job.now.instance.now.input (to_z w64 (of_z w64 t.number)) (to_z w64 (of_z w64 t.carried)) (main_slots p t.frame) c.exec_block-stop.ensures.performs.slots c.args.job.now.entry.now
+    p k c.args.job.now.index c.part_of.result c.args.job.now.instance.now.input (to_z w64 (of_z w64 t.number)) t.carried (main_slots p t.frame) c.exec_block-stop.ensures.performs.slots c.args.job.now.entry.now
     runs entry c.requires.lawful c.requires.construct (lane-cells e c.args.cells.now t.lane t.block made at.lane t.own at.low) of.memory agree done.performed done.led in
     record { log = h.log; grown = h.grown; stopped = h.stopped }
 
