@@ -19,7 +19,7 @@ DECODERS = [("utf8", "utf8.txt"), ("csv", "cities.csv"), ("strings", "orders.jso
 SIZE = 20_000
 
 # the functions whose calls perform blocks: in order, and over lanes
-IN_ORDER = "spf_machine::machine::blocks::"
+IN_ORDER = "spf_exec_machine::machine::blocks::"
 ATTEMPTS = "spf_crew::mate::Mate::run::"
 
 

@@ -15,8 +15,8 @@ import tempfile
 HERE = os.path.dirname(os.path.abspath(__file__))
 TOP = os.path.dirname(HERE)
 CALLS = 4000000
-NEEDED = "spf_ast spf_predictors"
-LIBRARIES = ["spf_lemmas", "spf_ast", "spf_guess", "spf_predictors"]
+NEEDED = "spf_ast spf_guess"
+LIBRARIES = ["spf_ast_lemmas", "spf_ast", "spf_guess_statistics", "spf_guess"]
 
 
 def lay_out(folder):

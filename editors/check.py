@@ -27,19 +27,19 @@ def need(found, what):
 
 
 TOKENS = text("crates", "spf_text", "specs", "Tokens.antt")
-MESSAGE = text("crates", "spf_commands", "specs", "Message.antt")
+MESSAGE = text("crates", "spf_cli_answers", "specs", "Message.antt")
 KEYWORDS = need(codes(TOKENS, "word_spelling"), "keywords")
 SIGNS = need(codes(TOKENS, "sign_spelling"), "signs")
 RULES = need(codes(text("crates", "spf_check", "specs", "Text.antt"), "rule_name"), "rules")
 TRAPS = [name.strip() for name in need(codes(MESSAGE, r"kind_name (?:trap\.|\(trap\.)\w+"), "kinds of traps")]
 FAULTS = need(codes(MESSAGE, r"fault_name fault\.\w+"), "faults")
-COMMANDS = need(re.findall(r'^words_of \(.*?= codes "(\w+)"', text("crates", "spf_words", "specs", "Command.antt"), re.M), "commands")
-OPTIONS = need(re.findall(r'codes "(--\w+)"', text("crates", "spf_words", "specs", "Command.antt")), "options")
-HOSTS = text("crates", "spf_host_words", "specs", "HostWords.antt")
+COMMANDS = need(re.findall(r'^words_of \(.*?= codes "(\w+)"', text("crates", "spf_cli_words", "specs", "Command.antt"), re.M), "commands")
+OPTIONS = need(re.findall(r'codes "(--\w+)"', text("crates", "spf_cli_words", "specs", "Command.antt")), "options")
+HOSTS = text("crates", "spf_cli_host_words", "specs", "HostWords.antt")
 OPTIONS += need(re.findall(r'codes "(--\w+)"', HOSTS), "options for hosts")
 OPTIONS += need(re.findall(r'"\$1" = (--\w+)', text("spf")), "options of the script")
 KINDS = need(re.findall(r'^Names text .*?codes "([a-z:]+)"', HOSTS, re.M), "kinds of hosts")
-STATUSES = need(re.findall(r"^    \w+ = (\d),", text("crates", "spf_commands", "src", "status.rt"), re.M), "statuses")
+STATUSES = need(re.findall(r"^    \w+ = (\d),", text("crates", "spf_cli_answers", "src", "status.rt"), re.M), "statuses")
 MESSAGES = need([piece.strip() for piece in re.findall(r'codes "([^"]*)"', MESSAGE)], "messages")
 
 missing = []

@@ -1,15 +1,14 @@
 // The program `spf`: runs programs whose loops look sequential but whose state is easy to guess.
 #![tactic(auto)]
 
+use spf_cli_answers::{Status, number};
+use spf_cli_shell::answer;
 use spf_edge::{RealFiles, RealSink, StandardStream};
-use spf_shell::answer;
 use std::process::ExitCode;
 use std::{env, io};
 
-/// The status where there is too little memory for the words.
-const NO_MEMORY: u8 = 8;
-
-/// The words after the program's name. Words that are no text are no words of a command, so there are none then.
+/// The words after the program's name. Words that are no text are no words of a command, so there
+/// are none then.
 fn words(rt: &(impl env::Env + AllocGlobal)) -> io::Result<Vec<String>> {
     let mut words = Vec::new(rt.alloc());
     let args = match env::args(rt) {
@@ -25,7 +24,7 @@ fn words(rt: &(impl env::Env + AllocGlobal)) -> io::Result<Vec<String>> {
 fn main(rt: HostRuntime) -> ExitCode {
     let alloc = rt.alloc();
     let Ok(words) = words(&rt) else {
-        return ExitCode::from(NO_MEMORY);
+        return ExitCode::from(number(Status::NoMemory));
     };
     let mut files = RealFiles::make(&rt);
     let mut out = RealSink::make(StandardStream::Output(rt.stdout()));

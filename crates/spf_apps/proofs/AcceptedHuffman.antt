@@ -1,19 +1,19 @@
 -- The program that decodes HUF1 is accepted.
 use Rattle.std.proofs.Common.{ℕ, zero, suc, ◌+◌, ◌*◌, ◌-◌, ◌≤◌, ◌^◌, [], ◌∷◌, pos, refl, sym, subst, arith}
 use Rattle.std.proofs.lemmas.Int.{ints}
-use Rattle.spf_lemmas.proofs.Members.{some_is}
+use Rattle.spf_ast_lemmas.proofs.Members.{some_is}
 use Rattle.spf_region.specs.declared.bound.Bound.TheVariants.{Known}
 use Rattle.spf_region.specs.declared.range.Range.TheVariants.{Affine}
 use Rattle.spf_region.specs.Bounds.{number, plus, times}
 use Rattle.spf_ast.specs.Syntax.{Block, Call, argument, no_more, Let, For, on_line, Local}
 use Rattle.spf_ast.specs.Construct.{fold}
-use Rattle.spf_findings.specs.Found.{turn_bound}
-use Rattle.spf_findings.specs.Parts.{main_setting, within_fold}
-use Rattle.spf_rollback.specs.Rules.{KeepsTheRules}
+use Rattle.spf_effects_findings.specs.Found.{turn_bound}
+use Rattle.spf_effects_findings.specs.Parts.{main_setting, within_fold}
+use Rattle.spf_check_rules.specs.Rules.{KeepsTheRules}
 use Rattle.spf_check.specs.Accepting.{IsAccepted}
-use Rattle.spf_programs.specs.Laws.{IsBlockSize}
-use Rattle.spf_programs.specs.Huffman.{huffman_program, bite, look, head, body, block_begin, bits_begin, bits_end, one_byte}
-use Rattle.spf_programs.specs.Writing as writing
+use Rattle.spf_apps_programs.specs.Laws.{IsBlockSize}
+use Rattle.spf_apps_programs.specs.Huffman.{huffman_program, bite, look, head, body, block_begin, bits_begin, bits_end, one_byte}
+use Rattle.spf_apps_programs.specs.Writing as writing
 use Rattle.spf_apps.proofs.Tame.{range_of, guess-tame, calls-tame}
 use Rattle.spf_apps.proofs.Rules.{IsInside, FillsItsBlocks, fold-keeps}
 use Rattle.spf_apps.proofs.Ends.{begin-is, end-is, bit-is}

@@ -1,15 +1,15 @@
 -- The program that runs LEX1 machines is accepted.
 use Rattle.std.proofs.Common.{ℕ, zero, suc, [], ◌∷◌, pos, refl, subst}
-use Rattle.spf_lemmas.proofs.Members.{some_is}
+use Rattle.spf_ast_lemmas.proofs.Members.{some_is}
 use Rattle.spf_region.specs.Bounds.{number}
 use Rattle.spf_ast.specs.Syntax.{Block, Call, argument, no_more, Let, For, on_line, Local}
 use Rattle.spf_ast.specs.Construct.{fold}
-use Rattle.spf_findings.specs.Parts.{main_setting, within_fold}
-use Rattle.spf_rollback.specs.Rules.{KeepsTheRules}
+use Rattle.spf_effects_findings.specs.Parts.{main_setting, within_fold}
+use Rattle.spf_check_rules.specs.Rules.{KeepsTheRules}
 use Rattle.spf_check.specs.Accepting.{IsAccepted}
-use Rattle.spf_programs.specs.Laws.{IsBlockSize, IsMachineCount}
-use Rattle.spf_programs.specs.Lexer.{lexer_program, program_for, machine_length, look, head, body, block_begin, block_end, one_byte}
-use Rattle.spf_programs.specs.Writing as writing
+use Rattle.spf_apps_programs.specs.Laws.{IsBlockSize, IsMachineCount}
+use Rattle.spf_apps_programs.specs.Lexer.{lexer_program, program_for, machine_length, look, head, body, block_begin, block_end, one_byte}
+use Rattle.spf_apps_programs.specs.Writing as writing
 use Rattle.spf_apps.proofs.Tame.{guess-tame, calls-tame}
 use Rattle.spf_apps.proofs.Rules.{FillsItsBlocks, fold-keeps}
 use Rattle.spf_apps.proofs.Ends.{begin-is, end-is}

@@ -13,7 +13,7 @@ use Rattle.spf_region.specs.declared.range.Range.TheVariants.{Affine}
 use Rattle.spf_region.specs.Ranges.{Offsets, array_of, joined, has_offset}
 use Rattle.spf_region.proofs.Covers.{has-of}
 use Rattle.std.specs.List.{AllByRecursion}
-use Rattle.spf_findings.specs.Found.{turn_bound, writes_range, may_write_whole, may_write_between, surely_writes_between, ◌then◌, Found}
+use Rattle.spf_effects_findings.specs.Found.{turn_bound, writes_range, may_write_whole, may_write_between, surely_writes_between, ◌then◌, Found}
 use Rattle.spf_apps.proofs.Tame.{IsTame, more_kept}
 use Rattle.spf_apps.proofs.Rules.{IsInside}
 

@@ -4,8 +4,8 @@ use Rattle.std.specs.Prelude.{◌≤ℤ◌, ◌<ℤ◌, List}
 use Rattle.spf_region.specs.declared.bound.Bound.{Bound}
 use Rattle.spf_region.specs.declared.bound.Bound.TheVariants.{Known}
 use Rattle.spf_ast.specs.Syntax.{Expression, Arguments, Fill, Block, on_line}
-use Rattle.spf_findings.specs.Found.{writes_range, nowhere, ◌then◌}
-use Rattle.spf_findings.specs.Forms.{Setting, expression_bound, expression_finds, statement_finds, block_finds, bounds_at_end, block_then_row, arguments_find}
+use Rattle.spf_effects_findings.specs.Found.{writes_range, nowhere, ◌then◌}
+use Rattle.spf_effects_findings.specs.Forms.{Setting, expression_bound, expression_finds, statement_finds, block_finds, bounds_at_end, block_then_row, arguments_find}
 use Rattle.spf_apps.proofs.Tame.{IsTame, CallsAreTame, StoresIn, avoids, avoid, tame-then, reads_only, row_reads_only, block-tame}
 use Rattle.spf_apps.proofs.Rules.{IsInside}
 use Rattle.spf_apps.proofs.Ends.{range-tame, range-fills}

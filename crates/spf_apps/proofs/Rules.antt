@@ -4,7 +4,7 @@ use Rattle.std.specs.Prelude.{◌||◌, ◌≤ℤ◌, ◌<ℤ◌, ◌-ℤ◌}
 use Rattle.std.specs.List.{AllByRecursion}
 use Rattle.std.proofs.lemmas.Int.{ints}
 use Rattle.std.proofs.lemmas.Bool.Decides.{nat_tests}
-use Rattle.spf_lemmas.proofs.Members.{cases}
+use Rattle.spf_ast_lemmas.proofs.Members.{cases}
 use Rattle.spf_region.specs.declared.range.Range.{Range}
 use Rattle.spf_region.specs.declared.range.Range.TheVariants.{Whole, Affine}
 use Rattle.spf_region.specs.Ranges.{array_of, has_offset, is_whole, offsets_of, wholes_of}
@@ -13,9 +13,9 @@ use Rattle.spf_ast.specs.declared.syntax.Part.{Part}
 use Rattle.spf_ast.specs.declared.syntax.Part.TheVariants.{Body, Producer, Consumer, Predictor}
 use Rattle.spf_ast.specs.Syntax.{Program, FoldHead, Block}
 use Rattle.spf_ast.specs.Construct.{Construct, fold}
-use Rattle.spf_findings.specs.Found.{nowhere}
-use Rattle.spf_findings.specs.Parts.{part_finds, part_effects}
-use Rattle.spf_rollback.specs.Rules.{HasArray, IsBlockPart, IsWritten, KeepsTheRules, may_write, reads_bare}
+use Rattle.spf_effects_findings.specs.Found.{nowhere}
+use Rattle.spf_effects_findings.specs.Parts.{part_finds, part_effects}
+use Rattle.spf_check_rules.specs.Rules.{HasArray, IsBlockPart, IsWritten, KeepsTheRules, may_write, reads_bare}
 use Rattle.spf_apps.proofs.Tame.{IsTame, NoWrite}
 
 -- the range is inside the first cells of the blocks in the array, as many as the factor

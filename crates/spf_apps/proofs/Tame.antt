@@ -4,7 +4,7 @@ use Rattle.std.specs.Prelude.{◌&&◌, ◌||◌, not, ◌==◌, ◌+ℤ◌, ◌
 use Rattle.std.specs.List.{AllByRecursion}
 use Rattle.std.specs.Ordering.{int_eq}
 use Rattle.std.proofs.lemmas.Bool.Decides.{nat_tests}
-use Rattle.spf_lemmas.proofs.Members.{some_is}
+use Rattle.spf_ast_lemmas.proofs.Members.{some_is}
 use Rattle.spf_region.specs.declared.bound.Bound.{Bound}
 use Rattle.spf_region.specs.declared.bound.Bound.TheVariants.{Known, Unknown}
 use Rattle.spf_region.specs.declared.range.Range.{Range}
@@ -13,9 +13,9 @@ use Rattle.spf_region.specs.Ranges.{Offsets, array_of, joined, has_offset, cover
 use Rattle.spf_region.specs.Bounds.{is_small}
 use Rattle.spf_ast.specs.Syntax.{Expression, Number, Local, Len, Input, Load, Call, Neg, Binary, Arguments, no_more, argument, Condition, Compare, Both, Either, Not}
 use Rattle.spf_ast.specs.Syntax.{Statement, Let, Assign, Store, Fill, Emit, Fail, If, For, While, Do, Fold, Pair, Break, Block, end, on_line, Function, By}
-use Rattle.spf_findings.specs.Found.{Found, Finds, finds_nothing, ◌then◌, perhaps, either, reads_element, writes_element, has_no_turn, Sweep, sweep_joined, sweeps_joined, swept, turns}
-use Rattle.spf_findings.specs.Forms.{Setting, Entered, expression_bound, argument_bounds, bounds_behind, bounds_at_end, bounds_in_turn, loop_sweeps, expression_finds, arguments_find, condition_finds, statement_finds, block_finds}
-use Rattle.spf_findings.specs.Parts.{guesses_find, own_bounds, setting_in, entered, call_before}
+use Rattle.spf_effects_findings.specs.Found.{Found, Finds, finds_nothing, ◌then◌, perhaps, either, reads_element, writes_element, has_no_turn, Sweep, sweep_joined, sweeps_joined, swept, turns}
+use Rattle.spf_effects_findings.specs.Forms.{Setting, Entered, expression_bound, argument_bounds, bounds_behind, bounds_at_end, bounds_in_turn, loop_sweeps, expression_finds, arguments_find, condition_finds, statement_finds, block_finds}
+use Rattle.spf_effects_findings.specs.Parts.{guesses_find, own_bounds, setting_in, entered, call_before}
 
 -- ---- forms
 

@@ -1,10 +1,10 @@
 -- The decoders are accepted by the rules.
 use Rattle.std.specs.Prelude.{ℕ}
 use Rattle.spf_check.specs.Accepting.{IsAccepted}
-use Rattle.spf_programs.specs.Laws.{IsBlockSize, IsMachineCount}
-use Rattle.spf_programs.specs.PackBits.{packbits_program}
-use Rattle.spf_programs.specs.Huffman.{huffman_program}
-use Rattle.spf_programs.specs.Lexer.{lexer_program}
+use Rattle.spf_apps_programs.specs.Laws.{IsBlockSize, IsMachineCount}
+use Rattle.spf_apps_programs.specs.PackBits.{packbits_program}
+use Rattle.spf_apps_programs.specs.Huffman.{huffman_program}
+use Rattle.spf_apps_programs.specs.Lexer.{lexer_program}
 
 -- for each block size, the program that unpacks PackBits is accepted
 abbrev pub PackBitsIsAccepted : Type 0

@@ -1,17 +1,18 @@
 // The three programs, with what the checker says of them.
 ghost use Rattle.std.specs.Prelude.{◌≡◌, ◌≤◌, IfOk};
+ghost use Rattle.spf_apps_programs.specs.Laws.{max_count};
 ghost use Rattle.spf_ast.specs.Lawful.{IsLawful};
 ghost use Rattle.spf_ast.specs.View.{program as seen_program};
 ghost use Rattle.spf_check.specs.Accepting.{IsAccepted};
-ghost use Rattle.spf_programs.specs.PackBits.{packbits_program};
-ghost use Rattle.spf_programs.specs.Huffman.{huffman_program};
-ghost use Rattle.spf_programs.specs.Lexer.{lexer_program};
+ghost use Rattle.spf_apps_programs.specs.PackBits.{packbits_program};
+ghost use Rattle.spf_apps_programs.specs.Huffman.{huffman_program};
+ghost use Rattle.spf_apps_programs.specs.Lexer.{lexer_program};
 
-use crate::laws::decoders_are_accepted;
 use spf_ast::syntax::Program;
 use std::alloc::{AllocError, Global};
 
-/// The program that unpacks PackBits by blocks of `block` bytes, 1 to 65,536. It is lawful and accepted.
+/// The program that unpacks PackBits by blocks of `block` bytes, 1 to 65,536. It is lawful and
+/// accepted.
 pub fn packbits(alloc: Global, block: u64) -> Result<Program, AllocError>
     requires some { 1 ≤ block }
     requires few { block ≤ 65536 }
@@ -19,11 +20,13 @@ pub fn packbits(alloc: Global, block: u64) -> Result<Program, AllocError>
     ensures lawful { IfOk result (λ p. IsLawful (seen_program p)) }
     ensures accepted { IfOk result (λ p. IsAccepted (seen_program p)) }
 {
-    decoders_are_accepted();
-    spf_programs::packbits::packbits(alloc, block)
+    // Law: the three programs keep all seven rules.
+    crate::laws::decoders_are_accepted();
+    spf_apps_programs::packbits::packbits(alloc, block)
 }
 
-/// The program that decodes HUF1 by blocks of `block` bytes, 1 to 65,536. It is lawful and accepted.
+/// The program that decodes HUF1 by blocks of `block` bytes, 1 to 65,536. It is lawful and
+/// accepted.
 pub fn huffman(alloc: Global, block: u64) -> Result<Program, AllocError>
     requires some { 1 ≤ block }
     requires few { block ≤ 65536 }
@@ -31,23 +34,25 @@ pub fn huffman(alloc: Global, block: u64) -> Result<Program, AllocError>
     ensures lawful { IfOk result (λ p. IsLawful (seen_program p)) }
     ensures accepted { IfOk result (λ p. IsAccepted (seen_program p)) }
 {
-    decoders_are_accepted();
-    spf_programs::huffman::huffman(alloc, block)
+    // Law: the three programs keep all seven rules.
+    crate::laws::decoders_are_accepted();
+    spf_apps_programs::huffman::huffman(alloc, block)
 }
 
-/// The program that runs LEX1 machines with so many states and classes, 1 to 64 each, by blocks of `block` bytes, 1 to 65,536. It
-/// is lawful and accepted.
+/// The program that runs LEX1 machines with so many states and classes, 1 to 64 each, by blocks of
+/// `block` bytes, 1 to 65,536. It is lawful and accepted.
 pub fn lexer(alloc: Global, block: u64, states: u64, classes: u64) -> Result<Program, AllocError>
     requires some { 1 ≤ block }
     requires few { block ≤ 65536 }
     requires some_states { 1 ≤ states }
-    requires few_states { states ≤ 64 }
+    requires few_states { states ≤ max_count }
     requires some_classes { 1 ≤ classes }
-    requires few_classes { classes ≤ 64 }
+    requires few_classes { classes ≤ max_count }
     ensures program { IfOk result (λ p. seen_program p ≡ lexer_program block states classes) }
     ensures lawful { IfOk result (λ p. IsLawful (seen_program p)) }
     ensures accepted { IfOk result (λ p. IsAccepted (seen_program p)) }
 {
-    decoders_are_accepted();
-    spf_programs::lexer::lexer(alloc, block, states, classes)
+    // Law: the three programs keep all seven rules.
+    crate::laws::decoders_are_accepted();
+    spf_apps_programs::lexer::lexer(alloc, block, states, classes)
 }

@@ -1,4 +1,5 @@
-//! Decoders as built programs: PackBits, HUF1 and LEX1, each lawful and accepted by the rules for every block size.
+//! Decoders as built programs: PackBits, HUF1 and LEX1, each lawful and accepted by the rules for
+//! every block size.
 #![tactic(auto)]
 
 mod decoders;

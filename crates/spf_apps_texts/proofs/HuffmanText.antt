@@ -4,10 +4,10 @@ use Rattle.std.specs.Fmt.{decimal, digits}
 use Rattle.spf_ast.specs.declared.syntax.Test.TheVariants.{Ne, Lt, Gt}
 use Rattle.spf_ast.specs.Spelling.{Vocabulary, spelled, spelled_fold, spelled_expression, spelled_block, spelled_statement, spelled_function}
 use Rattle.spf_ast.specs.Syntax.{Local, Input, Load, Compare, Let, Assign, Store, Fill, For, Fold}
-use Rattle.spf_canonical.specs.Canonical.{canonical_text, expression_text, fold_line, array_text, arrays_text, function_text, functions_text, block_text, statement_text}
-use Rattle.spf_programs.specs.Writing.{number, plus, only, blocks_for}
-use Rattle.spf_programs.specs.Huffman as huffman
-use Rattle.spf_programs.specs.Huffman.{with_bit, table, code_bytes, block_begin, bits_begin, bits_end, sym_place, word_end, one_bit, byte_bits, one_byte, body, head, output, huffman_program}
+use Rattle.spf_print_forms.specs.Canonical.{canonical_text, expression_text, fold_line, array_text, arrays_text, function_text, functions_text, block_text, statement_text}
+use Rattle.spf_apps_programs.specs.Writing.{number, plus, only, blocks_for}
+use Rattle.spf_apps_programs.specs.Huffman as huffman
+use Rattle.spf_apps_programs.specs.Huffman.{with_bit, table, code_bytes, block_begin, bits_begin, bits_end, sym_place, word_end, one_bit, byte_bits, one_byte, body, head, output, huffman_program}
 use Rattle.spf_apps_texts.specs.Texts.{huffman_lines, huffman_text}
 use Rattle.spf_apps_texts.proofs.Lines.{HasLines, part, if_line, for_line, ◌and◌, none, same, HasPieces, ◌then◌, piece, last, operands, between, input_at, ended, zero_written, one_written, eight_written, words_written, array_pieces}
 

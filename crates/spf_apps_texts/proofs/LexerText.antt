@@ -4,10 +4,10 @@ use Rattle.std.specs.Fmt.{decimal, digits}
 use Rattle.spf_ast.specs.declared.syntax.Test.TheVariants.{Ne, Lt, Ge}
 use Rattle.spf_ast.specs.Spelling.{Vocabulary, spelled, spelled_fold, spelled_expression, spelled_block, spelled_statement}
 use Rattle.spf_ast.specs.Syntax.{Local, Input, Load, Compare, If, Let, Assign, Store, Fill, For, Fold, end}
-use Rattle.spf_canonical.specs.Canonical.{canonical_text, expression_text, fold_line, arrays_text, functions_text, block_text, statement_text}
-use Rattle.spf_programs.specs.Writing.{number, plus, minus, only, blocks_for}
-use Rattle.spf_programs.specs.Lexer as lexer
-use Rattle.spf_programs.specs.Lexer.{entry_at, block_begin, block_end, content, one_byte, head, body, token, output, program_for}
+use Rattle.spf_print_forms.specs.Canonical.{canonical_text, expression_text, fold_line, arrays_text, functions_text, block_text, statement_text}
+use Rattle.spf_apps_programs.specs.Writing.{number, plus, minus, only, blocks_for}
+use Rattle.spf_apps_programs.specs.Lexer as lexer
+use Rattle.spf_apps_programs.specs.Lexer.{entry_at, block_begin, block_end, content, one_byte, head, body, token, output, program_for}
 use Rattle.spf_apps_texts.specs.Texts.{lines, lexer_lines}
 use Rattle.spf_apps_texts.proofs.Lines.{HasLines, part, if_line, for_line, ◌and◌, none, same, HasPieces, ◌then◌, piece, last, operands, between, input_at, ended, zero_written, one_written, two_written, six_written, table_written, array_pieces}
 

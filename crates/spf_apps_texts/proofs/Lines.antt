@@ -4,7 +4,7 @@ use Rattle.std.specs.List.{concat}
 use Rattle.std.specs.Fmt.{decimal, digits}
 use Rattle.spf_ast.specs.Syntax.{Expression, Condition}
 use Rattle.spf_ast.specs.Spelling.{Vocabulary, name_at, spelled_expression, spelled_condition}
-use Rattle.spf_canonical.specs.Canonical.{joined, line, expression_text, size_text}
+use Rattle.spf_print_forms.specs.Canonical.{joined, line, expression_text, size_text}
 use Rattle.spf_apps_texts.specs.Texts.{lines}
 
 infixl 60 ◌and◌

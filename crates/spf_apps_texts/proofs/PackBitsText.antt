@@ -3,9 +3,9 @@ use Rattle.std.proofs.Common.{◌≡◌, ◌∷◌, [], codes, List, ℕ, ◌≤
 use Rattle.std.specs.Fmt.{decimal, digits}
 use Rattle.spf_ast.specs.Spelling.{Vocabulary, spelled, spelled_fold, spelled_expression, spelled_block, spelled_statement}
 use Rattle.spf_ast.specs.Syntax.{Len, Fill, Fold}
-use Rattle.spf_canonical.specs.Canonical.{canonical_text, expression_text, fold_line, arrays_text, block_text, statement_text}
-use Rattle.spf_programs.specs.Writing.{number, blocks_for}
-use Rattle.spf_programs.specs.PackBits.{slots, block_begin, block_end, one_byte, block_bytes, head, body, output, packbits_program}
+use Rattle.spf_print_forms.specs.Canonical.{canonical_text, expression_text, fold_line, arrays_text, block_text, statement_text}
+use Rattle.spf_apps_programs.specs.Writing.{number, blocks_for}
+use Rattle.spf_apps_programs.specs.PackBits.{slots, block_begin, block_end, one_byte, block_bytes, head, body, output, packbits_program}
 use Rattle.spf_apps_texts.specs.Texts.{packbits_lines, packbits_text}
 use Rattle.spf_apps_texts.proofs.Lines.{HasLines, part, for_line, ◌and◌, none, same, HasPieces, ◌then◌, piece, last, operands, between, ended, zero_written, one_written, array_pieces}
 

@@ -3,8 +3,8 @@ use Rattle.std.proofs.Common.{◌≡◌, List, ℕ, sym, subst}
 use Rattle.spf_ast.specs.Syntax.{Program}
 use Rattle.spf_ast.specs.Lawful.{IsScoped}
 use Rattle.spf_ast.specs.Spelling.{spelled}
-use Rattle.spf_grammar.specs.Texts.{IsProgramOf}
-use Rattle.spf_roundtrip.specs.Laws.{text_of, SaysButForLines, TextsSayTheirPrograms, TextsAreReadAsTheirPrograms}
+use Rattle.spf_parse_grammar.specs.Texts.{IsProgramOf}
+use Rattle.spf_print_laws.specs.Laws.{text_of, SaysButForLines, TextsSayTheirPrograms, TextsAreReadAsTheirPrograms}
 use Rattle.spf_apps_texts.specs.Laws.{IsTextOf}
 
 pub is_text : (p : Program) (text : List ℕ) → text_of p ≡ text → IsScoped p → TextsSayTheirPrograms → TextsAreReadAsTheirPrograms → IsTextOf text p

@@ -3,15 +3,15 @@ use Rattle.std.specs.Prelude.{◌≡◌, ℕ, ◌≤◌, List}
 use Rattle.spf_ast.specs.Syntax.{Program}
 use Rattle.spf_ast.specs.RawSyntax.{RawProgram}
 use Rattle.spf_ast.specs.Spelling.{spelled}
-use Rattle.spf_canonical.specs.Canonical.{canonical_text}
-use Rattle.spf_grammar.specs.Texts.{IsProgramOf}
+use Rattle.spf_print_forms.specs.Canonical.{canonical_text}
+use Rattle.spf_parse_grammar.specs.Texts.{IsProgramOf}
 use Rattle.spf_types.specs.Contract.{IsResolved}
-use Rattle.spf_roundtrip.specs.Lines.{AreSameButForLines}
-use Rattle.spf_roundtrip.specs.Laws.{SaysButForLines}
-use Rattle.spf_programs.specs.Laws.{IsBlockSize, IsMachineCount}
-use Rattle.spf_programs.specs.PackBits.{packbits_program}
-use Rattle.spf_programs.specs.Huffman.{huffman_program}
-use Rattle.spf_programs.specs.Lexer.{lexer_program}
+use Rattle.spf_print_laws.specs.Lines.{AreSameButForLines}
+use Rattle.spf_print_laws.specs.Laws.{SaysButForLines}
+use Rattle.spf_apps_programs.specs.Laws.{IsBlockSize, IsMachineCount}
+use Rattle.spf_apps_programs.specs.PackBits.{packbits_program}
+use Rattle.spf_apps_programs.specs.Huffman.{huffman_program}
+use Rattle.spf_apps_programs.specs.Lexer.{lexer_program}
 use Rattle.spf_apps_texts.specs.Texts.{packbits_text, huffman_text, lexer_text}
 
 -- for each block size, the text of the program that unpacks PackBits

@@ -1,7 +1,7 @@
 -- The texts of the programs, line by line.
 use Rattle.std.specs.Prelude.{ℕ, ◌-◌, ◌*◌, List, [], ◌∷◌, ◌++◌, codes}
 use Rattle.std.specs.Fmt.{decimal}
-use Rattle.spf_programs.specs.Lexer.{machine_length}
+use Rattle.spf_apps_programs.specs.Lexer.{machine_length}
 
 -- lines, each with its end
 abbrev pub lines : List (List ℕ) → List ℕ

@@ -9,7 +9,7 @@ use Rattle.spf_ast.specs.Meaning.{Environment, expression_means, arguments_mean,
 use Rattle.spf_ast.specs.Slots.{statement_breaks, breaks}
 use Rattle.spf_ast.specs.GoingOn.{GoesOn, StatementIsOrderly, BlockIsOrderly, FunctionIsOrderly, LawfulProgramsAreOrderly}
 use Rattle.spf_ast.specs.Lawful.{Names, Scope, IsLawfulStatement, IsLawfulBlock, IsLawfulFunction}
-use Rattle.spf_lemmas.proofs.Bools.{neither, either_fails}
+use Rattle.spf_ast_lemmas.proofs.Bools.{neither, either_fails}
 
 -- whatever comes first, what comes last goes on
 goes-after : {A : Type 0} (t : Interaction (Ending A)) (next : A → Meaning Flow) → ((a : A) (s : State) → GoesOn (next a s)) → GoesOn (bind t (after_ending next))

@@ -7,7 +7,7 @@ use Rattle.spf_ast.specs.Lawful.{Names, Scope, IsLawfulStatement, IsLawfulBlock,
 use Rattle.spf_ast.specs.Silence.{FunctionIsSilent, FunctionsAreSilent}
 use Rattle.spf_ast.specs.Size.{by_size, block_measure, function_sizes}
 use Rattle.spf_ast.specs.Slots.{statement_emits, emits}
-use Rattle.spf_lemmas.proofs.Bools.{either_fails}
+use Rattle.spf_ast_lemmas.proofs.Bools.{either_fails}
 
 mutual
   statement-silent : (names : Names) (scope : Scope) (s : Statement) → IsLawfulStatement names false scope s → statement_emits s ≡ false

@@ -18,7 +18,7 @@ use Rattle.spf_ast.specs.Meaning.{expression_means, arguments_mean, condition_me
 use Rattle.spf_ast.specs.Construct.{Construct, fold, pair, part_means, guess_means, guesses_mean, header_means}
 use Rattle.spf_ast.specs.Silence.{BlockIsSilent, FunctionIsSilent, FunctionsAreSilent, PartIsSilent, with_output, LeavesOutput}
 use Rattle.spf_ast.specs.Slots.{statement_emits, emits}
-use Rattle.spf_lemmas.proofs.Bools.{neither}
+use Rattle.spf_ast_lemmas.proofs.Bools.{neither}
 
 -- ---- trees, one after another
 

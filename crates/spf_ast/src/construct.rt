@@ -1,8 +1,11 @@
 // The top constructs of a program.
 
-ghost use Rattle.std.specs.Prelude.{◌≡◌, ◌^◌, ◌<◌, length, map, slice_get, MatchOption, IfOk, Some, None};
-ghost use Rattle.spf_ast.specs.View.{block as seen_block, predictor as seen_predictor, statement as seen_statement, program as seen_program};
-ghost use Rattle.spf_ast.specs.Construct.{construct_of, constructs_in, carried_of, predictors_of, part_of as part_run, is_construct as is_construct_form};
+ghost use Rattle.std.specs.Prelude.{◌≡◌, ◌^◌, ◌<◌, length, map, slice_get, MatchOption, IfOk, Some};
+ghost use Rattle.std.specs.Prelude.{None};
+ghost use Rattle.spf_ast.specs.View.{block as seen_block, predictor as seen_predictor};
+ghost use Rattle.spf_ast.specs.View.{statement as seen_statement, program as seen_program};
+ghost use Rattle.spf_ast.specs.Construct.{construct_of, constructs_in, carried_of, predictors_of};
+ghost use Rattle.spf_ast.specs.Construct.{part_of as part_run, is_construct as is_construct_form};
 ghost use Rattle.spf_ast.specs.ConstructView.{construct as seen_construct};
 
 use crate::syntax::{Fold, Pair, Part, Predict, Program, Stmt, StmtKind};
@@ -45,7 +48,8 @@ impl<'a> TopConstruct<'a> {
         }
     }
 
-    /// The part that the block of this index runs: of a fold the body; of a pair the producer first, and then the consumer.
+    /// The part that the block of this index runs: of a fold the body; of a pair the producer
+    /// first, and then the consumer.
     pub fn part_of(self, block: u64) -> Part
         ensures { result ≡ part_run (seen_construct self.entry) block }
     {
@@ -71,8 +75,9 @@ pub fn is_construct(kind: &StmtKind) -> bool
 /// The construct that a statement is, where it is one.
 pub fn as_construct<'a>(statement: &'a Stmt) -> Option<TopConstruct<'a>>
     ensures { MatchOption result
-        (construct_of statement.now.line (seen_statement statement.now.kind) ≡ None)
-        (λ c. construct_of statement.now.line (seen_statement statement.now.kind) ≡ Some (seen_construct c)) }
+        (construct_of statement.now.line (seen_statement statement.now.kind) ≡ None) (λ c.
+        construct_of statement.now.line (seen_statement statement.now.kind)
+        ≡ Some (seen_construct c)) }
 {
     let line = statement.line;
     match &statement.kind {
@@ -102,7 +107,8 @@ pub fn count_constructs(main: &[Stmt]) -> u32
     count
 }
 
-/// The construct of this number among these statements, where there are so many; they are numbered from 0.
+/// The construct of this number among these statements, where there are so many; they are numbered
+/// from 0.
 pub fn find_construct<'a>(main: &'a [Stmt], number: u32) -> Option<TopConstruct<'a>>
     ensures { MatchOption result
         (slice_get (constructs_in (seen_block main.now)) number ≡ None)
@@ -126,7 +132,8 @@ pub fn find_construct<'a>(main: &'a [Stmt], number: u32) -> Option<TopConstruct<
 ///
 /// `AllocError` where there is no memory for the list.
 pub fn constructs<'a>(alloc: Global, main: &'a [Stmt]) -> Result<Vec<TopConstruct<'a>>, AllocError>
-    ensures { IfOk result (λ found. map seen_construct found.items ≡ constructs_in (seen_block main.now)) }
+    ensures { IfOk result
+        (λ found. map seen_construct found.items ≡ constructs_in (seen_block main.now)) }
 {
     let mut found = Vec::new(alloc);
     for statement in main {

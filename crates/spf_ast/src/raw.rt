@@ -43,7 +43,8 @@ pub enum RawStmtKind {
     Assign(Name, RawExpr),
     /// Stores a value into an element of an array: the array, the element's index, the value.
     Store(Name, RawExpr, RawExpr),
-    /// Stores one value into a range of an array: the array, the first index, the index after the last, the value.
+    /// Stores one value into a range of an array: the array, the first index, the index after the
+    /// last, the value.
     Fill(Name, RawExpr, RawExpr, RawExpr),
     /// Adds a byte to the output.
     Emit(RawExpr),

@@ -129,7 +129,8 @@ fn put(slots: &mut [i64], slot: u32, word: i64)
     }
 }
 
-/// Puts the words of a row into slots. A slot that isn't there stays so, and one that the row has no word for gets 0.
+/// Puts the words of a row into slots. A slot that isn't there stays so, and one that the row has
+/// no word for gets 0.
 pub fn set_carried(slots: &mut [i64], carried: &[u32], words: &[i64])
     ensures { slots.new ≡ with_carried carried.now words.now slots.old }
 {

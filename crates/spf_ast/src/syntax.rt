@@ -88,7 +88,8 @@ pub enum StmtKind {
     Assign(u32, Expr),
     /// Stores a value into an element of an array: the array, the element's index, the value.
     Store(u32, Expr, Expr),
-    /// Stores one value into a range of an array: the array, the first index, the index after the last, the value.
+    /// Stores one value into a range of an array: the array, the first index, the index after the
+    /// last, the value.
     Fill(u32, Expr, Expr, Expr),
     /// Adds a byte to the output.
     Emit(Expr),
@@ -155,7 +156,8 @@ pub struct Function {
     pub line: u32,
 }
 
-/// A whole program. `slots` has the names of the slots of `main`, in the order of their declarations.
+/// A whole program. `slots` has the names of the slots of `main`, in the order of their
+/// declarations.
 #[derive(Drop)]
 pub struct Program {
     /// The version of the language, 1 or 2.
@@ -166,7 +168,8 @@ pub struct Program {
     pub main: Vec<Stmt>,
 }
 
-/// A part of a top construct. A fold has a body, a pair a producer and a consumer, and each has a predictor.
+/// A part of a top construct. A fold has a body, a pair a producer and a consumer, and each has a
+/// predictor.
 #[derive(Clone, Copy, PartialEq, Eq, Debug)]
 pub enum Part {
     Body,

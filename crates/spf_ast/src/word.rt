@@ -1,7 +1,9 @@
-// The operations on words: whole numbers of 64 bits with a sign, and a trap where the exact answer isn't one.
+// The operations on words: whole numbers of 64 bits with a sign, and a trap where the exact answer
+// isn't one.
 
 ghost use Rattle.std.specs.Prelude.{◌≡◌};
-ghost use Rattle.spf_ast.specs.Word.{add_words, sub_words, mul_words, div_words, rem_words, shl_words, shr_words, binary_words};
+ghost use Rattle.spf_ast.specs.Word.{add_words, sub_words, mul_words, div_words, rem_words};
+ghost use Rattle.spf_ast.specs.Word.{shl_words, shr_words, binary_words};
 
 use crate::outcome::TrapKind;
 use crate::syntax::Op;
@@ -52,7 +54,8 @@ pub fn rem(a: i64, b: i64) -> Result<i64, TrapKind>
     a.checked_rem(b).ok_or(TrapKind::Overflow)
 }
 
-/// `a` times 2^`b`. Traps `Shift` where `b` isn't 0 to 63, and `Overflow` where the product is no word.
+/// `a` times 2^`b`. Traps `Shift` where `b` isn't 0 to 63, and `Overflow` where the product is no
+/// word.
 #[inline]
 pub fn shl(a: i64, b: i64) -> Result<i64, TrapKind>
     ensures { result ≡ shl_words a b }
@@ -81,7 +84,8 @@ pub fn shr(a: i64, b: i64) -> Result<i64, TrapKind>
     Ok(a >> b as u32)
 }
 
-/// What an operator gives for two words. `And`, `Or` and `Xor` work on the 64 bits of two's complement and never trap.
+/// What an operator gives for two words. `And`, `Or` and `Xor` work on the 64 bits of two's
+/// complement and never trap.
 #[inline]
 pub fn binary(op: Op, a: i64, b: i64) -> Result<i64, TrapKind>
     ensures { result ≡ binary_words op a b }

@@ -6,7 +6,8 @@ use std::marker::Model;
 
 /// One atomic word for each cell of a plan's spans, as its 64 bits, and one flag for each block.
 ///
-/// Contracts see of it the table and the setting: the plan, the entry, and the blocks that may be raised.
+/// Contracts see of it the table and the setting: the plan, the entry, and the blocks that may be
+/// raised.
 #[derive(Drop)]
 pub struct Cells {
     pub(crate) table: CellTable,
@@ -25,7 +26,8 @@ impl Model for Cells {
 }
 
 impl Cells {
-    /// What all cells keep: their plan is disjoint within the entry, and their table has a word for each block and each cell of it.
+    /// What all cells keep: their plan is disjoint within the entry, and their table has a word for
+    /// each block and each cell of it.
     pub fn plan_facts(&self)
         ensures { AreCells self.now }
     {

@@ -42,7 +42,8 @@ impl Warden {
         requires taken { HasTaken self.old lane.now.value }
         requires setting { lane.now.value.setting ≡ cells.now.setting }
         requires word { (i : ℕ) × (word ≡ length cells.now.setting.plan + i)
-            × (get_elem? (cells_with_blocks cells.now.setting.plan) i ≡ some (lane.now.value.block, cell)) }
+            × (get_elem? (cells_with_blocks cells.now.setting.plan) i
+            ≡ some (lane.now.value.block, cell)) }
         ensures same { self.new ≡ self.old }
         ensures value { result ≡ content_at lane.now.value cell }
     {
@@ -62,11 +63,16 @@ impl Warden {
         requires own { IsWardenOf cells.now self.old }
         requires taken { HasTaken self.old lane.now.value }
         requires setting { lane.now.value.setting ≡ cells.now.setting }
-        requires words { StandFrom cells.now.setting lane.now.value.block first (consecutive span.from (span.to - span.from)) }
-        requires inside { (j c : ℕ) → get_elem? (consecutive span.from (span.to - span.from)) j ≡ some c → c < length into.old }
+        requires words { StandFrom cells.now.setting lane.now.value.block first
+            (consecutive span.from (span.to - span.from)) }
+        requires inside { (j c : ℕ)
+            → get_elem? (consecutive span.from (span.to - span.from)) j ≡ some c
+            → c < length into.old }
         requires small { first + (span.to - span.from) < 2 ^ 63 }
         ensures same { self.new ≡ self.old }
-        ensures into { into.new ≡ write_back (content_at lane.now.value) (consecutive span.from (span.to - span.from)) into.old }
+        ensures into { into.new
+            ≡ write_back (content_at lane.now.value) (consecutive span.from (span.to - span.from))
+            into.old }
     {
         for cell in span.from..span.to {
             let word = first + (cell - span.from) as usize;
@@ -85,13 +91,17 @@ impl Warden {
         requires own { IsWardenOf cells.now self.old }
         requires taken { HasTaken self.old lane.now.value }
         requires setting { lane.now.value.setting ≡ cells.now.setting }
-        requires segments { AreSegmentsOf segments.now (cells_of (spans_of lane.now.value)) (first_word lane.now.value.setting lane.now.value.block) }
+        requires segments { AreSegmentsOf segments.now (cells_of (spans_of lane.now.value))
+            (first_word lane.now.value.setting lane.now.value.block) }
         requires order { IsSearchable segments.now }
         requires block { lane.now.value.block < length lane.now.value.setting.plan }
-        requires inside { (j c : ℕ) → get_elem? (cells_of (spans_of lane.now.value)) j ≡ some c → c < length into.old }
-        requires small { first_word lane.now.value.setting lane.now.value.block + length (cells_of (spans_of lane.now.value)) < 2 ^ 63 }
+        requires inside { (j c : ℕ) → get_elem? (cells_of (spans_of lane.now.value)) j ≡ some c
+            → c < length into.old }
+        requires small { first_word lane.now.value.setting lane.now.value.block
+            + length (cells_of (spans_of lane.now.value)) < 2 ^ 63 }
         ensures same { self.new ≡ self.old }
-        ensures into { into.new ≡ write_back (content_at lane.now.value) (cells_of (spans_of lane.now.value)) into.old }
+        ensures into { into.new
+            ≡ write_back (content_at lane.now.value) (cells_of (spans_of lane.now.value)) into.old }
     {
         for segment in segments {
             self.write_back_span(cells, lane, segment.word, segment.span, into);
@@ -102,7 +112,8 @@ impl Warden {
     fn collect(&mut self, cells: &Cells, lane: Lane, into: &mut [i64])
         requires own { IsWardenOf cells.now self.old }
         requires lane { IsLaneOf cells.now lane }
-        requires inside { (j c : ℕ) → get_elem? (cells_of (spans_of lane)) j ≡ some c → c < length into.old }
+        requires inside { (j c : ℕ) → get_elem? (cells_of (spans_of lane)) j ≡ some c
+            → c < length into.old }
         ensures taken { self.new ≡ with_lane self.old lane }
         ensures log { IsLogOf lane.setting lane.block lane.log }
         ensures into { into.new ≡ write_back (content_at lane) (cells_of (spans_of lane)) into.old }
@@ -116,9 +127,11 @@ impl Warden {
 }
 
 impl Cells {
-    /// Ends all steps: each cell of a lane's spans takes the lane's content, and every other cell of `into` stays. `into` is as long as the entry.
+    /// Ends all steps: each cell of a lane's spans takes the lane's content, and every other cell
+    /// of `into` stays. `into` is as long as the entry.
     ///
-    /// `lanes` are the lanes of all blocks, in the order of blocks. The trace has their logs, and each keeps what a lane's log keeps.
+    /// `lanes` are the lanes of all blocks, in the order of blocks. The trace has their logs, and
+    /// each keeps what a lane's log keeps.
     pub fn finish(self, mut warden: Warden, lanes: Vec<Lane>, into: &mut [i64]) -> Trace
         requires warden { IsWardenOf self warden × (warden.view.taken ≡ []) }
         requires lanes { AreAllLanes self lanes.items }

@@ -1,5 +1,6 @@
 //! A lane: the one seat that steps for its block.
-ghost use Rattle.std.specs.Prelude.{◌≡◌, ◌≢◌, ℕ, ◌+◌, ◌-◌, ◌^◌, ◌<◌, ◌↔◌, [], length, true, false, IsTrue, IfSome, IfNone, if◌then◌else◌};
+ghost use Rattle.std.specs.Prelude.{◌≡◌, ◌≢◌, ℕ, ◌+◌, ◌-◌, ◌^◌, ◌<◌, ◌↔◌, [], length, true, false};
+ghost use Rattle.std.specs.Prelude.{IsTrue, IfSome, IfNone, if◌then◌else◌};
 ghost use Rattle.spf_region.specs.Cells.{in_spans};
 ghost use Rattle.spf_cells.specs.Log.{IsLogOf, IsPossibleFlag};
 ghost use Rattle.spf_cells.specs.Spans.{cells_of, Covers};
@@ -65,9 +66,11 @@ impl Lane {
         ensures table { result.0.table_id ≡ self.table }
         ensures view { result.0.me ≡ (lane_view self.setting self.block self.log, []) }
         ensures log { IsLogOf self.setting self.block self.log }
-        ensures segments { AreSegmentsOf result.1.items (cells_of (spans_of self)) (first_word self.setting self.block) }
+        ensures segments { AreSegmentsOf result.1.items (cells_of (spans_of self))
+            (first_word self.setting self.block) }
         ensures order { IsSearchable result.1.items }
-        ensures small { first_word self.setting self.block + length (cells_of (spans_of self)) < 2 ^ 63 }
+        ensures small { first_word self.setting self.block + length (cells_of (spans_of self))
+            < 2 ^ 63 }
         ensures inside { self.block < length self.setting.plan }
     {
         let Lane {
@@ -78,7 +81,8 @@ impl Lane {
         (seat, segments)
     }
 
-    /// What every lane's log keeps: each load gave the lane's own content, and each turn a possible flag of its block.
+    /// What every lane's log keeps: each load gave the lane's own content, and each turn a possible
+    /// flag of its block.
     pub fn log_facts(&self)
         ensures { IsLogOf self.now.setting self.now.block self.now.log }
     {
@@ -87,7 +91,8 @@ impl Lane {
 
     /// The word of a cell, if the cell is in the lane's spans.
     fn word_of(&self, cell: u64) -> Option<usize>
-        ensures inside { IfSome result (λ word. (in_spans (spans_of self.now) cell ≡ true) × IsWordOf self.now cell word × (word < self.now.table.words)) }
+        ensures inside { IfSome result (λ word. (in_spans (spans_of self.now) cell ≡ true)
+            × IsWordOf self.now cell word × (word < self.now.table.words)) }
         ensures outside { IfNone result (in_spans (spans_of self.now) cell ≡ false) }
     {
         find_word(self.segments.as_slice(), cell)
@@ -100,13 +105,15 @@ impl Lane {
         self.word_of(cell).is_some()
     }
 
-    /// The lane's own content of a cell, whoever else steps, if the cell is in the lane's spans. The load is then logged.
+    /// The lane's own content of a cell, whoever else steps, if the cell is in the lane's spans.
+    /// The load is then logged.
     pub fn try_load(&mut self, cells: &Cells, cell: u64) -> Option<i64>
         requires own { self.old.table ≡ cells.now.table }
         ensures inside { IfSome result (λ _. in_spans (spans_of self.old) cell ≡ true) }
         ensures value { IfSome result (λ word. word ≡ content_at self.old cell) }
         ensures log { IfSome result (λ word. self.new ≡ logged self.old (Load cell word)) }
-        ensures outside { IfNone result ((in_spans (spans_of self.old) cell ≡ false) × (self.new ≡ self.old)) }
+        ensures outside { IfNone result
+            ((in_spans (spans_of self.old) cell ≡ false) × (self.new ≡ self.old)) }
     {
         match self.word_of(cell) {
             Some(word) => {
@@ -117,7 +124,8 @@ impl Lane {
         }
     }
 
-    /// Stores a word to a cell, if the cell is in the lane's spans; whether it is. The store is then logged.
+    /// Stores a word to a cell, if the cell is in the lane's spans; whether it is. The store is
+    /// then logged.
     pub fn try_store(&mut self, cells: &Cells, cell: u64, value: i64) -> bool
         requires own { self.old.table ≡ cells.now.table }
         ensures inside { result ≡ in_spans (spans_of self.old) cell }

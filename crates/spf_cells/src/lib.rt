@@ -1,4 +1,5 @@
-//! Cells that several threads share: one atomic word for each cell of a plan's spans, and one flag for each block.
+//! Cells that several threads share: one atomic word for each cell of a plan's spans, and one flag
+//! for each block.
 #![tactic(auto)]
 
 pub mod cells;

@@ -1,7 +1,7 @@
 //! The rule of the table, and what each step on it tells the seat that makes it.
 use crate::view::{Setting, View};
 use atomic_table::{Join, Play, Seat, Split, Table, TableRule};
-use spf_key::key::GhostKey;
+use spf_cells_key::key::GhostKey;
 use std::alloc::Global;
 
 /// The rule, which holds at every moment, and the first view.

@@ -30,12 +30,15 @@ impl Segment {
     }
 }
 
-/// The word of a cell, if it is in one of the segments. Where there is one segment there is nothing to search.
+/// The word of a cell, if it is in one of the segments. Where there is one segment there is nothing
+/// to search.
 pub(crate) fn find_word(segments: &[Segment], cell: u64) -> Option<usize>
     requires order { IsSearchable segments.now }
-    requires small { (s : Segment) → Contains segments.now s → s.word + (s.span.to - s.span.from) < 2 ^ 63 }
+    requires small { (s : Segment) → Contains segments.now s
+        → s.word + (s.span.to - s.span.from) < 2 ^ 63 }
     ensures some { IfSome result (λ w. (s : Segment) × Contains segments.now s × Holds s cell w) }
-    ensures none { IfNone result ((s : Segment) (w : ℕ) → Contains segments.now s → ¬ Holds s cell w) }
+    ensures none { IfNone result
+        ((s : Segment) (w : ℕ) → Contains segments.now s → ¬ Holds s cell w) }
 {
     if segments.len() == 1 {
         return segments[0].word_of(cell);
@@ -47,7 +50,8 @@ pub(crate) fn find_word(segments: &[Segment], cell: u64) -> Option<usize>
     segments[count - 1].word_of(cell)
 }
 
-/// The segments of spans whose cells have the words from `first` on, in ascending order of their first cells.
+/// The segments of spans whose cells have the words from `first` on, in ascending order of their
+/// first cells.
 pub(crate) fn segments_of(
     alloc: Global,
     spans: &[Span],

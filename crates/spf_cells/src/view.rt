@@ -1,4 +1,5 @@
-//! What a seat of the table knows: plain data for proofs and contracts alone. No value of these types is made at run time.
+//! What a seat of the table knows: plain data for proofs and contracts alone. No value of these
+//! types is made at run time.
 use spf_region::span::Span;
 use std::collections::LinkedList;
 

@@ -3,10 +3,10 @@ use Rattle.std.proofs.Common.{◌≡◌, ℕ, ◌+◌, ◌<◌, zero, suc, List,
 use Rattle.std.specs.Prelude.{map, replicate, slice_index_or}
 use Rattle.std.proofs.lemmas.List.{length-map, take_more, map-append}
 use Rattle.spf_ast.specs.Carried.{Carried}
-use Rattle.spf_chain.specs.declared.validated.Guess.{Guess}
+use Rattle.spf_guess_statistics.specs.declared.guess.Guess.{Guess}
 use Rattle.spf_chain.specs.declared.validated.Validated.{Validated}
 use Rattle.spf_chain.specs.Beginning.{first_value, guesses_for, unvalidated}
-use Rattle.spf_entry.specs.declared.site.Site.{Site}
+use Rattle.spf_speculation_entry.specs.declared.site.Site.{Site}
 use Rattle.spf_chain.specs.Kept.{IsListed}
 use Rattle.spf_chain.proofs.Lists.{some-same}
 

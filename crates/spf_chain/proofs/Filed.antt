@@ -1,6 +1,6 @@
 -- What stays of a chain when a report is filed, and how many reports were filed then.
 use Rattle.std.proofs.Common.{◌≡◌, ap, ◌∙◌}
-use Rattle.spf_edge.specs.Faults.{one_more}
+use Rattle.spf_ast_lemmas.specs.Counts.{one_more}
 use Rattle.spf_ticket.specs.declared.ticket.Report.{Report}
 use Rattle.spf_chain.specs.declared.chain.Filed.{Filed}
 use Rattle.spf_chain.specs.declared.chain.Filed.TheVariants.{Rerun, Waiting, Ended}

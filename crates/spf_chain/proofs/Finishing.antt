@@ -4,25 +4,25 @@ use mathlib.Core.Option.{some, some-ne-none, some-injective}
 use lib.ListN.{get_elem?}
 use Rattle.spf_ast.specs.declared.outcome.Trap.{Trap}
 use Rattle.spf_ast.specs.Event.{Event, IsConsistent}
-use Rattle.spf_layout.specs.declared.stop.Stop.{Stop}
+use Rattle.spf_exec.specs.declared.stop.Stop.{Stop}
 use Rattle.spf_chain.specs.declared.validated.Settled.{Settled}
 use Rattle.spf_chain.specs.declared.validated.Settled.TheVariants as settled
-use Rattle.spf_lemmas.proofs.Indices.{at-index}
+use Rattle.spf_ast_lemmas.proofs.Indices.{at-index}
 use Rattle.spf_cells.specs.declared.view.Setting.{Setting}
 use Rattle.spf_cells.specs.Log.{events}
 use Rattle.spf_cells.specs.Values.{LaneValue, CellsValue, IsLaneOf}
 use Rattle.std.specs.Prelude.{Result}
 use Rattle.spf_ast.specs.Interaction.{Value, Trapped, HasReadAll}
 use Rattle.spf_ast.specs.Carried.{Carried}
-use Rattle.spf_entry.specs.Entry.{Entry, begins_at, plain_blocks}
-use Rattle.spf_entry.specs.Attempts.{attempted}
+use Rattle.spf_speculation_entry.specs.Entry.{Entry, begins_at, plain_blocks}
+use Rattle.spf_speculation_entry.specs.Attempts.{attempted}
 use Rattle.spf_speculation.specs.Runs.{IsSpeculativeRun, IsRealLog, IsGuessedLog, LogsComeTo, no_more_blocks, gave_value, gave_trap}
 use Rattle.spf_speculation.specs.Prefixes.{PrefixesComplete}
-use Rattle.spf_lane_runs.specs.Lanes.{trace_of, logs_in, AreLanesFor, EveryMergingOfLanes}
+use Rattle.spf_speculation_lanes.specs.Lanes.{trace_of, logs_in, AreLanesFor, EveryMergingOfLanes}
 use Rattle.spf_ticket.specs.Tickets.{IsReady, first, second, EndsAs}
 use Rattle.spf_ticket.specs.declared.ticket.Report.{Report}
 use Rattle.spf_chain.specs.declared.chain.Chain.TheInside.{Inside}
-use Rattle.spf_entry.specs.Sites.{entry_at, guess_at}
+use Rattle.spf_speculation_entry.specs.Sites.{entry_at, guess_at}
 use Rattle.spf_chain.specs.Homes.{home_log, log_in, IsHome}
 use Rattle.spf_chain.specs.Standing.{reals, PrefixAt, TrappedAt, StandsAt}
 use Rattle.spf_chain.specs.Chains.{ChainValue, HasEnded, HasTrapped}

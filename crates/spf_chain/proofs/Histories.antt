@@ -6,9 +6,9 @@ use Rattle.std.proofs.lemmas.List.{append-nil}
 use Rattle.spf_chain.specs.declared.validated.Settled.{Settled}
 use Rattle.spf_chain.specs.declared.validated.Settled.TheVariants as settled
 use Rattle.spf_chain.specs.declared.validated.Validated.{Validated}
-use Rattle.spf_entry.specs.Entry.{plain_blocks}
+use Rattle.spf_speculation_entry.specs.Entry.{plain_blocks}
 use Rattle.spf_chain.specs.declared.chain.Chain.TheInside.{Inside}
-use Rattle.spf_entry.specs.Sites.{entry_at, guess_at}
+use Rattle.spf_speculation_entry.specs.Sites.{entry_at, guess_at}
 use Rattle.spf_chain.specs.Homes.{log_in}
 use Rattle.spf_chain.specs.Standing.{reals, StandsAt}
 use Rattle.spf_chain.specs.Chains.{ChainValue, next_block, IsOut, WaitsFor, IsAnswer, IsExact}

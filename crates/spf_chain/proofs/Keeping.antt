@@ -6,8 +6,8 @@ use Rattle.std.proofs.lemmas.Option.{slice_get_within}
 use Rattle.spf_ast.specs.declared.outcome.Trap.{Trap}
 use Rattle.spf_ast.specs.Event.{Event, Load, Store, Turn, IsConsistent}
 use Rattle.spf_ast.specs.Interaction.{Performed, Ended, Stopped, Ending, HasReadAll}
-use Rattle.spf_layout.specs.declared.stop.Stop.{Stop}
-use Rattle.spf_layout.specs.declared.stop.Stop.TheVariants as stop
+use Rattle.spf_exec.specs.declared.stop.Stop.{Stop}
+use Rattle.spf_exec.specs.declared.stop.Stop.TheVariants as stop
 use Rattle.spf_chain.specs.declared.validated.Settled.{Settled}
 use Rattle.spf_chain.specs.declared.validated.Settled.TheVariants as settled
 use Rattle.spf_chain.specs.Homes.{result_of}
@@ -18,24 +18,24 @@ use Rattle.spf_cells.specs.declared.view.LogEntry.TheVariants as entry
 use Rattle.spf_cells.specs.Log.{events, ArePossibleTurns}
 use Rattle.spf_cells.specs.Values.{CellsValue, LaneValue, WardenValue, with_lane}
 use Rattle.spf_ast.specs.Carried.{Carried, same_carried}
-use Rattle.spf_entry.proofs.Rows.{Decides-same_carried}
-use Rattle.spf_entry.specs.Entry.{Entry, number_of, begins_at, plain_blocks}
-use Rattle.spf_entry.specs.Attempts.{attempted, IsAttempt, TurnsAreBelow}
+use Rattle.spf_speculation_entry.proofs.Rows.{Decides-same_carried}
+use Rattle.spf_speculation_entry.specs.Entry.{Entry, number_of, begins_at, plain_blocks}
+use Rattle.spf_speculation_entry.specs.Attempts.{attempted, IsAttempt, TurnsAreBelow}
 use Rattle.spf_speculation.specs.Prefixes.{EndsAt, PrefixesHaveRealValues, PrefixesDependOnEarlierLogs}
 use Rattle.spf_speculation.specs.Laws.{UnstoppedAttemptsAreWhole}
-use Rattle.spf_lane_runs.specs.Lanes.{LanesStopNoSecondAttempt}
+use Rattle.spf_speculation_lanes.specs.Lanes.{LanesStopNoSecondAttempt}
 use Rattle.spf_ticket.specs.Tickets.{IsReady, first, second, IsLawfulReport, EndsAs, IsFresh}
 use Rattle.spf_ticket.specs.declared.ticket.Report.{Report}
 use Rattle.spf_ast.specs.Construct.{part_of}
-use Rattle.spf_laws.specs.Agreement.{AgreeOutside}
-use Rattle.spf_layout.specs.Frame.{main_slots}
+use Rattle.spf_ast_laws.specs.Agreement.{AgreeOutside}
+use Rattle.spf_exec_instance.specs.Frame.{main_slots}
 use Rattle.spf_ticket.specs.declared.ticket.Ticket.{Ticket}
 use Rattle.spf_cells.specs.declared.view.TakenLane.{TakenLane}
 use Rattle.spf_cells.specs.Rule.{HasNoBlockTwice}
 use Rattle.spf_chain.specs.declared.chain.Chain.TheInside.{Inside}
 use Rattle.spf_chain.specs.Chains.{ChainValue, cells_of, next_block, HasTrapped, HasEnded, WaitsFor}
 use Rattle.spf_chain.specs.Kept.{chain_value, cells_inside, IsKept}
-use Rattle.spf_entry.specs.Sites.{entry_at, guess_at, AreMadeFor, RaisesMispredicted}
+use Rattle.spf_speculation_entry.specs.Sites.{entry_at, guess_at, AreMadeFor, RaisesMispredicted}
 use Rattle.spf_chain.specs.Homes.{known_at, known_in, home_log, log_in, IsHome, AreHomes}
 use Rattle.spf_chain.specs.Standing.{reals, PrefixAt, StandsAt, StandsOver}
 use Rattle.spf_chain.specs.declared.validation.Validation.{Validation}

@@ -4,9 +4,9 @@ use Rattle.std.specs.Prelude.{if◌then◌else◌, slice_index_or}
 use Rattle.std.specs.List.{Contains}
 use Rattle.std.specs.Prelude.{not}
 use Rattle.spf_cells.specs.declared.view.Setting.{Setting}
-use Rattle.spf_entry.specs.declared.site.Site.{Site}
-use Rattle.spf_entry.specs.Sites.{entry_at, guess_at, RaisesMispredicted}
-use Rattle.spf_entry.proofs.Rows.{Decides-same_carried}
+use Rattle.spf_speculation_entry.specs.declared.site.Site.{Site}
+use Rattle.spf_speculation_entry.specs.Sites.{entry_at, guess_at, RaisesMispredicted}
+use Rattle.spf_speculation_entry.proofs.Rows.{Decides-same_carried}
 use Rattle.spf_chain.specs.Mispredicted.{is_other, mispredicted_at, those_below, mispredicted_blocks}
 use Rattle.spf_ast.specs.Carried.{same_carried}
 use Rattle.spf_chain.proofs.Lists.{some-same, less-or-same, true-or-false, not-both}

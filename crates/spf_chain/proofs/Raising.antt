@@ -9,8 +9,8 @@ use Rattle.std.proofs.lemmas.Option.{slice_get_within}
 use Rattle.spf_ast.specs.declared.outcome.Trap.{Trap}
 use Rattle.spf_chain.specs.declared.validated.Settled.{Settled}
 use Rattle.spf_chain.specs.declared.validated.Settled.TheVariants.{Carried, Trapped}
-use Rattle.spf_entry.specs.Entry.{begins_at}
-use Rattle.spf_entry.specs.Sites.{entry_at, guess_at}
+use Rattle.spf_speculation_entry.specs.Entry.{begins_at}
+use Rattle.spf_speculation_entry.specs.Sites.{entry_at, guess_at}
 use Rattle.std.specs.Prelude.{false}
 use Rattle.spf_speculation.specs.Prefixes.{PrefixesHaveRealValues}
 use Rattle.spf_chain.specs.declared.validated.Validated.{Validated}

@@ -5,8 +5,8 @@ use Rattle.spf_ast.specs.Silence.{PartIsSilent}
 use Rattle.spf_ast.specs.Slots.{assigns_outer}
 use Rattle.spf_ast.specs.Construct.{Construct, fold, pair, part_of, statements_of}
 use Rattle.spf_ast.specs.ConstructView.{construct}
-use Rattle.spf_layout.specs.Instance.{program_of}
-use Rattle.spf_rollback.specs.Rules.{KeepsTheRules}
+use Rattle.spf_exec_instance.specs.Instance.{program_of}
+use Rattle.spf_check_rules.specs.Rules.{KeepsTheRules}
 use Rattle.spf_chain.specs.Jobs.{AcceptedConstructsCanRun}
 use Rattle.spf_ast.specs.declared.syntax.Part.TheVariants.{Body, Producer, Consumer}
 

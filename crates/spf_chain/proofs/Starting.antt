@@ -2,31 +2,31 @@
 use Rattle.std.proofs.Common.{◌≡◌, ◌<◌, ℕ, List, length, refl, sym, ap, ◌∙◌, subst, Some, ℤ, pos, ◌+ℤ◌, arith, slice_get}
 use Rattle.std.specs.Prelude.{replicate}
 use Rattle.std.specs.List.{All}
-use Rattle.spf_lemmas.proofs.Indices.{index-within}
+use Rattle.spf_ast_lemmas.proofs.Indices.{index-within}
 use Rattle.std.proofs.lemmas.List.{length-take-le}
 use Rattle.spf_ast.specs.View.{program}
 use Rattle.spf_ast.specs.Construct.{Construct, fold, pair, Header, constructs_in, part_of}
 use Rattle.spf_ast.specs.Program.{extents_of}
-use Rattle.spf_laws.specs.Agreement.{AgreeOutside}
-use Rattle.spf_layout.specs.Layout.{LayoutValue, IsLayoutOf}
-use Rattle.spf_layout.specs.Frame.{frame_size, main_slots}
-use Rattle.spf_layout.specs.Instance.{InstanceValue, program_of}
+use Rattle.spf_ast_laws.specs.Agreement.{AgreeOutside}
+use Rattle.spf_exec_instance.specs.Layout.{LayoutValue, IsLayoutOf}
+use Rattle.spf_exec_instance.specs.Frame.{frame_size, main_slots}
+use Rattle.spf_exec_instance.specs.Instance.{InstanceValue, program_of}
 use Rattle.spf_exec.specs.declared.pieces.Header as code
 use Rattle.spf_region.specs.declared.span.Span.{Span}
 use Rattle.spf_region.specs.Cells.{cells_at}
-use Rattle.spf_rollback.specs.Rules.{may_write}
-use Rattle.spf_rollback.specs.Freedom.{IsRollbackFree}
+use Rattle.spf_check_rules.specs.Rules.{may_write}
+use Rattle.spf_check_rules.specs.Freedom.{IsRollbackFree}
 use Rattle.spf_check.specs.Plans.{AreBlocksOf, IsPlanOf}
 use Rattle.spf_cells.specs.Log.{events}
 use Rattle.spf_cells.specs.Laws.{IsAscendingPlan}
 use Rattle.spf_cells.specs.Values.{LaneValue, CellsValue, WardenValue}
 use Rattle.spf_cells.specs.Made.{new_lane, new_warden}
-use Rattle.spf_entry.specs.declared.site.Site.{Site}
-use Rattle.spf_entry.specs.Entry.{HasItsBlocks, IsEntry, begins_at}
-use Rattle.spf_entry.specs.Sites.{construct_or_none, entry_at, guess_at, AreMadeFor}
+use Rattle.spf_speculation_entry.specs.declared.site.Site.{Site}
+use Rattle.spf_speculation_entry.specs.Entry.{HasItsBlocks, IsEntry, begins_at}
+use Rattle.spf_speculation_entry.specs.Sites.{construct_or_none, entry_at, guess_at, AreMadeFor}
 use Rattle.spf_ticket.specs.Tickets.{IsFresh, first}
 use Rattle.spf_ticket.specs.declared.ticket.Ticket.{Ticket}
-use Rattle.spf_chain.specs.declared.validated.Guess.{Guess}
+use Rattle.spf_guess_statistics.specs.declared.guess.Guess.{Guess}
 use Rattle.spf_chain.specs.declared.validated.Validated.{Validated}
 use Rattle.spf_chain.specs.Sites.{IsGround}
 use Rattle.spf_chain.specs.declared.chain.Chain.TheInside.{Inside}

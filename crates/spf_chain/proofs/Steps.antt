@@ -5,8 +5,8 @@ use Rattle.std.proofs.lemmas.List.{take_more_set, length-set}
 use Rattle.std.proofs.lemmas.Option.{slice_get-get_or, slice_get_past}
 use Rattle.spf_ast.specs.Event.{Event, IsConsistent}
 use Rattle.spf_ast.specs.Interaction.{State, Performed, Ended, Ending, Value, Trapped}
-use Rattle.spf_layout.specs.declared.stop.Stop.{Stop}
-use Rattle.spf_layout.specs.declared.stop.Stop.TheVariants as stop
+use Rattle.spf_exec.specs.declared.stop.Stop.{Stop}
+use Rattle.spf_exec.specs.declared.stop.Stop.TheVariants as stop
 use Rattle.spf_chain.specs.declared.validated.Settled.{Settled}
 use Rattle.spf_chain.specs.declared.validated.Settled.TheVariants as settled
 use Rattle.spf_chain.specs.declared.validated.Validated.{Validated}
@@ -15,9 +15,9 @@ use Rattle.spf_chain.proofs.Lists.{set_cases, set_other}
 use Rattle.spf_cells.specs.Log.{events}
 use Rattle.spf_cells.specs.Values.{CellsValue}
 use Rattle.spf_ast.specs.Carried.{Carried, same_carried}
-use Rattle.spf_entry.proofs.Rows.{Decides-same_carried}
-use Rattle.spf_entry.specs.Entry.{Entry, IsEntry}
-use Rattle.spf_entry.specs.Attempts.{attempted, IsWhole}
+use Rattle.spf_speculation_entry.proofs.Rows.{Decides-same_carried}
+use Rattle.spf_speculation_entry.specs.Entry.{Entry, IsEntry}
+use Rattle.spf_speculation_entry.specs.Attempts.{attempted, IsWhole}
 use Rattle.spf_speculation.specs.Runs.{IsRealLog, at_once, again}
 use Rattle.spf_speculation.specs.Prefixes.{PrefixesGrow, PrefixesEnd}
 use Rattle.spf_ticket.specs.Tickets.{IsReady, first, second, EndsAs}

@@ -6,8 +6,8 @@ use Rattle.spf_cells.specs.Made.{new_lane, new_lanes}
 use Rattle.spf_ticket.specs.declared.ticket.Ticket.{Ticket}
 use Rattle.spf_chain.specs.declared.validated.Validated.{Validated}
 use Rattle.spf_chain.specs.Beginning.{IsFirstTicket, AreFirstTickets}
-use Rattle.spf_lemmas.proofs.Indices.{index-within, last-index, earlier-index, one-longer, last_or_before}
-use Rattle.spf_lemmas.proofs.Members.{some_is}
+use Rattle.spf_ast_lemmas.proofs.Indices.{index-within, last-index, earlier-index, one-longer, last_or_before}
+use Rattle.spf_ast_lemmas.proofs.Members.{some_is}
 
 lane-from : (k : CellsValue) (b n : ℕ) (ys : List LaneValue) (l : LaneValue) (rest : List LaneValue) → new_lanes k b n ≡ ys ++ l ∷ rest → (l ≡ new_lane k (b + length ys)) × (length ys < n)
 lane-from k b zero [] l rest e = absurd cc

@@ -3,14 +3,14 @@ use Rattle.std.specs.Prelude.{◌≡◌, ◌+◌, ◌≤◌, ℕ, false, List, [
 use Rattle.spf_ast.specs.Carried as carried
 use Rattle.spf_cells.specs.Values.{LaneValue, CellsValue, WardenValue}
 use Rattle.spf_cells.specs.Made.{new_lane}
-use Rattle.spf_layout.specs.Frame.{main_slots}
-use Rattle.spf_layout.specs.Instance.{InstanceValue, program_of}
+use Rattle.spf_exec_instance.specs.Frame.{main_slots}
+use Rattle.spf_exec_instance.specs.Instance.{InstanceValue, program_of}
 use Rattle.spf_exec.specs.declared.pieces.Header.{Header}
-use Rattle.spf_entry.specs.declared.site.Site.{Site}
-use Rattle.spf_entry.specs.Sites.{entry_at, guess_at}
+use Rattle.spf_speculation_entry.specs.declared.site.Site.{Site}
+use Rattle.spf_speculation_entry.specs.Sites.{entry_at, guess_at}
 use Rattle.spf_ticket.specs.Tickets.{IsFresh}
 use Rattle.spf_ticket.specs.declared.ticket.Ticket.{Ticket}
-use Rattle.spf_chain.specs.declared.validated.Guess.{Guess}
+use Rattle.spf_guess_statistics.specs.declared.guess.Guess.{Guess}
 use Rattle.spf_chain.specs.declared.validated.Settled.TheVariants.{Carried}
 use Rattle.spf_chain.specs.declared.validated.Validated.{Validated}
 use Rattle.spf_chain.specs.Sites.{IsGround}

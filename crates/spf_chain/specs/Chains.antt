@@ -22,20 +22,20 @@ use Rattle.std.specs.Prelude.{
   Some,
   None,
 }
-use Rattle.spf_edge.specs.Faults.{one_more}
+use Rattle.spf_ast_lemmas.specs.Counts.{one_more}
 use Rattle.spf_ast.specs.declared.outcome.Trap.{Trap}
 use Rattle.spf_cells.specs.Values.{CellsValue, WardenValue}
 use Rattle.spf_chain.specs.declared.validated.Settled.{Settled}
 use Rattle.spf_chain.specs.declared.validated.Settled.TheVariants.{Carried, Trapped}
 use Rattle.spf_chain.specs.declared.validated.Validated.{Validated}
-use Rattle.spf_entry.specs.Entry.{begins_at}
+use Rattle.spf_speculation_entry.specs.Entry.{begins_at}
 use Rattle.spf_ticket.specs.Tickets.{IsFresh}
 use Rattle.spf_ticket.specs.declared.ticket.Report.{Report}
 use Rattle.spf_ticket.specs.declared.ticket.Ticket.{Ticket}
 use Rattle.spf_chain.specs.declared.chain.Filed.{Filed}
 use Rattle.spf_chain.specs.declared.chain.Filed.TheVariants.{Rerun, Waiting, Ended}
-use Rattle.spf_entry.specs.declared.site.Site.{Site}
-use Rattle.spf_entry.specs.Sites.{entry_at, guess_at}
+use Rattle.spf_speculation_entry.specs.declared.site.Site.{Site}
+use Rattle.spf_speculation_entry.specs.Sites.{entry_at, guess_at}
 use Rattle.spf_ast.specs.Carried as carried
 use Rattle.spf_chain.specs.Homes.{known_in}
 

@@ -5,11 +5,11 @@ use Rattle.spf_ast.specs.Carried as carried
 use Rattle.spf_ast.specs.Event.{Event}
 use Rattle.spf_cells.specs.declared.view.LogEntry.{LogEntry}
 use Rattle.spf_cells.specs.Values.{LaneValue}
-use Rattle.spf_entry.specs.Entry.{plain_blocks}
-use Rattle.spf_entry.specs.Sites.{entry_at, guess_at}
+use Rattle.spf_speculation_entry.specs.Entry.{plain_blocks}
+use Rattle.spf_speculation_entry.specs.Sites.{entry_at, guess_at}
 use Rattle.spf_speculation.specs.Steps.{Step, Merges}
 use Rattle.spf_speculation.specs.Runs.{IsSpeculativeRun}
-use Rattle.spf_lane_runs.specs.Lanes.{logs_in}
+use Rattle.spf_speculation_lanes.specs.Lanes.{logs_in}
 use Rattle.spf_ticket.specs.declared.ticket.Report.{Report}
 use Rattle.spf_chain.specs.declared.validated.Settled.{Settled}
 use Rattle.spf_chain.specs.declared.validated.Settled.TheVariants.{Carried, Trapped}

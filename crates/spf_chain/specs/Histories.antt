@@ -1,8 +1,8 @@
 -- What stands in a history, and that at most one answer is right.
 use Rattle.std.specs.Prelude.{◌≡◌, ◌≤◌, ℕ, length, Some, slice_get}
 use Rattle.spf_ast.specs.Carried.{Carried}
-use Rattle.spf_entry.specs.Entry.{plain_blocks}
-use Rattle.spf_entry.specs.Sites.{entry_at, guess_given}
+use Rattle.spf_speculation_entry.specs.Entry.{plain_blocks}
+use Rattle.spf_speculation_entry.specs.Sites.{entry_at, guess_given}
 use Rattle.spf_ticket.specs.declared.ticket.Report.{Report}
 use Rattle.spf_chain.specs.declared.validated.Validated.{Validated}
 use Rattle.spf_chain.specs.Chains.{ChainValue, next_block, IsOut, NeedsRerun, WaitsFor, HasEnded}

@@ -2,11 +2,11 @@
 use Rattle.std.specs.Prelude.{◌≡◌, ℕ, List, [], Option, Some, None, slice_get, if◌then◌else◌}
 use Rattle.spf_ast.specs.Carried.{Carried, same_carried}
 use Rattle.spf_ast.specs.Event.{Event, IsConsistent}
-use Rattle.spf_layout.specs.declared.stop.Stop.{Stop}
-use Rattle.spf_layout.specs.declared.stop.Stop.TheVariants as stop
+use Rattle.spf_exec.specs.declared.stop.Stop.{Stop}
+use Rattle.spf_exec.specs.declared.stop.Stop.TheVariants as stop
 use Rattle.spf_cells.specs.Log.{events, ArePossibleTurns}
 use Rattle.spf_cells.specs.Values.{CellsValue}
-use Rattle.spf_entry.specs.Entry.{Entry}
+use Rattle.spf_speculation_entry.specs.Entry.{Entry}
 use Rattle.spf_ticket.specs.Tickets.{IsLawfulReport}
 use Rattle.spf_ticket.specs.declared.ticket.Report.{Report}
 use Rattle.spf_chain.specs.declared.validated.Settled.{Settled}

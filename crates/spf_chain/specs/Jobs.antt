@@ -6,7 +6,7 @@ use Rattle.spf_ast.specs.Lawful.{IsLawful}
 use Rattle.spf_ast.specs.Program.{cell_count_of}
 use Rattle.spf_ast.specs.Silence.{PartIsSilent}
 use Rattle.spf_ast.specs.Slots.{assigns_outer}
-use Rattle.spf_layout.specs.Instance.{program_of}
+use Rattle.spf_exec_instance.specs.Instance.{program_of}
 use Rattle.spf_check.specs.Accepting.{IsAccepted}
 use Rattle.spf_ticket.specs.declared.run.Job.{Job}
 

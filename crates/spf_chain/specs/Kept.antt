@@ -4,10 +4,10 @@ use Rattle.spf_ast.specs.Carried as carried
 use Rattle.spf_cells.specs.Values.{CellsValue}
 use Rattle.spf_chain.specs.declared.validated.Settled.TheVariants.{Carried}
 use Rattle.spf_chain.specs.declared.validated.Validated.{Validated}
-use Rattle.spf_entry.specs.Entry.{begins_at}
+use Rattle.spf_speculation_entry.specs.Entry.{begins_at}
 use Rattle.spf_chain.specs.declared.chain.Chain.TheInside.{Inside}
-use Rattle.spf_entry.specs.declared.site.Site.{Site}
-use Rattle.spf_entry.specs.Sites.{entry_at, guess_at, guess_given}
+use Rattle.spf_speculation_entry.specs.declared.site.Site.{Site}
+use Rattle.spf_speculation_entry.specs.Sites.{entry_at, guess_at, guess_given}
 use Rattle.spf_chain.specs.Sites.{IsGround}
 use Rattle.spf_chain.specs.Homes.{AreHomes}
 use Rattle.spf_chain.specs.Standing.{StandsOver, history_of}

@@ -1,9 +1,9 @@
 -- Which blocks are mispredicted, as a list.
 use Rattle.std.specs.Prelude.{ℕ, zero, suc, Bool, true, not, if◌then◌else◌, List, [], ◌∷◌, Option, Some, None, slice_get}
 use Rattle.spf_ast.specs.Carried.{Carried, same_carried}
-use Rattle.spf_entry.specs.declared.site.Site.{Site}
-use Rattle.spf_entry.specs.Entry.{plain_blocks, begins_at}
-use Rattle.spf_entry.specs.Sites.{entry_at, guess_at}
+use Rattle.spf_speculation_entry.specs.declared.site.Site.{Site}
+use Rattle.spf_speculation_entry.specs.Entry.{plain_blocks, begins_at}
+use Rattle.spf_speculation_entry.specs.Sites.{entry_at, guess_at}
 
 -- the real row, where there is one, isn't this
 abbrev pub is_other : Option Carried → Carried → Bool

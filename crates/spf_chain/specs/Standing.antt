@@ -3,7 +3,7 @@ use Rattle.std.specs.Prelude.{◌≡◌, ℕ, suc, ◌<◌, ◌≤◌, List, map
 use Rattle.spf_ast.specs.declared.outcome.Trap.{Trap}
 use Rattle.spf_ast.specs.Carried as carried
 use Rattle.spf_ast.specs.Event.{Event}
-use Rattle.spf_entry.specs.Entry.{Entry}
+use Rattle.spf_speculation_entry.specs.Entry.{Entry}
 use Rattle.spf_speculation.specs.Prefixes.{IsValidatedPrefix, EndsAt}
 use Rattle.spf_ticket.specs.declared.ticket.Report.{Report}
 use Rattle.spf_chain.specs.declared.validated.Settled.{Settled}

@@ -2,18 +2,19 @@
 ghost use Rattle.std.specs.Prelude.{◌≡◌, ℕ, List, IfOk, length};
 ghost use Rattle.spf_cells.specs.Spans.{IsDisjointWithin};
 ghost use Rattle.spf_cells.specs.Made.{spans_in, setting, new_warden, new_lanes};
-ghost use Rattle.spf_entry.specs.Sites.{entry_at, guess_at, RaisesMispredicted};
+ghost use Rattle.spf_speculation_entry.specs.Sites.{entry_at, guess_at, RaisesMispredicted};
 ghost use Rattle.spf_chain.specs.Mispredicted.{mispredicted_blocks};
 
 use spf_cells::cells::Cells;
 use spf_cells::lane::Lane;
 use spf_cells::warden::Warden;
-use spf_entry::site::Site;
-use spf_key::key::GhostKey;
+use spf_cells_key::key::GhostKey;
 use spf_region::span::Plan;
+use spf_speculation_entry::site::Site;
 use std::alloc::{AllocError, Global};
 
-/// Makes cells of which the mispredicted blocks of the site may be raised. Which they are no code tells: the site stands in its key alone.
+/// Makes cells of which the mispredicted blocks of the site may be raised. Which they are no code
+/// tells: the site stands in its key alone.
 pub(crate) fn cells_for(
     alloc: Global,
     site: &GhostKey<Site>,
@@ -21,8 +22,10 @@ pub(crate) fn cells_for(
     plan: &Plan,
 ) -> Result<(Cells, Warden, Vec<Lane>), AllocError>
     requires disjoint { IsDisjointWithin (spans_in plan.now) (length entry.now) }
-    ensures setting { IfOk result (λ r. r.0.setting ≡ setting plan.now entry.now (mispredicted_blocks site.now.value)) }
-    ensures raisable { IfOk result (λ r. RaisesMispredicted (entry_at site.now.value) (guess_at site.now.value) r.0.setting) }
+    ensures setting { IfOk result
+        (λ r. r.0.setting ≡ setting plan.now entry.now (mispredicted_blocks site.now.value)) }
+    ensures raisable { IfOk result
+        (λ r. RaisesMispredicted (entry_at site.now.value) (guess_at site.now.value) r.0.setting) }
     ensures warden { IfOk result (λ r. r.1 ≡ new_warden r.0 (length (spans_in plan.now))) }
     ensures lanes { IfOk result (λ r. r.2.items ≡ new_lanes r.0 0 (length (spans_in plan.now))) }
 {

@@ -6,8 +6,8 @@ use crate::validated::Validated;
 use crate::validation::Validation;
 use spf_cells::lane::Lane;
 use spf_cells::warden::Warden;
-use spf_entry::site::Site;
-use spf_key::key::GhostKey;
+use spf_cells_key::key::GhostKey;
+use spf_speculation_entry::site::Site;
 use spf_ticket::ticket::{Report, Ticket};
 use std::marker::Model;
 
@@ -33,8 +33,9 @@ impl Filed {
 
 /// The validation chain of one construct.
 ///
-/// Contracts see of it the site, the warden, the reports that are home, whether the next block's second attempt is out, how far the
-/// blocks are validated, and how many reports were filed; that number stands still at 2^64 - 1.
+/// Contracts see of it the site, the warden, the reports that are home, whether the next block's
+/// second attempt is out, how far the blocks are validated, and how many reports were filed; that
+/// number stands still at 2^64 - 1.
 #[derive(Drop)]
 pub struct Chain {
     pub(crate) site: GhostKey<Site>,
@@ -52,7 +53,7 @@ pub struct Chain {
 
 impl Model for Chain {
     ghost use Rattle.std.specs.Coded.{codes};
-    ghost use Rattle.spf_entry.specs.contracts.site.Site as site_row;
+    ghost use Rattle.spf_speculation_entry.specs.contracts.site.Site as site_row;
     ghost use Rattle.spf_ticket.specs.contracts.ticket.Report as report_row;
     ghost use Rattle.spf_chain.specs.Chains.{ChainValue};
 

@@ -1,37 +1,24 @@
 //! Reports are filed.
-ghost use Rattle.std.specs.Prelude.{◌≡◌, ◌≢◌, ◌<◌, ◌≤◌, ◌==◌, ◌↔◌, IsTrue, if◌then◌else◌, ℕ, false, length, slice_get, Some, None, MatchOption};
+ghost use Rattle.std.specs.Prelude.{◌≡◌, ◌≢◌, ◌<◌, ◌≤◌, ◌==◌, ◌↔◌, IsTrue, if◌then◌else◌, ℕ, false};
+ghost use Rattle.std.specs.Prelude.{length, slice_get, Some, None, MatchOption};
 ghost use Rattle.spf_chain.specs.declared.validated.Settled.TheVariants.{Carried as Gave, Trapped};
 ghost use Rattle.spf_ast.specs.Carried.{Carried as CarriedValue};
 ghost use Rattle.std.specs.List.{Contains};
 ghost use Rattle.spf_cells.specs.Values.{IsWardenOf};
 ghost use Rattle.spf_ticket.specs.declared.ticket.Report.{Report as SeenReport};
 ghost use Rattle.spf_ticket.specs.Tickets.{IsLawfulReport};
-ghost use Rattle.spf_entry.specs.Sites.{entry_at, guess_at};
+ghost use Rattle.spf_speculation_entry.specs.Sites.{entry_at, guess_at};
 ghost use Rattle.spf_chain.specs.Homes.{known_in};
-ghost use Rattle.spf_chain.specs.Chains.{
-  HasRaised,
-  Raises,
-  IsToRaise,
-  IsFiled,
-  cells_of,
-  next_block,
-  IsOut,
-  came_home,
-  Validates,
-  IsAnswer,
-  IsExact,
-  HasTrapped,
-  IsSameChain,
-};
-ghost use Rattle.spf_edge.specs.Faults.{one_more};
+ghost use Rattle.spf_chain.specs.Chains.{HasRaised, Raises, IsToRaise, IsFiled, cells_of};
+ghost use Rattle.spf_chain.specs.Chains.{next_block, IsOut, came_home, Validates, IsAnswer};
+ghost use Rattle.spf_chain.specs.Chains.{IsExact, HasTrapped, IsSameChain};
+ghost use Rattle.spf_ast_lemmas.specs.Counts.{one_more};
 
 use crate::chain::{Chain, Filed};
 use crate::validated::Settled;
 use spf_ast::row::Row;
 use spf_cells::cells::Cells;
 use spf_cells::warden::Warden;
-use spf_lane_runs::lanes_make_speculative_runs;
-use spf_speculation::{block_runs_are_attempts, prefixes_grow};
 use spf_ticket::ticket::Report;
 
 // Whether no report is at a place.
@@ -47,8 +34,9 @@ fn is_out(homes: &[Option<Report>], place: usize) -> bool
 
 // The lowest place where no report is.
 fn lowest_out(homes: &[Option<Report>]) -> Option<u64>
-    ensures { MatchOption result ((n : ℕ) → slice_get homes.now n ≢ Some None)
-        (λ b. (slice_get homes.now b ≡ Some None) × ((n : ℕ) → n < b → slice_get homes.now n ≢ Some None)) }
+    ensures { MatchOption result ((n : ℕ) → slice_get homes.now n ≢ Some None) (λ b.
+        (slice_get homes.now b ≡ Some None)
+        × ((n : ℕ) → n < b → slice_get homes.now n ≢ Some None)) }
 {
     for block in 0..homes.len() {
         if is_out(homes, block) {
@@ -69,11 +57,13 @@ impl Chain {
     // A report comes home. The place is free, since the report has its block's only lane.
     fn come_home(&mut self, cells: &Cells, report: Report)
         requires own { cells.now ≡ cells_of self.old }
-        requires lawful { IsLawfulReport (entry_at self.old.site) (guess_at self.old.site) cells.now report }
+        requires lawful { IsLawfulReport (entry_at self.old.site) (guess_at self.old.site) cells.now
+            report }
         ensures state { self.new ≡ came_home self.old report }
         ensures free { IsOut self.old report.ticket.block }
     {
-        prefixes_grow();
+        // Law: the plain run stands where the validated prefix leaves it.
+        spf_speculation::laws::prefixes_grow();
         let block = report.ticket.block() as usize;
         report.ticket.log_facts();
         match self.homes[block].take() {
@@ -95,12 +85,16 @@ impl Chain {
     fn validate(&mut self)
         ensures validates { Validates self.old self.new }
         ensures trapped { HasTrapped self.old → self.new ≡ self.old }
-        ensures second { (r : SeenReport) → slice_get self.old.homes (next_block self.old) ≡ Some (Some r) → r.ticket.attempt ≡ 2
+        ensures second { (r : SeenReport)
+            → slice_get self.old.homes (next_block self.old) ≡ Some (Some r) → r.ticket.attempt ≡ 2
             → next_block self.old < next_block self.new }
     {
-        prefixes_grow();
-        block_runs_are_attempts();
-        lanes_make_speculative_runs();
+        // Law: the plain run stands where the validated prefix leaves it.
+        spf_speculation::laws::prefixes_grow();
+        // Law: what a block run leaves in its lane's log is an attempt.
+        spf_speculation::laws::block_runs_are_attempts();
+        // Law: the logs of the lanes, merged in any order, are a speculative run.
+        spf_speculation_lanes::laws::lanes_make_speculative_runs();
         self.validation.advance(&self.homes);
     }
 
@@ -110,9 +104,12 @@ impl Chain {
         requires done { known_in real (slice_get self.old.homes (next_block self.old)) ≡ None }
         ensures { IsAnswer self.old result self.new }
     {
-        prefixes_grow();
-        block_runs_are_attempts();
-        lanes_make_speculative_runs();
+        // Law: the plain run stands where the validated prefix leaves it.
+        spf_speculation::laws::prefixes_grow();
+        // Law: what a block run leaves in its lane's log is an attempt.
+        spf_speculation::laws::block_runs_are_attempts();
+        // Law: the logs of the lanes, merged in any order, are a speculative run.
+        spf_speculation_lanes::laws::lanes_make_speculative_runs();
         let next_block = self.validation.count;
         if next_block == self.homes.len() {
             return Filed::Ended;
@@ -148,8 +145,10 @@ fn raise_out(warden: &mut Warden, cells: &Cells, homes: &[Option<Report>], from:
     requires own { IsWardenOf cells.now warden.old }
     requires inside { length homes.now ≤ length warden.old.setting.plan }
     requires flags { length homes.now ≤ length warden.old.view.flags }
-    requires raisable { (n : ℕ) → from ≤ n → n < length homes.now → Contains warden.old.setting.raisable n }
-    ensures { HasRaised (λ n. (from ≤ n) × (slice_get homes.now n ≡ Some None)) warden.old warden.new }
+    requires raisable { (n : ℕ) → from ≤ n → n < length homes.now
+        → Contains warden.old.setting.raisable n }
+    ensures { HasRaised (λ n. (from ≤ n) × (slice_get homes.now n ≡ Some None)) warden.old
+        warden.new }
 {
     for block in from..homes.len() {
         if !is_out(homes, block) {
@@ -162,7 +161,8 @@ fn raise_out(warden: &mut Warden, cells: &Cells, homes: &[Option<Report>], from:
 impl Chain {
     // What is to be done.
     fn answer(&mut self) -> Filed
-        requires done { (v : CarriedValue) → self.old.settled ≡ Gave v → known_in v (slice_get self.old.homes (next_block self.old)) ≡ None }
+        requires done { (v : CarriedValue) → self.old.settled ≡ Gave v
+            → known_in v (slice_get self.old.homes (next_block self.old)) ≡ None }
         ensures answer { IsAnswer self.old result self.new }
         ensures exact { IsExact self.old result }
     {
@@ -198,7 +198,8 @@ impl Chain {
         requires carried { self.old.settled ≡ Gave real }
         ensures { Raises self.old self.new }
     {
-        prefixes_grow();
+        // Law: the plain run stands where the validated prefix leaves it.
+        spf_speculation::laws::prefixes_grow();
         if !self.is_next_mispredicted(real) {
             return;
         }
@@ -226,11 +227,13 @@ impl Chain {
         }
     }
 
-    /// Files a report: its ticket comes home, the next blocks that are home and were run at their real rows are validated, and the
-    /// flags of attempts that can't be of use are raised. Says what is to be done next. One report more was filed then. Takes no memory.
+    /// Files a report: its ticket comes home, the next blocks that are home and were run at their
+    /// real rows are validated, and the flags of attempts that can't be of use are raised. Says
+    /// what is to be done next. One report more was filed then. Takes no memory.
     pub fn file(&mut self, cells: &Cells, report: Report) -> Filed
         requires own { cells.now ≡ cells_of self.old }
-        requires lawful { IsLawfulReport (entry_at self.old.site) (guess_at self.old.site) cells.now report }
+        requires lawful { IsLawfulReport (entry_at self.old.site) (guess_at self.old.site) cells.now
+            report }
         ensures filed { IsFiled self.old report result self.new }
         ensures free { IsOut self.old report.ticket.block }
         ensures same { IsSameChain self.old self.new }

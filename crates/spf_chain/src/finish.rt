@@ -1,7 +1,7 @@
 //! What a chain comes to.
 ghost use Rattle.std.specs.Prelude.{◌≡◌, ◌≤◌, [], length, map};
-ghost use Rattle.spf_entry.specs.Entry.{plain_blocks};
-ghost use Rattle.spf_entry.specs.Sites.{entry_at};
+ghost use Rattle.spf_speculation_entry.specs.Entry.{plain_blocks};
+ghost use Rattle.spf_speculation_entry.specs.Sites.{entry_at};
 ghost use Rattle.spf_chain.specs.Chains.{HasEnded, cells_of};
 ghost use Rattle.spf_chain.specs.Homes.{log_in};
 ghost use Rattle.spf_chain.specs.Finishing.{lanes_in, EveryMergingRuns, IsFinished};
@@ -11,8 +11,6 @@ use crate::validated::Settled;
 use spf_cells::cells::Cells;
 use spf_cells::finish::Trace;
 use spf_cells::lane::Lane;
-use spf_lane_runs::lanes_make_speculative_runs;
-use spf_speculation::prefixes_grow;
 use spf_ticket::ticket::Report;
 
 /// Puts the lanes of the reports that are home into the room for them.
@@ -35,28 +33,34 @@ fn lanes_of(room: Vec<Lane>, mut homes: Vec<Option<Report>>) -> Vec<Lane>
 }
 
 impl Chain {
-    /// Each order in which the events of an ended chain's lanes may have happened is a speculative run, and the history has all real
-    /// rows of the plain run.
+    /// Each order in which the events of an ended chain's lanes may have happened is a speculative
+    /// run, and the history has all real rows of the plain run.
     pub fn merged_logs_are_speculative_runs(&self)
         requires ended { HasEnded self.now }
         ensures merging { EveryMergingRuns self.now (log_in self.now.homes) }
-        ensures values { map (λ b. b.real) self.now.history ≡ (plain_blocks (entry_at self.now.site)).values }
+        ensures values { map (λ b. b.real) self.now.history
+            ≡ (plain_blocks (entry_at self.now.site)).values }
     {
-        prefixes_grow();
-        lanes_make_speculative_runs();
+        // Law: the plain run stands where the validated prefix leaves it.
+        spf_speculation::laws::prefixes_grow();
+        // Law: the logs of the lanes, merged in any order, are a speculative run.
+        spf_speculation_lanes::laws::lanes_make_speculative_runs();
         let _ = &self.again;
     }
 
-    /// What the blocks came to: the row after the last one, or the trap of the last validated one. `into`, which is as long as the
-    /// memory at the entry, takes the lanes' contents, and the trace has their logs. It takes no memory.
+    /// What the blocks came to: the row after the last one, or the trap of the last validated one.
+    /// `into`, which is as long as the memory at the entry, takes the lanes' contents, and the
+    /// trace has their logs. It takes no memory.
     pub fn finish(self, cells: Cells, into: &mut [i64]) -> (Settled, Trace)
         requires ended { HasEnded self }
         requires own { cells ≡ cells_of self }
         requires size { length into.old ≡ length self.site.memory }
         ensures { IsFinished self result.0 result.1 into.old into.new }
     {
-        prefixes_grow();
-        lanes_make_speculative_runs();
+        // Law: the plain run stands where the validated prefix leaves it.
+        spf_speculation::laws::prefixes_grow();
+        // Law: the logs of the lanes, merged in any order, are a speculative run.
+        spf_speculation_lanes::laws::lanes_make_speculative_runs();
         let Chain {
             site: _,
             warden,

@@ -1,4 +1,5 @@
-//! The validation chain of a construct over shared cells: tickets come home with their reports, and the blocks are validated in order.
+//! The validation chain of a construct over shared cells: tickets come home with their reports, and
+//! the blocks are validated in order.
 #![tactic(auto)]
 
 mod cells;

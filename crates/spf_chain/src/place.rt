@@ -4,7 +4,7 @@ ghost use Rattle.spf_chain.specs.Homes.{result_of, known_at};
 
 use crate::validated::Settled;
 use spf_ast::row::Row;
-use spf_layout::stop::Stop;
+use spf_exec::stop::Stop;
 use spf_ticket::ticket::Report;
 
 // What a run came to.

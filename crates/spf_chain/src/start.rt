@@ -1,38 +1,41 @@
-//! A chain starts: cells are made for the blocks of a construct, and the tickets of all blocks go out.
-ghost use Rattle.std.specs.Prelude.{◌≡◌, ◌+◌, ◌≤◌, ◌<◌, ◌+ℤ◌, ◌≤ℤ◌, length, pos, replicate, None, IfOk, Some, slice_get};
+//! A chain starts: cells are made for the blocks of a construct, and the tickets of all blocks go
+//! out.
+ghost use Rattle.std.specs.Prelude.{◌≡◌, ◌+◌, ◌≤◌, ◌<◌, ◌+ℤ◌, ◌≤ℤ◌, length, pos, replicate, None};
+ghost use Rattle.std.specs.Prelude.{IfOk, Some, slice_get};
+ghost use Rattle.spf_ast.specs.Meaning.{max_blocks};
 ghost use Rattle.std.specs.List.{All};
 ghost use Rattle.spf_ast.specs.View.{program as seen_program};
 ghost use Rattle.spf_ast.specs.Construct.{constructs_in};
 ghost use Rattle.spf_ast.specs.Construct as construct_names;
 ghost use Rattle.spf_ast.specs.Program.{cell_count_of};
-ghost use Rattle.spf_layout.specs.Frame.{frame_size};
-ghost use Rattle.spf_layout.specs.Instance.{program_of};
+ghost use Rattle.spf_exec_instance.specs.Frame.{frame_size};
+ghost use Rattle.spf_exec_instance.specs.Instance.{program_of};
 ghost use Rattle.spf_check.specs.Plans.{AreBlocksOf};
 ghost use Rattle.spf_cells.specs.Made.{new_lanes};
-ghost use Rattle.spf_entry.specs.declared.site.Site.{Site as SeenSite};
-ghost use Rattle.spf_chain.specs.Beginning.{IsBegin, begun, guesses_for, unvalidated, site_of, IsFirstTicket, AreFirstTickets, IsStarted};
+ghost use Rattle.spf_speculation_entry.specs.declared.site.Site.{Site as SeenSite};
+ghost use Rattle.spf_chain.specs.Beginning.{IsBegin, begun, guesses_for, unvalidated, site_of};
+ghost use Rattle.spf_chain.specs.Beginning.{IsFirstTicket, AreFirstTickets, IsStarted};
 
 use crate::cells::cells_for;
 use crate::chain::Chain;
-use crate::validated::{Guess, Settled, Validated};
+use crate::validated::{Settled, Validated};
 use crate::validation::Validation;
 use spf_ast::row::Row;
 use spf_cells::cells::Cells;
 use spf_cells::lane::Lane;
-use spf_cells::laws::ascending_plans_are_disjoint;
 use spf_cells::warden::Warden;
+use spf_cells_key::key::{GhostKey, ghost_key};
 use spf_check::checked::Checked;
-use spf_entry::site::Site;
 use spf_exec::frame::Frame;
 use spf_exec::pieces::Header;
-use spf_key::key::{GhostKey, ghost_key};
-use spf_layout::instance::Instance;
-use spf_speculation::prefixes_grow;
+use spf_exec_instance::instance::Instance;
+use spf_guess_statistics::guess::Guess;
+use spf_speculation_entry::site::Site;
 use spf_ticket::ticket::{Report, Ticket};
 use std::alloc::{AllocError, Global};
 
-/// A key with the site that the caller names. The ghost argument of a call may speak of the call's other arguments alone, so they are
-/// passed here though nothing reads them.
+/// A key with the site that the caller names. The ghost argument of a call may speak of the call's
+/// other arguments alone, so they are passed here though nothing reads them.
 fn key_of_site(
     instance: &Instance,
     construct: u32,
@@ -97,7 +100,7 @@ fn empty_homes(alloc: Global, count: usize) -> Result<Vec<Option<Report>>, Alloc
 
 /// The number of the block at an index.
 fn number_at(low: i64, block: usize) -> i64
-    requires few { block ≤ 4096 }
+    requires few { block ≤ max_blocks }
     requires fits { (low +ℤ pos block) ≤ℤ i64.MAX }
     ensures { result ≡ low +ℤ pos block }
 {
@@ -115,7 +118,7 @@ fn first_ticket(
 ) -> Result<Ticket, AllocError>
     requires lane { lane.block ≡ block }
     requires inside { block < length blocks.now }
-    requires few { length blocks.now ≤ 4096 }
+    requires few { length blocks.now ≤ max_blocks }
     requires fits { (low +ℤ pos (length blocks.now)) ≤ℤ i64.MAX }
     ensures { IfOk result (IsFirstTicket lane low blocks.now frame.now block) }
 {
@@ -134,9 +137,10 @@ fn tickets_of(
     frame: &Frame,
 ) -> Result<Vec<Ticket>, AllocError>
     requires lanes { lanes.items ≡ new_lanes cells.now 0 (length blocks.now) }
-    requires few { length blocks.now ≤ 4096 }
+    requires few { length blocks.now ≤ max_blocks }
     requires fits { (low +ℤ pos (length blocks.now)) ≤ℤ i64.MAX }
-    ensures { IfOk result (λ r. AreFirstTickets cells.now low blocks.now frame.now (length blocks.now) r.items) }
+    ensures { IfOk result
+        (λ r. AreFirstTickets cells.now low blocks.now frame.now (length blocks.now) r.items) }
 {
     let _ = cells;
     let mut tickets = Vec::with_capacity(alloc, blocks.len())?;
@@ -148,7 +152,8 @@ fn tickets_of(
 }
 
 impl Chain {
-    /// The chain of a site when it starts: the tickets of all blocks are out, and no flag is raised. All room is taken here.
+    /// The chain of a site when it starts: the tickets of all blocks are out, and no flag is
+    /// raised. All room is taken here.
     fn begin(
         alloc: Global,
         site: GhostKey<Site>,
@@ -159,7 +164,8 @@ impl Chain {
         requires { IsBegin site.value warden start guesses.now }
         ensures { IfOk result (λ c. c ≡ begun site.value warden) }
     {
-        prefixes_grow();
+        // Law: the plain run stands where the validated prefix leaves it.
+        spf_speculation::laws::prefixes_grow();
         let blocks = blocks_of(alloc, start, guesses)?;
         let homes = empty_homes(alloc, blocks.len())?;
         let room = Vec::with_capacity(alloc, blocks.len())?;
@@ -179,12 +185,13 @@ impl Chain {
         })
     }
 
-    /// Starts the blocks of a top construct whose header is done: makes the cells of what they may write, and gives the chain and
-    /// the ticket of each block in the order of blocks.
+    /// Starts the blocks of a top construct whose header is done: makes the cells of what they may
+    /// write, and gives the chain and the ticket of each block in the order of blocks.
     ///
-    /// `construct` is its number among the top constructs; `frame` and `entry` are the slots and the memory at its entry; there is a
-    /// guess for each block but the first. The ticket of block 0 begins at the header's start row, that of any other block at its
-    /// guess. The mispredicted blocks are those that may be raised; which they are no code tells. All memory is taken here.
+    /// `construct` is its number among the top constructs; `frame` and `entry` are the slots and
+    /// the memory at its entry; there is a guess for each block but the first. The ticket of block
+    /// 0 begins at the header's start row, that of any other block at its guess. The mispredicted
+    /// blocks are those that may be raised; which they are no code tells. All memory is taken here.
     ///
     /// # Errors
     ///
@@ -200,16 +207,21 @@ impl Chain {
         guesses: &[Guess],
     ) -> Result<(Chain, Cells, Vec<Ticket>), AllocError>
         requires program { program_of instance.now ≡ seen_program checked.now }
-        requires construct { (c : construct_names.Construct) × (slice_get (constructs_in (program_of instance.now).main) construct
-            ≡ Some c) × AreBlocksOf c header.blocks }
+        requires construct { (c : construct_names.Construct)
+            × (slice_get (constructs_in (program_of instance.now).main) construct ≡ Some c)
+            × AreBlocksOf c header.blocks }
         requires guesses { length guesses.now + 1 ≡ header.blocks }
-        requires few { header.blocks ≤ 4096 }
+        requires few { header.blocks ≤ max_blocks }
         requires fits { (header.low +ℤ pos header.blocks) ≤ℤ i64.MAX }
         requires frame { length frame.now ≡ frame_size (program_of instance.now) }
-        requires entry { length entry.now ≡ cell_count_of (program_of instance.now) (length instance.now.input) }
-        ensures { IfOk result (λ r. IsStarted (site_of instance.now construct header frame.now entry.now guesses.now) r.0 r.1 r.2.items) }
+        requires entry { length entry.now
+            ≡ cell_count_of (program_of instance.now) (length instance.now.input) }
+        ensures { IfOk result (λ r. IsStarted
+            (site_of instance.now construct header frame.now entry.now guesses.now) r.0 r.1
+            r.2.items) }
     {
-        ascending_plans_are_disjoint();
+        // Law: blocks with ascending spans have no cell in common.
+        spf_cells::laws::ascending_plans_are_disjoint();
         are_bytes(instance.input());
         let _program = checked.program();
         let site = key_of_site(instance, construct, &header, frame, entry, guesses);

@@ -2,7 +2,7 @@
 ghost use Rattle.std.specs.Prelude.{◌≡◌, ◌≤◌, length, ℕ};
 ghost use Rattle.spf_ast.specs.Carried.{Carried as CarriedValue};
 ghost use Rattle.spf_ast.specs.declared.outcome.Trap.{Trap as SeenTrap};
-ghost use Rattle.spf_entry.specs.Entry.{Entry, IsEntry};
+ghost use Rattle.spf_speculation_entry.specs.Entry.{Entry, IsEntry};
 ghost use Rattle.spf_cells.specs.Values.{CellsValue};
 ghost use Rattle.spf_chain.specs.declared.validated.Settled.TheVariants.{Trapped};
 ghost use Rattle.spf_chain.specs.Homes.{AreHomes};
@@ -10,13 +10,13 @@ ghost use Rattle.spf_chain.specs.Standing.{StandsOver, IsDone, GrowsTo};
 
 use crate::place::result_at;
 use crate::validated::{Settled, Validated};
-use spf_speculation::prefixes_grow;
 use spf_ticket::ticket::Report;
 
 /// How far the blocks of a chain are validated.
 #[derive(Drop)]
 pub(crate) struct Validation {
-    // each block with its guess: the first `count` with their real rows, the others with those of their first attempts
+    // each block with its guess: the first `count` with their real rows, the others with those of
+    // their first attempts
     pub(crate) blocks: Vec<Validated>,
     // how many blocks are validated
     pub(crate) count: usize,
@@ -29,8 +29,9 @@ impl Validation {
     pub(crate) fn advance(&mut self, homes: &[Option<Report>])
         requires size { length self.old.blocks.items ≡ length homes.now }
         requires within { self.old.count ≤ length homes.now }
-        ensures stands { (e : Entry) (guess : ℕ → CarriedValue) (c : CellsValue) → IsEntry e → AreHomes e guess c homes.now
-            → StandsOver e guess homes.now self.old → StandsOver e guess homes.now self.new }
+        ensures stands { (e : Entry) (guess : ℕ → CarriedValue) (c : CellsValue) → IsEntry e
+            → AreHomes e guess c homes.now → StandsOver e guess homes.now self.old
+            → StandsOver e guess homes.now self.new }
         ensures done { IsDone homes.now self.new.count self.new.settled }
         ensures grown { GrowsTo self.old self.new }
         ensures trapped { (t : SeenTrap) → self.old.settled ≡ Trapped t → self.new ≡ self.old }
@@ -38,7 +39,8 @@ impl Validation {
         ensures size { length self.new.blocks.items ≡ length homes.now }
         ensures within { self.new.count ≤ length homes.now }
     {
-        prefixes_grow();
+        // Law: the plain run stands where the validated prefix leaves it.
+        spf_speculation::laws::prefixes_grow();
         for block in self.count..homes.len() {
             let settled = self.settled;
             let Settled::Carried(real) = settled else {

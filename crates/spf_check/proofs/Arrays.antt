@@ -17,12 +17,12 @@ use Rattle.spf_region.specs.declared.range.Range.TheVariants.{Whole, Affine}
 use Rattle.spf_region.specs.Ranges.{Offsets, array_of, has_offset}
 use Rattle.spf_region.proofs.Bools.{or-cases}
 use Rattle.spf_region.proofs.Covers.{has-parts}
-use Rattle.spf_findings.specs.Found.{Finds, finds_nothing, ◌then◌, perhaps, either, reads_element, writes_element, may_write_whole, may_write_between, surely_writes_between, writes_range, has_no_turn, Sweep, turns, nowhere}
-use Rattle.spf_findings.specs.Forms.{Entered, Setting, expression_bound, argument_bounds, bounds_behind, bounds_at_end, bounds_in_turn, loop_sweeps, expression_finds, arguments_find, condition_finds, statement_finds, block_finds}
-use Rattle.spf_findings.specs.Parts.{setting_in, own_bounds, entered, call_before, main_setting, outside, within_fold, guess_finds, guesses_find, part_finds}
-use Rattle.spf_rollback.specs.Rules.{HasArray, may_write}
-use Rattle.spf_lemmas.proofs.Members.{cases}
-use Rattle.spf_effect_soundness.proofs.Parts.{Stands, main_names, stands}
+use Rattle.spf_effects_findings.specs.Found.{Finds, finds_nothing, ◌then◌, perhaps, either, reads_element, writes_element, may_write_whole, may_write_between, surely_writes_between, writes_range, has_no_turn, Sweep, turns, nowhere}
+use Rattle.spf_effects_findings.specs.Forms.{Entered, Setting, expression_bound, argument_bounds, bounds_behind, bounds_at_end, bounds_in_turn, loop_sweeps, expression_finds, arguments_find, condition_finds, statement_finds, block_finds}
+use Rattle.spf_effects_findings.specs.Parts.{setting_in, own_bounds, entered, call_before, main_setting, outside, within_fold, guess_finds, guesses_find, part_finds}
+use Rattle.spf_check_rules.specs.Rules.{HasArray, may_write}
+use Rattle.spf_ast_lemmas.proofs.Members.{cases}
+use Rattle.spf_effects_laws.proofs.Parts.{Stands, main_names, stands}
 
 -- ---- lists of ranges
 

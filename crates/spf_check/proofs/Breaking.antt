@@ -14,12 +14,12 @@ use Rattle.spf_region.proofs.Bools.{or-cases, or-left, or-right}
 use Rattle.spf_region.proofs.Covers.{has-parts, has-of, covers-each, each-covers}
 use Rattle.spf_region.proofs.Entries.{arrays-of, separate-offsets, disjoint-offsets}
 use Rattle.spf_region.proofs.Canonical.{one-form}
-use Rattle.spf_findings.specs.Found.{nowhere}
+use Rattle.spf_effects_findings.specs.Found.{nowhere}
 use Rattle.spf_effects.specs.declared.effects.Effects.{Effects}
-use Rattle.spf_findings.specs.Parts.{PartEffects, part_effects}
+use Rattle.spf_effects_findings.specs.Parts.{PartEffects, part_effects}
 use Rattle.spf_effects.specs.Effects.{AreEffects}
-use Rattle.spf_rollback.specs.Rules.{IsBlockPart, guessed_part, may_write, reads_bare, HasArray, IsWritten, ShareNothing, WritesAll}
-use Rattle.spf_lemmas.proofs.Members.{cases, first-in, none-in}
+use Rattle.spf_check_rules.specs.Rules.{IsBlockPart, guessed_part, may_write, reads_bare, HasArray, IsWritten, ShareNothing, WritesAll}
+use Rattle.spf_ast_lemmas.proofs.Members.{cases, first-in, none-in}
 use Rattle.spf_check.specs.declared.breach.Breach.{Breach}
 use Rattle.spf_check.specs.declared.construct.ConstructEffects.{ConstructEffects}
 use Rattle.spf_check.specs.declared.rule.Rule.{Rule}

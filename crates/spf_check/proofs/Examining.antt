@@ -8,9 +8,9 @@ use Rattle.spf_ast.specs.Construct.{Construct, constructs_in}
 use Rattle.spf_ast.specs.declared.construct.TopConstruct.{TopConstruct}
 use Rattle.spf_ast.specs.ConstructView.{construct, construct_on}
 use Rattle.spf_region.specs.declared.range.Range.{Range}
-use Rattle.spf_rollback.specs.Rules.{KeepsTheRules}
-use Rattle.spf_lemmas.proofs.Members.{cases, some_is}
-use Rattle.spf_lemmas.proofs.Indices.{at-index, index-within, last-index, earlier-index, last_or_before}
+use Rattle.spf_check_rules.specs.Rules.{KeepsTheRules}
+use Rattle.spf_ast_lemmas.proofs.Members.{cases, some_is}
+use Rattle.spf_ast_lemmas.proofs.Indices.{at-index, index-within, last-index, earlier-index, last_or_before}
 use Rattle.spf_check.specs.declared.checked.Writes.{Writes}
 use Rattle.spf_check.specs.declared.check.Examined.TheVariants as examined
 use Rattle.spf_check.specs.declared.rule.Rule.{Rule}

@@ -11,8 +11,8 @@ use Rattle.spf_region.specs.Ranges.{IsNormal}
 use Rattle.spf_region.proofs.Canonical.{one-form}
 use Rattle.spf_effects.specs.declared.effects.Effects.{Effects}
 use Rattle.spf_effects.specs.Effects.{AreEffects}
-use Rattle.spf_findings.specs.Parts.{part_effects}
-use Rattle.spf_rollback.specs.Rules.{guessed_part}
+use Rattle.spf_effects_findings.specs.Parts.{part_effects}
+use Rattle.spf_check_rules.specs.Rules.{guessed_part}
 use Rattle.spf_check.specs.declared.construct.ConstructEffects.{ConstructEffects}
 use Rattle.spf_check.specs.Accepting.{IsNormalFormOf}
 use Rattle.spf_check.specs.Parts.{AreEffectsOf, IsProducerOf, AreNormal}

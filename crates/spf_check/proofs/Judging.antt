@@ -6,9 +6,9 @@ use Rattle.spf_ast.specs.Syntax.{Program}
 use Rattle.spf_ast.specs.Construct.{Construct, fold, pair, constructs_in}
 use Rattle.spf_region.specs.declared.range.Range.{Range}
 use Rattle.spf_effects.specs.Laws.{EffectsHaveLists}
-use Rattle.spf_rollback.specs.Rules.{KeepsTheRules}
-use Rattle.spf_lemmas.proofs.Members.{cases, some_is}
-use Rattle.spf_lemmas.proofs.Indices.{at-index, last_or_before}
+use Rattle.spf_check_rules.specs.Rules.{KeepsTheRules}
+use Rattle.spf_ast_lemmas.proofs.Members.{cases, some_is}
+use Rattle.spf_ast_lemmas.proofs.Indices.{at-index, last_or_before}
 use Rattle.spf_check.specs.declared.construct.ConstructEffects.{ConstructEffects}
 use Rattle.spf_check.specs.declared.rule.Rule.{Rule}
 use Rattle.spf_check.specs.Accepting.{IsAccepted, IsLowestBroken, line_of}

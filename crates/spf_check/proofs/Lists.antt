@@ -3,7 +3,7 @@ use Rattle.std.proofs.Common.{◌≡◌, Bool, true, false, List, [], ◌∷◌,
 use Rattle.std.specs.Prelude.{find}
 use Rattle.std.specs.List.{list_any}
 use Rattle.spf_region.proofs.Bools.{or-cases, or-left, or-right}
-use Rattle.spf_lemmas.proofs.Members.{cases, first-in, later-in, first-or-later, none-in}
+use Rattle.spf_ast_lemmas.proofs.Members.{cases, first-in, later-in, first-or-later, none-in}
 
 -- some item passes the test
 pub any-there : {A : Type 0} (t : A → Bool) (xs : List A) → list_any t xs ≡ true → (x : A) × Contains xs x × (t x ≡ true)

@@ -4,8 +4,8 @@ use Rattle.std.specs.Prelude.{MatchOption}
 use Rattle.spf_ast.specs.Syntax.{Program}
 use Rattle.spf_ast.specs.Construct.{Construct}
 use Rattle.spf_region.specs.declared.range.Range.{Range}
-use Rattle.spf_rollback.specs.Rules.{KeepsTheRules}
-use Rattle.spf_lemmas.proofs.Members.{cases}
+use Rattle.spf_check_rules.specs.Rules.{KeepsTheRules}
+use Rattle.spf_ast_lemmas.proofs.Members.{cases}
 use Rattle.spf_check.specs.declared.breach.Breach.{Breach}
 use Rattle.spf_check.specs.declared.construct.ConstructEffects.{ConstructEffects}
 use Rattle.spf_check.specs.declared.rule.Rule.{Rule}

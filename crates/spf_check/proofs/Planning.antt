@@ -17,11 +17,11 @@ use Rattle.spf_region.specs.Cells.{Extent, AreAscending, at_block, in_extent, is
 use Rattle.spf_region.specs.Laws.{IsCellAt}
 use Rattle.spf_region.proofs.Bools.{or-cases, or-left, or-right, both-true, int-le-of, same-bool}
 use Rattle.spf_region.proofs.Covers.{has-parts}
-use Rattle.spf_rollback.specs.Rules.{guessed_part, may_write, KeepsTheRules}
-use Rattle.spf_lemmas.proofs.Members.{cases}
-use Rattle.spf_rollback.proofs.Cells.{extent, AtWhole, AtOffset, has-array-of, entry-of, offset-inside, offset-place}
-use Rattle.spf_rollback.specs.Freedom.{HaveDisjointSpans, TheRulesSetFree}
-use Rattle.spf_rollback.proofs.Extents.{within}
+use Rattle.spf_check_rules.specs.Rules.{guessed_part, may_write, KeepsTheRules}
+use Rattle.spf_ast_lemmas.proofs.Members.{cases}
+use Rattle.spf_check_rules.proofs.Cells.{extent, AtWhole, AtOffset, has-array-of, entry-of, offset-inside, offset-place}
+use Rattle.spf_check_rules.specs.Freedom.{HaveDisjointSpans, TheRulesSetFree}
+use Rattle.spf_check_rules.proofs.Extents.{within}
 use Rattle.spf_check.specs.declared.checked.Writes.{Writes}
 use Rattle.spf_check.specs.Accepting.{IsNormalFormOf}
 use Rattle.spf_check.specs.Verdicts.{AreWritesOf, IsProducerWrite, IsKept}
@@ -29,7 +29,7 @@ use Rattle.spf_check.specs.Writing.{list_with, list_of, AreListed}
 use Rattle.spf_check.specs.Plans.{AreBlocksOf, IsPlanOf}
 use Rattle.spf_check.proofs.Arrays.{written-within}
 use Rattle.spf_check.proofs.Breaking.{is-array}
-use Rattle.spf_lemmas.proofs.Indices.{index-within, last-index, earlier-index, one-longer, last_or_before}
+use Rattle.spf_ast_lemmas.proofs.Indices.{index-within, last-index, earlier-index, one-longer, last_or_before}
 
 -- no block
 pub none-listed : (w : Writes) (extents : List Extent) (low : ℤ) → AreListed w extents low 0 []

@@ -5,7 +5,7 @@ use Rattle.spf_ast.specs.Syntax.{Program}
 use Rattle.spf_ast.specs.Construct.{Construct, constructs_in}
 use Rattle.spf_region.specs.declared.range.Range.{Range}
 use Rattle.spf_region.proofs.Canonical.{one-form}
-use Rattle.spf_lemmas.proofs.Members.{first-in, later-in}
+use Rattle.spf_ast_lemmas.proofs.Members.{first-in, later-in}
 use Rattle.spf_check.specs.declared.rule.Rule.{Rule}
 use Rattle.spf_check.specs.declared.rule.Rule.TheVariants.{OuterAssign, EmitInside, PredictorWrites, Overlap, PredictorReads, ReadBeforeWrite, NotOverwritten}
 use Rattle.spf_check.specs.Accepting.{rule_number, IsFirst, NamesFirst, Names, IsLowestBroken, IsFirstRefusal, line_of}

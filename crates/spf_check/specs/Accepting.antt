@@ -6,8 +6,8 @@ use Rattle.spf_ast.specs.Syntax.{Program}
 use Rattle.spf_ast.specs.Construct.{Construct, fold, pair, constructs_in}
 use Rattle.spf_region.specs.declared.range.Range.{Range}
 use Rattle.spf_region.specs.Ranges.{array_of, offsets_of, wholes_of, covers, separate, disjoint, IsNormal}
-use Rattle.spf_findings.specs.Parts.{part_effects}
-use Rattle.spf_rollback.specs.Rules.{
+use Rattle.spf_effects_findings.specs.Parts.{part_effects}
+use Rattle.spf_check_rules.specs.Rules.{
   guessed_part,
   may_write,
   reads_bare,

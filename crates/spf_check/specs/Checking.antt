@@ -3,7 +3,7 @@ use Rattle.std.specs.Prelude.{◌≡◌, Result, Ok, Err, Some, ℕ, slice_get}
 use Rattle.spf_ast.specs.declared.syntax.Program as code
 use Rattle.spf_ast.specs.View.{program}
 use Rattle.spf_ast.specs.Construct.{Construct, constructs_in}
-use Rattle.spf_rollback.specs.Freedom.{IsRollbackFree}
+use Rattle.spf_check_rules.specs.Freedom.{IsRollbackFree}
 use Rattle.spf_check.specs.declared.rule.CheckError.{CheckError}
 use Rattle.spf_check.specs.declared.rule.CheckError.TheVariants.{Refused, OutOfMemory}
 use Rattle.spf_check.specs.Accepting.{IsAccepted, IsFirstRefusal}

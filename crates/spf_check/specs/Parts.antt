@@ -4,11 +4,11 @@ use Rattle.spf_ast.specs.declared.syntax.Part.TheVariants.{Producer, Predictor}
 use Rattle.spf_ast.specs.Syntax.{Program}
 use Rattle.spf_ast.specs.Construct.{Construct, fold, pair}
 use Rattle.spf_effects.specs.declared.effects.Effects.{Effects}
-use Rattle.spf_findings.specs.Parts.{part_effects}
+use Rattle.spf_effects_findings.specs.Parts.{part_effects}
 use Rattle.spf_region.specs.Ranges.{IsNormal}
 use Rattle.spf_effects.specs.Effects.{AreEffects}
 use Rattle.spf_check.specs.declared.construct.ConstructEffects.{ConstructEffects}
-use Rattle.spf_rollback.specs.Rules.{guessed_part}
+use Rattle.spf_check_rules.specs.Rules.{guessed_part}
 
 -- a fold has no producer; these are the effects of a pair's
 abbrev pub IsProducerOf : Program → Construct → Option Effects → Type 0

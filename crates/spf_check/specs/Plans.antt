@@ -4,7 +4,7 @@ use Rattle.spf_ast.specs.Syntax.{Program}
 use Rattle.spf_ast.specs.Construct.{Construct, fold, pair, part_of}
 use Rattle.spf_region.specs.declared.span.Span.{Span}
 use Rattle.spf_region.specs.Cells.{Extent, cells_at, in_spans, AreAscending}
-use Rattle.spf_rollback.specs.Rules.{may_write}
+use Rattle.spf_check_rules.specs.Rules.{may_write}
 
 -- a fold has any number of blocks; a pair's are its producer and its consumer
 abbrev pub AreBlocksOf : Construct → ℕ → Type 0

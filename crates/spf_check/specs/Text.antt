@@ -8,8 +8,8 @@ use Rattle.spf_ast.specs.Construct.{Construct, fold, pair}
 use Rattle.spf_region.specs.declared.range.Range.{Range}
 use Rattle.spf_region.specs.declared.range.Range.TheVariants.{Whole, Affine}
 use Rattle.spf_region.specs.Ranges.{array_of, offsets_of, wholes_of, IsNormal}
-use Rattle.spf_findings.specs.Parts.{part_effects}
-use Rattle.spf_rollback.specs.Rules.{may_write, reads_bare, KeepsTheRules}
+use Rattle.spf_effects_findings.specs.Parts.{part_effects}
+use Rattle.spf_check_rules.specs.Rules.{may_write, reads_bare, KeepsTheRules}
 use Rattle.spf_check.specs.declared.rule.Rule.{Rule}
 use Rattle.spf_check.specs.declared.rule.Rule.TheVariants.{OuterAssign, EmitInside, PredictorWrites, Overlap, PredictorReads, ReadBeforeWrite, NotOverwritten}
 use Rattle.spf_check.specs.Accepting.{IsNormalFormOf, IsLowestBroken}

@@ -5,7 +5,7 @@ use Rattle.spf_ast.specs.Lawful.{IsLawful}
 use Rattle.spf_ast.specs.declared.syntax.Part.TheVariants.{Producer}
 use Rattle.spf_ast.specs.Construct.{Construct, fold, pair, constructs_in}
 use Rattle.spf_region.specs.declared.range.Range.{Range}
-use Rattle.spf_rollback.specs.Rules.{guessed_part, may_write, KeepsTheRules}
+use Rattle.spf_check_rules.specs.Rules.{guessed_part, may_write, KeepsTheRules}
 use Rattle.spf_check.specs.declared.checked.Writes.{Writes}
 use Rattle.spf_check.specs.declared.check.Examined.{Examined}
 use Rattle.spf_check.specs.declared.check.Examined.TheVariants as examined

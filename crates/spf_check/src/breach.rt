@@ -1,13 +1,16 @@
 //! Whether the effects of a construct break a rule, and by which range.
-ghost use Rattle.std.specs.Prelude.{◌≡◌, ◌||◌, not, find, slice_get, option_map, None, Some, if◌then◌else◌, option_to_list};
+ghost use Rattle.std.specs.Prelude.{◌≡◌, ◌||◌, not, find, slice_get, option_map, None, Some};
+ghost use Rattle.std.specs.Prelude.{if◌then◌else◌, option_to_list};
 ghost use Rattle.std.specs.List.{list_any};
-ghost use Rattle.spf_region.specs.Ranges.{offsets_of, covers, disjoint, array_of, first_unseparated, IsNormal};
+ghost use Rattle.spf_region.specs.Ranges.{offsets_of, covers, disjoint, array_of};
+ghost use Rattle.spf_region.specs.Ranges.{first_unseparated, IsNormal};
 ghost use Rattle.std.specs.Prelude.{MatchOption};
 ghost use Rattle.spf_ast.specs.Syntax.{Program as plain_program};
 ghost use Rattle.spf_ast.specs.Construct.{Construct};
-ghost use Rattle.spf_rollback.specs.Rules.{KeepsTheRules};
+ghost use Rattle.spf_check_rules.specs.Rules.{KeepsTheRules};
 ghost use Rattle.spf_check.specs.Accepting.{IsLowestBroken};
-ghost use Rattle.spf_check.specs.Breaches.{breach, is_written, meets, first_overlap, assigns_outer, emits_inside, all_rules, first_broken};
+ghost use Rattle.spf_check.specs.Breaches.{breach, is_written, meets, first_overlap, assigns_outer};
+ghost use Rattle.spf_check.specs.Breaches.{emits_inside, all_rules, first_broken};
 ghost use Rattle.spf_check.specs.Parts.{AreEffectsOf, AreNormal};
 
 use crate::construct::ConstructEffects;
@@ -120,7 +123,8 @@ impl ConstructEffects {
 
     /// The first range that may be written and isn't surely written.
     fn first_not_overwritten(&self) -> Option<Range>
-        ensures { result ≡ find (λ r. not (covers (offsets_of self.now.guessed.must) r)) self.now.guessed.may }
+        ensures { result
+            ≡ find (λ r. not (covers (offsets_of self.now.guessed.must) r)) self.now.guessed.may }
     {
         let must = &self.guessed.must;
         self.guessed
@@ -161,7 +165,8 @@ impl ConstructEffects {
     /// The lowest rule that the construct breaks, with the range that a refusal names.
     pub(crate) fn lowest_broken(&self) -> Option<(Rule, Option<Range>)>
         ensures { (p : plain_program) (construct : Construct) → AreEffectsOf p construct self.now
-            → MatchOption result (KeepsTheRules p construct) (λ broken. IsLowestBroken p construct broken.0 broken.1) }
+            → MatchOption result (KeepsTheRules p construct)
+            (λ broken. IsLowestBroken p construct broken.0 broken.1) }
     {
         self.are_normal();
         self.first_broken()
@@ -192,7 +197,8 @@ fn are_normal(found: &Effects)
 
 /// The first range that a consumer may write and its producer reads or may write.
 fn first_meeting(written: &RangeList, producer: &Effects) -> Option<Range>
-    ensures { result ≡ find (λ r. meets r producer.now.uncovered || meets r producer.now.may) written.now }
+    ensures { result
+        ≡ find (λ r. meets r producer.now.uncovered || meets r producer.now.may) written.now }
 {
     written.ranges().iter().copied().find(|range| meets(range, &producer.uncovered)
         || meets(range, &producer.may))

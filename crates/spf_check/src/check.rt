@@ -17,7 +17,6 @@ use spf_ast::syntax::{Part, Program};
 use spf_effects::analysis::effects;
 use spf_effects::effects::Effects;
 use spf_region::list::RangeList;
-use spf_rollback::the_rules_set_free;
 use std::alloc::{AllocError, Global};
 
 /// What is said of one construct.
@@ -40,7 +39,8 @@ fn fold_effects(
     program: &Program,
     construct: TopConstruct,
 ) -> Result<ConstructEffects, AllocError>
-    ensures { (line : _) (head : _) (body : _) → seen_construct construct.entry ≡ fold line head body
+    ensures { (line : _) (head : _) (body : _)
+        → seen_construct construct.entry ≡ fold line head body
         → IfOk result (AreEffectsOf (seen_program program.now) (fold line head body)) }
 {
     Ok(ConstructEffects {
@@ -56,7 +56,8 @@ fn pair_effects(
     program: &Program,
     construct: TopConstruct,
 ) -> Result<ConstructEffects, AllocError>
-    ensures { (line : _) (head : _) (producer : _) (consumer : _) → seen_construct construct.entry ≡ pair line head producer consumer
+    ensures { (line : _) (head : _) (producer : _) (consumer : _)
+        → seen_construct construct.entry ≡ pair line head producer consumer
         → IfOk result (AreEffectsOf (seen_program program.now) (pair line head producer consumer)) }
 {
     Ok(ConstructEffects {
@@ -72,7 +73,8 @@ pub(crate) fn effects_of(
     program: &Program,
     construct: TopConstruct,
 ) -> Result<ConstructEffects, AllocError>
-    ensures { IfOk result (AreEffectsOf (seen_program program.now) (seen_construct construct.entry)) }
+    ensures { IfOk result
+        (AreEffectsOf (seen_program program.now) (seen_construct construct.entry)) }
 {
     match construct.kind {
         ConstructKind::Fold(_) => fold_effects(alloc, program, construct),
@@ -105,7 +107,8 @@ fn writes_of(found: ConstructEffects) -> Writes
 
 /// What is said of a construct, given the effects of its parts.
 fn judge(construct: &TopConstruct, found: ConstructEffects) -> Examined
-    ensures { (p : plain_program) → AreEffectsOf p (seen_construct construct.now) found → IsExamined p (seen_construct construct.now) result }
+    ensures { (p : plain_program) → AreEffectsOf p (seen_construct construct.now) found
+        → IsExamined p (seen_construct construct.now) result }
 {
     match found.lowest_broken() {
         Some((rule, range)) => Examined::Refused(Refusal {
@@ -144,18 +147,21 @@ fn examine(alloc: Global, program: &Program) -> Result<Verdict, AllocError>
     Ok(Verdict::Accepted(writes))
 }
 
-/// Checks a lawful program by the seven rules: it is accepted exactly where each of its top constructs keeps them all.
+/// Checks a lawful program by the seven rules: it is accepted exactly where each of its top
+/// constructs keeps them all.
 ///
 /// # Errors
 ///
-/// `Refused` exactly where a top construct breaks a rule, with the first refusal: that of the first such construct in the order
-/// of the text, by the lowest rule that it breaks, with the construct's line and the first range that breaks the rule. `OutOfMemory`
-/// where there was no memory for the analysis. Both hand the program back.
+/// `Refused` exactly where a top construct breaks a rule, with the first refusal: that of the first
+/// such construct in the order of the text, by the lowest rule that it breaks, with the construct's
+/// line and the first range that breaks the rule. `OutOfMemory` where there was no memory for the
+/// analysis. Both hand the program back.
 pub fn check(alloc: Global, program: Program) -> Result<Checked, CheckError>
     requires lawful { IsLawful (seen_program program) }
     ensures { IsChecked program result }
 {
-    the_rules_set_free();
+    // Law: what keeps the seven rules is rollback free.
+    spf_check_rules::laws::the_rules_set_free();
     match examine(alloc, &program) {
         Ok(Verdict::Accepted(writes)) => Ok(Checked { program, writes }),
         Ok(Verdict::Refused(refusal)) => Err(CheckError::Refused { program, refusal }),

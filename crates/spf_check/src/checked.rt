@@ -7,7 +7,6 @@ ghost use Rattle.spf_check.specs.Checking.{IsFree};
 
 use spf_ast::syntax::Program;
 use spf_region::list::RangeList;
-use spf_rollback::the_rules_set_free;
 use std::marker::Model;
 
 /// What a construct may write, by its block parts.
@@ -52,7 +51,8 @@ impl Checked {
         ensures accepted { IsAccepted (seen_program self.now) }
         ensures free { IsFree self.now }
     {
-        the_rules_set_free();
+        // Law: what keeps the seven rules is rollback free.
+        spf_check_rules::laws::the_rules_set_free();
         &self.program
     }
 }

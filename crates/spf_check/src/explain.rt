@@ -1,17 +1,19 @@
 //! Explains what the rules find in a program.
-ghost use Rattle.std.specs.Prelude.{◌≡◌, ◌<◌, ◌++◌, map, string_bytes, Some, length, slice_get, IfOk};
+ghost use Rattle.std.specs.Prelude.{◌≡◌, ◌<◌, ◌++◌, map, string_bytes, Some, length, slice_get};
+ghost use Rattle.std.specs.Prelude.{IfOk};
 ghost use Rattle.spf_ast.specs.Lawful.{IsLawful};
 ghost use Rattle.spf_ast.specs.View.{array as seen_array, program as seen_program};
 ghost use Rattle.spf_ast.specs.Construct.{Construct, constructs_in};
 ghost use Rattle.spf_ast.specs.ConstructView.{construct as seen_construct};
 ghost use Rattle.spf_effects.specs.Effects.{AreEffects};
-ghost use Rattle.spf_findings.specs.Parts.{part_effects};
+ghost use Rattle.spf_effects_findings.specs.Parts.{part_effects};
 ghost use Rattle.spf_check.specs.Accepting.{IsLowestBroken};
 ghost use Rattle.spf_check.specs.Explaining.{Explains};
 ghost use Rattle.std.specs.Prelude.{List, ℕ};
 ghost use Rattle.spf_ast.specs.Syntax.{Program as plain_program};
 ghost use Rattle.spf_check.specs.Parts.{AreEffectsOf};
-ghost use Rattle.spf_check.specs.Text.{part_name, list_line, part_lines, broken_line, construct_line, IsVerdictText, IsConstructText};
+ghost use Rattle.spf_check.specs.Text.{part_name, list_line, part_lines, broken_line};
+ghost use Rattle.spf_check.specs.Text.{construct_line, IsVerdictText, IsConstructText};
 ghost use Rattle.spf_check.specs.Explained.{effects_lines, fold_lines, pair_lines, parts_lines};
 
 use crate::check::effects_of;
@@ -46,7 +48,8 @@ fn push_list(
     list: &RangeList,
     text: &mut Vec<u8>,
 ) -> Result<(), AllocError>
-    ensures { IfOk result (λ _. text.new.items ≡ text.old.items ++ list_line (map seen_array arrays.now) part what.now list.now) }
+    ensures { IfOk result (λ _. text.new.items
+        ≡ text.old.items ++ list_line (map seen_array arrays.now) part what.now list.now) }
 {
     let name = part_name(part);
     let begin = format!(in alloc; "{name} {what}")?;
@@ -65,8 +68,10 @@ fn push_part(
     found: &Effects,
     text: &mut Vec<u8>,
 ) -> Result<(), AllocError>
-    ensures { IfOk result (λ _. text.new.items ≡ text.old.items
-        ++ part_lines (map seen_array arrays.now) part found.now.uncovered found.now.may found.now.must) }
+    ensures { IfOk result (λ _. text.new.items
+        ≡ text.old.items
+        ++ part_lines (map seen_array arrays.now) part found.now.uncovered found.now.may
+        found.now.must) }
 {
     push_list(alloc, arrays, part, "uncovered", &found.uncovered, text)?;
     push_list(alloc, arrays, part, "may", &found.may, text)?;
@@ -81,7 +86,8 @@ fn push_fold(
     body: &Effects,
     text: &mut Vec<u8>,
 ) -> Result<(), AllocError>
-    ensures { IfOk result (λ _. text.new.items ≡ text.old.items ++ fold_lines (map seen_array arrays.now) predictor.now body.now) }
+    ensures { IfOk result (λ _. text.new.items
+        ≡ text.old.items ++ fold_lines (map seen_array arrays.now) predictor.now body.now) }
 {
     push_part(alloc, arrays, Part::Predictor, predictor, text)?;
     push_part(alloc, arrays, Part::Body, body, text)
@@ -96,7 +102,9 @@ fn push_pair(
     consumer: &Effects,
     text: &mut Vec<u8>,
 ) -> Result<(), AllocError>
-    ensures { IfOk result (λ _. text.new.items ≡ text.old.items ++ pair_lines (map seen_array arrays.now) producer.now predictor.now consumer.now) }
+    ensures { IfOk result (λ _. text.new.items
+        ≡ text.old.items
+        ++ pair_lines (map seen_array arrays.now) producer.now predictor.now consumer.now) }
 {
     push_part(alloc, arrays, Part::Producer, producer, text)?;
     push_part(alloc, arrays, Part::Predictor, predictor, text)?;
@@ -110,7 +118,8 @@ fn push_parts(
     found: &ConstructEffects,
     text: &mut Vec<u8>,
 ) -> Result<(), AllocError>
-    ensures { IfOk result (λ _. text.new.items ≡ text.old.items ++ parts_lines (map seen_array arrays.now) found.now) }
+    ensures { IfOk result (λ _.
+        text.new.items ≡ text.old.items ++ parts_lines (map seen_array arrays.now) found.now) }
 {
     let (guessed, predictor) = (&found.guessed, &found.predictor);
     match &found.producer {
@@ -127,7 +136,8 @@ fn push_broken(
     range: Option<Range>,
     text: &mut Vec<u8>,
 ) -> Result<(), AllocError>
-    ensures { IfOk result (λ _. text.new.items ≡ text.old.items ++ broken_line (map seen_array arrays.now) rule range) }
+    ensures { IfOk result (λ _.
+        text.new.items ≡ text.old.items ++ broken_line (map seen_array arrays.now) rule range) }
 {
     let name = rule_name(rule);
     let begin = format!(in alloc; "verdict {name}")?;
@@ -147,8 +157,10 @@ fn push_verdict(
     found: &ConstructEffects,
     text: &mut Vec<u8>,
 ) -> Result<(), AllocError>
-    ensures { (p : plain_program) (c : Construct) → p.arrays ≡ map seen_array arrays.now → AreEffectsOf p c found.now
-        → IfOk result (λ _. (verdict : List ℕ) × IsVerdictText p c verdict × (text.new.items ≡ text.old.items ++ verdict)) }
+    ensures { (p : plain_program) (c : Construct) → p.arrays ≡ map seen_array arrays.now
+        → AreEffectsOf p c found.now
+        → IfOk result (λ _. (verdict : List ℕ) × IsVerdictText p c verdict
+        × (text.new.items ≡ text.old.items ++ verdict)) }
 {
     match found.lowest_broken() {
         Some((rule, range)) => push_broken(alloc, arrays, rule, range, text),
@@ -158,7 +170,8 @@ fn push_verdict(
 
 /// The line that names a construct.
 fn construct_line(alloc: Global, construct: &TopConstruct) -> Result<String, AllocError>
-    ensures { IfOk result (λ text. string_bytes text ≡ construct_line (seen_construct construct.now)) }
+    ensures { IfOk result
+        (λ text. string_bytes text ≡ construct_line (seen_construct construct.now)) }
 {
     let line = construct.line;
     match construct.kind {
@@ -175,8 +188,11 @@ fn push_found(
     found: &ConstructEffects,
     text: &mut Vec<u8>,
 ) -> Result<(), AllocError>
-    ensures { (p : plain_program) → p.arrays ≡ map seen_array arrays.now → AreEffectsOf p (seen_construct construct.now) found.now
-        → IfOk result (λ _. (lines : List ℕ) × IsConstructText p (seen_construct construct.now) lines × (text.new.items ≡ text.old.items ++ lines)) }
+    ensures { (p : plain_program) → p.arrays ≡ map seen_array arrays.now
+        → AreEffectsOf p (seen_construct construct.now) found.now
+        → IfOk result (λ _. (lines : List ℕ)
+        × IsConstructText p (seen_construct construct.now) lines
+        × (text.new.items ≡ text.old.items ++ lines)) }
 {
     found.are_normal();
     let line = construct_line(alloc, construct)?;
@@ -199,8 +215,8 @@ fn push_construct(
     push_found(alloc, &program.arrays, &construct, &found, text)
 }
 
-/// Explains a lawful program: for each top construct a line that names it, for each of its parts what it reads uncovered, may write
-/// and surely writes, and the verdict.
+/// Explains a lawful program: for each top construct a line that names it, for each of its parts
+/// what it reads uncovered, may write and surely writes, and the verdict.
 ///
 /// # Errors
 ///

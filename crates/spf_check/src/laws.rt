@@ -1,5 +1,7 @@
-//! What holds of refusals and explanations. Each law is the contract of a function that does nothing.
-ghost use Rattle.spf_check.specs.Laws.{AreAcceptedOrRefused, FirstRefusalsAreTheSame, RefusedAreNotAccepted, AreExplained, ExplanationsAreTheSame};
+//! What holds of refusals and explanations. Each law is the contract of a function that does
+//! nothing.
+ghost use Rattle.spf_check.specs.Laws.{AreAcceptedOrRefused, FirstRefusalsAreTheSame};
+ghost use Rattle.spf_check.specs.Laws.{RefusedAreNotAccepted, AreExplained, ExplanationsAreTheSame};
 
 use spf_effects::laws::each_part_has_effects_in_lists;
 

@@ -6,7 +6,8 @@ use spf_region::range::Range;
 use std::fmt;
 use thiserror::Error;
 
-/// A rule for top constructs. A program is refused by the first that its first faulty construct breaks, in this order.
+/// A rule for top constructs. A program is refused by the first that its first faulty construct
+/// breaks, in this order.
 #[derive(Clone, Copy, PartialEq, Eq, Debug)]
 pub enum Rule {
     /// No body, producer or consumer assigns a local that is declared outside of it.
@@ -15,7 +16,8 @@ pub enum Rule {
     EmitInside,
     /// The predictor writes nothing.
     PredictorWrites,
-    /// No two blocks write the same cells, and a consumer writes nothing that its producer reads or writes.
+    /// No two blocks write the same cells, and a consumer writes nothing that its producer reads or
+    /// writes.
     Overlap,
     /// The predictor reads no written array.
     PredictorReads,

@@ -1,7 +1,8 @@
 //! How rules and ranges are written.
 ghost use Rattle.std.specs.Prelude.{◌≡◌, ◌++◌, map, string_bytes, IfOk};
 ghost use Rattle.spf_ast.specs.View.{array as seen_array};
-ghost use Rattle.spf_check.specs.Text.{rule_name, array_name, offsets_text, range_text, ranges_text, perhaps_range};
+ghost use Rattle.spf_check.specs.Text.{rule_name, array_name, offsets_text, range_text};
+ghost use Rattle.spf_check.specs.Text.{ranges_text, perhaps_range};
 
 use crate::rule::Rule;
 use spf_ast::syntax::Array;
@@ -33,7 +34,8 @@ fn array_name(arrays: &[Array], place: u32) -> &[u8]
     }
 }
 
-/// The offsets of a range, in brackets: `[F*k+A..F*k+Z]` with Z one past the last offset, or `[..]` for a whole array.
+/// The offsets of a range, in brackets: `[F*k+A..F*k+Z]` with Z one past the last offset, or `[..]`
+/// for a whole array.
 fn offsets_text(alloc: Global, range: Range) -> Result<String, AllocError>
     ensures { IfOk result (λ text. string_bytes text ≡ offsets_text range) }
 {
@@ -51,7 +53,8 @@ fn offsets_text(alloc: Global, range: Range) -> Result<String, AllocError>
     }
 }
 
-/// Adds a range: `NAME[F*k+A..F*k+Z]` with Z one past the last offset, or `NAME[..]` for a whole array.
+/// Adds a range: `NAME[F*k+A..F*k+Z]` with Z one past the last offset, or `NAME[..]` for a whole
+/// array.
 ///
 /// # Errors
 ///
@@ -62,7 +65,8 @@ pub fn push_range(
     range: Range,
     text: &mut Vec<u8>,
 ) -> Result<(), AllocError>
-    ensures { IfOk result (λ _. text.new.items ≡ text.old.items ++ range_text (map seen_array arrays.now) range) }
+    ensures { IfOk result
+        (λ _. text.new.items ≡ text.old.items ++ range_text (map seen_array arrays.now) range) }
 {
     text.extend_from_slice(array_name(arrays, range.array()))?;
     let offsets = offsets_text(alloc, range)?;
@@ -76,7 +80,8 @@ pub(crate) fn push_ranges(
     ranges: &[Range],
     text: &mut Vec<u8>,
 ) -> Result<(), AllocError>
-    ensures { IfOk result (λ _. text.new.items ≡ text.old.items ++ ranges_text (map seen_array arrays.now) ranges.now) }
+    ensures { IfOk result (λ _.
+        text.new.items ≡ text.old.items ++ ranges_text (map seen_array arrays.now) ranges.now) }
 {
     for range in ranges {
         text.push(b' ')?;

@@ -12,7 +12,7 @@ use Rattle.spf_edge.specs.Puts.{SinkState, taken_whole, not_taken, put_of, HasPu
 use Rattle.spf_edge.specs.declared.sink.PutError.{PutError}
 use Rattle.spf_edge.specs.declared.sink.PutError.TheVariants.{Failed, OutOfMemory}
 use Rattle.spf_edge.proofs.Taking.{adds_both, adds_whole, adds_none, adds_prefix_of_both, adds_prefix_of_more, puts_both, puts_none}
-use Rattle.spf_commands.specs.Answering.{lines_of}
+use Rattle.spf_cli_answers.specs.Answering.{lines_of}
 use Rattle.spf_cli.specs.Putting.{piece_size, ArePieces, AreTaken, AreTakenInPart, IsPutInPieces}
 
 -- ---- pieces of bytes

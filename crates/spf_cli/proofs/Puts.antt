@@ -7,12 +7,12 @@ use Rattle.spf_edge.specs.declared.sink.PutError.TheVariants as put_error
 use Rattle.spf_edge.specs.Entries.{Entry, IsMissing}
 use Rattle.spf_edge.specs.Faults.{Rose}
 use Rattle.spf_edge.specs.Fetches.{FilesState, Fetch, Gives, IsGiven, AreMade}
-use Rattle.spf_words.specs.Only.{IsOnly}
-use Rattle.spf_commands.specs.Answer.{Answer}
-use Rattle.spf_commands.specs.Answering.{IsFollowed}
-use Rattle.spf_commands.specs.Course.{Wanted, Course}
-use Rattle.spf_commands.specs.Laws.{HasFailed, StatusesHaveCauses}
-use Rattle.spf_commands.specs.Whole.{Handed, AskForNothing, Whole}
+use Rattle.spf_cli_words.specs.Only.{IsOnly}
+use Rattle.spf_cli_answers.specs.Answer.{Answer}
+use Rattle.spf_cli_answers.specs.Answering.{IsFollowed}
+use Rattle.spf_cli_answers.specs.Course.{Wanted, Course}
+use Rattle.spf_cli_answers.specs.Laws.{HasFailed, StatusesHaveCauses}
+use Rattle.spf_cli_answers.specs.Whole.{Handed, AskForNothing, Whole}
 use Rattle.spf_cli.specs.Answered.{Sinks, IsGiven as IsAnswerGiven, IsGivenInPart, IsBroken, IsUntouched, IsPut, IsAnswered}
 use Rattle.spf_cli.specs.Putting.{put_status, IsPutFault}
 

@@ -3,9 +3,9 @@ use Rattle.std.specs.Prelude.{◌≡◌, ◌⊎◌, ℕ, List}
 use Rattle.spf_edge.specs.Faults.{Rose}
 use Rattle.spf_edge.specs.Fetches.{FilesState, Fetch, AreMade}
 use Rattle.spf_edge.specs.Puts.{SinkState}
-use Rattle.spf_words.specs.Only.{IsOnly}
-use Rattle.spf_commands.specs.Answer.{Answer}
-use Rattle.spf_commands.specs.Course.{Wanted, Course}
+use Rattle.spf_cli_words.specs.Only.{IsOnly}
+use Rattle.spf_cli_answers.specs.Answer.{Answer}
+use Rattle.spf_cli_answers.specs.Course.{Wanted, Course}
 use Rattle.spf_cli.specs.Putting.{AreCut, AreTaken, AreTakenInPart}
 
 -- the sinks for the output and for the lines, before and after

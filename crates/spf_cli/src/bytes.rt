@@ -1,33 +1,37 @@
 // A run over bytes at hand.
 
 ghost use Rattle.std.specs.Prelude.{◌≡◌, ◌⊎◌, ◌≤◌, ◌<◌, [], map};
+ghost use Rattle.spf_ast_lemmas.specs.Limits.{max_workers};
 ghost use Rattle.spf_ast.specs.Syntax.{Program};
-ghost use Rattle.spf_guess.specs.Statistics.{tally};
-ghost use Rattle.spf_predictors.specs.Answers.{handed_in, WereTold};
+ghost use Rattle.spf_guess_statistics.specs.Statistics.{tally};
+ghost use Rattle.spf_guess.specs.Answers.{handed_in, WereTold};
 ghost use Rattle.spf_engine.specs.Runs.{WereToldFirst};
 ghost use Rattle.spf_edge.specs.Faults.{Rose};
-ghost use Rattle.spf_commands.specs.Reading.{IsVerdict, Refusal, Refuses, Says};
-ghost use Rattle.spf_commands.specs.Whole.{handed, RunsText};
+ghost use Rattle.spf_cli_answers.specs.Reading.{IsVerdict, Refusal, Refuses, Says};
+ghost use Rattle.spf_cli_answers.specs.Whole.{handed, RunsText};
 ghost use Rattle.spf_cli.specs.Answered.{sinks, IsPut, IsUntouched};
 
 use crate::putting::{put, put_status};
-use spf_commands::laws::each_status_has_its_cause;
-use spf_commands::{Status, answer_text, number};
-use spf_edge::{Gate, Sink};
-use spf_predictors::Predictor;
+use spf_cli_answers::{Status, answer_text, number};
+use spf_edge::Sink;
+use spf_guess::Predictor;
+use spf_ticket_gate::Gate;
 use std::alloc::Global;
 use std::sync::Wait;
 use std::thread::Threads;
 
-/// Runs a program over an input, both at hand: `run` with `--stats`, without files and the limits of their lengths.
+/// Runs a program over an input, both at hand: `run` with `--stats`, without files and the limits
+/// of their lengths.
 ///
-/// `program` is the text. `hosts` are the predictors that it names by number; they are asked before a construct's blocks run, and
-/// told the real values after. `gate` watches the attempts. Blocks run on 1 to 64 workers, in threads, and the call waits for them.
-/// The bytes that the program emits go to `out`, and the line of a refusal or a trap, and that of the statistics, to `err`.
+/// `program` is the text. `hosts` are the predictors that it names by number; they are asked before
+/// a construct's blocks run, and told the real values after. `gate` watches the attempts. Blocks
+/// run on 1 to 64 workers, in threads, and the call waits for them. The bytes that the program
+/// emits go to `out`, and the line of a refusal or a trap, and that of the statistics, to `err`.
 ///
-/// The statuses are those of [`spf_main`](crate::spf_main): 0 where the run is done, 1 where the program trapped, 3 where the text
-/// has no lawful program, 4 where the rules refuse it, 6 where a sink failed, 7 where it has too many cells or names a host that
-/// isn't handed in, and 8 where memory ran out.
+/// The statuses are those of [`spf_main`](crate::spf_main): 0 where the run is done, 1 where the
+/// program trapped, 3 where the text has no lawful program, 4 where the rules refuse it, 6 where a
+/// sink failed, 7 where it has too many cells or names a host that isn't handed in, and 8 where
+/// memory ran out.
 pub fn run_file<R: Threads + Wait + Sync, S: Sink, G: Gate + Sync>(
     rt: &R,
     alloc: Global,
@@ -39,31 +43,37 @@ pub fn run_file<R: Threads + Wait + Sync, S: Sink, G: Gate + Sync>(
     out: &mut S,
     err: &mut S,
 ) -> u8
-    requires workers { (0 < workers) × (workers ≤ 64) }
+    requires workers { (0 < workers) × (workers ≤ max_workers) }
     // The one answer is put whole; or its first pieces are, until a sink failed or memory ran out.
     ensures answered { IsPut
-        (RunsText (handed (map (λ h. answer h) hosts.old.items)) workers program.now input.now) result
-        (sinks (S.state out.old) (S.state out.new) (S.state err.old) (S.state err.new))
+        (RunsText (handed (map (λ h. answer h) hosts.old.items)) workers program.now input.now)
+        result (sinks (S.state out.old) (S.state out.new) (S.state err.old) (S.state err.new))
         ⊎ IsUntouched result
         (sinks (S.state out.old) (S.state out.new) (S.state err.old) (S.state err.new)) }
 
-    // The hosts were told the first of what they are told in the whole run of the program that the text says.
-    ensures told_first { (p : Program) → IsVerdict program.now (Says p) → WereToldFirst (handed_in (map (λ h. answer h) hosts.old.items)) p input.now
+    // The hosts were told the first of what they are told in the whole run of the program that the
+    // text says.
+    ensures told_first { (p : Program) → IsVerdict program.now (Says p)
+        → WereToldFirst (handed_in (map (λ h. answer h) hosts.old.items)) p input.now
         (handed_in (map (λ h. answer h) hosts.new.items)) }
-    // All of it, where the program was run to its end or to its trap; nothing, where the text says none.
+    // All of it, where the program was run to its end or to its trap; nothing, where the text says
+    // none.
     ensures told { (p : Program) → IsVerdict program.now (Says p) → (result ≡ 0) ⊎ (result ≡ 1)
         → WereTold (handed_in (map (λ h. answer h) hosts.old.items))
         (tally (handed_in (map (λ h. answer h) hosts.old.items)) p input.now).telling
         (handed_in (map (λ h. answer h) hosts.new.items)) }
     ensures untold { (refusal : Refusal) → IsVerdict program.now (Refuses refusal)
-        → WereTold (handed_in (map (λ h. answer h) hosts.old.items)) [] (handed_in (map (λ h. answer h) hosts.new.items)) }
+        → WereTold (handed_in (map (λ h. answer h) hosts.old.items)) []
+        (handed_in (map (λ h. answer h) hosts.new.items)) }
     // Nor were they told anything where the rules or a limit left the program unrun.
     ensures unrun { (result ≡ 4) ⊎ (result ≡ 7)
-        → WereTold (handed_in (map (λ h. answer h) hosts.old.items)) [] (handed_in (map (λ h. answer h) hosts.new.items)) }
+        → WereTold (handed_in (map (λ h. answer h) hosts.old.items)) []
+        (handed_in (map (λ h. answer h) hosts.new.items)) }
     ensures put_fault { result ≡ 6 → Rose (S.state out.old).faults (S.state out.new).faults
         ⊎ Rose (S.state err.old).faults (S.state err.new).faults }
 {
-    each_status_has_its_cause();
+    // Law: statuses 2 and 5 come from their causes alone, and 6 and 8 never from the program.
+    spf_cli_answers::laws::each_status_has_its_cause();
     let Ok(given) = answer_text(rt, alloc, program, input, workers, hosts, gate) else {
         return number(Status::NoMemory);
     };

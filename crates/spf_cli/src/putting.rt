@@ -2,18 +2,13 @@
 
 ghost use Rattle.std.specs.Prelude.{◌≡◌, ◌⊎◌, ◌≤◌, OnOk, IfErr};
 ghost use Rattle.spf_edge.specs.Faults.{Rose};
-ghost use Rattle.spf_commands.specs.Answering.{lines_of, seen_answer};
-ghost use Rattle.spf_commands.specs.Status.{status_number};
+ghost use Rattle.spf_cli_answers.specs.Answering.{lines_of, seen_answer};
+ghost use Rattle.spf_cli_answers.specs.Status.{status_number};
 ghost use Rattle.spf_cli.specs.Answered.{sinks, IsGiven, IsGivenInPart};
-ghost use Rattle.spf_cli.specs.Putting.{
-  put_status as put_status_of,
-  AreTaken,
-  AreTakenInPart,
-  IsPutInPieces,
-  IsPutFault,
-};
+ghost use Rattle.spf_cli.specs.Putting.{put_status as put_status_of, AreTaken, AreTakenInPart};
+ghost use Rattle.spf_cli.specs.Putting.{IsPutInPieces, IsPutFault};
 
-use spf_commands::{Answer, Status};
+use spf_cli_answers::{Answer, Status};
 use spf_edge::{PutError, Sink};
 
 /// How many bytes of output are put at once.

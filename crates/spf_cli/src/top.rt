@@ -3,25 +3,26 @@
 ghost use Rattle.std.specs.Prelude.{◌≡◌, ◌⊎◌, List, Some, map, string_bytes};
 ghost use Rattle.spf_edge.specs.Entries.{Entry};
 ghost use Rattle.spf_edge.specs.Faults.{Rose};
-ghost use Rattle.spf_commands.specs.Whole.{handed, AskForNothing, Whole};
+ghost use Rattle.spf_cli_answers.specs.Whole.{handed, AskForNothing, Whole};
 ghost use Rattle.spf_cli.specs.Answered.{sinks, IsAnswered};
 
 use crate::putting::{put, put_status};
-use spf_commands::laws::each_status_has_its_cause;
-use spf_commands::{Status, answer_words, number};
-use spf_edge::{Files, Gate, Sink};
-use spf_predictors::Predictor;
+use spf_cli_answers::{Status, answer_words, number};
+use spf_edge::{Files, Sink};
+use spf_guess::Predictor;
+use spf_ticket_gate::Gate;
 use std::alloc::Global;
 use std::sync::Wait;
 use std::thread::Threads;
 
 /// Does all that the program does: reads the words of its command line, fetches the files that they
-/// name, and puts the answer. The output is put in pieces of 4,096 bytes, of which only the last may be
-/// shorter, and then each line on the error stream. After a put that failed, nothing more is put.
+/// name, and puts the answer. The output is put in pieces of 4,096 bytes, of which only the last
+/// may be shorter, and then each line on the error stream. After a put that failed, nothing more is
+/// put.
 ///
-/// `words` are the words after the program's name and after those that ask for hosts. `hosts` are the predictors that a program
-/// names by number; they are asked, told and dropped here. `gate` watches the attempts. Blocks run in threads, and the call waits
-/// for them.
+/// `words` are the words after the program's name and after those that ask for hosts. `hosts` are
+/// the predictors that a program names by number; they are asked, told and dropped here. `gate`
+/// watches the attempts. Blocks run in threads, and the call waits for them.
 ///
 /// | Status | Where |
 /// |---|---|
@@ -59,7 +60,8 @@ pub fn spf_main<R: Threads + Wait + Sync, F: Files, S: Sink, G: Gate + Sync>(
     ensures put_fault { result ≡ 6 → Rose (S.state out.old).faults (S.state out.new).faults
         ⊎ Rose (S.state err.old).faults (S.state err.new).faults }
 {
-    each_status_has_its_cause();
+    // Law: statuses 2 and 5 come from their causes alone, and 6 and 8 never from the program.
+    spf_cli_answers::laws::each_status_has_its_cause();
     let mut hosts = hosts;
     let Ok(given) = answer_words(rt, alloc, words, files, &mut hosts, gate) else {
         return number(Status::NoMemory);

@@ -8,23 +8,23 @@ use Rattle.spf_edge.specs.declared.files.FetchError.{FetchError}
 use Rattle.spf_edge.specs.declared.files.FetchError.TheVariants.{Missing, Failed, TooLong, OutOfMemory}
 use Rattle.spf_edge.specs.Entries.{Entry, lookup}
 use Rattle.spf_edge.specs.Fetches.{Fetch, Gives, IsGiven}
-use Rattle.spf_commands.specs.Answer.{Answer, not_understood, accepted, printed, text_refused, rule_refused, explained, file_failed, file_too_long, host_missing, not_huf1, not_lex1, ran, shown}
-use Rattle.spf_formats.specs.declared.generate.Kind.{Kind}
-use Rattle.spf_programs.specs.PackBits.{packbits_program}
-use Rattle.spf_programs.specs.Huffman.{huffman_program}
-use Rattle.spf_programs.specs.Lexer.{lexer_program}
-use Rattle.spf_formats.specs.Huf1.{IsHuf1}
-use Rattle.spf_formats.specs.Lex1.{IsLex1}
-use Rattle.spf_formats.specs.Laws.{Huf1HasOneVerdict, Lex1HasOneVerdict, EachInputIsGeneratedOnce}
-use Rattle.spf_guess.specs.declared.stats.Stats.{Stats}
-use Rattle.spf_words.specs.Command.{Command, Run, Check, Explain, Print, Unpack, Unhuff, Lex, Demo, Options, DecodeOptions, Asks}
-use Rattle.spf_words.specs.Only.{IsOnly}
-use Rattle.spf_words.specs.Laws.{EachAsksForOneOrNone}
-use Rattle.spf_commands.specs.Reading.{Verdict, Says, Refuses, IsVerdict}
-use Rattle.spf_commands.specs.Decoded.{Unpacked, Unhuffed, Tokenized}
-use Rattle.spf_commands.specs.Course.{Wanted, Is, Both, Either, Course, Ends, Unfetched, After, Fetches}
-use Rattle.spf_commands.specs.Whole.{Handed, handed, Judged, Read, CheckedBy, Allowed, Explained, WithHosts, host_wanted, RunsTo, Runs, RunsOn, Decodes, Unpacking, Unhuffing, Lexing, WithHuf1, WithLex1, Demonstrates, WholeOf, Whole, block_of, run_options, by_blocks, demo_program, demo_input, max_program, max_machine, max_input}
-use Rattle.spf_commands.specs.Laws.{RuleLaws, DecoderLaws}
+use Rattle.spf_cli_answers.specs.Answer.{Answer, not_understood, accepted, printed, text_refused, rule_refused, explained, file_failed, file_too_long, host_missing, not_huf1, not_lex1, ran, shown}
+use Rattle.spf_apps_formats.specs.declared.generate.Kind.{Kind}
+use Rattle.spf_apps_programs.specs.PackBits.{packbits_program}
+use Rattle.spf_apps_programs.specs.Huffman.{huffman_program}
+use Rattle.spf_apps_programs.specs.Lexer.{lexer_program}
+use Rattle.spf_apps_formats.specs.Huf1.{IsHuf1}
+use Rattle.spf_apps_formats.specs.Lex1.{IsLex1}
+use Rattle.spf_apps_formats.specs.Laws.{Huf1HasOneVerdict, Lex1HasOneVerdict, EachInputIsGeneratedOnce}
+use Rattle.spf_guess_statistics.specs.declared.stats.Stats.{Stats}
+use Rattle.spf_cli_words.specs.Command.{Command, Run, Check, Explain, Print, Unpack, Unhuff, Lex, Demo, Options, DecodeOptions, Asks}
+use Rattle.spf_cli_words.specs.Only.{IsOnly}
+use Rattle.spf_cli_words.specs.Laws.{EachAsksForOneOrNone}
+use Rattle.spf_cli_answers.specs.Reading.{Verdict, Says, Refuses, IsVerdict}
+use Rattle.spf_cli_answers.specs.Decoded.{Unpacked, Unhuffed, Tokenized}
+use Rattle.spf_cli_answers.specs.Course.{Wanted, Is, Both, Either, Course, Ends, Unfetched, After, Fetches}
+use Rattle.spf_cli_answers.specs.Whole.{Handed, handed, Judged, Read, CheckedBy, Allowed, Explained, WithHosts, host_wanted, RunsTo, Runs, RunsOn, Decodes, Unpacking, Unhuffing, Lexing, WithHuf1, WithLex1, Demonstrates, WholeOf, Whole, block_of, run_options, by_blocks, demo_program, demo_input, max_program, max_machine, max_input}
+use Rattle.spf_cli_answers.specs.Laws.{RuleLaws, DecoderLaws}
 use Rattle.spf_cli_laws.specs.Laws.{VerdictsAreTheSame, NoTextIsLeftUnjudged, Over}
 
 -- ---- formats

@@ -5,15 +5,15 @@ use Rattle.spf_text.specs.Tokens.{AreTokensOf, IsFaultyAt, BeginsNothing, Begins
 use Rattle.spf_text.specs.Laws.{TextsDetermineTheirTokens, TextsHaveTokensOrAFault, TextsHaveOneFault}
 use Rattle.spf_ast.specs.Syntax.{Program}
 use Rattle.spf_ast.specs.RawSyntax.{RawProgram}
-use Rattle.spf_grammar.specs.Lexemes.{lexemes_of}
-use Rattle.spf_grammar.specs.Reading.{Reads}
-use Rattle.spf_grammar.specs.Texts.{IsProgramOf, IsUnexpected, IsTooDeep, IsUnexpectedAt, IsTooDeepAt}
+use Rattle.spf_parse_grammar.specs.Lexemes.{lexemes_of}
+use Rattle.spf_parse_grammar.specs.Reading.{Reads}
+use Rattle.spf_parse_grammar.specs.Texts.{IsProgramOf, IsUnexpected, IsTooDeep, IsUnexpectedAt, IsTooDeepAt}
 use Rattle.spf_parse.specs.Laws.{TokensGoWrongOnce, TextsSayWritablePrograms}
-use Rattle.spf_roundtrip.specs.Laws.{TokensAreOfOneProgram, NoTokensAreLeft}
-use Rattle.spf_scopes.specs.declared.fault.TypeFault.{TypeFault}
+use Rattle.spf_print_laws.specs.Laws.{TokensAreOfOneProgram, NoTokensAreLeft}
+use Rattle.spf_types_names.specs.declared.fault.TypeFault.{TypeFault}
 use Rattle.spf_types.specs.Contract.{IsResolved, IsRefused}
 use Rattle.spf_types.specs.Laws.{ResolveOrAreRefused, ResolveToOne, AreRefusedForOne, ResolvedAreNotRefused}
-use Rattle.spf_commands.specs.Reading.{text_too_long, bad_byte, number_too_large, unexpected, too_deep, on_line, Verdict, Says, Refuses, IsVerdict}
+use Rattle.spf_cli_answers.specs.Reading.{text_too_long, bad_byte, number_too_large, unexpected, too_deep, on_line, Verdict, Says, Refuses, IsVerdict}
 
 -- the laws on texts, tokens and raw programs that are used
 pub record TextLaws : Type 0 where

@@ -3,10 +3,10 @@ use Rattle.std.specs.Prelude.{◌≡◌, ℕ, List, Some}
 use Rattle.std.specs.List.{AllByRecursion}
 use Rattle.spf_edge.specs.Entries.{Entry}
 use Rattle.spf_edge.specs.Fetches.{Fetch, IsGiven}
-use Rattle.spf_commands.specs.Answer.{Answer}
-use Rattle.spf_commands.specs.Course.{Wanted, Course}
-use Rattle.spf_commands.specs.Reading.{Verdict, IsVerdict}
-use Rattle.spf_commands.specs.Whole.{Handed, Whole}
+use Rattle.spf_cli_answers.specs.Answer.{Answer}
+use Rattle.spf_cli_answers.specs.Course.{Wanted, Course}
+use Rattle.spf_cli_answers.specs.Reading.{Verdict, IsVerdict}
+use Rattle.spf_cli_answers.specs.Whole.{Handed, Whole}
 
 -- ---- texts
 

@@ -1,15 +1,17 @@
 // Laws about the program's answers. Each is the contract of a function that does nothing.
-ghost use Rattle.spf_cli_laws.specs.Laws.{VerdictsAreTheSame, NoTextIsLeftUnjudged, NoneHasTwoAnswers, NoneIsLeftUnanswered};
+ghost use Rattle.spf_cli_laws.specs.Laws.{VerdictsAreTheSame, NoTextIsLeftUnjudged};
+ghost use Rattle.spf_cli_laws.specs.Laws.{NoneHasTwoAnswers, NoneIsLeftUnanswered};
 
-use spf_commands::laws::{decoders_keep_their_formats, rules_say_one_thing};
-use spf_formats::laws::{each_demo_input_is_generated_once, files_have_one_verdict};
+use spf_apps_formats::laws::{each_demo_input_is_generated_once, files_have_one_verdict};
+use spf_cli_answers::laws::{decoders_keep_their_formats, rules_say_one_thing};
+use spf_cli_words::laws::each_list_of_words_asks_for_one_command_or_none;
 use spf_parse::laws::{texts_say_writable_programs, tokens_go_wrong_once};
-use spf_roundtrip::laws::tokens_are_of_one_program;
+use spf_print_laws::laws::tokens_are_of_one_program;
 use spf_text::laws::{each_text_has_tokens_or_one_fault, texts_determine_their_tokens};
 use spf_types::laws::each_raw_program_resolves_or_is_refused;
-use spf_words::laws::each_list_of_words_asks_for_one_command_or_none;
 
-/// A text has at most one verdict, the program that it says or why it has none; and no text is left without one.
+/// A text has at most one verdict, the program that it says or why it has none; and no text is left
+/// without one.
 pub fn each_text_has_one_verdict()
     ensures one { VerdictsAreTheSame }
     ensures left { NoTextIsLeftUnjudged }
@@ -22,7 +24,8 @@ pub fn each_text_has_one_verdict()
     each_raw_program_resolves_or_is_refused();
 }
 
-/// A list of words has at most one answer, with what is handed in and over any files, and none is left without an answer.
+/// A list of words has at most one answer, with what is handed in and over any files, and none is
+/// left without an answer.
 pub fn each_list_of_words_has_one_answer()
     ensures one { NoneHasTwoAnswers }
     ensures left { NoneIsLeftUnanswered }

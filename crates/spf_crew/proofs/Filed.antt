@@ -1,11 +1,11 @@
 -- What a filed report makes of a chain of a crew.
 use Rattle.std.proofs.Common.{◌≡◌, ◌⊎◌, ℕ, ◌+◌, ◌<◌, Bool, true, false, if◌then◌else◌, refl, sym, ap, ◌∙◌, subst, inl, inr, arith}
-use Rattle.spf_edge.specs.Faults.{one_more}
+use Rattle.spf_ast_lemmas.specs.Counts.{one_more}
 use Rattle.spf_ticket.specs.declared.ticket.Report.{Report}
 use Rattle.spf_chain.specs.declared.chain.Filed.{Filed}
 use Rattle.spf_chain.specs.declared.chain.Filed.TheVariants.{Rerun, Waiting, Ended}
 use Rattle.spf_chain.specs.Chains.{ChainValue, cells_of, HasEnded, IsFiled, IsAnswer, IsSameChain, IsOut, Raises}
-use Rattle.spf_entry.specs.Sites.{entry_at, guess_at}
+use Rattle.spf_speculation_entry.specs.Sites.{entry_at, guess_at}
 use Rattle.spf_cells.specs.Values.{CellsValue}
 use Rattle.spf_ticket.specs.declared.ticket.Ticket.{Ticket}
 use Rattle.spf_ticket.specs.Tickets.{IsFresh, IsLawfulReport}

@@ -3,3 +3,4 @@ pub mod Steps
 pub mod Crews
 pub mod Filed
 pub mod Turns
+pub mod Joined

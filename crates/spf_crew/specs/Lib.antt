@@ -1,3 +1,4 @@
+pub mod Limits
 pub mod Endings
 pub mod Values
 pub mod Rule
@@ -9,3 +10,4 @@ pub mod Filing
 pub mod Mates
 pub mod Mate
 pub mod Crews
+pub mod Joined

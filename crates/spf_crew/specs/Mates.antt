@@ -1,5 +1,6 @@
 -- What contracts see of a mate, and what a turn comes to.
 use Rattle.std.specs.Prelude.{◌≡◌, ◌≢◌, ◌⊎◌, ℕ, ◌+◌, true, false}
+use Rattle.spf_crew.specs.Limits.{last_turn}
 use Rattle.spf_ticket.specs.declared.ticket.Ticket.{Ticket}
 use Rattle.spf_ticket.specs.declared.ticket.Report.{Report}
 use Rattle.spf_chain.specs.declared.chain.Filed.{Filed}
@@ -66,7 +67,7 @@ pub record HasRun (m m' : MateValue) : Type 0 where
 pub record IsKeptOut (seen : ℕ) (m m' : MateValue) : Type 0 where
   pub report : Report
   pub before : m.held ≡ held.Report report
-  pub number : (seen ≡ 16384) ⊎ (seen ≢ expected m.place.seen)
+  pub number : (seen ≡ last_turn) ⊎ (seen ≢ expected m.place.seen)
   pub after : m' ≡ record m { place = record m.place { seen = seen } }
 
 -- its hands are free, the ending word wasn't 1, and its hand found no ticket, since P

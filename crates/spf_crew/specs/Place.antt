@@ -1,5 +1,6 @@
 -- What a place's type shows and keeps.
 use Rattle.std.specs.Prelude.{◌≡◌, ◌<◌, ◌≤◌, []}
+use Rattle.spf_crew.specs.Limits.{last_turn}
 use Rattle.spf_crew.specs.declared.place.Place.TheInside.{Inside}
 use Rattle.spf_crew.specs.Rule.{resting}
 use Rattle.spf_crew.specs.Values.{PlaceValue}
@@ -20,6 +21,6 @@ pub record IsPlace (a : Inside) : Type 0 where
   pub seat : a.seat.me ≡ (resting a.key.value a.seat.me.0.from a.seat.me.0.to a.seat.me.0.seen a.seat.me.0.read, [])
   pub number : a.seat.me.0.from < a.seat.me.0.to
   pub seen : a.seen ≡ a.seat.me.0.seen
-  pub last : a.seen ≤ 16384
+  pub last : a.seen ≤ last_turn
   pub words : a.seat.table_id.words ≡ 2
   pub slots : a.seat.table_id.slots ≡ 1

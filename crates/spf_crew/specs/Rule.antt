@@ -1,5 +1,6 @@
 -- The rule of the crew's table, and what each step on it tells. Word 0 is the turn word, word 1 the ending word; the one slot is for the chain.
 use Rattle.std.specs.Prelude.{◌≡◌, ◌≢◌, ℕ, ◌+◌, ◌*◌, ◌/◌, ◌<◌, ◌≤◌, ◌==◌, Bool, true, false, [], ◌∷◌, length, slice_index, Option, Some, None}
+use Rattle.spf_crew.specs.Limits.{last_turn}
 use mathlib.Core.Option.{some, none}
 use lib.ListN.{get_elem?}
 use Rattle.atomic_table.specs.Table.{State, Me, Step}
@@ -53,7 +54,7 @@ pub record IsCrewTable (k : CrewSetting) (s : State (Option ChainValue) CrewView
   -- each number of a mate is one seat's
   pub owner : ℕ → ℕ
   pub wide : length s.words ≡ 2
-  pub last : slice_index s.words 0 ≤ 16384
+  pub last : slice_index s.words 0 ≤ last_turn
   pub flag : slice_index s.words 1 ≤ 1
   -- where the turn word is even, the chain is at home, and was given half as many reports
   pub home : (half : ℕ) → slice_index s.words 0 ≡ 2 * half → (c : ChainValue) × (s.homes ≡ some (Some c) ∷ []) × IsAtHome k half (slice_index s.words 1) c
@@ -79,7 +80,7 @@ expected n = 2 * half_of n
 -- the try to take the chain: the seat took it, and the end counts as announced where the chain has ended; or it saw another number
 abbrev pub IsTake : Step (Option ChainValue) → Me (Option ChainValue) CrewView → ℕ → Me (Option ChainValue) CrewView → Type 0
 IsTake st m n m' =
-    (n ≤ 16384)
+    (n ≤ last_turn)
     × (n ≡ st.first
     → (c : ChainValue) × (m' ≡ (
       record m.0 { seen = n + 1; holds = true; announced = has_ended c },
@@ -89,7 +90,7 @@ IsTake st m n m' =
 
 -- a look at the turn number
 abbrev pub IsLook : Step (Option ChainValue) → Me (Option ChainValue) CrewView → ℕ → Me (Option ChainValue) CrewView → Type 0
-IsLook st m n m' = (n ≤ 16384) × (m' ≡ (record m.0 { seen = n }, m.1))
+IsLook st m n m' = (n ≤ last_turn) × (m' ≡ (record m.0 { seen = n }, m.1))
 
 -- the end is announced: it counts as having read 1
 abbrev pub IsAnnounce : Step (Option ChainValue) → Me (Option ChainValue) CrewView → ℕ → Me (Option ChainValue) CrewView → Type 0

@@ -1,7 +1,7 @@
 -- The job, the tickets and the reports of a crew.
 use Rattle.std.specs.Prelude.{◌≡◌}
 use Rattle.spf_chain.specs.Jobs.{CanRun}
-use Rattle.spf_entry.specs.Sites.{entry_at, guess_at}
+use Rattle.spf_speculation_entry.specs.Sites.{entry_at, guess_at}
 use Rattle.spf_ticket.specs.declared.run.Job.{Job}
 use Rattle.spf_ticket.specs.declared.ticket.Ticket.{Ticket}
 use Rattle.spf_ticket.specs.declared.ticket.Report.{Report}

@@ -2,16 +2,16 @@
 ghost use denote.Ref.{Bor};
 ghost use Rattle.std.specs.Prelude.{◌≡◌};
 ghost use Rattle.spf_ast.specs.declared.construct.TopConstruct.{TopConstruct};
-ghost use Rattle.spf_layout.specs.Instance.{InstanceValue};
+ghost use Rattle.spf_exec_instance.specs.Instance.{InstanceValue};
 ghost use Rattle.spf_crew.specs.declared.view.CrewSetting.{CrewSetting};
 ghost use Rattle.spf_crew.specs.Tickets.{IsFreshOf, IsLawfulOf, IsAttemptBy, ServesCrew};
 
 use crate::crew::Crew;
 use spf_ast::construct::TopConstruct;
-use spf_edge::Gate;
-use spf_layout::instance::Instance;
+use spf_exec_instance::instance::Instance;
 use spf_ticket::run::Job;
 use spf_ticket::ticket::{Report, Ticket};
+use spf_ticket_gate::Gate;
 
 /// Makes the attempts of a crew's tickets.
 pub trait Attempter {
@@ -26,8 +26,9 @@ pub trait Attempter {
         ensures attempt { IsAttemptBy crew.now.setting ticket result };
 }
 
-/// Has the program with its input. A type parameter with this bound, or with `HasConstruct`, stands for what is large, where it is proved
-/// that attempts may be made by many threads: the search for that would be too long with both at once.
+/// Has the program with its input. A type parameter with this bound, or with `HasConstruct`, stands
+/// for what is large, where it is proved that attempts may be made by many threads: the search for
+/// that would be too long with both at once.
 pub trait HasInstance {
     // the program with its input
     ghost instance: { Self → Bor InstanceValue };
@@ -63,7 +64,8 @@ impl<'a> HasConstruct for TopConstruct<'a> {
     }
 }
 
-/// The construct whose blocks are attempted, with the memory at its entry, and a gate that is called before and after each attempt.
+/// The construct whose blocks are attempted, with the memory at its entry, and a gate that is
+/// called before and after each attempt.
 #[derive(Clone, Copy)]
 pub struct GatedJob<'a, I, C, G> {
     /// What has the program with its input.

@@ -15,9 +15,11 @@ use spf_chain::chain::Chain;
 impl Crew {
     // All places are put together.
     fn dismiss_all(&self, last: Place, mut mates: Vec<Mate>) -> Place
-        requires last { IsPlaceOf self.now last × (last.read ≡ true) × (last.from ≡ length mates.items) × (last.to ≡ self.now.setting.mates) }
+        requires last { IsPlaceOf self.now last × (last.read ≡ true)
+            × (last.from ≡ length mates.items) × (last.to ≡ self.now.setting.mates) }
         requires mates { AreFirstMates self.now mates.items × HaveRead mates.items }
-        ensures { IsPlaceOf self.now result × (result.read ≡ true) × (result.from ≡ 0) × (result.to ≡ self.now.setting.mates) }
+        ensures { IsPlaceOf self.now result × (result.read ≡ true) × (result.from ≡ 0)
+            × (result.to ≡ self.now.setting.mates) }
     {
         let mut all = last;
         while let Some(mate) = mates.pop() {
@@ -28,8 +30,9 @@ impl Crew {
         all
     }
 
-    /// Ends the crew, whose mates these are, in their order. The chain has ended, since each mate has read 1 in the ending word. Every
-    /// merging of the logs of its lanes is a speculative run. It takes no memory.
+    /// Ends the crew, whose mates these are, in their order. The chain has ended, since each mate
+    /// has read 1 in the ending word. Every merging of the logs of its lanes is a speculative run.
+    /// It takes no memory.
     pub fn close(self, mut mates: Vec<Mate>) -> (Chain, Cells)
         requires all { AreAllMates self mates.items }
         requires ended { HaveRead mates.items }

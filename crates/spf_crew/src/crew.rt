@@ -5,7 +5,8 @@ use std::marker::Model;
 
 /// The turn word, the ending word, the slot of the chain, and the cells.
 ///
-/// Contracts see of it its table, and what is fixed for it: the site and the cells of its chain, and how many mates it has.
+/// Contracts see of it its table, and what is fixed for it: the site and the cells of its chain,
+/// and how many mates it has.
 #[derive(Drop)]
 pub struct Crew {
     pub(crate) table: CrewTable,

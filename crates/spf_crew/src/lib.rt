@@ -1,8 +1,9 @@
 //! A crew of mates over one validation chain, without a lock.
 //!
-//! The chain stands in a slot of a table of shared words, beside a turn word and an ending word. A mate takes it by one
-//! compare-and-exchange of the turn word, files a report, and gives it back by one store. The turn word is even while the chain is in
-//! its slot, and is then twice the number of reports filed. A mate without a report takes a ticket from a pool and runs it.
+//! The chain stands in a slot of a table of shared words, beside a turn word and an ending word. A
+//! mate takes it by one compare-and-exchange of the turn word, files a report, and gives it back by
+//! one store. The turn word is even while the chain is in its slot, and is then twice the number of
+//! reports filed. A mate without a report takes a ticket from a pool and runs it.
 #![tactic(auto)]
 
 pub mod attempt;
@@ -13,6 +14,7 @@ mod item;
 mod make;
 pub mod mate;
 mod mates;
+pub mod merged;
 mod open;
 mod place;
 mod rule;

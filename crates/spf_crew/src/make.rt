@@ -1,5 +1,7 @@
 // A crew is made.
 ghost use Rattle.std.specs.Prelude.{◌≡◌, ◌+◌, ◌<◌, ◌≤◌, length, slice_index, IfOk};
+ghost use Rattle.spf_pool.specs.Limits.{max_capacity};
+ghost use Rattle.spf_ast_lemmas.specs.Limits.{max_workers};
 ghost use Rattle.std.specs.List.{All};
 ghost use Rattle.spf_chain.specs.Beginning.{IsStarted};
 ghost use Rattle.spf_pool.specs.Hands.{after_giving};
@@ -27,9 +29,10 @@ fn hands_of(
     workers: u64,
     capacity: u64,
 ) -> Result<Vec<Hand<Ticket, CrewSetting>>, AllocError>
-    requires workers { (0 < workers) × (workers ≤ 64) }
-    requires capacity { capacity ≤ 8192 }
-    ensures { IfOk result (λ v. AreNewHands (setting_of chain.now workers) capacity workers v.items) }
+    requires workers { (0 < workers) × (workers ≤ max_workers) }
+    requires capacity { capacity ≤ max_capacity }
+    ensures { IfOk result
+        (λ v. AreNewHands (setting_of chain.now workers) capacity workers v.items) }
 {
     let key = key_of(chain, workers);
     Pool::make::<Ticket, CrewSetting>(alloc, &key, workers, capacity)
@@ -51,7 +54,8 @@ fn give_one(hand: &mut Hand<Ticket, CrewSetting>, ticket: Ticket)
 fn give_all(hand: &mut Hand<Ticket, CrewSetting>, tickets: Vec<Ticket>)
     requires fresh { All (IsFreshOf hand.old.key) tickets.items }
     requires room { hand.old.capacity ≡ length tickets.items }
-    requires own { (hand.old.own < length hand.old.given) × (slice_index hand.old.given hand.old.own ≡ 0) }
+    requires own { (hand.old.own < length hand.old.given)
+        × (slice_index hand.old.given hand.old.own ≡ 0) }
     ensures { IsDealtTo hand.old.key (length tickets.items) hand.new }
 {
     for ticket in tickets {
@@ -60,8 +64,9 @@ fn give_all(hand: &mut Hand<Ticket, CrewSetting>, tickets: Vec<Ticket>)
 }
 
 impl Crew {
-    /// A crew of 1 to 64 mates over a chain that has just started, with its cells and its tickets. All tickets go into the first mate's
-    /// deque, in their order, and the chain into its slot. All memory of the crew is taken here.
+    /// A crew of 1 to 64 mates over a chain that has just started, with its cells and its tickets.
+    /// All tickets go into the first mate's deque, in their order, and the chain into its slot. All
+    /// memory of the crew is taken here.
     ///
     /// # Errors
     ///
@@ -73,7 +78,7 @@ impl Crew {
         tickets: Vec<Ticket>,
         workers: u64,
     ) -> Result<(Crew, Vec<Mate>), AllocError>
-        requires workers { (0 < workers) × (workers ≤ 64) }
+        requires workers { (0 < workers) × (workers ≤ max_workers) }
         requires started { IsStarted chain.site chain cells tickets.items }
         ensures setting { IfOk result (λ r. r.0.setting ≡ setting_of chain workers) }
         ensures all { IfOk result (λ r. AreAllMates r.0 r.1.items) }

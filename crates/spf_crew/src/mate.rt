@@ -21,8 +21,9 @@ use std::mem;
 
 /// One worker of a crew, for one thread.
 ///
-/// Contracts see of it its place at the chain, what its hand has seen, and what it holds. Of the place they see the numbers of its mate,
-/// the turn number that it saw last, and whether it has read 1 in the ending word.
+/// Contracts see of it its place at the chain, what its hand has seen, and what it holds. Of the
+/// place they see the numbers of its mate, the turn number that it saw last, and whether it has
+/// read 1 in the ending word.
 #[derive(Drop)]
 pub struct Mate {
     pub(crate) place: Place,
@@ -79,7 +80,8 @@ impl Mate {
         requires lawful { IsLawfulOf self.old.place.setting report }
         ensures turn { IsTurn (record self.old { held = held.Report report }) result self.new }
         ensures own { IsMateOf crew.now self.new }
-        ensures numbers { (self.new.place.from ≡ self.old.place.from) × (self.new.place.to ≡ self.old.place.to) }
+        ensures numbers { (self.new.place.from ≡ self.old.place.from)
+            × (self.new.place.to ≡ self.old.place.to) }
     {
         match self.place.file(crew, report) {
             Ok(filed) => match filed {
@@ -105,7 +107,8 @@ impl Mate {
         requires serves { A.serves crew.now.setting attempter.now }
         requires fresh { IsFreshOf self.old.place.setting ticket }
         ensures worked { result ≡ turn.Worked }
-        ensures report { (r : SeenReport) × IsAttemptBy self.old.place.setting ticket r × (self.new ≡ record self.old { held = held.Report r }) }
+        ensures report { (r : SeenReport) × IsAttemptBy self.old.place.setting ticket r
+            × (self.new ≡ record self.old { held = held.Report r }) }
     {
         self.held = Held::Report(attempter.attempt(crew, ticket));
         Turn::Worked
@@ -118,7 +121,8 @@ impl Mate {
         requires free { self.old.held ≡ held.Nothing }
         ensures turn { IsTurn self.old result self.new }
         ensures own { IsMateOf crew.now self.new }
-        ensures numbers { (self.new.place.from ≡ self.old.place.from) × (self.new.place.to ≡ self.old.place.to) }
+        ensures numbers { (self.new.place.from ≡ self.old.place.from)
+            × (self.new.place.to ≡ self.old.place.to) }
         ensures ended { self.old.place.read ≡ true → result ≡ turn.Ended }
     {
         if self.place.reads_end(crew) {
@@ -131,20 +135,24 @@ impl Mate {
         }
     }
 
-    /// One turn. A mate with a report tries once to take the chain, and files it. A mate with a ticket to rerun runs it. Any other one
-    /// looks whether the chain has ended; if not, it takes a ticket and runs it. `attempter` makes the attempts.
+    /// One turn. A mate with a report tries once to take the chain, and files it. A mate with a
+    /// ticket to rerun runs it. Any other one looks whether the chain has ended; if not, it takes a
+    /// ticket and runs it. `attempter` makes the attempts.
     ///
-    /// `Ended` comes only where the mate held nothing and read 1 in the ending word, and from then on. `Idle` with `ChainOut` comes
-    /// only where it has a report and found another turn number than the even one at or after that which it saw last, or 16,384, at
-    /// which no report is filed; it keeps the report. `Idle` with `Empty` or `Again` comes only where it held nothing and its hand
-    /// found no ticket. It neither takes memory nor waits.
+    /// `Ended` comes only where the mate held nothing and read 1 in the ending word, and from then
+    /// on. `Idle` with `ChainOut` comes only where it has a report and found another turn number
+    /// than the even one at or after that which it saw last, or 16,384, at which no report is
+    /// filed; it keeps the report. `Idle` with `Empty` or `Again` comes only where it held nothing
+    /// and its hand found no ticket. It neither takes memory nor waits.
     pub fn turn<A: Attempter>(&mut self, crew: &Crew, attempter: &A) -> Turn
         requires own { IsMateOf crew.now self.old }
         requires serves { A.serves crew.now.setting attempter.now }
         ensures turn { IsTurn self.old result self.new }
         ensures own { IsMateOf crew.now self.new }
-        ensures numbers { (self.new.place.from ≡ self.old.place.from) × (self.new.place.to ≡ self.old.place.to) }
-        ensures ended { self.old.held ≡ held.Nothing → self.old.place.read ≡ true → result ≡ turn.Ended }
+        ensures numbers { (self.new.place.from ≡ self.old.place.from)
+            × (self.new.place.to ≡ self.old.place.to) }
+        ensures ended { self.old.held ≡ held.Nothing → self.old.place.read ≡ true
+            → result ≡ turn.Ended }
     {
         match mem::replace(&mut self.held, Held::Nothing) {
             Held::Report(report) => self.file(crew, report),

@@ -1,4 +1,5 @@
-// The table is made with the chain in its slot, places are split off and joined again, and the chain comes back.
+// The table is made with the chain in its slot, places are split off and joined again, and the
+// chain comes back.
 ghost use Rattle.std.specs.Prelude.{◌≡◌, ◌+◌, ◌<◌, true, false, IfOk};
 ghost use Rattle.spf_chain.specs.Chains.{cells_of};
 ghost use Rattle.spf_chain.specs.Sites.{IsGround};
@@ -14,11 +15,12 @@ use crate::rule::{Dismisses, Enlists};
 use crate::view::CrewSetting;
 use atomic_table::Table;
 use spf_cells::cells::Cells;
+use spf_cells_key::key::{GhostKey, ghost_key};
 use spf_chain::chain::Chain;
-use spf_key::key::{GhostKey, ghost_key};
 use std::alloc::{AllocError, Global};
 
-// A key with the setting of a crew. A ghost value is named by a call's arguments alone, so the call has those that the name speaks of.
+// A key with the setting of a crew. A ghost value is named by a call's arguments alone, so the call
+// has those that the name speaks of.
 pub(crate) fn key_of(chain: &Chain, mates: u64) -> GhostKey<CrewSetting>
     ensures { result.value ≡ setting_of chain.now mates }
 {

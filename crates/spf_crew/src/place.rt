@@ -1,5 +1,8 @@
-// A mate's place at the chain: it takes the chain, files a report, and gives the chain back. It neither waits nor takes memory.
-ghost use Rattle.std.specs.Prelude.{◌≡◌, ◌≢◌, ◌⊎◌, ◌+◌, ◌*◌, ◌<◌, ◌≤◌, true, false, [], IfOk, IfErr, if◌then◌else◌};
+// A mate's place at the chain: it takes the chain, files a report, and gives the chain back. It
+// neither waits nor takes memory.
+ghost use Rattle.std.specs.Prelude.{◌≡◌, ◌≢◌, ◌⊎◌, ◌+◌, ◌*◌, ◌<◌, ◌≤◌, true, false, [], IfOk};
+ghost use Rattle.std.specs.Prelude.{IfErr, if◌then◌else◌};
+ghost use Rattle.spf_crew.specs.Limits.{last_turn, max_reports};
 ghost use Rattle.spf_crew.specs.Rule.{expected, half_of, IsChainOf};
 ghost use Rattle.spf_crew.specs.Endings.{has_ended};
 ghost use Rattle.spf_crew.specs.Seats.{IsSeatOf, Rests, Holds, HoldsNow};
@@ -10,8 +13,8 @@ ghost use Rattle.spf_crew.specs.Filing.{IsFiledAt, read_after};
 use crate::crew::Crew;
 use crate::rule::{Announces, CrewSeat, Gives, Looks, Reads, Takes};
 use crate::view::CrewSetting;
+use spf_cells_key::key::GhostKey;
 use spf_chain::chain::{Chain, Filed};
-use spf_key::key::GhostKey;
 use spf_ticket::ticket::Report;
 use std::marker::Model;
 
@@ -24,8 +27,8 @@ const LAST: u64 = 16_384;
 
 /// A place at the chain of a crew.
 ///
-/// Contracts see of it its crew's table and setting, its numbers, the turn number that it saw last, and whether it has read 1 in the
-/// ending word.
+/// Contracts see of it its crew's table and setting, its numbers, the turn number that it saw last,
+/// and whether it has read 1 in the ending word.
 #[derive(Drop)]
 pub struct Place {
     pub(crate) key: GhostKey<CrewSetting>,
@@ -50,15 +53,18 @@ impl Model for Place {
     ghost invariant = { IsPlace };
 }
 
-// The seat takes the chain where the turn number is the one expected. Else it has seen another number.
+// The seat takes the chain where the turn number is the one expected. Else it has seen another
+// number.
 fn take_chain(seat: &mut CrewSeat, crew: &Crew, half: u64) -> Result<Chain, u64>
     requires own { IsSeatOf crew.now.table seat.old.table_id }
     requires rests { Rests crew.now.setting seat.old.me }
-    requires room { half < 8192 }
+    requires room { half < max_reports }
     ensures same { seat.new.table_id ≡ seat.old.table_id }
-    ensures taken { IfOk result (λ c. Holds (2 * half + 1) (has_ended c) crew.now.setting seat.old.me seat.new.me
+    ensures taken { IfOk result (λ c.
+        Holds (2 * half + 1) (has_ended c) crew.now.setting seat.old.me seat.new.me
         × (c.reports ≡ half) × IsChainOf crew.now.setting c) }
-    ensures out { IfErr result (λ n. (n ≢ 2 * half) × (n ≤ 16384) × (seat.new.me ≡ (record seat.old.me.0 { seen = n }, []))) }
+    ensures out { IfErr result (λ n. (n ≢ 2 * half) × (n ≤ last_turn)
+        × (seat.new.me ≡ (record seat.old.me.0 { seen = n }, []))) }
 {
     let shared = &crew.table.shared;
     let found = shared.compare_exchange::<Takes>(seat, TURN, 2 * half, 2 * half + 1);
@@ -91,10 +97,12 @@ fn announce(seat: &mut CrewSeat, crew: &Crew, ended: bool)
 fn give_chain(seat: &mut CrewSeat, crew: &Crew, half: u64, chain: Chain)
     requires own { IsSeatOf crew.now.table seat.old.table_id }
     requires holds { HoldsNow crew.now.setting seat.old.me × (seat.old.me.0.seen ≡ 2 * half + 1) }
-    requires chain { (chain.reports ≡ half + 1) × IsChainOf crew.now.setting chain × (seat.old.me.0.announced ≡ true → has_ended chain ≡ true) }
-    requires room { half < 8192 }
+    requires chain { (chain.reports ≡ half + 1) × IsChainOf crew.now.setting chain
+        × (seat.old.me.0.announced ≡ true → has_ended chain ≡ true) }
+    requires room { half < max_reports }
     ensures same { seat.new.table_id ≡ seat.old.table_id }
-    ensures given { seat.new.me ≡ (record seat.old.me.0 { seen = 2 * half + 2; holds = false; announced = false }, []) }
+    ensures given { seat.new.me
+        ≡ (record seat.old.me.0 { seen = 2 * half + 2; holds = false; announced = false }, []) }
 {
     let shared = &crew.table.shared;
     shared.exchange(seat, 0, Some(chain));
@@ -105,7 +113,7 @@ impl Place {
     // Looks at the turn word once, where it is expected to be the last number.
     fn look(&mut self, crew: &Crew) -> u64
         requires own { IsPlaceOf crew.now self.old }
-        ensures last { result ≤ 16384 }
+        ensures last { result ≤ last_turn }
         ensures seen { self.new ≡ record self.old { seen = result } }
     {
         let shared = &crew.table.shared;
@@ -113,14 +121,17 @@ impl Place {
         self.seen
     }
 
-    // Files a report where the turn number is the one expected. Else the report comes back, with the number that was found.
+    // Files a report where the turn number is the one expected. Else the report comes back, with
+    // the number that was found.
     fn take_turn(&mut self, crew: &Crew, half: u64, report: Report) -> Result<Filed, (Report, u64)>
         requires own { IsPlaceOf crew.now self.old }
         requires lawful { IsLawfulOf self.old.setting report }
-        requires room { half < 8192 }
+        requires room { half < max_reports }
         ensures filed { IfOk result (λ f. IsFiledAt self.old.setting half report f
-            × (self.new ≡ record self.old { seen = 2 * half + 2; read = read_after f self.old.read })) }
-        ensures out { IfErr result (λ r. (r.0 ≡ report) × (r.1 ≢ 2 * half) × (self.new ≡ record self.old { seen = r.1 })) }
+            × (self.new
+            ≡ record self.old { seen = 2 * half + 2; read = read_after f self.old.read })) }
+        ensures out { IfErr result
+            (λ r. (r.0 ≡ report) × (r.1 ≢ 2 * half) × (self.new ≡ record self.old { seen = r.1 })) }
     {
         match take_chain(&mut self.seat, crew, half) {
             Ok(mut chain) => {
@@ -137,16 +148,19 @@ impl Place {
         }
     }
 
-    /// Files a report where the turn number is the one expected. Else the report comes back, with the number that was found.
+    /// Files a report where the turn number is the one expected. Else the report comes back, with
+    /// the number that was found.
     pub(crate) fn file(&mut self, crew: &Crew, report: Report) -> Result<Filed, (Report, u64)>
         requires own { IsPlaceOf crew.now self.old }
         requires lawful { IsLawfulOf self.old.setting report }
-        ensures filed { IfOk result (λ f. IsFiledAt self.old.setting (half_of self.old.seen) report f
-            × (self.new ≡ record self.old {
-              seen = expected self.old.seen + 2;
-              read = read_after f self.old.read;
-            })) }
-        ensures out { IfErr result (λ r. (r.0 ≡ report) × ((r.1 ≡ 16384) ⊎ (r.1 ≢ expected self.old.seen)) × (self.new ≡ record self.old { seen = r.1 })) }
+        ensures filed { IfOk result (λ f.
+            IsFiledAt self.old.setting (half_of self.old.seen) report f
+            × (self.new
+            ≡ record self.old
+            { seen = expected self.old.seen + 2; read = read_after f self.old.read })) }
+        ensures out { IfErr result (λ r. (r.0 ≡ report)
+            × ((r.1 ≡ last_turn) ⊎ (r.1 ≢ expected self.old.seen))
+            × (self.new ≡ record self.old { seen = r.1 })) }
     {
         let half = (self.seen + 1) / 2;
         if half < LAST / 2 {

@@ -1,8 +1,8 @@
 // The rule of the crew's table, and what each step on it tells the seat that makes it.
 use crate::view::{CrewSetting, CrewView};
 use atomic_table::{Join, Play, Seat, Split, Table, TableRule};
+use spf_cells_key::key::GhostKey;
 use spf_chain::chain::Chain;
-use spf_key::key::GhostKey;
 use std::alloc::Global;
 
 /// The rule, which holds at every moment, and the first view.

@@ -1,6 +1,7 @@
-//! What a seat of the crew's table knows: plain data that stands in proofs and contracts alone. No value of these types is made at run time.
+//! What a seat of the crew's table knows: plain data that stands in proofs and contracts alone. No
+//! value of these types is made at run time.
 use spf_cells::cells::Cells;
-use spf_entry::site::Site;
+use spf_speculation_entry::site::Site;
 
 /// What is fixed for one crew.
 pub struct CrewSetting {

@@ -1,9 +1,6 @@
 -- Counts of faults.
-use Rattle.std.specs.Prelude.{ℕ, ◌+◌, ◌-◌, ◌^◌, ◌≤◌, min}
-
--- the count after one more, which stays at its last value
-abbrev pub one_more : ℕ → ℕ
-one_more count = min (count + 1) (2 ^ 64 - 1)
+use Rattle.std.specs.Prelude.{ℕ, ◌≤◌}
+use Rattle.spf_ast_lemmas.specs.Counts.{one_more}
 
 -- the count has risen, or stands at its last value
 abbrev pub Rose : ℕ → ℕ → Type 0

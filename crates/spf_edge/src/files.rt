@@ -45,7 +45,8 @@ pub trait Files {
             (fetch_of name.now limit result ∷ []) }
 
         // A name that isn't among those told is missing, which is no fault.
-        ensures missing { IsMissing (state self.old).told name.now → result ≡ Err FetchError.Missing }
+        ensures missing { IsMissing (state self.old).told name.now
+            → result ≡ Err FetchError.Missing }
         ensures no_fault { IsMissing (state self.old).told name.now
             → (state self.new).faults ≡ (state self.old).faults };
 }

@@ -1,37 +1,10 @@
 // Files and a sink in memory, for tests: the calls that fail are told beforehand.
-ghost use Rattle.std.specs.Prelude.{
-  find,
-  bytes_eq,
-  string_bytes,
-  ◌≡◌,
-  ◌≢◌,
-  ◌↔◌,
-  ℕ,
-  [],
-  Some,
-  None,
-  Err,
-  IfOk,
-  OnOk,
-  IsErr,
-  IfErr,
-  vec_len,
-  Contains,
-  IsSome,
-  ◌+◌,
-  ◌++◌,
-  option_map,
-  map,
-  option_copied,
-  ◌∷◌,
-  List,
-  take,
-  length,
-  ◌<◌,
-  ◌≤◌,
-};
+ghost use Rattle.std.specs.Prelude.{find, bytes_eq, string_bytes, ◌≡◌, ◌≢◌, ◌↔◌, ℕ, [], Some, None};
+ghost use Rattle.std.specs.Prelude.{Err, IfOk, OnOk, IsErr, IfErr, vec_len, Contains, IsSome, ◌+◌};
+ghost use Rattle.std.specs.Prelude.{◌++◌, option_map, map, option_copied, ◌∷◌, List, take, length};
+ghost use Rattle.std.specs.Prelude.{◌<◌, ◌≤◌};
 ghost use Rattle.spf_edge.specs.Entries.{lookup, IsLongerThan};
-ghost use Rattle.spf_edge.specs.Faults.{one_more};
+ghost use Rattle.spf_ast_lemmas.specs.Counts.{one_more};
 ghost use Rattle.spf_edge.specs.Memory.{entries_of, names_of, puts_of};
 ghost use Rattle.spf_edge.specs.Fetches.{HasFetched};
 ghost use Rattle.spf_edge.specs.Puts.{HasPut, put_of};

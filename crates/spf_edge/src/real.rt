@@ -1,5 +1,6 @@
 // The machine's files and standard streams. They tell nothing of what they hold.
-ghost use Rattle.std.specs.Prelude.{◌≡◌, ◌≢◌, ◌<◌, ◌≤◌, length, vec_len, IfOk, OnOk, IfSome, IfNone, None, Err};
+ghost use Rattle.std.specs.Prelude.{◌≡◌, ◌≢◌, ◌<◌, ◌≤◌, length, vec_len, IfOk, OnOk, IfSome};
+ghost use Rattle.std.specs.Prelude.{IfNone, None, Err};
 ghost use Rattle.spf_edge.specs.Faults.{Rose};
 ghost use Rattle.std.specs.Io.KnownBytes.{Appends};
 
@@ -104,7 +105,8 @@ impl Write for StandardStream {
     }
 }
 
-/// A stream of the machine as a sink. One that takes nothing of a piece that isn't empty has failed.
+/// A stream of the machine as a sink. One that takes nothing of a piece that isn't empty has
+/// failed.
 #[derive(Drop)]
 pub struct RealSink<W = StandardStream> {
     stream: W,

@@ -42,7 +42,8 @@ pub trait Sink {
         ensures added { OnOk result (Adds (state self.old).taken (state self.new).taken piece.now) }
 
         // One put was made of it, or none where there was no memory.
-        ensures made { HasPut (state self.old).puts (state self.new).puts (put_of piece.now result) }
+        ensures made { HasPut (state self.old).puts (state self.new).puts
+            (put_of piece.now result) }
         ensures nothing { result ≡ Err PutError.OutOfMemory → state self.new ≡ state self.old }
 
         ensures failed { result ≡ Err PutError.Failed

@@ -9,16 +9,16 @@ use Rattle.spf_ast.specs.declared.syntax.Function as code_function
 use Rattle.spf_ast.specs.Syntax.{Block}
 use Rattle.spf_ast.specs.View.{program, function, block}
 use Rattle.spf_effects.specs.declared.effects.Effects as code
-use Rattle.spf_walk.specs.declared.slot_sets.Slots as code_slots
+use Rattle.spf_effects_walk.specs.declared.slot_sets.Slots as code_slots
 use Rattle.spf_effects.specs.Effects.{AreEffects, effects_of}
-use Rattle.spf_findings.specs.Extends.{Joins, Lists, Extends}
-use Rattle.spf_findings.specs.Found.{Finds, nowhere}
+use Rattle.spf_effects_findings.specs.Extends.{Joins, Lists, Extends}
+use Rattle.spf_effects_findings.specs.Found.{Finds, nowhere}
 use Rattle.spf_effects.specs.Gathered.{IsGathered}
-use Rattle.spf_findings.specs.Parts.{call_before, main_setting}
+use Rattle.spf_effects_findings.specs.Parts.{call_before, main_setting}
 use Rattle.spf_ast.specs.Slots.{assigns, assigns_outer}
-use Rattle.spf_walk.specs.SlotSets.{sets_of, has_slot, no_slot, with_block}
-use Rattle.spf_findings.proofs.Either.{or_none}
-use Rattle.spf_walk.proofs.SlotSets.{assigned_in, declared_in}
+use Rattle.spf_effects_walk.specs.SlotSets.{sets_of, has_slot, no_slot, with_block}
+use Rattle.spf_effects_findings.proofs.Either.{or_none}
+use Rattle.spf_effects_walk.proofs.SlotSets.{assigned_in, declared_in}
 
 -- lists that were empty have what is found
 joined_to_none : (ranges new : List Range) → Joins ranges [] new → (offsets_of new ≡ offsets_of ranges) × (wholes_of new ≡ wholes_of ranges)

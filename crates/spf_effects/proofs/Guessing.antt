@@ -4,11 +4,11 @@ use Rattle.std.proofs.lemmas.List.{drop_all}
 use Rattle.spf_region.specs.declared.bound.Bound.{Bound}
 use Rattle.spf_ast.specs.declared.syntax.Predict.{Predict}
 use Rattle.spf_ast.specs.View.{predictor}
-use Rattle.spf_findings.specs.Extends.{Extends, Lists}
-use Rattle.spf_findings.specs.Forms.{Setting}
-use Rattle.spf_findings.specs.Parts.{guess_finds, guesses_find}
-use Rattle.spf_findings.proofs.Then.{extends_nothing, extends_then}
-use Rattle.spf_walk.proofs.Walks.{item_at}
+use Rattle.spf_effects_findings.specs.Extends.{Extends, Lists}
+use Rattle.spf_effects_findings.specs.Forms.{Setting}
+use Rattle.spf_effects_findings.specs.Parts.{guess_finds, guesses_find}
+use Rattle.spf_effects_findings.proofs.Then.{extends_nothing, extends_then}
+use Rattle.spf_effects_walk.proofs.Walks.{item_at}
 
 -- what is found in the guesses from a place on gives what is found in all
 pub record GuessesLead (g : Setting) (slots : List Bound) (all : List Predict) (old : Lists) (i : ℕ) (now : Lists) : Type 0 where

@@ -15,9 +15,9 @@ use Rattle.spf_region.specs.declared.range.Range.TheVariants.{Affine}
 use Rattle.spf_region.specs.Bounds.{is_small}
 use Rattle.spf_region.specs.Ranges.{Offsets, joined}
 use Rattle.spf_region.specs.Laws.{IsListed, SetsStayListed, ListsHaveNormalForms}
-use Rattle.spf_findings.specs.Found.{Found, Finds, finds_nothing, ◌then◌, perhaps, either, reads_element, writes_element, may_write_between, surely_writes_between, writes_range, Sweep, sweep_joined, sweeps_joined, swept, has_no_turn, turns, nowhere}
-use Rattle.spf_findings.specs.Forms.{Entered, Setting, expression_bound, argument_bounds, bounds_behind, bounds_at_end, bounds_in_turn, loop_sweeps, expression_finds, arguments_find, condition_finds, statement_finds, block_finds, block_then, block_then_row}
-use Rattle.spf_findings.specs.Parts.{setting_in, own_bounds, entered, call_before, main_setting, outside, within_fold, guess_finds, guesses_find, part_finds, part_effects}
+use Rattle.spf_effects_findings.specs.Found.{Found, Finds, finds_nothing, ◌then◌, perhaps, either, reads_element, writes_element, may_write_between, surely_writes_between, writes_range, Sweep, sweep_joined, sweeps_joined, swept, has_no_turn, turns, nowhere}
+use Rattle.spf_effects_findings.specs.Forms.{Entered, Setting, expression_bound, argument_bounds, bounds_behind, bounds_at_end, bounds_in_turn, loop_sweeps, expression_finds, arguments_find, condition_finds, statement_finds, block_finds, block_then, block_then_row}
+use Rattle.spf_effects_findings.specs.Parts.{setting_in, own_bounds, entered, call_before, main_setting, outside, within_fold, guess_finds, guesses_find, part_finds, part_effects}
 use Rattle.spf_effects.specs.Laws.{HasLists}
 
 -- what a form surely writes stays listed

@@ -3,8 +3,8 @@ use Rattle.std.specs.Prelude.{◌≡◌, ℕ, false}
 use Rattle.spf_region.specs.Ranges.{offsets_of, wholes_of}
 use Rattle.spf_ast.specs.Syntax.{Block}
 use Rattle.spf_effects.specs.declared.effects.Effects as code
-use Rattle.spf_findings.specs.Found.{Finds, nowhere}
-use Rattle.spf_findings.specs.Parts.{PartEffects}
+use Rattle.spf_effects_findings.specs.Found.{Finds, nowhere}
+use Rattle.spf_effects_findings.specs.Parts.{PartEffects}
 use Rattle.spf_ast.specs.Slots.{assigns_outer, emits}
 
 -- the effects of a form with these statements, examined with nothing written before

@@ -28,7 +28,7 @@ use Rattle.spf_ast.specs.Syntax.{
   Program,
 }
 use Rattle.spf_ast.specs.Construct.{fold}
-use Rattle.spf_findings.specs.Parts.{PartEffects, part_effects}
+use Rattle.spf_effects_findings.specs.Parts.{PartEffects, part_effects}
 
 -- a fold over blocks 0 to 2 with the carried slot 0 and the block number in slot 1
 abbrev pub head : Expression → FoldHead

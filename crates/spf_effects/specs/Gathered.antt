@@ -2,7 +2,7 @@
 use Rattle.std.specs.Prelude.{◌≡◌}
 use Rattle.spf_ast.specs.Syntax.{Block}
 use Rattle.spf_effects.specs.declared.effects.Effects as code
-use Rattle.spf_findings.specs.Extends.{Lists}
+use Rattle.spf_effects_findings.specs.Extends.{Lists}
 use Rattle.spf_ast.specs.Slots.{assigns_outer, emits}
 
 -- the lists that were found, and what the statements do besides

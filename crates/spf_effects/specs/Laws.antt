@@ -5,7 +5,7 @@ use Rattle.spf_ast.specs.Construct.{Construct}
 use Rattle.spf_region.specs.Ranges.{IsNormal}
 use Rattle.spf_effects.specs.declared.effects.Effects as code
 use Rattle.spf_effects.specs.Effects.{AreEffects}
-use Rattle.spf_findings.specs.Parts.{PartEffects, part_effects}
+use Rattle.spf_effects_findings.specs.Parts.{PartEffects, part_effects}
 
 -- there are lists in normal form with the offsets and whole arrays of these effects
 pub record HasLists (part : PartEffects) : Type 0 where

@@ -5,28 +5,24 @@ ghost use Rattle.spf_ast.specs.declared.syntax.Pair.{out-Pair};
 ghost use Rattle.spf_ast.specs.ConstructView.{construct as seen_construct};
 ghost use Rattle.spf_ast.specs.Construct.{fold as fold_construct, pair as pair_construct};
 ghost use Rattle.spf_ast.specs.Syntax.{end};
-ghost use Rattle.spf_ast.specs.View.{
-  block as seen_block,
-  arguments as seen_arguments,
-  predictor as seen_predictor,
-  program as seen_program,
-  fold_head,
-  pair_head,
-};
+ghost use Rattle.spf_ast.specs.View.{block as seen_block, arguments as seen_arguments};
+ghost use Rattle.spf_ast.specs.View.{predictor as seen_predictor, program as seen_program};
+ghost use Rattle.spf_ast.specs.View.{fold_head, pair_head};
 ghost use Rattle.spf_effects.specs.Effects.{AreEffects, effects_of};
-ghost use Rattle.spf_findings.specs.Extends.{Extends};
-ghost use Rattle.spf_findings.specs.Forms.{block_finds, block_then_row};
-ghost use Rattle.spf_findings.specs.Parts.{guess_finds, guesses_find, outside, part_effects};
-ghost use Rattle.spf_walk.specs.Settings.{setting};
+ghost use Rattle.spf_effects_findings.specs.Extends.{Extends};
+ghost use Rattle.spf_effects_findings.specs.Forms.{block_finds, block_then_row};
+ghost use Rattle.spf_effects_findings.specs.Parts.{guess_finds, guesses_find, outside};
+ghost use Rattle.spf_effects_findings.specs.Parts.{part_effects};
+ghost use Rattle.spf_effects_walk.specs.Settings.{setting};
 
 use crate::effects::{Effects, gathered, no_effects};
 use spf_ast::construct::{ConstructKind, TopConstruct};
 use spf_ast::syntax::{Expr, Fold, Pair, Part, Predict, Program, Stmt};
-use spf_findings::findings::Findings;
+use spf_effects_findings::findings::Findings;
+use spf_effects_walk::context::{Context, declare};
+use spf_effects_walk::slot_sets::slots_in;
+use spf_effects_walk::walk::{block, block_and_row, expression};
 use spf_region::bound::Bound;
-use spf_walk::context::{Context, declare};
-use spf_walk::slot_sets::slots_in;
-use spf_walk::walk::{block, block_and_row, expression};
 use std::alloc::{AllocError, Global};
 
 /// What is known of the number of a block.
@@ -36,7 +32,8 @@ const BLOCK: Bound = Bound::Known {
     high: 0,
 };
 
-/// Examines a part of a top construct of a program. A part that the construct doesn't have does nothing.
+/// Examines a part of a top construct of a program. A part that the construct doesn't have does
+/// nothing.
 ///
 /// # Errors
 ///
@@ -47,7 +44,8 @@ pub fn effects(
     construct: TopConstruct,
     part: Part,
 ) -> Result<Effects, AllocError>
-    ensures exact { IfOk result (AreEffects (part_effects (seen_program program.now) (seen_construct construct.entry) part)) }
+    ensures exact { IfOk result (AreEffects
+        (part_effects (seen_program program.now) (seen_construct construct.entry) part)) }
 {
     match construct.kind {
         ConstructKind::Fold(fold) => fold_effects(alloc, program, fold, part),
@@ -62,9 +60,10 @@ fn fold_effects(
     fold: &Fold,
     part: Part,
 ) -> Result<Effects, AllocError>
-    ensures { IfOk result (λ e. (line : ℕ) → AreEffects
-        (part_effects (seen_program program.now)
-        (fold_construct line (fold_head fold.now) (seen_block (out-Fold fold.now).body.items)) part) e) }
+    ensures { IfOk result (λ e. (line : ℕ)
+        → AreEffects (part_effects (seen_program program.now)
+        (fold_construct line (fold_head fold.now) (seen_block (out-Fold fold.now).body.items)) part)
+        e) }
 {
     let mut bounds = unknown_bounds(alloc, program)?;
     let slots = slots_in(alloc, &program.main)?;
@@ -133,8 +132,9 @@ fn effects_and(
     statements: &[Stmt],
     last: &[Expr],
 ) -> Result<Effects, AllocError>
-    ensures { IfOk result (AreEffects (effects_of (block_then_row (setting context.now below) bounds.now
-        (seen_block statements.now) (seen_arguments last.now)) (seen_block statements.now))) }
+    ensures { IfOk result (AreEffects (effects_of (block_then_row (setting context.now below)
+        bounds.now (seen_block statements.now) (seen_arguments last.now))
+        (seen_block statements.now))) }
 {
     let mut found = Findings::new(alloc);
     block_and_row(alloc, context, below, bounds, statements, last, &mut found)?;
@@ -149,8 +149,9 @@ fn block_effects(
     bounds: &[Bound],
     statements: &[Stmt],
 ) -> Result<Effects, AllocError>
-    ensures { IfOk result (AreEffects (effects_of (block_finds (setting context.now below) bounds.now
-        (seen_block statements.now)) (seen_block statements.now))) }
+    ensures { IfOk result (AreEffects (effects_of
+        (block_finds (setting context.now below) bounds.now (seen_block statements.now))
+        (seen_block statements.now))) }
 {
     let mut found = Findings::new(alloc);
     block(alloc, context, below, bounds, statements, &mut found)?;
@@ -165,8 +166,9 @@ fn predictor_effects(
     bounds: &[Bound],
     predict: &[Predict],
 ) -> Result<Effects, AllocError>
-    ensures { IfOk result (AreEffects (effects_of (guesses_find (setting context.now below) bounds.now
-        (map seen_predictor predict.now)) end)) }
+    ensures { IfOk result (AreEffects (effects_of
+        (guesses_find (setting context.now below) bounds.now (map seen_predictor predict.now))
+        end)) }
 {
     let mut found = Findings::new(alloc);
     for part in predict {
@@ -184,7 +186,9 @@ fn guess(
     predict: &Predict,
     found: &mut Findings,
 ) -> Result<(), AllocError>
-    ensures { OnOk result (Extends (guess_finds (setting context.now below) bounds.now (seen_predictor predict.now)) found.old found.new) }
+    ensures { OnOk result (Extends
+        (guess_finds (setting context.now below) bounds.now (seen_predictor predict.now)) found.old
+        found.new) }
 {
     match predict {
         Predict::Host(_) => Ok(()),

@@ -3,14 +3,14 @@ ghost use Rattle.std.specs.Prelude.{◌≡◌, IfOk};
 ghost use Rattle.spf_ast.specs.View.{block as seen_block};
 ghost use Rattle.spf_ast.specs.Syntax.{end};
 ghost use Rattle.spf_effects.specs.Effects.{AreEffects, effects_of};
-ghost use Rattle.spf_findings.specs.Found.{finds_nothing};
+ghost use Rattle.spf_effects_findings.specs.Found.{finds_nothing};
 ghost use Rattle.spf_effects.specs.Gathered.{IsGathered};
 
 use spf_ast::syntax::Stmt;
-use spf_findings::findings::Findings;
+use spf_effects_findings::findings::Findings;
+use spf_effects_walk::slot_sets::slots_in;
+use spf_effects_walk::slots::{assigns_other, emits};
 use spf_region::list::RangeList;
-use spf_walk::slot_sets::slots_in;
-use spf_walk::slots::{assigns_other, emits};
 use std::alloc::{AllocError, Global};
 
 /// What a part of a top construct reads and writes, as far as its text shows.

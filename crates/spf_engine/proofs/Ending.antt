@@ -5,12 +5,12 @@ use Rattle.spf_ast.specs.Syntax.{Block, end, on_line, Program}
 use Rattle.spf_ast.specs.Construct.{Construct, is_construct, constructs_in}
 use Rattle.spf_ast.specs.Pieces.{rest_from, from_construct, construct_first, statement_count}
 use Rattle.spf_exec.specs.Pieces.{Stand, ahead}
-use Rattle.spf_guess.specs.declared.stats.Stats.{Stats}
-use Rattle.spf_guess.specs.Statistics.{none, plus}
-use Rattle.spf_construct.specs.Guesses.{AreAtMost}
+use Rattle.spf_guess_statistics.specs.declared.stats.Stats.{Stats}
+use Rattle.spf_guess_statistics.specs.Statistics.{none, plus}
+use Rattle.spf_engine_construct.specs.Guesses.{AreAtMost}
 use Rattle.spf_engine.specs.Runs.{AreFew}
-use Rattle.spf_progress.proofs.Fronts.{front-constructs}
-use Rattle.spf_progress.proofs.Constructs.{stands-before, rest-next, counts-first}
+use Rattle.spf_engine_laws.proofs.Fronts.{front-constructs}
+use Rattle.spf_engine_laws.proofs.Constructs.{stands-before, rest-next, counts-first}
 
 -- ---- how far a run has come
 

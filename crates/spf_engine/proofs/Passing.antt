@@ -15,22 +15,22 @@ use Rattle.spf_check.specs.Plans.{AreBlocksOf}
 use Rattle.spf_exec.specs.declared.pieces.Header as code_header
 use Rattle.spf_ast.specs.declared.outcome.Trap.{Trap}
 use Rattle.spf_exec.specs.Pieces.{Stand, EndsAt, TrapsAt, ahead, refilled, seen_header}
-use Rattle.spf_rollback.specs.Rules.{KeepsTheRules}
-use Rattle.spf_entry.specs.Entry.{Entry, plain_blocks}
-use Rattle.spf_laws.specs.Chained.{chained}
-use Rattle.spf_layout.specs.Frame.{main_slots}
+use Rattle.spf_check_rules.specs.Rules.{KeepsTheRules}
+use Rattle.spf_speculation_entry.specs.Entry.{Entry, plain_blocks}
+use Rattle.spf_ast_laws.specs.Chained.{chained}
+use Rattle.spf_exec_instance.specs.Frame.{main_slots}
 use Rattle.spf_chain.specs.declared.validated.Settled.{Settled}
 use Rattle.spf_chain.specs.declared.validated.Settled.TheVariants.{Carried, Trapped}
 use Rattle.spf_chain.specs.Finishing.{result_as}
-use Rattle.spf_construct.specs.declared.construct.ConstructReport.{ConstructReport}
-use Rattle.spf_construct.specs.Coming.{ComesTo}
-use Rattle.spf_guess.specs.declared.stats.Stats.{Stats}
-use Rattle.spf_guess.specs.Guess.{Guess, Hosts, Telling, guess_for, tells}
-use Rattle.spf_guess.specs.Statistics.{none, plus, statistics_with}
-use Rattle.spf_predictors.specs.Answers.{WereTold}
-use Rattle.spf_progress.specs.Traces.{Trace, begin_with}
-use Rattle.spf_progress.specs.Progress.{Progress, GoesOn, HasCome, HasRuns, BlocksComeTo, entry_there, guess_there, with_construct}
-use Rattle.spf_progress.specs.Laws.{HeadersEndRuns, ConstructsSettle, ConstructsEndRuns}
+use Rattle.spf_engine_construct.specs.declared.construct.ConstructReport.{ConstructReport}
+use Rattle.spf_engine_construct.specs.Coming.{ComesTo}
+use Rattle.spf_guess_statistics.specs.declared.stats.Stats.{Stats}
+use Rattle.spf_guess_statistics.specs.Guess.{Guess, Hosts, Telling, guess_for, tells}
+use Rattle.spf_guess_statistics.specs.Statistics.{none, plus, statistics_with}
+use Rattle.spf_guess.specs.Answers.{WereTold}
+use Rattle.spf_engine_laws.specs.Traces.{Trace, begin_with}
+use Rattle.spf_engine_laws.specs.Progress.{Progress, GoesOn, HasCome, HasRuns, BlocksComeTo, entry_there, guess_there, with_construct}
+use Rattle.spf_engine_laws.specs.Laws.{HeadersEndRuns, ConstructsSettle, ConstructsEndRuns}
 use Rattle.spf_engine.specs.declared.construct.Passed.{Passed}
 use Rattle.spf_engine.specs.Runs.{SettlesSo, LeadsTo}
 

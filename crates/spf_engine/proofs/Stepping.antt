@@ -6,22 +6,22 @@ use Rattle.std.specs.Option.{option_to_list}
 use Rattle.spf_ast.specs.Syntax.{Program, Block}
 use Rattle.spf_ast.specs.Pieces.{construct_first, rest_from, statement_count}
 use Rattle.spf_ast.specs.Construct.{Construct, constructs_in, Reached, reached_from, reals}
-use Rattle.spf_guess.specs.Guess.{Hosts, Telling, tells}
-use Rattle.spf_guess.specs.Statistics.{tally_from, tally}
-use Rattle.spf_predictors.specs.Answers.{WereTold}
+use Rattle.spf_guess_statistics.specs.Guess.{Hosts, Telling, tells}
+use Rattle.spf_guess_statistics.specs.Statistics.{tally_from, tally}
+use Rattle.spf_guess.specs.Answers.{WereTold}
 use Rattle.spf_ast.specs.declared.outcome.Trap.{Trap}
 use Rattle.spf_ast.specs.Program.{environment_of, Outcome, outcome, Done, Stopped}
 use Rattle.spf_exec.specs.declared.pieces.Pause.{Pause}
 use Rattle.spf_exec.specs.Pieces.{Stand, Advanced, ahead}
-use Rattle.spf_progress.specs.Progress.{Progress, GoesOn, HasCome}
+use Rattle.spf_engine_laws.specs.Progress.{Progress, GoesOn, HasCome}
 use Rattle.spf_engine.specs.declared.account.Account.{Account}
-use Rattle.spf_progress.specs.Laws.{RunsAdvance, IsPausedSo}
-use Rattle.spf_progress.specs.Traces.{Trace, AreTraces}
+use Rattle.spf_engine_laws.specs.Laws.{RunsAdvance, IsPausedSo}
+use Rattle.spf_engine_laws.specs.Traces.{Trace, AreTraces}
 use Rattle.spf_chain.specs.declared.validated.Settled.{Settled}
 use Rattle.spf_chain.specs.declared.validated.Settled.TheVariants.{Carried, Trapped}
-use Rattle.spf_construct.specs.Guesses.{AreAtMost}
-use Rattle.spf_guess.specs.declared.stats.Stats.{Stats}
-use Rattle.spf_guess.specs.Statistics.{plus}
+use Rattle.spf_engine_construct.specs.Guesses.{AreAtMost}
+use Rattle.spf_guess_statistics.specs.declared.stats.Stats.{Stats}
+use Rattle.spf_guess_statistics.specs.Statistics.{plus}
 use Rattle.spf_engine.specs.declared.construct.Passed.{Passed}
 use Rattle.spf_engine.specs.declared.step.Step.{Step}
 use Rattle.spf_engine.specs.declared.step.Step.TheVariants as step

@@ -1,8 +1,8 @@
 -- Why a run doesn't come to its end.
 use Rattle.std.specs.Prelude.{◌≡◌, ℕ, [], Option, Some}
-use Rattle.spf_layout.specs.RunErrors.{counted}
-use Rattle.spf_guess.specs.Guess.{Hosts}
-use Rattle.spf_predictors.specs.Answers.{WereTold}
+use Rattle.spf_exec_instance.specs.RunErrors.{counted}
+use Rattle.spf_guess_statistics.specs.Guess.{Hosts}
+use Rattle.spf_guess.specs.Answers.{WereTold}
 use Rattle.spf_engine.specs.declared.error.EngineError.{EngineError}
 use Rattle.spf_engine.specs.declared.error.EngineError.TheVariants.{TooManyCells, NoHost, OutOfMemory}
 

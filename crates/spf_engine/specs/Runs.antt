@@ -1,5 +1,6 @@
 -- Whole runs by blocks.
 use Rattle.std.specs.Prelude.{◌≡◌, ◌<◌, ℕ, ◌*◌, ◌-◌, List, ◌++◌, length}
+use Rattle.spf_ast.specs.Meaning.{max_blocks}
 use Rattle.std.specs.Option.{option_to_list}
 use Rattle.spf_ast.specs.Syntax.{Program}
 use Rattle.spf_ast.specs.Program.{Done, Stopped}
@@ -8,12 +9,12 @@ use Rattle.spf_ast.specs.Pieces.{statement_count}
 use Rattle.spf_exec.specs.Pieces.{Stand, IsSettled, ahead}
 use Rattle.spf_chain.specs.declared.validated.Settled.{Settled}
 use Rattle.spf_chain.specs.declared.validated.Settled.TheVariants.{Carried, Trapped}
-use Rattle.spf_guess.specs.declared.stats.Stats.{Stats}
-use Rattle.spf_guess.specs.Guess.{Hosts, Telling}
-use Rattle.spf_guess.specs.Statistics.{plus, tally}
-use Rattle.spf_predictors.specs.Answers.{WereTold}
-use Rattle.spf_construct.specs.Guesses.{AreAtMost}
-use Rattle.spf_progress.specs.Progress.{Progress, GoesOn, HasCome}
+use Rattle.spf_guess_statistics.specs.declared.stats.Stats.{Stats}
+use Rattle.spf_guess_statistics.specs.Guess.{Hosts, Telling}
+use Rattle.spf_guess_statistics.specs.Statistics.{plus, tally}
+use Rattle.spf_guess.specs.Answers.{WereTold}
+use Rattle.spf_engine_construct.specs.Guesses.{AreAtMost}
+use Rattle.spf_engine_laws.specs.Progress.{Progress, GoesOn, HasCome}
 use Rattle.spf_engine.specs.declared.account.Account.{Account}
 use Rattle.spf_engine.specs.declared.construct.Passed.{Passed}
 use Rattle.spf_engine.specs.declared.step.Step.{Step}
@@ -44,7 +45,7 @@ IsSettledSo p c before after (Trapped trap) taken = (taken ≡ step.Trapped trap
 
 -- each construct that a run went over has counted at most so much
 abbrev pub AreFew : Program → Stand → Stats → Type 0
-AreFew p s counted = AreAtMost counted (4096 * (length (constructs_in p.main) - length (constructs_in (ahead p s))))
+AreFew p s counted = AreAtMost counted (max_blocks * (length (constructs_in p.main) - length (constructs_in (ahead p s))))
 
 -- an account has what the progress of a run has, but for what hosts were told
 pub record AgreesWith (progress : Progress) (account : Account) : Type 0 where

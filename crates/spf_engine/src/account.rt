@@ -1,11 +1,11 @@
 //! What a run has counted and recorded so far.
 ghost use Rattle.std.specs.Prelude.{◌≡◌, ◌<◌, ◌++◌, ◌^◌, [], IfOk};
 ghost use Rattle.std.specs.Option.{option_to_list};
-ghost use Rattle.spf_guess.specs.Statistics.{none as no_blocks, plus as both};
-ghost use Rattle.spf_construct.specs.Guesses.{AreAtMost};
+ghost use Rattle.spf_guess_statistics.specs.Statistics.{none as no_blocks, plus as both};
+ghost use Rattle.spf_engine_construct.specs.Guesses.{AreAtMost};
 
 use spf_cells::finish::Trace;
-use spf_guess::stats::Stats;
+use spf_guess_statistics::stats::Stats;
 use std::alloc::{AllocError, Global};
 
 /// The statistics and the traces of the constructs that a run has passed.
@@ -31,7 +31,8 @@ impl Account {
     pub(crate) fn add(&mut self, stats: Stats, trace: Option<Trace>) -> Result<(), AllocError>
         requires few { AreAtMost (both self.old.stats stats) (2 ^ 45) }
         ensures stats { IfOk result (λ u. self.new.stats ≡ both self.old.stats stats) }
-        ensures traces { IfOk result (λ u. self.new.traces.items ≡ self.old.traces.items ++ option_to_list trace) }
+        ensures traces { IfOk result
+            (λ u. self.new.traces.items ≡ self.old.traces.items ++ option_to_list trace) }
     {
         self.stats = self.stats.plus(stats);
         if let Some(trace) = trace {

@@ -1,31 +1,32 @@
 //! Whole runs.
-ghost use Rattle.std.specs.Prelude.{◌≡◌, ◌<◌, ◌≤◌, ◌^◌, [], length, map, None, IfOk, IfErr, IsErrAnd};
+ghost use Rattle.std.specs.Prelude.{◌≡◌, ◌<◌, ◌≤◌, ◌^◌, [], length, map, None, IfOk, IfErr};
+ghost use Rattle.std.specs.Prelude.{IsErrAnd};
+ghost use Rattle.spf_ast_lemmas.specs.Limits.{max_workers};
 ghost use Rattle.spf_ast.specs.View.{program as seen_program};
 ghost use Rattle.spf_ast.specs.Construct.{constructs_in, reals};
-ghost use Rattle.spf_ast.specs.Program.{outcome as outcome_of, seen_outcome, Done, Stopped, cell_count_of, max_cells};
-ghost use Rattle.spf_layout.specs.Instance.{program_of};
-ghost use Rattle.spf_guess.specs.Statistics.{tally};
-ghost use Rattle.spf_predictors.specs.Answers.{handed_in, WereTold};
-ghost use Rattle.spf_predictors.specs.Missing.{missing_host};
-ghost use Rattle.spf_progress.specs.Traces.{AreTraces};
+ghost use Rattle.spf_ast.specs.Program.{outcome as outcome_of, seen_outcome, Done, Stopped};
+ghost use Rattle.spf_ast.specs.Program.{cell_count_of, max_cells};
+ghost use Rattle.spf_exec_instance.specs.Instance.{program_of};
+ghost use Rattle.spf_guess_statistics.specs.Statistics.{tally};
+ghost use Rattle.spf_guess.specs.Answers.{handed_in, WereTold};
+ghost use Rattle.spf_guess.specs.Missing.{missing_host};
+ghost use Rattle.spf_engine_laws.specs.Traces.{AreTraces};
 ghost use Rattle.spf_engine.specs.Runs.{WereToldFirst};
 ghost use Rattle.spf_engine.specs.Errors.{AreTooMany, IsMissing, WereToldNothing};
 
 use crate::account::Account;
 use crate::error::EngineError;
 use crate::step::{Step, take_step};
-use spf_ast::laws::breaks_stay_in_their_loops;
 use spf_ast::outcome::{Outcome, Trap};
 use spf_cells::finish::Trace;
 use spf_check::checked::Checked;
-use spf_edge::Gate;
 use spf_exec::pieces::Run;
-use spf_guess::stats::Stats;
-use spf_layout::instance::Instance;
-use spf_layout::layout::RunError;
-use spf_predictors::Predictor;
-use spf_predictors::missing::first_missing;
-use spf_progress::runs_in_pieces_go_on;
+use spf_exec_instance::instance::Instance;
+use spf_exec_instance::layout::RunError;
+use spf_guess::Predictor;
+use spf_guess::missing::first_missing;
+use spf_guess_statistics::stats::Stats;
+use spf_ticket_gate::Gate;
 use std::alloc::{AllocError, Global};
 use std::sync::Wait;
 use std::thread::Threads;
@@ -69,11 +70,13 @@ fn trapped(run: Run, trap: Trap, account: Account) -> RunReport
     }
 }
 
-/// Runs an instance of an accepted program on 1 to 64 workers. All hosts that its constructs name are handed in.
+/// Runs an instance of an accepted program on 1 to 64 workers. All hosts that its constructs name
+/// are handed in.
 ///
 /// # Errors
 ///
-/// `AllocError` where there is no memory for the run; the hosts were told the first of what they are told in the whole run.
+/// `AllocError` where there is no memory for the run; the hosts were told the first of what they
+/// are told in the whole run.
 pub fn run_instance<R: Threads + Wait + Sync, G: Gate + Sync>(
     rt: &R,
     alloc: Global,
@@ -83,21 +86,27 @@ pub fn run_instance<R: Threads + Wait + Sync, G: Gate + Sync>(
     hosts: &mut Vec<Box<dyn Predictor>>,
     gate: &G,
 ) -> Result<RunReport, AllocError>
-    requires workers { (0 < workers) × (workers ≤ 64) }
+    requires workers { (0 < workers) × (workers ≤ max_workers) }
     requires program { program_of instance.now ≡ seen_program checked.now }
-    requires hosts { missing_host (length hosts.old.items) (constructs_in (program_of instance.now).main) ≡ None }
-    ensures outcome { IfOk result (λ r. seen_outcome r.outcome ≡ outcome_of (program_of instance.now) instance.now.input) }
-    ensures statistics { IfOk result (λ r. r.stats ≡ (tally (handed_in (map (λ h. answer h) hosts.old.items))
-        (program_of instance.now) instance.now.input).stats) }
-    ensures traces { IfOk result (λ r. AreTraces (handed_in (map (λ h. answer h) hosts.old.items)) (program_of instance.now) instance.now.input
-        (constructs_in (program_of instance.now).main) (reals (program_of instance.now) instance.now.input) [] r.traces.items) }
+    requires hosts { missing_host (length hosts.old.items) (constructs_in (program_of instance.now).main)
+        ≡ None }
+    ensures outcome { IfOk result
+        (λ r. seen_outcome r.outcome ≡ outcome_of (program_of instance.now) instance.now.input) }
+    ensures statistics { IfOk result (λ r. r.stats
+        ≡ (tally (handed_in (map (λ h. answer h) hosts.old.items)) (program_of instance.now)
+        instance.now.input).stats) }
+    ensures traces { IfOk result (λ r. AreTraces (handed_in (map (λ h. answer h) hosts.old.items))
+        (program_of instance.now) instance.now.input (constructs_in (program_of instance.now).main)
+        (reals (program_of instance.now) instance.now.input) [] r.traces.items) }
     ensures told { IfOk result (λ r. WereTold (handed_in (map (λ h. answer h) hosts.old.items))
-        (tally (handed_in (map (λ h. answer h) hosts.old.items)) (program_of instance.now) instance.now.input).telling
-        (handed_in (map (λ h. answer h) hosts.new.items))) }
-    ensures told_first { IfErr result (λ why. WereToldFirst (handed_in (map (λ h. answer h) hosts.old.items)) (program_of instance.now) instance.now.input
-        (handed_in (map (λ h. answer h) hosts.new.items))) }
+        (tally (handed_in (map (λ h. answer h) hosts.old.items)) (program_of instance.now)
+        instance.now.input).telling (handed_in (map (λ h. answer h) hosts.new.items))) }
+    ensures told_first { IfErr result (λ why. WereToldFirst
+        (handed_in (map (λ h. answer h) hosts.old.items)) (program_of instance.now)
+        instance.now.input (handed_in (map (λ h. answer h) hosts.new.items))) }
 {
-    runs_in_pieces_go_on();
+    // Law: a run in pieces goes on as the plain run does.
+    spf_engine_laws::runs_in_pieces_go_on();
     let _program = checked.program();
     let mut run = Run::start(alloc, instance)?;
     let mut account = Account::new(alloc);
@@ -132,12 +141,14 @@ fn lay_out<'a>(
         ≤ max_cells (seen_program checked.now)) }
     ensures too_many { max_cells (seen_program checked.now)
         < cell_count_of (seen_program checked.now) (length input.now)
-        → IsErrAnd result (AreTooMany (cell_count_of (seen_program checked.now) (length input.now))) }
+        → IsErrAnd result
+        (AreTooMany (cell_count_of (seen_program checked.now) (length input.now))) }
     ensures error { cell_count_of (seen_program checked.now) (length input.now)
         ≤ max_cells (seen_program checked.now)
         → IfErr result (IsMissing None) }
 {
-    breaks_stay_in_their_loops();
+    // Law: no `break` of a lawful program leaves `main` or a part.
+    spf_ast::laws::breaks_stay_in_their_loops();
     match Instance::make(alloc, checked.program(), input) {
         Ok(instance) => Ok(instance),
         Err(RunError::TooManyCells { count }) => Err(EngineError::TooManyCells { count }),
@@ -145,19 +156,21 @@ fn lay_out<'a>(
     }
 }
 
-/// Runs an accepted program on an input by blocks, each from its guess, and those again whose guesses were wrong. What comes of it is
-/// the plain outcome, whatever the guesses are, and however the attempts of the 1 to 64 workers interleave. Each worker has a thread of
-/// its own; where one can't be started, the calling thread does its work. The call waits until all have ended.
+/// Runs an accepted program on an input by blocks, each from its guess, and those again whose
+/// guesses were wrong. What comes of it is the plain outcome, whatever the guesses are, and however
+/// the attempts of the 1 to 64 workers interleave. Each worker has a thread of its own; where one
+/// can't be started, the calling thread does its work. The call waits until all have ended.
 ///
-/// `hosts` are the predictors that the program names by number. Each is asked once for each part that names it of each block but the
-/// first, in the order of blocks and then of parts, before the first attempt, and told these parts of the real rows, in that order, after
-/// the construct. `gate` watches the attempts.
+/// `hosts` are the predictors that the program names by number. Each is asked once for each part
+/// that names it of each block but the first, in the order of blocks and then of parts, before the
+/// first attempt, and told these parts of the real rows, in that order, after the construct. `gate`
+/// watches the attempts.
 ///
 /// # Errors
 ///
-/// `TooManyCells` where the arrays have more cells than a run of the program's version may have; `NoHost` where the program names a host
-/// that isn't handed in; and `OutOfMemory`. The hosts were told the first of what they are told in the whole run; after the first two
-/// errors nothing.
+/// `TooManyCells` where the arrays have more cells than a run of the program's version may have;
+/// `NoHost` where the program names a host that isn't handed in; and `OutOfMemory`. The hosts were
+/// told the first of what they are told in the whole run; after the first two errors nothing.
 pub fn run_program<R: Threads + Wait + Sync, G: Gate + Sync>(
     rt: &R,
     alloc: Global,
@@ -167,24 +180,34 @@ pub fn run_program<R: Threads + Wait + Sync, G: Gate + Sync>(
     hosts: &mut Vec<Box<dyn Predictor>>,
     gate: &G,
 ) -> Result<RunReport, EngineError>
-    requires workers { (0 < workers) × (workers ≤ 64) }
-    ensures outcome { IfOk result (λ r. seen_outcome r.outcome ≡ outcome_of (seen_program checked.now) input.now) }
-    ensures statistics { IfOk result (λ r. r.stats ≡ (tally (handed_in (map (λ h. answer h) hosts.old.items)) (seen_program checked.now) input.now).stats) }
-    ensures traces { IfOk result (λ r. AreTraces (handed_in (map (λ h. answer h) hosts.old.items)) (seen_program checked.now) input.now
-        (constructs_in (seen_program checked.now).main) (reals (seen_program checked.now) input.now) [] r.traces.items) }
+    requires workers { (0 < workers) × (workers ≤ max_workers) }
+    ensures outcome { IfOk result
+        (λ r. seen_outcome r.outcome ≡ outcome_of (seen_program checked.now) input.now) }
+    ensures statistics { IfOk result (λ r. r.stats
+        ≡ (tally (handed_in (map (λ h. answer h) hosts.old.items)) (seen_program checked.now)
+        input.now).stats) }
+    ensures traces { IfOk result (λ r. AreTraces (handed_in (map (λ h. answer h) hosts.old.items))
+        (seen_program checked.now) input.now (constructs_in (seen_program checked.now).main)
+        (reals (seen_program checked.now) input.now) [] r.traces.items) }
     ensures told { IfOk result (λ r. WereTold (handed_in (map (λ h. answer h) hosts.old.items))
-        (tally (handed_in (map (λ h. answer h) hosts.old.items)) (seen_program checked.now) input.now).telling
-        (handed_in (map (λ h. answer h) hosts.new.items))) }
-    ensures told_first { IfErr result (λ why. WereToldFirst (handed_in (map (λ h. answer h) hosts.old.items)) (seen_program checked.now) input.now
+        (tally (handed_in (map (λ h. answer h) hosts.old.items)) (seen_program checked.now)
+        input.now).telling (handed_in (map (λ h. answer h) hosts.new.items))) }
+    ensures told_first { IfErr result (λ why. WereToldFirst
+        (handed_in (map (λ h. answer h) hosts.old.items)) (seen_program checked.now) input.now
         (handed_in (map (λ h. answer h) hosts.new.items))) }
     ensures too_many { max_cells (seen_program checked.now)
         < cell_count_of (seen_program checked.now) (length input.now)
-        → IsErrAnd result (AreTooMany (cell_count_of (seen_program checked.now) (length input.now))) }
+        → IsErrAnd result
+        (AreTooMany (cell_count_of (seen_program checked.now) (length input.now))) }
     ensures few { cell_count_of (seen_program checked.now) (length input.now)
         ≤ max_cells (seen_program checked.now)
-        → IfErr result (IsMissing (missing_host (length hosts.old.items) (constructs_in (seen_program checked.now).main))) }
-    ensures complete { IfOk result (λ r. missing_host (length hosts.old.items) (constructs_in (seen_program checked.now).main) ≡ None) }
-    ensures untold { IfErr result (λ why. WereToldNothing why (handed_in (map (λ h. answer h) hosts.old.items))
+        → IfErr result (IsMissing
+        (missing_host (length hosts.old.items) (constructs_in (seen_program checked.now).main))) }
+    ensures complete { IfOk result (λ r.
+        missing_host (length hosts.old.items) (constructs_in (seen_program checked.now).main)
+        ≡ None) }
+    ensures untold { IfErr result (λ why. WereToldNothing why
+        (handed_in (map (λ h. answer h) hosts.old.items))
         (handed_in (map (λ h. answer h) hosts.new.items))) }
 {
     let instance = lay_out(alloc, checked, input)?;

@@ -1,29 +1,29 @@
 //! Steps of a run: from one construct past the next.
 ghost use Rattle.std.specs.Prelude.{◌≡◌, ◌<◌, ◌≤◌, ◌+◌, List, length, map, None, Some, IfOk, IfErr};
+ghost use Rattle.spf_ast_lemmas.specs.Limits.{max_workers};
 ghost use Rattle.spf_ast.specs.View.{program as seen_program};
 ghost use Rattle.spf_ast.specs.ConstructView.{construct as seen_construct};
 ghost use Rattle.spf_ast.specs.Construct.{constructs_in};
 ghost use Rattle.spf_ast.specs.Pieces.{construct_first};
 ghost use Rattle.spf_exec.specs.Pieces.{IsRunOf, ahead};
-ghost use Rattle.spf_layout.specs.Instance.{program_of};
-ghost use Rattle.spf_guess.specs.Guess.{Hosts};
-ghost use Rattle.spf_predictors.specs.Answers.{handed_in, WereTold};
-ghost use Rattle.spf_predictors.specs.Missing.{missing_host};
-ghost use Rattle.spf_progress.specs.Progress.{Progress, GoesOn};
-ghost use Rattle.spf_engine.specs.Runs.{IsSettledSo, AreFew, AgreesWith, StepsTo, GoesFurther, WereToldFirst};
+ghost use Rattle.spf_exec_instance.specs.Instance.{program_of};
+ghost use Rattle.spf_guess_statistics.specs.Guess.{Hosts};
+ghost use Rattle.spf_guess.specs.Answers.{handed_in, WereTold};
+ghost use Rattle.spf_guess.specs.Missing.{missing_host};
+ghost use Rattle.spf_engine_laws.specs.Progress.{Progress, GoesOn};
+ghost use Rattle.spf_engine.specs.Runs.{IsSettledSo, AreFew, AgreesWith, StepsTo, GoesFurther};
+ghost use Rattle.spf_engine.specs.Runs.{WereToldFirst};
 
 use crate::account::Account;
 use crate::construct::pass_construct;
 use spf_ast::construct::TopConstruct;
-use spf_ast::laws::lawful_programs_are_quiet_and_small;
 use spf_ast::outcome::Trap;
 use spf_chain::validated::Settled;
 use spf_check::checked::Checked;
-use spf_edge::Gate;
 use spf_exec::pieces::{Pause, Run};
-use spf_layout::instance::Instance;
-use spf_predictors::Predictor;
-use spf_progress::runs_in_pieces_go_on;
+use spf_exec_instance::instance::Instance;
+use spf_guess::Predictor;
+use spf_ticket_gate::Gate;
 use std::alloc::{AllocError, Global};
 use std::sync::Wait;
 use std::thread::Threads;
@@ -42,8 +42,10 @@ pub(crate) enum Step {
 /// Settles the construct that stands next with what its blocks came to.
 fn settle(run: &mut Run, instance: &Instance, construct: TopConstruct, settled: Settled) -> Step
     requires run { IsRunOf (program_of instance.now) (length instance.now.input) run.old }
-    requires construct { construct_first (ahead (program_of instance.now) run.old) ≡ Some (seen_construct construct) }
-    ensures settled { IsSettledSo (program_of instance.now) (seen_construct construct.entry) run.old run.new settled result }
+    requires construct { construct_first (ahead (program_of instance.now) run.old)
+        ≡ Some (seen_construct construct) }
+    ensures settled { IsSettledSo (program_of instance.now) (seen_construct construct.entry) run.old
+        run.new settled result }
     ensures run { IsRunOf (program_of instance.now) (length instance.now.input) run.new }
 {
     match settled {
@@ -69,26 +71,34 @@ fn pass<R: Threads + Wait + Sync, G: Gate + Sync>(
     hosts: &mut Vec<Box<dyn Predictor>>,
     gate: &G,
 ) -> Result<Step, AllocError>
-    requires workers { (0 < workers) × (workers ≤ 64) }
+    requires workers { (0 < workers) × (workers ≤ max_workers) }
     requires program { program_of instance.now ≡ seen_program checked.now }
-    requires hosts { missing_host (length hosts.old.items) (constructs_in (program_of instance.now).main) ≡ None }
+    requires hosts { missing_host (length hosts.old.items) (constructs_in (program_of instance.now).main)
+        ≡ None }
     requires run { IsRunOf (program_of instance.now) (length instance.now.input) run.old }
-    requires next { construct_first (ahead (program_of instance.now) run.old) ≡ Some (seen_construct construct) }
-    requires number { number + length (constructs_in (ahead (program_of instance.now) run.old)) ≡ length (constructs_in (program_of instance.now).main) }
+    requires next { construct_first (ahead (program_of instance.now) run.old)
+        ≡ Some (seen_construct construct) }
+    requires number { number + length (constructs_in (ahead (program_of instance.now) run.old))
+        ≡ length (constructs_in (program_of instance.now).main) }
     requires few { AreFew (program_of instance.now) run.old account.old.stats }
     ensures steps { IfOk result (λ s. (before : Hosts) (progress : Progress)
-        → AgreesWith progress account.old → WereTold before progress.telling (handed_in (map (λ h. answer h) hosts.old.items))
+        → AgreesWith progress account.old
+        → WereTold before progress.telling (handed_in (map (λ h. answer h) hosts.old.items))
         → GoesOn before (program_of instance.now) instance.now.input run.old progress
-        → StepsTo before (program_of instance.now) instance.now.input s run.new account.new (handed_in (map (λ h. answer h) hosts.new.items))) }
+        → StepsTo before (program_of instance.now) instance.now.input s run.new account.new
+        (handed_in (map (λ h. answer h) hosts.new.items))) }
     ensures told_first { IfErr result (λ why. (before : Hosts) (progress : Progress)
         → WereTold before progress.telling (handed_in (map (λ h. answer h) hosts.old.items))
         → GoesOn before (program_of instance.now) instance.now.input run.old progress
-        → WereToldFirst before (program_of instance.now) instance.now.input (handed_in (map (λ h. answer h) hosts.new.items))) }
+        → WereToldFirst before (program_of instance.now) instance.now.input
+        (handed_in (map (λ h. answer h) hosts.new.items))) }
     ensures count { length hosts.new.items ≡ length hosts.old.items }
     ensures run { IsRunOf (program_of instance.now) (length instance.now.input) run.new }
-    ensures further { IfOk result (λ s. GoesFurther (program_of instance.now) s run.old run.new account.new.stats) }
+    ensures further { IfOk result
+        (λ s. GoesFurther (program_of instance.now) s run.old run.new account.new.stats) }
 {
-    lawful_programs_are_quiet_and_small();
+    // Law: functions emit nothing, and there are fewer than 2^32 top constructs.
+    spf_ast::laws::lawful_programs_are_quiet_and_small();
     let _program = checked.program();
     let passed = pass_construct(
         rt, alloc, checked, instance, construct, number, run, workers, hosts, gate,
@@ -110,25 +120,32 @@ pub(crate) fn take_step<R: Threads + Wait + Sync, G: Gate + Sync>(
     hosts: &mut Vec<Box<dyn Predictor>>,
     gate: &G,
 ) -> Result<Step, AllocError>
-    requires workers { (0 < workers) × (workers ≤ 64) }
+    requires workers { (0 < workers) × (workers ≤ max_workers) }
     requires program { program_of instance.now ≡ seen_program checked.now }
-    requires hosts { missing_host (length hosts.old.items) (constructs_in (program_of instance.now).main) ≡ None }
+    requires hosts { missing_host (length hosts.old.items) (constructs_in (program_of instance.now).main)
+        ≡ None }
     requires run { IsRunOf (program_of instance.now) (length instance.now.input) run.old }
     requires few { AreFew (program_of instance.now) run.old account.old.stats }
     ensures steps { IfOk result (λ s. (before : Hosts) (progress : Progress)
-        → AgreesWith progress account.old → WereTold before progress.telling (handed_in (map (λ h. answer h) hosts.old.items))
+        → AgreesWith progress account.old
+        → WereTold before progress.telling (handed_in (map (λ h. answer h) hosts.old.items))
         → GoesOn before (program_of instance.now) instance.now.input run.old progress
-        → StepsTo before (program_of instance.now) instance.now.input s run.new account.new (handed_in (map (λ h. answer h) hosts.new.items))) }
+        → StepsTo before (program_of instance.now) instance.now.input s run.new account.new
+        (handed_in (map (λ h. answer h) hosts.new.items))) }
     ensures told_first { IfErr result (λ why. (before : Hosts) (progress : Progress)
         → WereTold before progress.telling (handed_in (map (λ h. answer h) hosts.old.items))
         → GoesOn before (program_of instance.now) instance.now.input run.old progress
-        → WereToldFirst before (program_of instance.now) instance.now.input (handed_in (map (λ h. answer h) hosts.new.items))) }
+        → WereToldFirst before (program_of instance.now) instance.now.input
+        (handed_in (map (λ h. answer h) hosts.new.items))) }
     ensures count { length hosts.new.items ≡ length hosts.old.items }
     ensures run { IsRunOf (program_of instance.now) (length instance.now.input) run.new }
-    ensures further { IfOk result (λ s. GoesFurther (program_of instance.now) s run.old run.new account.new.stats) }
+    ensures further { IfOk result
+        (λ s. GoesFurther (program_of instance.now) s run.old run.new account.new.stats) }
 {
-    runs_in_pieces_go_on();
-    lawful_programs_are_quiet_and_small();
+    // Law: a run in pieces goes on as the plain run does.
+    spf_engine_laws::runs_in_pieces_go_on();
+    // Law: functions emit nothing, and there are fewer than 2^32 top constructs.
+    spf_ast::laws::lawful_programs_are_quiet_and_small();
     let _program = checked.program();
     match run.advance(instance)? {
         Pause::Finished => Ok(Step::Finished),

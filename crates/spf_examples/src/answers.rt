@@ -1,11 +1,12 @@
 // Runs the command lines of a table over files and sinks in memory.
 
 use crate::table::{Reader, Row, words};
+use spf_apps_formats::toy::toy_machine;
 use spf_cli::run_file;
-use spf_edge::{MemFiles, MemSink, Open};
-use spf_formats::toy::toy_machine;
-use spf_predictors::{Last, Predictor};
-use spf_shell::answer;
+use spf_cli_shell::answer;
+use spf_edge::{MemFiles, MemSink};
+use spf_guess::{Last, Predictor};
+use spf_ticket_gate::Open;
 use std::alloc::{AllocError, Global};
 use std::sync::Wait;
 use std::thread::Threads;
@@ -98,7 +99,8 @@ fn is_answered<R: Threads + Wait + Sync>(
     Ok(is_wanted(row, status, &out, &err) && is_done_so(alloc, row, &files, &out)?)
 }
 
-/// Whether a run over the program and the input at hand, without the command line, is answered as wanted.
+/// Whether a run over the program and the input at hand, without the command line, is answered as
+/// wanted.
 fn is_answered_at_hand<R: Threads + Wait + Sync>(
     rt: &R,
     alloc: Global,
@@ -125,7 +127,8 @@ fn is_answered_at_hand<R: Threads + Wait + Sync>(
     Ok(is_wanted(row, status, &out, &err))
 }
 
-/// Whether a command line is answered as wanted, and, where it shows the statistics of a run and fetches both files, the same run at hand.
+/// Whether a command line is answered as wanted, and, where it shows the statistics of a run and
+/// fetches both files, the same run at hand.
 pub fn is_right<R: Threads + Wait + Sync>(
     rt: &R,
     alloc: Global,

@@ -1,7 +1,8 @@
 // Whether the command runs blocks at once.
 
 use spf_cli::spf_main;
-use spf_edge::{Barrier, MemFiles, MemSink};
+use spf_edge::{MemFiles, MemSink};
+use spf_ticket_gate::Barrier;
 use std::alloc::{AllocError, Global};
 use std::sync::Wait;
 use std::thread::Threads;
@@ -10,8 +11,9 @@ use std::thread::Threads;
 const PROGRAM: &[u8] =
     b"main { specfold s = 1 for k in 0..5 predict 1 << k { next s * 2; } emit s; }";
 
-/// Runs the program by the top call on so many workers, with a gate that holds the first attempts of two blocks for so many
-/// iterations at most. Gives whether the answer is right, and whether the two attempts were under way at once.
+/// Runs the program by the top call on so many workers, with a gate that holds the first attempts
+/// of two blocks for so many iterations at most. Gives whether the answer is right, and whether the
+/// two attempts were under way at once.
 pub fn run_at_gate<R: Threads + Wait + Sync>(
     rt: &R,
     alloc: Global,

@@ -1,11 +1,12 @@
 // Runs of the examples, and what is expected of them.
 //
-// `expected.txt` lists them. A line that isn't indented has the words of a run. The indented lines after it are what is expected:
-// `status N`, where the status isn't 0; `output FILE`, where there is an output; and the lines of the error stream.
+// `expected.txt` lists them. A line that isn't indented has the words of a run. The indented lines
+// after it are what is expected: `status N`, where the status isn't 0; `output FILE`, where there
+// is an output; and the lines of the error stream.
 
 use crate::table::words;
+use spf_cli_shell::answer;
 use spf_edge::{FetchError, Files, MemSink};
-use spf_shell::answer;
 use std::alloc::{AllocError, Global};
 use std::sync::Wait;
 use std::thread::Threads;

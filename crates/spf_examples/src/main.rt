@@ -1,6 +1,8 @@
-//! Runs the examples in its folder, and the command lines of a table, and says whether each was answered as expected.
+//! Runs the examples in its folder, and the command lines of a table, and says whether each was
+//! answered as expected.
 //!
-//! `expected.txt` lists the runs of the examples, which read real files, and `answers.txt` the command lines, which read files in memory.
+//! `expected.txt` lists the runs of the examples, which read real files, and `answers.txt` the
+//! command lines, which read files in memory.
 #![tactic(auto)]
 
 mod answers;
@@ -37,7 +39,8 @@ fn run_examples<R: Print + rt::Files + AllocGlobal + Threads + Wait + Sync>(
     Ok(wrong)
 }
 
-/// Runs the command lines. Gives how many there are, and how many of them are answered otherwise than wanted.
+/// Runs the command lines. Gives how many there are, and how many of them are answered otherwise
+/// than wanted.
 fn run_table<R: Print + rt::Files + AllocGlobal + Threads + Wait + Sync>(
     rt: &R,
 ) -> io::Result<(u64, u64)> {
@@ -59,7 +62,8 @@ fn run_table<R: Print + rt::Files + AllocGlobal + Threads + Wait + Sync>(
     Ok((count, wrong))
 }
 
-/// Runs two blocks on two workers, and on one. Gives whether they were under way at once on two, and one after the other on one.
+/// Runs two blocks on two workers, and on one. Gives whether they were under way at once on two,
+/// and one after the other on one.
 fn run_gates<R: AllocGlobal + Threads + Wait + Sync>(rt: &R) -> io::Result<bool> {
     let alloc = rt.alloc();
     let on_two = run_at_gate(rt, alloc, "2", 100_000_000)?;

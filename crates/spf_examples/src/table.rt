@@ -1,17 +1,22 @@
 // The table of command lines.
 //
-// `answers.txt` is the table. `#` begins a comment. Lines that aren't indented say what the files are, and what the command line is:
+// `answers.txt` is the table. `#` begins a comment. Lines that aren't indented say what the files
+// are, and what the command line is:
 //
-// - `program TEXT`: the file `P` has this text; or `program` alone, and then its lines, each after `|`;
-// - `lines COUNT TEXT`: so many lines more of it, in each of which `#` stands for the line's number, counted from 0;
-// - `input TEXT`: the file `I` has this text; `bytes 1 2 0*65`: it has these bytes, here 0 65 times; the file `M` is the toy machine;
+// - `program TEXT`: the file `P` has this text; or `program` alone, and then its lines, each after
+//   `|`;
+// - `lines COUNT TEXT`: so many lines more of it, in each of which `#` stands for the line's
+//   number, counted from 0;
+// - `input TEXT`: the file `I` has this text; `bytes 1 2 0*65`: it has these bytes, here 0 65
+//   times; the file `M` is the toy machine;
 // - `words WORDS`: the command line, with a space between any two words.
 //
 // The indented lines after it are what is wanted:
 //
 // - `status N`, where it isn't 0; `> LINE`: a line of the output; `bytes ..`: bytes of the output;
 // - `! LINE`: a line of the error stream; `part TEXT`: a part of one;
-// - `fetch N`: this fetch fails, counted from 0; `put N K` and `line N K`: this put on the output or on the error stream fails after K bytes;
+// - `fetch N`: this fetch fails, counted from 0; `put N K` and `line N K`: this put on the output
+//   or on the error stream fails after K bytes;
 // - `fetched NAMES`: these files are fetched, in this order, and no others;
 // - `pieces N N`: the output is put in pieces of so many bytes, the one that fails with them.
 //
@@ -35,7 +40,8 @@ pub struct Row<'a> {
     pub failing_line: Option<(u64, u64)>,
     /// The names that are fetched, with a space between any two, where the table says it.
     pub fetched: Option<&'a str>,
-    /// How long the pieces of the output are, with a space between any two, where the table says it.
+    /// How long the pieces of the output are, with a space between any two, where the table says
+    /// it.
     pub pieces: Option<&'a str>,
 }
 

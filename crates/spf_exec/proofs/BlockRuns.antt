@@ -18,16 +18,16 @@ use Rattle.spf_ast.specs.Silence.{PartIsSilent, FunctionsAreSilent, with_output,
 use Rattle.spf_ast.proofs.Leaving.{CallsLeave, leaves-then, expression-leaves, calls-leave, part-leaves}
 use Rattle.spf_ast.proofs.Performing.{perform-bind, carry}
 use Rattle.spf_ast.proofs.PlainRuns.{chosen}
-use Rattle.spf_memory.specs.declared.memory.Halt.{Halt}
-use Rattle.spf_memory.specs.declared.memory.Halt.TheVariants as h
+use Rattle.spf_exec_memory.specs.declared.memory.Halt.{Halt}
+use Rattle.spf_exec_memory.specs.declared.memory.Halt.TheVariants as h
 use Rattle.spf_exec.specs.declared.pieces.Header as code_header
 use Rattle.spf_exec.specs.Pieces.{header_result}
-use Rattle.spf_memory.specs.Performs.{Performs, performed_as, IsDecided, LackIsAllowed}
-use Rattle.spf_memory.specs.QuietMemory.{LeadsQuietly}
-use Rattle.spf_memory.specs.ReadMemory.{LeadsUnstored, IsReadOf}
+use Rattle.spf_exec_memory.specs.Performs.{Performs, performed_as, IsDecided, LackIsAllowed}
+use Rattle.spf_exec_memory.specs.QuietMemory.{LeadsQuietly}
+use Rattle.spf_exec_memory.specs.ReadMemory.{LeadsUnstored, IsReadOf}
 use Rattle.spf_exec.specs.BlockRuns.{PerformsOver}
-use Rattle.spf_memory.specs.PlainMemory.{LeadsPlainly, IsPlainOutcome}
-use Rattle.spf_memory.proofs.Outcome.{never_stops, plain_outcome}
+use Rattle.spf_exec_memory.specs.PlainMemory.{LeadsPlainly, IsPlainOutcome}
+use Rattle.spf_exec_memory.proofs.Outcome.{never_stops, plain_outcome}
 
 -- the slots at an end
 abbrev slots_at : {A : Type 0} → Performed (Ending A) → List ℤ

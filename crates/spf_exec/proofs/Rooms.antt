@@ -4,7 +4,7 @@ use Rattle.std.specs.Prelude.{slice_get, MatchOption}
 use Rattle.spf_ast.specs.declared.syntax.Stmt.{Stmt}
 use Rattle.spf_ast.specs.Syntax.{Break, Block, end, on_line, Let, Assign, Store, Fill, Emit, Fail, If, For, While, Do, Fold, Pair}
 use Rattle.spf_ast.specs.View.{block, statement}
-use Rattle.spf_registers.specs.Registers.{block_needs, statement_needs}
+use Rattle.spf_code_registers.specs.Registers.{block_needs, statement_needs}
 use Rattle.spf_ast.specs.Construct.{Construct, constructs_in}
 use Rattle.spf_exec.specs.Sources.{construct_needs}
 

@@ -4,8 +4,8 @@ use Rattle.std.specs.Prelude.{Bool, true, false, ◌==◌, if◌then◌else◌}
 use Rattle.spf_ast.specs.Meaning.{Extent, extent_in}
 use Rattle.spf_ast.specs.Syntax.{Program}
 use Rattle.spf_ast.specs.Program.{size_of, sizes, extents_from, cell_count_of, max_cells_in, most_cells}
-use Rattle.spf_layout.specs.Layout.{LayoutValue, IsLayoutOf}
-use Rattle.spf_memory.specs.Performs.{AreWithin}
+use Rattle.spf_exec_instance.specs.Layout.{LayoutValue, IsLayoutOf}
+use Rattle.spf_exec_memory.specs.Performs.{AreWithin}
 
 -- each array lies within the cells of all
 each_within : (len base : ℕ) (arrays : List _) (i : ℕ) → (extent_in (extents_from len base arrays) i).0 + (extent_in (extents_from len base arrays) i).1 ≤ base + sizes len arrays

@@ -3,11 +3,11 @@ use Rattle.std.specs.Prelude.{ℕ, List, Option, Result, Ok, Err, ℤ}
 use Rattle.spf_ast.specs.Carried.{Carried}
 use Rattle.spf_ast.specs.Event.{Event}
 use Rattle.spf_ast.specs.Interaction.{Interaction, Ending}
-use Rattle.spf_layout.specs.declared.stop.Stop.{Stop}
-use Rattle.spf_layout.specs.declared.stop.Stop.TheVariants as stop
-use Rattle.spf_memory.specs.declared.memory.Halt.{Halt}
-use Rattle.spf_memory.specs.declared.memory.Halt.TheVariants as halt
-use Rattle.spf_memory.specs.Performs.{Performs}
+use Rattle.spf_exec.specs.declared.stop.Stop.{Stop}
+use Rattle.spf_exec.specs.declared.stop.Stop.TheVariants as stop
+use Rattle.spf_exec_memory.specs.declared.memory.Halt.{Halt}
+use Rattle.spf_exec_memory.specs.declared.memory.Halt.TheVariants as halt
+use Rattle.spf_exec_memory.specs.Performs.{Performs}
 
 -- the stop of a block run, as the result of a performance
 abbrev pub stop_result : Stop → Result Carried Halt

@@ -10,9 +10,9 @@ use Rattle.spf_ast.specs.Program.{environment_of, cell_count_of, start_of, zeros
 use Rattle.spf_ast.specs.Construct.{Construct, Moment, Header, plainly, header_means, constructs_in, carried_of}
 use Rattle.spf_ast.specs.ConstructView.{construct as seen_construct}
 use Rattle.spf_ast.specs.Pieces.{statement_count, rest_from, before_construct, from_construct, construct_first}
-use Rattle.spf_layout.specs.Frame.{frame_size, main_slots}
-use Rattle.spf_memory.specs.declared.memory.Halt.{Halt}
-use Rattle.spf_memory.specs.declared.plain.Plain.{Plain}
+use Rattle.spf_exec_instance.specs.Frame.{frame_size, main_slots}
+use Rattle.spf_exec_memory.specs.declared.memory.Halt.{Halt}
+use Rattle.spf_exec_memory.specs.declared.plain.Plain.{Plain}
 use Rattle.spf_exec.specs.declared.pieces.Header as code_header
 use Rattle.spf_exec.specs.declared.pieces.Pause.{Pause}
 use Rattle.spf_exec.specs.declared.pieces.Pause.TheVariants as pause

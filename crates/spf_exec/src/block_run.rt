@@ -7,36 +7,41 @@ ghost use Rattle.spf_ast.specs.declared.syntax.Part.TheVariants.{Predictor};
 ghost use Rattle.spf_ast.specs.View.{block as seen_block, fold_head, pair_head, predictor};
 ghost use Rattle.spf_ast.specs.Syntax.{Fold as fold_form, Pair as pair_form};
 ghost use Rattle.spf_ast.specs.ConstructView.{construct as seen_construct};
-ghost use Rattle.spf_ast.specs.Construct.{constructs_in, part_means, guess_means, guess_at, guess_part_means, fold as fold_construct, pair as pair_construct};
+ghost use Rattle.spf_ast.specs.Construct.{constructs_in, part_means, guess_means, guess_at};
+ghost use Rattle.spf_ast.specs.Construct.{guess_part_means, fold as fold_construct};
+ghost use Rattle.spf_ast.specs.Construct.{pair as pair_construct};
 ghost use Rattle.spf_ast.specs.Carried.{IsWidth, no_row};
 ghost use Rattle.spf_ast.specs.BlockRun.{block_setup, part_asks, predicts};
 ghost use Rattle.spf_ast.specs.GoingOn.{StatementIsOrderly};
 ghost use Rattle.spf_ast.specs.Program.{cell_count_of, environment_of};
 ghost use Rattle.spf_ast.specs.Silence.{FunctionsAreSilent, PartIsSilent};
 ghost use Rattle.spf_ast.specs.Slots.{LeavesOtherSlots};
-ghost use Rattle.spf_registers.specs.Registers.{rooms, predictor_needs, predictors_need, statement_needs};
+ghost use Rattle.spf_code_registers.specs.Registers.{rooms, predictor_needs, predictors_need};
+ghost use Rattle.spf_code_registers.specs.Registers.{statement_needs};
 ghost use Rattle.spf_code.specs.NodeView.{code as seen_code};
-ghost use Rattle.spf_lowering.specs.Lowering.{IsGuessCode, AreGuessCodes, SetsNoSlot, IsFoldCode, IsPairCode, IsConstructCode};
-ghost use Rattle.spf_layout.specs.Frame.{frame_size, main_slots};
-ghost use Rattle.spf_layout.specs.Instance.{program_of};
-ghost use Rattle.spf_memory.specs.Performs.{Performs, state};
+ghost use Rattle.spf_code_lowering.specs.Lowering.{IsGuessCode, AreGuessCodes, SetsNoSlot};
+ghost use Rattle.spf_code_lowering.specs.Lowering.{IsFoldCode, IsPairCode, IsConstructCode};
+ghost use Rattle.spf_exec_instance.specs.Frame.{frame_size, main_slots};
+ghost use Rattle.spf_exec_instance.specs.Instance.{program_of};
+ghost use Rattle.spf_exec_memory.specs.Performs.{Performs, state};
 ghost use Rattle.spf_exec.specs.Sources.{callable_of, construct_needs, ConstructIsOrderly};
 ghost use Rattle.spf_exec.specs.BlockRuns.{PerformsOver, stop_result};
 
 use crate::entry;
 use crate::frame::Frame;
+use crate::stop::Stop;
 use spf_ast::construct::{ConstructKind, TopConstruct};
 use spf_ast::outcome::Trap;
 use spf_ast::row::{Row, set_carried};
 use spf_ast::syntax::{Fold, Pair, Part, Predict};
 use spf_code::program::{ConstructCode, ValueCode};
-use spf_layout::instance::Instance;
-use spf_layout::stop::Stop;
-use spf_memory::memory::{Halt, Memory};
-use spf_memory::primitives::write;
-use spf_memory::quiet::{Quiet, ReadOnly};
+use spf_exec_instance::instance::Instance;
+use spf_exec_memory::memory::{Halt, Memory};
+use spf_exec_memory::primitives::write;
+use spf_exec_memory::quiet::{Quiet, ReadOnly};
 
-/// One block of a top construct: which part of the construct it runs, and with which block number and carried row.
+/// One block of a top construct: which part of the construct it runs, and with which block number
+/// and carried row.
 #[derive(Clone, Copy)]
 pub struct Block<'a> {
     pub construct: TopConstruct<'a>,
@@ -56,17 +61,23 @@ fn perform_guess<M: Memory>(
     registers: &mut [i64],
     memory: &mut M,
 ) -> Result<i64, Halt>
-    requires cells { M.cell_count memory.old ≡ cell_count_of (program_of instance.now) (length instance.now.input) }
-    requires code { IsGuessCode (callable_of (program_of instance.now)) (rooms (program_of instance.now)) (length (program_of instance.now).slots)
-        line (predictor predict.now) code.now }
-    requires sets { SetsNoSlot (length (program_of instance.now).slots) (seen_code code.now.nodes.items) }
-    requires room { length (program_of instance.now).slots + predictor_needs (rooms (program_of instance.now)) (predictor predict.now)
+    requires cells { M.cell_count memory.old
+        ≡ cell_count_of (program_of instance.now) (length instance.now.input) }
+    requires code { IsGuessCode (callable_of (program_of instance.now))
+        (rooms (program_of instance.now)) (length (program_of instance.now).slots) line
+        (predictor predict.now) code.now }
+    requires sets { SetsNoSlot (length (program_of instance.now).slots)
+        (seen_code code.now.nodes.items) }
+    requires room { length (program_of instance.now).slots
+        + predictor_needs (rooms (program_of instance.now)) (predictor predict.now)
         ≤ length registers.old }
-    ensures performs { Performs M.leads M.stop M.may_lack_memory
-        (guess_means (environment_of (program_of instance.now) instance.now.input) line (predictor predict.now)
+    ensures performs { Performs M.leads M.stop M.may_lack_memory (guess_means
+        (environment_of (program_of instance.now) instance.now.input) line (predictor predict.now)
         (state (main_slots (program_of instance.now) registers.old) (M.output memory.old)))
-        memory.old memory.new result (state (main_slots (program_of instance.now) registers.new) (M.output memory.new)) }
-    ensures kept { main_slots (program_of instance.now) registers.new ≡ main_slots (program_of instance.now) registers.old }
+        memory.old memory.new result
+        (state (main_slots (program_of instance.now) registers.new) (M.output memory.new)) }
+    ensures kept { main_slots (program_of instance.now) registers.new
+        ≡ main_slots (program_of instance.now) registers.old }
 {
     match predict {
         Predict::Expr(guess) => {
@@ -96,23 +107,29 @@ fn perform_fold<M: Memory>(
     registers: &mut [i64],
     memory: &mut M,
 ) -> Result<Row, Halt>
-    requires cells { M.cell_count memory.old ≡ cell_count_of (program_of instance.now) (length instance.now.input) }
-    requires code { IsFoldCode (callable_of (program_of instance.now)) (rooms (program_of instance.now)) (length (program_of instance.now).slots)
-        line (fold_head fold.now) (seen_block (out-Fold fold.now).body.items) code.now }
-    requires room { length (program_of instance.now).slots + statement_needs (rooms (program_of instance.now))
+    requires cells { M.cell_count memory.old
+        ≡ cell_count_of (program_of instance.now) (length instance.now.input) }
+    requires code { IsFoldCode (callable_of (program_of instance.now))
+        (rooms (program_of instance.now)) (length (program_of instance.now).slots) line
+        (fold_head fold.now) (seen_block (out-Fold fold.now).body.items) code.now }
+    requires room { length (program_of instance.now).slots
+        + statement_needs (rooms (program_of instance.now))
         (fold_form (fold_head fold.now) (seen_block (out-Fold fold.now).body.items))
         ≤ length registers.old }
-    requires orderly { StatementIsOrderly (fold_form (fold_head fold.now) (seen_block (out-Fold fold.now).body.items)) }
+    requires orderly { StatementIsOrderly
+        (fold_form (fold_head fold.now) (seen_block (out-Fold fold.now).body.items)) }
     requires run { part ≢ Predictor }
-    ensures performs { Performs M.leads M.stop M.may_lack_memory
-        (part_means (environment_of (program_of instance.now) instance.now.input)
-        (fold_construct line (fold_head fold.now) (seen_block (out-Fold fold.now).body.items))
-        part number row
+    ensures performs { Performs M.leads M.stop M.may_lack_memory (part_means
+        (environment_of (program_of instance.now) instance.now.input)
+        (fold_construct line (fold_head fold.now) (seen_block (out-Fold fold.now).body.items)) part
+        number row
         (state (main_slots (program_of instance.now) registers.old) (M.output memory.old)))
-        memory.old memory.new result (state (main_slots (program_of instance.now) registers.new) (M.output memory.new)) }
+        memory.old memory.new result
+        (state (main_slots (program_of instance.now) registers.new) (M.output memory.new)) }
     ensures kept { LeavesOtherSlots
-        (fold_construct line (fold_head fold.now) (seen_block (out-Fold fold.now).body.items))
-        part (main_slots (program_of instance.now) registers.old) (main_slots (program_of instance.now) registers.new) }
+        (fold_construct line (fold_head fold.now) (seen_block (out-Fold fold.now).body.items)) part
+        (main_slots (program_of instance.now) registers.old)
+        (main_slots (program_of instance.now) registers.new) }
 {
     match part {
         Part::Body => {
@@ -137,29 +154,33 @@ fn perform_pair<M: Memory>(
     registers: &mut [i64],
     memory: &mut M,
 ) -> Result<Row, Halt>
-    requires cells { M.cell_count memory.old ≡ cell_count_of (program_of instance.now) (length instance.now.input) }
-    requires code { IsPairCode (callable_of (program_of instance.now)) (rooms (program_of instance.now)) (length (program_of instance.now).slots)
-        line (pair_head pair.now) (seen_block (out-Pair pair.now).producer.items) (seen_block (out-Pair pair.now).consumer.items) code.now }
-    requires room { length (program_of instance.now).slots + statement_needs (rooms (program_of instance.now))
-        (pair_form (pair_head pair.now)
+    requires cells { M.cell_count memory.old
+        ≡ cell_count_of (program_of instance.now) (length instance.now.input) }
+    requires code { IsPairCode (callable_of (program_of instance.now))
+        (rooms (program_of instance.now)) (length (program_of instance.now).slots) line
+        (pair_head pair.now) (seen_block (out-Pair pair.now).producer.items)
+        (seen_block (out-Pair pair.now).consumer.items) code.now }
+    requires room { length (program_of instance.now).slots
+        + statement_needs (rooms (program_of instance.now)) (pair_form (pair_head pair.now)
         (seen_block (out-Pair pair.now).producer.items)
-        (seen_block (out-Pair pair.now).consumer.items))
-        ≤ length registers.old }
-    requires orderly { StatementIsOrderly (pair_form (pair_head pair.now) (seen_block (out-Pair pair.now).producer.items) (seen_block (out-Pair pair.now).consumer.items)) }
+        (seen_block (out-Pair pair.now).consumer.items)) ≤ length registers.old }
+    requires orderly { StatementIsOrderly (pair_form (pair_head pair.now)
+        (seen_block (out-Pair pair.now).producer.items)
+        (seen_block (out-Pair pair.now).consumer.items)) }
     requires run { part ≢ Predictor }
-    ensures performs { (number : ℤ) → Performs M.leads M.stop M.may_lack_memory
-        (part_means (environment_of (program_of instance.now) instance.now.input)
-        (pair_construct line (pair_head pair.now)
-        (seen_block (out-Pair pair.now).producer.items)
-        (seen_block (out-Pair pair.now).consumer.items))
-        part number row
+    ensures performs { (number : ℤ)
+        → Performs M.leads M.stop M.may_lack_memory (part_means
+        (environment_of (program_of instance.now) instance.now.input) (pair_construct line
+        (pair_head pair.now) (seen_block (out-Pair pair.now).producer.items)
+        (seen_block (out-Pair pair.now).consumer.items)) part number row
         (state (main_slots (program_of instance.now) registers.old) (M.output memory.old)))
-        memory.old memory.new result (state (main_slots (program_of instance.now) registers.new) (M.output memory.new)) }
-    ensures kept { LeavesOtherSlots
-        (pair_construct line (pair_head pair.now)
+        memory.old memory.new result
+        (state (main_slots (program_of instance.now) registers.new) (M.output memory.new)) }
+    ensures kept { LeavesOtherSlots (pair_construct line (pair_head pair.now)
         (seen_block (out-Pair pair.now).producer.items)
-        (seen_block (out-Pair pair.now).consumer.items))
-        part (main_slots (program_of instance.now) registers.old) (main_slots (program_of instance.now) registers.new) }
+        (seen_block (out-Pair pair.now).consumer.items)) part
+        (main_slots (program_of instance.now) registers.old)
+        (main_slots (program_of instance.now) registers.new) }
 {
     match part {
         Part::Producer => entry::row_of(instance, &code.first, registers, memory),
@@ -181,20 +202,25 @@ fn perform_part<M: Memory>(
     registers: &mut [i64],
     memory: &mut M,
 ) -> Result<Row, Halt>
-    requires cells { M.cell_count memory.old ≡ cell_count_of (program_of instance.now) (length instance.now.input) }
-    requires code { IsConstructCode (callable_of (program_of instance.now)) (rooms (program_of instance.now)) (length (program_of instance.now).slots)
+    requires cells { M.cell_count memory.old
+        ≡ cell_count_of (program_of instance.now) (length instance.now.input) }
+    requires code { IsConstructCode (callable_of (program_of instance.now))
+        (rooms (program_of instance.now)) (length (program_of instance.now).slots)
         (seen_construct block.now.construct) code.now }
-    requires room { length (program_of instance.now).slots + construct_needs (rooms (program_of instance.now)) (seen_construct block.now.construct)
+    requires room { length (program_of instance.now).slots
+        + construct_needs (rooms (program_of instance.now)) (seen_construct block.now.construct)
         ≤ length registers.old }
     requires orderly { ConstructIsOrderly (seen_construct block.now.construct) }
     requires run { block.now.part ≢ Predictor }
-    ensures performs { Performs M.leads M.stop M.may_lack_memory
-        (part_means (environment_of (program_of instance.now) instance.now.input) (seen_construct block.now.construct)
-        block.now.part block.now.number block.now.value
+    ensures performs { Performs M.leads M.stop M.may_lack_memory (part_means
+        (environment_of (program_of instance.now) instance.now.input)
+        (seen_construct block.now.construct) block.now.part block.now.number block.now.value
         (state (main_slots (program_of instance.now) registers.old) (M.output memory.old)))
-        memory.old memory.new result (state (main_slots (program_of instance.now) registers.new) (M.output memory.new)) }
+        memory.old memory.new result
+        (state (main_slots (program_of instance.now) registers.new) (M.output memory.new)) }
     ensures kept { LeavesOtherSlots (seen_construct block.now.construct) block.now.part
-        (main_slots (program_of instance.now) registers.old) (main_slots (program_of instance.now) registers.new) }
+        (main_slots (program_of instance.now) registers.old)
+        (main_slots (program_of instance.now) registers.new) }
 {
     let line = block.construct.line;
     match block.construct.kind {
@@ -229,18 +255,21 @@ fn run_part<M: Memory>(
     frame: &mut Frame,
     memory: &mut M,
 ) -> Result<Row, Halt>
-    requires construct { slice_get (constructs_in (program_of instance.now).main) block.now.index ≡ Some (seen_construct block.now.construct) }
-    requires cells { M.cell_count memory.old ≡ cell_count_of (program_of instance.now) (length instance.now.input) }
+    requires construct { slice_get (constructs_in (program_of instance.now).main) block.now.index
+        ≡ Some (seen_construct block.now.construct) }
+    requires cells { M.cell_count memory.old
+        ≡ cell_count_of (program_of instance.now) (length instance.now.input) }
     requires frame { length frame.old ≡ frame_size (program_of instance.now) }
     requires run { block.now.part ≢ Predictor }
-    ensures performs { Performs M.leads M.stop M.may_lack_memory
-        (part_means (environment_of (program_of instance.now) instance.now.input) (seen_construct block.now.construct)
-        block.now.part block.now.number block.now.value
-        (state (main_slots (program_of instance.now) frame.old) (M.output memory.old)))
-        memory.old memory.new result
+    ensures performs { Performs M.leads M.stop M.may_lack_memory (part_means
+        (environment_of (program_of instance.now) instance.now.input)
+        (seen_construct block.now.construct) block.now.part block.now.number block.now.value
+        (state (main_slots (program_of instance.now) frame.old) (M.output memory.old))) memory.old
+        memory.new result
         (state (main_slots (program_of instance.now) frame.new) (M.output memory.new)) }
     ensures kept { LeavesOtherSlots (seen_construct block.now.construct) block.now.part
-        (main_slots (program_of instance.now) frame.old) (main_slots (program_of instance.now) frame.new) }
+        (main_slots (program_of instance.now) frame.old)
+        (main_slots (program_of instance.now) frame.new) }
     ensures size { length frame.new ≡ length frame.old }
 {
     let code = &instance.code().constructs[block.index as usize];
@@ -254,49 +283,56 @@ fn run_quietly<M: Memory>(
     frame: &mut Frame,
     quiet: &mut Quiet<M>,
 ) -> Result<Row, Halt>
-    requires construct { slice_get (constructs_in (program_of instance.now).main) block.now.index ≡ Some (seen_construct block.now.construct) }
-    requires cells { M.cell_count quiet.old.memory.now ≡ cell_count_of (program_of instance.now) (length instance.now.input) }
+    requires construct { slice_get (constructs_in (program_of instance.now).main) block.now.index
+        ≡ Some (seen_construct block.now.construct) }
+    requires cells { M.cell_count quiet.old.memory.now
+        ≡ cell_count_of (program_of instance.now) (length instance.now.input) }
     requires frame { length frame.old ≡ frame_size (program_of instance.now) }
     requires silent { PartIsSilent (seen_construct block.now.construct) block.now.part }
     requires functions_silent { FunctionsAreSilent (program_of instance.now).functions }
     requires run { block.now.part ≢ Predictor }
-    ensures performs { PerformsOver M.leads M.stop ⊥
-        (part_asks (program_of instance.now) (seen_construct block.now.construct) block.now.part
-        (block_setup instance.now.input (main_slots (program_of instance.now) frame.old) block.now.number block.now.value))
+    ensures performs { PerformsOver M.leads M.stop ⊥ (part_asks (program_of instance.now)
+        (seen_construct block.now.construct) block.now.part (block_setup instance.now.input
+        (main_slots (program_of instance.now) frame.old) block.now.number block.now.value))
         quiet.old.memory.now quiet.new.memory.now result [] }
     ensures same_reference { quiet.new.memory.ghost_name ≡ quiet.old.memory.ghost_name }
     ensures output { M.output quiet.new.memory.now ≡ M.output quiet.old.memory.now }
     ensures kept { LeavesOtherSlots (seen_construct block.now.construct) block.now.part
-        (main_slots (program_of instance.now) frame.old) (main_slots (program_of instance.now) frame.new) }
+        (main_slots (program_of instance.now) frame.old)
+        (main_slots (program_of instance.now) frame.new) }
     ensures size { length frame.new ≡ length frame.old }
 {
     run_part(instance, block, frame, quiet)
 }
 
-/// Runs one block of a top construct: a body, a producer or a consumer that holds no `emit`, with a block number and a carried
-/// row. It asks the memory for what the block means, event by event, and is stopped at a turn whose number reaches the memory's
-/// stopping number. However it ends, a slot of `main` that the part neither declares nor assigns is as before, and nothing is put
-/// into the memory's output.
+/// Runs one block of a top construct: a body, a producer or a consumer that holds no `emit`, with a
+/// block number and a carried row. It asks the memory for what the block means, event by event, and
+/// is stopped at a turn whose number reaches the memory's stopping number. However it ends, a slot
+/// of `main` that the part neither declares nor assigns is as before, and nothing is put into the
+/// memory's output.
 pub fn exec_block<M: Memory>(
     instance: &Instance,
     block: &Block,
     frame: &mut Frame,
     memory: &mut M,
 ) -> Stop
-    requires construct { slice_get (constructs_in (program_of instance.now).main) block.now.index ≡ Some (seen_construct block.now.construct) }
-    requires cells { M.cell_count memory.old ≡ cell_count_of (program_of instance.now) (length instance.now.input) }
+    requires construct { slice_get (constructs_in (program_of instance.now).main) block.now.index
+        ≡ Some (seen_construct block.now.construct) }
+    requires cells { M.cell_count memory.old
+        ≡ cell_count_of (program_of instance.now) (length instance.now.input) }
     requires frame { length frame.old ≡ frame_size (program_of instance.now) }
     requires silent { PartIsSilent (seen_construct block.now.construct) block.now.part }
     requires functions_silent { FunctionsAreSilent (program_of instance.now).functions }
     requires run { block.now.part ≢ Predictor }
-    ensures performs { PerformsOver M.leads M.stop ⊥
-        (part_asks (program_of instance.now) (seen_construct block.now.construct) block.now.part
-        (block_setup instance.now.input (main_slots (program_of instance.now) frame.old) block.now.number block.now.value))
+    ensures performs { PerformsOver M.leads M.stop ⊥ (part_asks (program_of instance.now)
+        (seen_construct block.now.construct) block.now.part (block_setup instance.now.input
+        (main_slots (program_of instance.now) frame.old) block.now.number block.now.value))
         memory.old memory.new (stop_result result) [] }
     ensures output { M.output memory.new ≡ M.output memory.old }
     ensures cells { M.cell_count memory.new ≡ M.cell_count memory.old }
     ensures kept { LeavesOtherSlots (seen_construct block.now.construct) block.now.part
-        (main_slots (program_of instance.now) frame.old) (main_slots (program_of instance.now) frame.new) }
+        (main_slots (program_of instance.now) frame.old)
+        (main_slots (program_of instance.now) frame.new) }
     ensures size { length frame.new ≡ length frame.old }
 {
     let mut quiet = Quiet { memory };
@@ -319,16 +355,22 @@ fn guess_of<M: Memory>(
     registers: &mut [i64],
     memory: &mut M,
 ) -> Result<i64, Halt>
-    requires cells { M.cell_count memory.old ≡ cell_count_of (program_of instance.now) (length instance.now.input) }
-    requires codes { AreGuessCodes (callable_of (program_of instance.now)) (rooms (program_of instance.now)) (length (program_of instance.now).slots)
-        line (map predictor predict.now) codes.now }
-    requires room { length (program_of instance.now).slots + predictors_need (rooms (program_of instance.now)) (map predictor predict.now)
+    requires cells { M.cell_count memory.old
+        ≡ cell_count_of (program_of instance.now) (length instance.now.input) }
+    requires codes { AreGuessCodes (callable_of (program_of instance.now))
+        (rooms (program_of instance.now)) (length (program_of instance.now).slots) line
+        (map predictor predict.now) codes.now }
+    requires room { length (program_of instance.now).slots
+        + predictors_need (rooms (program_of instance.now)) (map predictor predict.now)
         ≤ length registers.old }
-    ensures performs { Performs M.leads M.stop M.may_lack_memory
-        (guess_at (environment_of (program_of instance.now) instance.now.input) line (slice_get (map predictor predict.now) place)
+    ensures performs { Performs M.leads M.stop M.may_lack_memory (guess_at
+        (environment_of (program_of instance.now) instance.now.input) line
+        (slice_get (map predictor predict.now) place)
         (state (main_slots (program_of instance.now) registers.old) (M.output memory.old)))
-        memory.old memory.new result (state (main_slots (program_of instance.now) registers.new) (M.output memory.new)) }
-    ensures kept { main_slots (program_of instance.now) registers.new ≡ main_slots (program_of instance.now) registers.old }
+        memory.old memory.new result
+        (state (main_slots (program_of instance.now) registers.new) (M.output memory.new)) }
+    ensures kept { main_slots (program_of instance.now) registers.new
+        ≡ main_slots (program_of instance.now) registers.old }
 {
     let place = place as usize;
     if place >= predict.len() {
@@ -355,20 +397,25 @@ fn fold_guess<M: Memory>(
     registers: &mut [i64],
     memory: &mut M,
 ) -> Result<i64, Halt>
-    requires cells { M.cell_count memory.old ≡ cell_count_of (program_of instance.now) (length instance.now.input) }
-    requires code { IsFoldCode (callable_of (program_of instance.now)) (rooms (program_of instance.now)) (length (program_of instance.now).slots)
-        line (fold_head fold.now) (seen_block (out-Fold fold.now).body.items) code.now }
-    requires room { length (program_of instance.now).slots + statement_needs (rooms (program_of instance.now))
+    requires cells { M.cell_count memory.old
+        ≡ cell_count_of (program_of instance.now) (length instance.now.input) }
+    requires code { IsFoldCode (callable_of (program_of instance.now))
+        (rooms (program_of instance.now)) (length (program_of instance.now).slots) line
+        (fold_head fold.now) (seen_block (out-Fold fold.now).body.items) code.now }
+    requires room { length (program_of instance.now).slots
+        + statement_needs (rooms (program_of instance.now))
         (fold_form (fold_head fold.now) (seen_block (out-Fold fold.now).body.items))
         ≤ length registers.old }
-    ensures performs { Performs M.leads M.stop M.may_lack_memory
-        (guess_part_means (environment_of (program_of instance.now) instance.now.input)
-        (fold_construct line (fold_head fold.now) (seen_block (out-Fold fold.now).body.items)) place number
-        (state (main_slots (program_of instance.now) registers.old) (M.output memory.old)))
-        memory.old memory.new result (state (main_slots (program_of instance.now) registers.new) (M.output memory.new)) }
+    ensures performs { Performs M.leads M.stop M.may_lack_memory (guess_part_means
+        (environment_of (program_of instance.now) instance.now.input)
+        (fold_construct line (fold_head fold.now) (seen_block (out-Fold fold.now).body.items)) place
+        number (state (main_slots (program_of instance.now) registers.old) (M.output memory.old)))
+        memory.old memory.new result
+        (state (main_slots (program_of instance.now) registers.new) (M.output memory.new)) }
     ensures kept { LeavesOtherSlots
         (fold_construct line (fold_head fold.now) (seen_block (out-Fold fold.now).body.items))
-        Predictor (main_slots (program_of instance.now) registers.old) (main_slots (program_of instance.now) registers.new) }
+        Predictor (main_slots (program_of instance.now) registers.old)
+        (main_slots (program_of instance.now) registers.new) }
 {
     write(registers, fold.block, number);
     guess_of(
@@ -392,26 +439,29 @@ fn pair_guess<M: Memory>(
     registers: &mut [i64],
     memory: &mut M,
 ) -> Result<i64, Halt>
-    requires cells { M.cell_count memory.old ≡ cell_count_of (program_of instance.now) (length instance.now.input) }
-    requires code { IsPairCode (callable_of (program_of instance.now)) (rooms (program_of instance.now)) (length (program_of instance.now).slots)
-        line (pair_head pair.now) (seen_block (out-Pair pair.now).producer.items) (seen_block (out-Pair pair.now).consumer.items) code.now }
-    requires room { length (program_of instance.now).slots + statement_needs (rooms (program_of instance.now))
-        (pair_form (pair_head pair.now)
+    requires cells { M.cell_count memory.old
+        ≡ cell_count_of (program_of instance.now) (length instance.now.input) }
+    requires code { IsPairCode (callable_of (program_of instance.now))
+        (rooms (program_of instance.now)) (length (program_of instance.now).slots) line
+        (pair_head pair.now) (seen_block (out-Pair pair.now).producer.items)
+        (seen_block (out-Pair pair.now).consumer.items) code.now }
+    requires room { length (program_of instance.now).slots
+        + statement_needs (rooms (program_of instance.now)) (pair_form (pair_head pair.now)
         (seen_block (out-Pair pair.now).producer.items)
-        (seen_block (out-Pair pair.now).consumer.items))
-        ≤ length registers.old }
-    ensures performs { (number : ℤ) → Performs M.leads M.stop M.may_lack_memory
-        (guess_part_means (environment_of (program_of instance.now) instance.now.input)
-        (pair_construct line (pair_head pair.now)
-        (seen_block (out-Pair pair.now).producer.items)
+        (seen_block (out-Pair pair.now).consumer.items)) ≤ length registers.old }
+    ensures performs { (number : ℤ)
+        → Performs M.leads M.stop M.may_lack_memory (guess_part_means
+        (environment_of (program_of instance.now) instance.now.input) (pair_construct line
+        (pair_head pair.now) (seen_block (out-Pair pair.now).producer.items)
         (seen_block (out-Pair pair.now).consumer.items)) place number
         (state (main_slots (program_of instance.now) registers.old) (M.output memory.old)))
-        memory.old memory.new result (state (main_slots (program_of instance.now) registers.new) (M.output memory.new)) }
-    ensures kept { LeavesOtherSlots
-        (pair_construct line (pair_head pair.now)
+        memory.old memory.new result
+        (state (main_slots (program_of instance.now) registers.new) (M.output memory.new)) }
+    ensures kept { LeavesOtherSlots (pair_construct line (pair_head pair.now)
         (seen_block (out-Pair pair.now).producer.items)
-        (seen_block (out-Pair pair.now).consumer.items))
-        Predictor (main_slots (program_of instance.now) registers.old) (main_slots (program_of instance.now) registers.new) }
+        (seen_block (out-Pair pair.now).consumer.items)) Predictor
+        (main_slots (program_of instance.now) registers.old)
+        (main_slots (program_of instance.now) registers.new) }
 {
     guess_of(
         instance,
@@ -434,17 +484,23 @@ fn perform_guess_at<M: Memory>(
     registers: &mut [i64],
     memory: &mut M,
 ) -> Result<i64, Halt>
-    requires cells { M.cell_count memory.old ≡ cell_count_of (program_of instance.now) (length instance.now.input) }
-    requires code { IsConstructCode (callable_of (program_of instance.now)) (rooms (program_of instance.now)) (length (program_of instance.now).slots)
+    requires cells { M.cell_count memory.old
+        ≡ cell_count_of (program_of instance.now) (length instance.now.input) }
+    requires code { IsConstructCode (callable_of (program_of instance.now))
+        (rooms (program_of instance.now)) (length (program_of instance.now).slots)
         (seen_construct construct) code.now }
-    requires room { length (program_of instance.now).slots + construct_needs (rooms (program_of instance.now)) (seen_construct construct)
+    requires room { length (program_of instance.now).slots
+        + construct_needs (rooms (program_of instance.now)) (seen_construct construct)
         ≤ length registers.old }
-    ensures performs { Performs M.leads M.stop M.may_lack_memory
-        (guess_part_means (environment_of (program_of instance.now) instance.now.input) (seen_construct construct.entry) place number
+    ensures performs { Performs M.leads M.stop M.may_lack_memory (guess_part_means
+        (environment_of (program_of instance.now) instance.now.input)
+        (seen_construct construct.entry) place number
         (state (main_slots (program_of instance.now) registers.old) (M.output memory.old)))
-        memory.old memory.new result (state (main_slots (program_of instance.now) registers.new) (M.output memory.new)) }
+        memory.old memory.new result
+        (state (main_slots (program_of instance.now) registers.new) (M.output memory.new)) }
     ensures kept { LeavesOtherSlots (seen_construct construct.entry) Predictor
-        (main_slots (program_of instance.now) registers.old) (main_slots (program_of instance.now) registers.new) }
+        (main_slots (program_of instance.now) registers.old)
+        (main_slots (program_of instance.now) registers.new) }
 {
     let line = construct.line;
     match construct.kind {
@@ -457,9 +513,10 @@ fn perform_guess_at<M: Memory>(
     }
 }
 
-/// Performs the guess of one part of a top construct's row, for a block number, over cells that are only read: a function that
-/// stores doesn't change them, and a load gives the word that is there. A guess that is handed in gives no value here. A slot of
-/// `main` that isn't the block name is as before.
+/// Performs the guess of one part of a top construct's row, for a block number, over cells that are
+/// only read: a function that stores doesn't change them, and a load gives the word that is there.
+/// A guess that is handed in gives no value here. A slot of `main` that isn't the block name is as
+/// before.
 ///
 /// # Errors
 ///
@@ -473,14 +530,18 @@ pub fn exec_predictor(
     frame: &mut Frame,
     cells: &[i64],
 ) -> Result<i64, Trap>
-    requires construct { slice_get (constructs_in (program_of instance.now).main) index ≡ Some (seen_construct construct) }
-    requires cells { length cells.now ≡ cell_count_of (program_of instance.now) (length instance.now.input) }
+    requires construct { slice_get (constructs_in (program_of instance.now).main) index
+        ≡ Some (seen_construct construct) }
+    requires cells { length cells.now
+        ≡ cell_count_of (program_of instance.now) (length instance.now.input) }
     requires frame { length frame.old ≡ frame_size (program_of instance.now) }
     requires functions_silent { FunctionsAreSilent (program_of instance.now).functions }
-    ensures guess { result ≡ predicts (program_of instance.now) instance.now.input (seen_construct construct.entry)
+    ensures guess { result
+        ≡ predicts (program_of instance.now) instance.now.input (seen_construct construct.entry)
         (main_slots (program_of instance.now) frame.old) cells.now number place }
     ensures kept { LeavesOtherSlots (seen_construct construct.entry) Predictor
-        (main_slots (program_of instance.now) frame.old) (main_slots (program_of instance.now) frame.new) }
+        (main_slots (program_of instance.now) frame.old)
+        (main_slots (program_of instance.now) frame.new) }
     ensures size { length frame.new ≡ length frame.old }
 {
     let code = &instance.code().constructs[index as usize];

@@ -2,21 +2,23 @@
 
 ghost use Rattle.std.specs.Prelude.{◌<◌, ◌^◌, length};
 ghost use Rattle.spf_ast.specs.Program.{cell_count_of};
-ghost use Rattle.spf_registers.specs.Registers.{rooms};
+ghost use Rattle.spf_code_registers.specs.Registers.{rooms};
 ghost use Rattle.spf_code.specs.Fits.{FunctionsFit};
-ghost use Rattle.spf_layout.specs.Instance.{program_of};
-ghost use Rattle.spf_memory.specs.Performs.{AreWithin};
-ghost use Rattle.spf_instructions.specs.Instructions.{setting};
+ghost use Rattle.spf_exec_instance.specs.Instance.{program_of};
+ghost use Rattle.spf_exec_memory.specs.Performs.{AreWithin};
+ghost use Rattle.spf_exec_instructions.specs.Instructions.{setting};
 ghost use Rattle.spf_exec.specs.Sources.{FitsProgram};
 
-use spf_instructions::context::Context;
-use spf_layout::instance::Instance;
+use spf_exec_instance::instance::Instance;
+use spf_exec_instructions::context::Context;
 
 /// What the code of `main` is performed in: all functions may be called.
 pub(crate) fn context_of<'a>(instance: &'a Instance) -> Context<'a>
-    ensures fits { FitsProgram (program_of instance.now) instance.now.input (setting result (length result.functions.now)) }
+    ensures fits { FitsProgram (program_of instance.now) instance.now.input
+        (setting result (length result.functions.now)) }
     ensures functions { FunctionsFit (rooms (program_of instance.now)) result.functions.now }
-    ensures within { AreWithin result.extents.now (cell_count_of (program_of instance.now) (length instance.now.input)) }
+    ensures within { AreWithin result.extents.now
+        (cell_count_of (program_of instance.now) (length instance.now.input)) }
     ensures short { length result.input.now < 2 ^ 63 }
 {
     Context {

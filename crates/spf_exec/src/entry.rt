@@ -7,15 +7,15 @@ ghost use Rattle.spf_ast.specs.Meaning.{reads, count_of, arguments_mean, express
 ghost use Rattle.spf_ast.specs.Program.{cell_count_of, environment_of};
 ghost use Rattle.spf_ast.specs.Syntax.{end};
 ghost use Rattle.spf_ast.specs.View.{expression as seen_expression, arguments as seen_arguments};
-ghost use Rattle.spf_registers.specs.Registers.{needs, arguments_need, rooms};
-ghost use Rattle.spf_layout.specs.Frame.{main_slots};
-ghost use Rattle.spf_layout.specs.Instance.{program_of};
+ghost use Rattle.spf_code_registers.specs.Registers.{needs, arguments_need, rooms};
+ghost use Rattle.spf_exec_instance.specs.Frame.{main_slots};
+ghost use Rattle.spf_exec_instance.specs.Instance.{program_of};
 ghost use Rattle.spf_code.specs.Code.{code_sets};
 ghost use Rattle.spf_code.specs.Fits.{CodeFits};
 ghost use Rattle.spf_code.specs.NodeView.{code as seen_code};
-ghost use Rattle.spf_lowering.specs.Lowering.{IsRowCode, IsExpressionCode, SetsNoSlot};
-ghost use Rattle.spf_memory.specs.Leaves.{Leaves};
-ghost use Rattle.spf_memory.specs.Performs.{Performs, state};
+ghost use Rattle.spf_code_lowering.specs.Lowering.{IsRowCode, IsExpressionCode, SetsNoSlot};
+ghost use Rattle.spf_exec_memory.specs.Leaves.{Leaves};
+ghost use Rattle.spf_exec_memory.specs.Performs.{Performs, state};
 ghost use Rattle.spf_exec.specs.Sources.{callable_of, RunsAs, wholly, GivesAs, reads_row};
 
 use crate::context::context_of;
@@ -23,10 +23,10 @@ use spf_ast::row::Row;
 use spf_ast::syntax::Expr;
 use spf_code::node::Node;
 use spf_code::program::{RowCode, ValueCode};
-use spf_layout::instance::Instance;
-use spf_machine::machine::perform;
-use spf_memory::memory::{Halt, Memory};
-use spf_memory::primitives::read;
+use spf_exec_instance::instance::Instance;
+use spf_exec_machine::machine::perform;
+use spf_exec_memory::memory::{Halt, Memory};
+use spf_exec_memory::primitives::read;
 
 /// Performs code that does what a form does.
 pub(crate) fn run<M: Memory>(
@@ -35,13 +35,17 @@ pub(crate) fn run<M: Memory>(
     registers: &mut [i64],
     memory: &mut M,
 ) -> Result<(), Halt>
-    requires cells { M.cell_count memory.old ≡ cell_count_of (program_of instance.now) (length instance.now.input) }
-    requires fits { CodeFits (rooms (program_of instance.now)) (length registers.old) (seen_code code.now) }
-    ensures performs { (room : ℕ) (form : Meaning Flow) → RunsAs (program_of instance.now) instance.now.input room (seen_code code.now) form
+    requires cells { M.cell_count memory.old
+        ≡ cell_count_of (program_of instance.now) (length instance.now.input) }
+    requires fits { CodeFits (rooms (program_of instance.now)) (length registers.old)
+        (seen_code code.now) }
+    ensures performs { (room : ℕ) (form : Meaning Flow)
+        → RunsAs (program_of instance.now) instance.now.input room (seen_code code.now) form
         → room ≤ length registers.old
-        → Performs M.leads M.stop M.may_lack_memory
-        (wholly form (state (main_slots (program_of instance.now) registers.old) (M.output memory.old)))
-        memory.old memory.new result (state (main_slots (program_of instance.now) registers.new) (M.output memory.new)) }
+        → Performs M.leads M.stop M.may_lack_memory (wholly form
+        (state (main_slots (program_of instance.now) registers.old) (M.output memory.old)))
+        memory.old memory.new result
+        (state (main_slots (program_of instance.now) registers.new) (M.output memory.new)) }
     ensures cells { M.cell_count memory.new ≡ M.cell_count memory.old }
     ensures others { Leaves (λ r. code_sets r (seen_code code.now)) registers.old registers.new }
 {
@@ -56,15 +60,20 @@ pub(crate) fn value_of<M: Memory>(
     registers: &mut [i64],
     memory: &mut M,
 ) -> Result<i64, Halt>
-    requires cells { M.cell_count memory.old ≡ cell_count_of (program_of instance.now) (length instance.now.input) }
-    requires fits { CodeFits (rooms (program_of instance.now)) (length registers.old) (seen_code code.now.nodes.items) }
-    ensures performs { (room : ℕ) (form : Meaning ℤ) → GivesAs (program_of instance.now) instance.now.input room (seen_code code.now.nodes.items) (reads code.now.register) form
-        → room ≤ length registers.old
+    requires cells { M.cell_count memory.old
+        ≡ cell_count_of (program_of instance.now) (length instance.now.input) }
+    requires fits { CodeFits (rooms (program_of instance.now)) (length registers.old)
+        (seen_code code.now.nodes.items) }
+    ensures performs { (room : ℕ) (form : Meaning ℤ)
+        → GivesAs (program_of instance.now) instance.now.input room (seen_code code.now.nodes.items)
+        (reads code.now.register) form → room ≤ length registers.old
         → Performs M.leads M.stop M.may_lack_memory
         (form (state (main_slots (program_of instance.now) registers.old) (M.output memory.old)))
-        memory.old memory.new result (state (main_slots (program_of instance.now) registers.new) (M.output memory.new)) }
+        memory.old memory.new result
+        (state (main_slots (program_of instance.now) registers.new) (M.output memory.new)) }
     ensures cells { M.cell_count memory.new ≡ M.cell_count memory.old }
-    ensures others { Leaves (λ r. code_sets r (seen_code code.now.nodes.items)) registers.old registers.new }
+    ensures others { Leaves (λ r. code_sets r (seen_code code.now.nodes.items)) registers.old
+        registers.new }
 {
     let context = context_of(instance);
     perform(
@@ -84,17 +93,22 @@ pub(crate) fn row_of<M: Memory>(
     registers: &mut [i64],
     memory: &mut M,
 ) -> Result<Row, Halt>
-    requires cells { M.cell_count memory.old ≡ cell_count_of (program_of instance.now) (length instance.now.input) }
-    requires fits { CodeFits (rooms (program_of instance.now)) (length registers.old) (seen_code code.now.nodes.items) }
+    requires cells { M.cell_count memory.old
+        ≡ cell_count_of (program_of instance.now) (length instance.now.input) }
+    requires fits { CodeFits (rooms (program_of instance.now)) (length registers.old)
+        (seen_code code.now.nodes.items) }
     requires width { IsWidth code.now.width }
     requires room { code.now.register + code.now.width ≤ length registers.old }
-    ensures performs { (room : ℕ) (form : Meaning Carried) → GivesAs (program_of instance.now) instance.now.input room (seen_code code.now.nodes.items) (reads_row code.now.register code.now.width) form
-        → room ≤ length registers.old
+    ensures performs { (room : ℕ) (form : Meaning Carried)
+        → GivesAs (program_of instance.now) instance.now.input room (seen_code code.now.nodes.items)
+        (reads_row code.now.register code.now.width) form → room ≤ length registers.old
         → Performs M.leads M.stop M.may_lack_memory
         (form (state (main_slots (program_of instance.now) registers.old) (M.output memory.old)))
-        memory.old memory.new result (state (main_slots (program_of instance.now) registers.new) (M.output memory.new)) }
+        memory.old memory.new result
+        (state (main_slots (program_of instance.now) registers.new) (M.output memory.new)) }
     ensures cells { M.cell_count memory.new ≡ M.cell_count memory.old }
-    ensures others { Leaves (λ r. code_sets r (seen_code code.now.nodes.items)) registers.old registers.new }
+    ensures others { Leaves (λ r. code_sets r (seen_code code.now.nodes.items)) registers.old
+        registers.new }
 {
     let context = context_of(instance);
     perform(
@@ -117,19 +131,26 @@ pub(crate) fn row<M: Memory>(
     registers: &mut [i64],
     memory: &mut M,
 ) -> Result<Row, Halt>
-    requires cells { M.cell_count memory.old ≡ cell_count_of (program_of instance.now) (length instance.now.input) }
-    requires code { IsRowCode (callable_of (program_of instance.now)) (rooms (program_of instance.now)) (length (program_of instance.now).slots)
-        end line (seen_arguments words.now) code.now }
-    requires sets { SetsNoSlot (length (program_of instance.now).slots) (seen_code code.now.nodes.items) }
+    requires cells { M.cell_count memory.old
+        ≡ cell_count_of (program_of instance.now) (length instance.now.input) }
+    requires code { IsRowCode (callable_of (program_of instance.now))
+        (rooms (program_of instance.now)) (length (program_of instance.now).slots) end line
+        (seen_arguments words.now) code.now }
+    requires sets { SetsNoSlot (length (program_of instance.now).slots)
+        (seen_code code.now.nodes.items) }
     requires width { IsWidth (count_of (seen_arguments words.now)) }
-    requires room { length (program_of instance.now).slots + arguments_need (rooms (program_of instance.now)) (seen_arguments words.now)
+    requires room { length (program_of instance.now).slots
+        + arguments_need (rooms (program_of instance.now)) (seen_arguments words.now)
         ≤ length registers.old }
-    ensures performs { Performs M.leads M.stop M.may_lack_memory
-        (arguments_mean (environment_of (program_of instance.now) instance.now.input) line (seen_arguments words.now)
+    ensures performs { Performs M.leads M.stop M.may_lack_memory (arguments_mean
+        (environment_of (program_of instance.now) instance.now.input) line
+        (seen_arguments words.now)
         (state (main_slots (program_of instance.now) registers.old) (M.output memory.old)))
-        memory.old memory.new result (state (main_slots (program_of instance.now) registers.old) (M.output memory.new)) }
+        memory.old memory.new result
+        (state (main_slots (program_of instance.now) registers.old) (M.output memory.new)) }
     ensures cells { M.cell_count memory.new ≡ M.cell_count memory.old }
-    ensures kept { main_slots (program_of instance.now) registers.new ≡ main_slots (program_of instance.now) registers.old }
+    ensures kept { main_slots (program_of instance.now) registers.new
+        ≡ main_slots (program_of instance.now) registers.old }
 {
     row_of(instance, code, registers, memory)
 }
@@ -143,18 +164,25 @@ pub(crate) fn expression<M: Memory>(
     registers: &mut [i64],
     memory: &mut M,
 ) -> Result<i64, Halt>
-    requires cells { M.cell_count memory.old ≡ cell_count_of (program_of instance.now) (length instance.now.input) }
-    requires code { IsExpressionCode (callable_of (program_of instance.now)) (rooms (program_of instance.now)) (length (program_of instance.now).slots)
-        line (seen_expression value.now) code.now }
-    requires sets { SetsNoSlot (length (program_of instance.now).slots) (seen_code code.now.nodes.items) }
-    requires room { length (program_of instance.now).slots + (1 + needs (rooms (program_of instance.now)) (seen_expression value.now))
+    requires cells { M.cell_count memory.old
+        ≡ cell_count_of (program_of instance.now) (length instance.now.input) }
+    requires code { IsExpressionCode (callable_of (program_of instance.now))
+        (rooms (program_of instance.now)) (length (program_of instance.now).slots) line
+        (seen_expression value.now) code.now }
+    requires sets { SetsNoSlot (length (program_of instance.now).slots)
+        (seen_code code.now.nodes.items) }
+    requires room { length (program_of instance.now).slots
+        + (1 + needs (rooms (program_of instance.now)) (seen_expression value.now))
         ≤ length registers.old }
-    ensures performs { Performs M.leads M.stop M.may_lack_memory
-        (expression_means (environment_of (program_of instance.now) instance.now.input) line (seen_expression value.now)
+    ensures performs { Performs M.leads M.stop M.may_lack_memory (expression_means
+        (environment_of (program_of instance.now) instance.now.input) line
+        (seen_expression value.now)
         (state (main_slots (program_of instance.now) registers.old) (M.output memory.old)))
-        memory.old memory.new result (state (main_slots (program_of instance.now) registers.old) (M.output memory.new)) }
+        memory.old memory.new result
+        (state (main_slots (program_of instance.now) registers.old) (M.output memory.new)) }
     ensures cells { M.cell_count memory.new ≡ M.cell_count memory.old }
-    ensures kept { main_slots (program_of instance.now) registers.new ≡ main_slots (program_of instance.now) registers.old }
+    ensures kept { main_slots (program_of instance.now) registers.new
+        ≡ main_slots (program_of instance.now) registers.old }
 {
     value_of(instance, code, registers, memory)
 }

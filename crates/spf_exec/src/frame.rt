@@ -2,16 +2,17 @@
 
 ghost use Rattle.std.specs.Prelude.{◌≡◌, ℤ, List, [], length, pos, replicate, IfOk};
 ghost use Rattle.spf_ast.specs.Carried.{with_carried};
-ghost use Rattle.spf_layout.specs.Frame.{frame_size};
-ghost use Rattle.spf_layout.specs.Instance.{program_of};
+ghost use Rattle.spf_exec_instance.specs.Frame.{frame_size};
+ghost use Rattle.spf_exec_instance.specs.Instance.{program_of};
 
 use spf_ast::row::{Row, set_carried};
-use spf_layout::instance::Instance;
+use spf_exec_instance::instance::Instance;
 use std::alloc::{AllocError, Global};
 use std::marker::Model;
 
-/// Words that stay free after the registers of a frame: two cache lines. Blocks run at the same time on frames that were
-/// made one after another; without the gap their registers would share a line, and each store would slow the others down.
+/// Words that stay free after the registers of a frame: two cache lines. Blocks run at the same
+/// time on frames that were made one after another; without the gap their registers would share a
+/// line, and each store would slow the others down.
 const GAP: usize = 16;
 
 /// Room for so many registers, with the gap after them.
@@ -21,7 +22,8 @@ fn room_for(alloc: Global, count: usize) -> Result<Vec<i64>, AllocError>
     Vec::with_capacity(alloc, count.saturating_add(GAP))
 }
 
-/// The registers of a program's `main`, with room for its deepest chain of calls. The first of them are the slots of `main`.
+/// The registers of a program's `main`, with room for its deepest chain of calls. The first of them
+/// are the slots of `main`.
 #[derive(Drop)]
 pub struct Frame {
     pub(crate) registers: Vec<i64>,
@@ -40,7 +42,8 @@ impl Frame {
     ///
     /// `AllocError` where there is no memory for it.
     pub fn make(alloc: Global, instance: &Instance) -> Result<Frame, AllocError>
-        ensures zeros { IfOk result (λ f. f ≡ replicate (frame_size (program_of instance.now)) (pos 0)) }
+        ensures zeros { IfOk result
+            (λ f. f ≡ replicate (frame_size (program_of instance.now)) (pos 0)) }
     {
         let size = instance.frame_size();
         let mut registers = room_for(alloc, size)?;

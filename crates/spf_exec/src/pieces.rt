@@ -1,6 +1,8 @@
-// Plain runs in pieces: `main` is run from one top construct to the next, and each construct is settled by who runs it.
+// Plain runs in pieces: `main` is run from one top construct to the next, and each construct is
+// settled by who runs it.
 
-ghost use Rattle.std.specs.Prelude.{◌≡◌, ◌+◌, ◌-◌, ◌<◌, ◌≤◌, ◌^◌, ◌+ℤ◌, ◌≤ℤ◌, ℕ, length, pos, drop, take, slice_get, Some, IfOk, MatchOption};
+ghost use Rattle.std.specs.Prelude.{◌≡◌, ◌+◌, ◌-◌, ◌<◌, ◌≤◌, ◌^◌, ◌+ℤ◌, ◌≤ℤ◌, ℕ, length, pos, drop};
+ghost use Rattle.std.specs.Prelude.{take, slice_get, Some, IfOk, MatchOption};
 ghost use Rattle.spf_ast.specs.declared.syntax.Fold.{out-Fold};
 ghost use Rattle.std.specs.Borrow.{Lends, Array, sem, i64 as word};
 ghost use Rattle.spf_exec.specs.contracts.pieces.Run.{the_row};
@@ -12,30 +14,20 @@ ghost use Rattle.spf_ast.specs.Syntax.{end, Fold as fold_form};
 ghost use Rattle.spf_ast.specs.Construct.{constructs_in, header_means, fold as fold_construct};
 ghost use Rattle.spf_ast.specs.ConstructView.{construct as seen_construct};
 ghost use Rattle.spf_ast.specs.Plain.{plain_memory};
-ghost use Rattle.spf_ast.specs.Pieces.{before_construct, from_construct, construct_first, rest_from};
+ghost use Rattle.spf_ast.specs.Pieces.{before_construct, from_construct, construct_first};
+ghost use Rattle.spf_ast.specs.Pieces.{rest_from};
 ghost use Rattle.spf_ast.specs.Program.{cell_count_of, environment_of};
 ghost use Rattle.spf_ast.specs.Silence.{FunctionsAreSilent};
-ghost use Rattle.spf_registers.specs.Registers.{rooms, statement_needs};
-ghost use Rattle.spf_lowering.specs.Lowering.{IsFoldCode};
-ghost use Rattle.spf_layout.specs.Frame.{frame_size, main_slots};
-ghost use Rattle.spf_layout.specs.Instance.{program_of};
+ghost use Rattle.spf_code_registers.specs.Registers.{rooms, statement_needs};
+ghost use Rattle.spf_code_lowering.specs.Lowering.{IsFoldCode};
+ghost use Rattle.spf_exec_instance.specs.Frame.{frame_size, main_slots};
+ghost use Rattle.spf_exec_instance.specs.Instance.{program_of};
 ghost use Rattle.spf_exec.specs.Sources.{callable_of};
-ghost use Rattle.spf_memory.specs.Performs.{Performs, IsDecided, state};
-ghost use Rattle.spf_memory.specs.PlainMemory.{IsPlainOutcome};
-ghost use Rattle.spf_exec.specs.Pieces.{
-  Stand,
-  IsRunOf,
-  refilled,
-  HasBegun,
-  Advanced,
-  IsHeaderAnswer,
-  header_result,
-  stand,
-  HeaderDone,
-  IsSettled,
-  ahead,
-  moment_of,
-};
+ghost use Rattle.spf_exec_memory.specs.Performs.{Performs, IsDecided, state};
+ghost use Rattle.spf_exec_memory.specs.PlainMemory.{IsPlainOutcome};
+ghost use Rattle.spf_exec.specs.Pieces.{Stand, IsRunOf, refilled, HasBegun, Advanced};
+ghost use Rattle.spf_exec.specs.Pieces.{IsHeaderAnswer, header_result, stand, HeaderDone};
+ghost use Rattle.spf_exec.specs.Pieces.{IsSettled, ahead, moment_of};
 
 use crate::entry;
 use crate::frame::Frame;
@@ -45,11 +37,11 @@ use spf_ast::outcome::{Trap, TrapKind};
 use spf_ast::row::Row;
 use spf_ast::syntax::{Fold, Stmt};
 use spf_code::program::ConstructCode;
-use spf_layout::instance::Instance;
-use spf_memory::memory::{Halt, Memory};
-use spf_memory::plain::Plain;
-use spf_memory::primitives::{are_too_many, block_count};
-use spf_memory::quiet::Quiet;
+use spf_exec_instance::instance::Instance;
+use spf_exec_memory::memory::{Halt, Memory};
+use spf_exec_memory::plain::Plain;
+use spf_exec_memory::primitives::{are_too_many, block_count};
+use spf_exec_memory::quiet::Quiet;
 use std::alloc::{AllocError, Global};
 use std::marker::Model;
 
@@ -114,11 +106,13 @@ struct Prefix<'a> {
 /// The statements before the first top construct among these.
 fn plain_prefix<'a>(statements: &'a [Stmt]) -> Prefix<'a>
     ensures within { result.count ≤ length statements.now }
-    ensures before { seen_block (take result.count statements.now) ≡ before_construct (seen_block statements.now) }
-    ensures rest { seen_block (drop result.count statements.now) ≡ from_construct (seen_block statements.now) }
+    ensures before { seen_block (take result.count statements.now)
+        ≡ before_construct (seen_block statements.now) }
+    ensures rest { seen_block (drop result.count statements.now)
+        ≡ from_construct (seen_block statements.now) }
     ensures construct { MatchOption result.construct
-        (from_construct (seen_block statements.now) ≡ end)
-        (λ c. construct_first (from_construct (seen_block statements.now)) ≡ Some (seen_construct c)) }
+        (from_construct (seen_block statements.now) ≡ end) (λ c.
+        construct_first (from_construct (seen_block statements.now)) ≡ Some (seen_construct c)) }
 {
     let mut count = 0;
     for statement in statements {
@@ -137,9 +131,11 @@ fn plain_prefix<'a>(statements: &'a [Stmt]) -> Prefix<'a>
 }
 
 impl<'a> Prefix<'a> {
-    /// The pause after these statements: at the construct that stands next, which has this number, or at the end.
+    /// The pause after these statements: at the construct that stands next, which has this number,
+    /// or at the end.
     fn pause(self, number: u32) -> Pause<'a>
-        ensures { MatchOption self.entry.construct (result ≡ Finished) (λ c. result ≡ AtConstruct number c) }
+        ensures { MatchOption self.entry.construct (result ≡ Finished)
+            (λ c. result ≡ AtConstruct number c) }
     {
         match self.construct {
             Some(construct) => Pause::AtConstruct { number, construct },
@@ -156,7 +152,8 @@ fn perform_between(
     frame: &mut Frame,
     memory: &mut Plain,
 ) -> Result<(), Halt>
-    requires cells { length memory.old.cells.items ≡ cell_count_of (program_of instance.now) (length instance.now.input) }
+    requires cells { length memory.old.cells.items
+        ≡ cell_count_of (program_of instance.now) (length instance.now.input) }
     requires frame { length frame.old ≡ frame_size (program_of instance.now) }
     requires order { from ≤ to }
     requires within { to ≤ length instance.now.code.main.items }
@@ -172,7 +169,8 @@ fn perform_between(
     run_main(instance, from, to, &mut frame.registers, memory)
 }
 
-/// Performs the statements of `main` up to the next top construct, and gives the index that was reached.
+/// Performs the statements of `main` up to the next top construct, and gives the index that was
+/// reached.
 fn advance_from<'a>(
     instance: &Instance<'a>,
     place: usize,
@@ -180,7 +178,8 @@ fn advance_from<'a>(
     frame: &mut Frame,
     memory: &mut Plain,
 ) -> Result<(usize, Pause<'a>), AllocError>
-    requires cells { length memory.old.cells.items ≡ cell_count_of (program_of instance.now) (length instance.now.input) }
+    requires cells { length memory.old.cells.items
+        ≡ cell_count_of (program_of instance.now) (length instance.now.input) }
     requires frame { length frame.old ≡ frame_size (program_of instance.now) }
     requires within { place ≤ length instance.now.code.main.items }
     requires passed { passed + length (constructs_in (rest_from place (program_of instance.now).main))
@@ -189,7 +188,8 @@ fn advance_from<'a>(
     ensures advanced { IfOk result (λ r. Advanced (program_of instance.now) instance.now.input
         (stand frame.old memory.old place passed) (stand frame.new memory.new r.0 passed) r.1) }
     ensures place { IfOk result (λ r. r.0 ≤ length instance.now.code.main.items) }
-    ensures passed { IfOk result (λ r. passed + length (constructs_in (rest_from r.0 (program_of instance.now).main))
+    ensures passed { IfOk result (λ r.
+        passed + length (constructs_in (rest_from r.0 (program_of instance.now).main))
         ≡ length (constructs_in (program_of instance.now).main)) }
     ensures cells { length memory.new.cells.items ≡ length memory.old.cells.items }
     ensures size { length frame.new ≡ length frame.old }
@@ -214,20 +214,25 @@ fn perform_header<M: Memory>(
     registers: &mut [i64],
     memory: &mut M,
 ) -> Result<Header, Halt>
-    requires cells { M.cell_count memory.old ≡ cell_count_of (program_of instance.now) (length instance.now.input) }
-    requires code { IsFoldCode (callable_of (program_of instance.now)) (rooms (program_of instance.now)) (length (program_of instance.now).slots)
-        line (fold_head fold.now) (seen_block (out-Fold fold.now).body.items) code.now }
-    requires room { length (program_of instance.now).slots + statement_needs (rooms (program_of instance.now))
+    requires cells { M.cell_count memory.old
+        ≡ cell_count_of (program_of instance.now) (length instance.now.input) }
+    requires code { IsFoldCode (callable_of (program_of instance.now))
+        (rooms (program_of instance.now)) (length (program_of instance.now).slots) line
+        (fold_head fold.now) (seen_block (out-Fold fold.now).body.items) code.now }
+    requires room { length (program_of instance.now).slots
+        + statement_needs (rooms (program_of instance.now))
         (fold_form (fold_head fold.now) (seen_block (out-Fold fold.now).body.items))
         ≤ length registers.old }
     requires width { IsWidth (count_of (fold_head fold.now).start) }
-    ensures performs { Performs M.leads M.stop M.may_lack_memory
-        (header_means (environment_of (program_of instance.now) instance.now.input)
+    ensures performs { Performs M.leads M.stop M.may_lack_memory (header_means
+        (environment_of (program_of instance.now) instance.now.input)
         (fold_construct line (fold_head fold.now) (seen_block (out-Fold fold.now).body.items))
         (state (main_slots (program_of instance.now) registers.old) (M.output memory.old)))
-        memory.old memory.new (header_result result) (state (main_slots (program_of instance.now) registers.old) (M.output memory.new)) }
+        memory.old memory.new (header_result result)
+        (state (main_slots (program_of instance.now) registers.old) (M.output memory.new)) }
     ensures cells { M.cell_count memory.new ≡ M.cell_count memory.old }
-    ensures kept { main_slots (program_of instance.now) registers.new ≡ main_slots (program_of instance.now) registers.old }
+    ensures kept { main_slots (program_of instance.now) registers.new
+        ≡ main_slots (program_of instance.now) registers.old }
     ensures few { IfOk result (λ h. h.blocks ≤ max_blocks) }
     ensures numbers { IfOk result (λ h. (h.low +ℤ pos h.blocks) ≤ℤ i64.MAX) }
 {
@@ -264,11 +269,14 @@ fn header_quietly(
     frame: &mut Frame,
     quiet: &mut Quiet<Plain>,
 ) -> Result<Header, Halt>
-    requires cells { length quiet.old.memory.now.cells.items ≡ cell_count_of (program_of instance.now) (length instance.now.input) }
+    requires cells { length quiet.old.memory.now.cells.items
+        ≡ cell_count_of (program_of instance.now) (length instance.now.input) }
     requires frame { length frame.old ≡ frame_size (program_of instance.now) }
-    requires code { IsFoldCode (callable_of (program_of instance.now)) (rooms (program_of instance.now)) (length (program_of instance.now).slots)
-        line (fold_head fold.now) (seen_block (out-Fold fold.now).body.items) code.now }
-    requires room { length (program_of instance.now).slots + statement_needs (rooms (program_of instance.now))
+    requires code { IsFoldCode (callable_of (program_of instance.now))
+        (rooms (program_of instance.now)) (length (program_of instance.now).slots) line
+        (fold_head fold.now) (seen_block (out-Fold fold.now).body.items) code.now }
+    requires room { length (program_of instance.now).slots
+        + statement_needs (rooms (program_of instance.now))
         (fold_form (fold_head fold.now) (seen_block (out-Fold fold.now).body.items))
         ≤ frame_size (program_of instance.now) }
     requires width { IsWidth (count_of (fold_head fold.now).start) }
@@ -287,8 +295,10 @@ fn header_quietly(
         quiet.old.memory.now.cells.items }
     ensures same_reference { quiet.new.memory.ghost_name ≡ quiet.old.memory.ghost_name }
     ensures output { quiet.new.memory.now.output.items ≡ quiet.old.memory.now.output.items }
-    ensures cells { length quiet.new.memory.now.cells.items ≡ length quiet.old.memory.now.cells.items }
-    ensures kept { main_slots (program_of instance.now) frame.new ≡ main_slots (program_of instance.now) frame.old }
+    ensures cells { length quiet.new.memory.now.cells.items
+        ≡ length quiet.old.memory.now.cells.items }
+    ensures kept { main_slots (program_of instance.now) frame.new
+        ≡ main_slots (program_of instance.now) frame.old }
     ensures size { length frame.new ≡ length frame.old }
     ensures few { IfOk result (λ h. h.blocks ≤ max_blocks) }
     ensures numbers { IfOk result (λ h. (h.low +ℤ pos h.blocks) ≤ℤ i64.MAX) }
@@ -305,27 +315,33 @@ fn fold_header(
     frame: &mut Frame,
     memory: &mut Plain,
 ) -> Result<Header, Trap>
-    requires cells { length memory.old.cells.items ≡ cell_count_of (program_of instance.now) (length instance.now.input) }
+    requires cells { length memory.old.cells.items
+        ≡ cell_count_of (program_of instance.now) (length instance.now.input) }
     requires frame { length frame.old ≡ frame_size (program_of instance.now) }
-    requires code { IsFoldCode (callable_of (program_of instance.now)) (rooms (program_of instance.now)) (length (program_of instance.now).slots)
-        line (fold_head fold.now) (seen_block (out-Fold fold.now).body.items) code.now }
-    requires room { length (program_of instance.now).slots + statement_needs (rooms (program_of instance.now))
+    requires code { IsFoldCode (callable_of (program_of instance.now))
+        (rooms (program_of instance.now)) (length (program_of instance.now).slots) line
+        (fold_head fold.now) (seen_block (out-Fold fold.now).body.items) code.now }
+    requires room { length (program_of instance.now).slots
+        + statement_needs (rooms (program_of instance.now))
         (fold_form (fold_head fold.now) (seen_block (out-Fold fold.now).body.items))
         ≤ frame_size (program_of instance.now) }
     requires width { IsWidth (count_of (fold_head fold.now).start) }
     requires silent { FunctionsAreSilent (program_of instance.now).functions }
-    ensures answer { IsHeaderAnswer (header_means (environment_of (program_of instance.now) instance.now.input)
+    ensures answer { IsHeaderAnswer (header_means
+        (environment_of (program_of instance.now) instance.now.input)
         (fold_construct line (fold_head fold.now) (seen_block (out-Fold fold.now).body.items))
         (state (main_slots (program_of instance.now) frame.old) memory.old.output.items))
         memory.old.cells.items
         (state (main_slots (program_of instance.now) frame.old) memory.old.output.items) result }
-    ensures memory { memory.new.cells.items ≡ plain_memory (header_means (environment_of (program_of instance.now) instance.now.input)
+    ensures memory { memory.new.cells.items
+        ≡ plain_memory (header_means (environment_of (program_of instance.now) instance.now.input)
         (fold_construct line (fold_head fold.now) (seen_block (out-Fold fold.now).body.items))
         (state (main_slots (program_of instance.now) frame.old) memory.old.output.items))
         memory.old.cells.items }
     ensures output { memory.new.output.items ≡ memory.old.output.items }
     ensures cells { length memory.new.cells.items ≡ length memory.old.cells.items }
-    ensures kept { main_slots (program_of instance.now) frame.new ≡ main_slots (program_of instance.now) frame.old }
+    ensures kept { main_slots (program_of instance.now) frame.new
+        ≡ main_slots (program_of instance.now) frame.old }
     ensures size { length frame.new ≡ length frame.old }
     ensures few { IfOk result (λ h. h.blocks ≤ max_blocks) }
     ensures numbers { IfOk result (λ h. (h.low +ℤ pos h.blocks) ≤ℤ i64.MAX) }
@@ -348,15 +364,19 @@ fn header_of(
     frame: &mut Frame,
     memory: &mut Plain,
 ) -> Result<Header, Trap>
-    requires cells { length memory.old.cells.items ≡ cell_count_of (program_of instance.now) (length instance.now.input) }
+    requires cells { length memory.old.cells.items
+        ≡ cell_count_of (program_of instance.now) (length instance.now.input) }
     requires frame { length frame.old ≡ frame_size (program_of instance.now) }
-    requires construct { slice_get (constructs_in (program_of instance.now).main) index ≡ Some (seen_construct construct) }
+    requires construct { slice_get (constructs_in (program_of instance.now).main) index
+        ≡ Some (seen_construct construct) }
     requires silent { FunctionsAreSilent (program_of instance.now).functions }
-    ensures header { (place passed : ℕ) → HeaderDone (program_of instance.now) instance.now.input (seen_construct construct.entry)
+    ensures header { (place passed : ℕ)
+        → HeaderDone (program_of instance.now) instance.now.input (seen_construct construct.entry)
         (stand frame.old memory.old place passed) (stand frame.new memory.new place passed) result }
     ensures output { memory.new.output.items ≡ memory.old.output.items }
     ensures cells { length memory.new.cells.items ≡ length memory.old.cells.items }
-    ensures kept { main_slots (program_of instance.now) frame.new ≡ main_slots (program_of instance.now) frame.old }
+    ensures kept { main_slots (program_of instance.now) frame.new
+        ≡ main_slots (program_of instance.now) frame.old }
     ensures size { length frame.new ≡ length frame.old }
     ensures few { IfOk result (λ h. h.blocks ≤ max_blocks) }
     ensures numbers { IfOk result (λ h. (h.low +ℤ pos h.blocks) ≤ℤ i64.MAX) }
@@ -374,14 +394,17 @@ fn header_of(
 }
 
 impl Run {
-    /// Begins a run of a program: all cells and slots are 0, nothing was emitted, and the first statement of `main` stands next.
+    /// Begins a run of a program: all cells and slots are 0, nothing was emitted, and the first
+    /// statement of `main` stands next.
     ///
     /// # Errors
     ///
     /// `AllocError` where there is no memory for it.
     pub fn start(alloc: Global, instance: &Instance) -> Result<Run, AllocError>
-        ensures run { IfOk result (λ r. IsRunOf (program_of instance.now) (length instance.now.input) r) }
-        ensures begins { IfOk result (λ r. HasBegun (program_of instance.now) (length instance.now.input) r) }
+        ensures run { IfOk result
+            (λ r. IsRunOf (program_of instance.now) (length instance.now.input) r) }
+        ensures begins { IfOk result
+            (λ r. HasBegun (program_of instance.now) (length instance.now.input) r) }
     {
         let frame = Frame::make(alloc, instance)?;
         let cells = vec![in alloc; 0i64; instance.layout().cells() as usize]?;
@@ -397,8 +420,8 @@ impl Run {
         })
     }
 
-    /// Performs statements of `main` up to the next top construct, to the end or to a trap. After a trap or an error the run is
-    /// of no further use, but for its output.
+    /// Performs statements of `main` up to the next top construct, to the end or to a trap. After a
+    /// trap or an error the run is of no further use, but for its output.
     ///
     /// # Errors
     ///
@@ -406,7 +429,8 @@ impl Run {
     pub fn advance<'a>(&mut self, instance: &Instance<'a>) -> Result<Pause<'a>, AllocError>
         requires run { IsRunOf (program_of instance.now) (length instance.now.input) self.old }
         requires few_constructs { length (constructs_in (program_of instance.now).main) < 2 ^ 32 }
-        ensures advanced { IfOk result (λ pause. Advanced (program_of instance.now) instance.now.input self.old self.new pause) }
+        ensures advanced { IfOk result (λ pause.
+            Advanced (program_of instance.now) instance.now.input self.old self.new pause) }
         ensures run { IsRunOf (program_of instance.now) (length instance.now.input) self.new }
     {
         let (place, pause) = advance_from(
@@ -420,16 +444,20 @@ impl Run {
         Ok(pause)
     }
 
-    /// Performs the header of the top construct that stands next: of a fold its start and its range; a pair has two blocks.
+    /// Performs the header of the top construct that stands next: of a fold its start and its
+    /// range; a pair has two blocks.
     ///
     /// # Errors
     ///
-    /// The trap, where one comes, also where there are more than 4,096 blocks. The run is of no further use then, but for its output.
+    /// The trap, where one comes, also where there are more than 4,096 blocks. The run is of no
+    /// further use then, but for its output.
     pub fn header(&mut self, instance: &Instance, construct: TopConstruct) -> Result<Header, Trap>
         requires run { IsRunOf (program_of instance.now) (length instance.now.input) self.old }
         requires silent { FunctionsAreSilent (program_of instance.now).functions }
-        requires construct { construct_first (ahead (program_of instance.now) self.old) ≡ Some (seen_construct construct) }
-        ensures header { HeaderDone (program_of instance.now) instance.now.input (seen_construct construct.entry) self.old self.new result }
+        requires construct { construct_first (ahead (program_of instance.now) self.old)
+            ≡ Some (seen_construct construct) }
+        ensures header { HeaderDone (program_of instance.now) instance.now.input
+            (seen_construct construct.entry) self.old self.new result }
         ensures place { self.new.place ≡ self.old.place }
         ensures run { IsRunOf (program_of instance.now) (length instance.now.input) self.new }
         ensures few { IfOk result (λ h. h.blocks ≤ max_blocks) }
@@ -444,11 +472,14 @@ impl Run {
         )
     }
 
-    /// Settles the top construct that stands next: puts its row into its carried slots and goes past it.
+    /// Settles the top construct that stands next: puts its row into its carried slots and goes
+    /// past it.
     pub fn settle(&mut self, instance: &Instance, construct: TopConstruct, value: Row)
         requires run { IsRunOf (program_of instance.now) (length instance.now.input) self.old }
-        requires construct { construct_first (ahead (program_of instance.now) self.old) ≡ Some (seen_construct construct) }
-        ensures settled { IsSettled (program_of instance.now) (seen_construct construct.entry) self.old self.new value }
+        requires construct { construct_first (ahead (program_of instance.now) self.old)
+            ≡ Some (seen_construct construct) }
+        ensures settled { IsSettled (program_of instance.now) (seen_construct construct.entry)
+            self.old self.new value }
         ensures run { IsRunOf (program_of instance.now) (length instance.now.input) self.new }
     {
         let statements = instance.program().main.len();
@@ -474,7 +505,8 @@ impl Run {
 
     /// The word of each cell, to be changed by who settles a construct.
     pub fn cells_mut(&mut self) -> &mut [i64]
-        ensures* writes_back { sem 𝓛 (Lends the_row (Array word 0) self.entry result (λ w. record self.old { cells = refilled self.old.cells w })) }
+        ensures* writes_back { sem 𝓛 (Lends the_row (Array word 0) self.entry result
+            (λ w. record self.old { cells = refilled self.old.cells w })) }
         ensures value { result.now ≡ self.old.cells }
     {
         self.memory.cells.as_mut_slice()

@@ -1,0 +1,7 @@
+mod Best
+mod Counts
+pub mod Handed
+mod Kept
+pub mod Named
+mod Stores
+mod Tables

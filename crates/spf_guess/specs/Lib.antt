@@ -1,2 +1,5 @@
-pub mod Guess
-pub mod Statistics
+pub mod Answers
+pub mod Counting
+pub mod Kinds
+pub mod Missing
+pub mod Stores

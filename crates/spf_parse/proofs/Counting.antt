@@ -8,7 +8,7 @@ use Rattle.std.proofs.lemmas.List.Sums.{sum_by-append, count_by-le-length}
 use Rattle.spf_text.specs.declared.token.Token.{Token}
 use Rattle.spf_text.specs.declared.token.TokenKind.TheVariants as kind
 use Rattle.spf_text.specs.Tokens.{AreInOrder}
-use Rattle.spf_grammar.specs.Lexemes.{line_at}
+use Rattle.spf_parse_grammar.specs.Lexemes.{line_at}
 
 -- tokens in order stand before their end
 pub order_end : (place end : ℕ) (ts : List Token) → AreInOrder place end ts → place ≤ end

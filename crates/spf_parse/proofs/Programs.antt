@@ -9,18 +9,18 @@ use Rattle.spf_text.specs.declared.token.TokenKind.{TokenKind}
 use Rattle.spf_text.specs.declared.token.TokenKind.TheVariants as kind
 use Rattle.spf_ast.specs.Syntax.{Array}
 use Rattle.spf_ast.specs.RawSyntax.{RawFunction, RawProgram}
-use Rattle.spf_grammar.specs.declared.Lexeme as code
-use Rattle.spf_grammar.specs.Lexemes.{Lexeme, lexemes}
-use Rattle.spf_grammar.specs.Texts.{place}
-use Rattle.spf_grammar.specs.Parts.{token, many, header, array, function, block, program, Rule, give, part, either}
-use Rattle.spf_grammar.specs.Rules.{all, version_rule, has_breaks}
-use Rattle.spf_grammar.specs.Derivations.{Says}
-use Rattle.spf_rules.specs.Answers.{ahead, reach, Stops, Leads, Faults}
-use Rattle.spf_rules.proofs.Follows.{Follows}
-use Rattle.spf_rules.proofs.Steps.{start, unfold_part, not_first, not_second, decide, cannot}
-use Rattle.spf_rules.proofs.Beginnings.{begins_is, stops_all}
-use Rattle.spf_rules.proofs.Expressions.{many_next, many_done, token_first}
-use Rattle.spf_rules.proofs.Statements.{NeverEmpty}
+use Rattle.spf_parse_grammar.specs.declared.Lexeme as code
+use Rattle.spf_parse_grammar.specs.Lexemes.{Lexeme, lexemes}
+use Rattle.spf_parse_grammar.specs.Texts.{place}
+use Rattle.spf_parse_grammar.specs.Parts.{token, many, header, array, function, block, program, Rule, give, part, either}
+use Rattle.spf_parse_grammar.specs.Rules.{all, version_rule, has_breaks}
+use Rattle.spf_parse_grammar.specs.Derivations.{Says}
+use Rattle.spf_parse_parts.specs.Answers.{ahead, reach, Stops, Leads, Faults}
+use Rattle.spf_parse_parts.proofs.Follows.{Follows}
+use Rattle.spf_parse_parts.proofs.Steps.{start, unfold_part, not_first, not_second, decide, cannot}
+use Rattle.spf_parse_parts.proofs.Beginnings.{begins_is, stops_all}
+use Rattle.spf_parse_parts.proofs.Expressions.{many_next, many_done, token_first}
+use Rattle.spf_parse_parts.proofs.Statements.{NeverEmpty}
 
 -- ---- arrays and functions
 

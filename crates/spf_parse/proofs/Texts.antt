@@ -2,15 +2,15 @@
 use Rattle.std.proofs.Common.{◌≡◌, ℕ, ◌+◌, ◌-◌, ◌≤◌, Bool, true, false, List, [], ◌∷◌, ◌++◌, length, drop, refl, sym, ◌∙◌, ap, subst, append_assoc, length-append, arith, inl, inr}
 use Rattle.std.proofs.lemmas.List.{append-nil, drop_at}
 use Rattle.spf_ast.specs.RawSyntax.{RawProgram}
-use Rattle.spf_grammar.specs.Lexemes.{Lexeme}
-use Rattle.spf_grammar.specs.Parts.{program, give}
-use Rattle.spf_grammar.specs.Rules.{all}
-use Rattle.spf_grammar.specs.Reading.{Reads}
-use Rattle.spf_grammar.specs.Texts.{IsFront, place, CannotGoOn, IsUnexpected, IsTooDeep}
-use Rattle.spf_grammar.specs.Derivations.{Says, Reading}
-use Rattle.spf_rules.specs.Answers.{ahead, Leads, Faults}
+use Rattle.spf_parse_grammar.specs.Lexemes.{Lexeme}
+use Rattle.spf_parse_grammar.specs.Parts.{program, give}
+use Rattle.spf_parse_grammar.specs.Rules.{all}
+use Rattle.spf_parse_grammar.specs.Reading.{Reads}
+use Rattle.spf_parse_grammar.specs.Texts.{IsFront, place, CannotGoOn, IsUnexpected, IsTooDeep}
+use Rattle.spf_parse_grammar.specs.Derivations.{Says, Reading}
+use Rattle.spf_parse_parts.specs.Answers.{ahead, Leads, Faults}
 use Rattle.spf_parse.specs.Laws.{GoWrongOnce}
-use Rattle.spf_grammar.proofs.Derivations.{from_all, to_all, loosened}
+use Rattle.spf_parse_grammar.proofs.Derivations.{from_all, to_all, loosened}
 
 to_reading : (free : ℕ) (ts : List Lexeme) (p : RawProgram) → Reads free ts p → Reading free (all program) ts p []
 to_reading free ts p r = to_all (Says free) program ts p [] r

@@ -8,14 +8,14 @@ use Rattle.spf_text.specs.Tokens.{AreTokensOf, IsFaultyAt, BeginsNothing, Begins
 use Rattle.spf_ast.specs.declared.raw.RawProgram as code
 use Rattle.spf_ast.specs.RawSyntax.{RawProgram}
 use Rattle.spf_ast.specs.RawView.{raw_program}
-use Rattle.spf_grammar.specs.Lexemes.{lexemes_of}
-use Rattle.spf_grammar.specs.Parts.{program, give}
-use Rattle.spf_grammar.specs.Rules.{all}
-use Rattle.spf_grammar.specs.Reading.{Reads}
-use Rattle.spf_grammar.specs.Texts.{IsProgramOf, IsUnexpected, IsUnexpectedAt, IsTooDeep, IsTooDeepAt}
+use Rattle.spf_parse_grammar.specs.Lexemes.{lexemes_of}
+use Rattle.spf_parse_grammar.specs.Parts.{program, give}
+use Rattle.spf_parse_grammar.specs.Rules.{all}
+use Rattle.spf_parse_grammar.specs.Reading.{Reads}
+use Rattle.spf_parse_grammar.specs.Texts.{IsProgramOf, IsUnexpected, IsUnexpectedAt, IsTooDeep, IsTooDeepAt}
 use Rattle.spf_parse.specs.declared.program.ParseError.{ParseError}
 use Rattle.spf_parse.specs.declared.program.ParseError.TheVariants as parse
-use Rattle.spf_rules.specs.Answers.{Leads}
+use Rattle.spf_parse_parts.specs.Answers.{Leads}
 use Rattle.spf_parse.specs.Refusals.{IsNoTokenText, as_refusal}
 use Rattle.spf_parse.proofs.Texts.{reads_is, only_is, whole_not_unexpected, whole_not_too_deep, unexpected_once, unexpected_not_deep, deep_once}
 

@@ -16,11 +16,11 @@ use Rattle.spf_ast.specs.RawSyntax.{RawExpression, RawStatement, RawBlock, RawFu
 use Rattle.spf_ast.specs.Lawful.{IsName, IsNumber, IsWord, reserved_words}
 use Rattle.spf_ast.specs.Carried.{IsWidth}
 use Rattle.spf_ast.specs.Spelling.{has_break, holds_break, raw_count, IsWritableExpression, AreWritableArguments, IsWritablePredictor, IsWritableStatement, IsWritableBlock, IsWritableArray, IsWritableFunction, HasRows, HoldRows, IsWritable}
-use Rattle.spf_grammar.specs.Lexemes.{Lexeme, lexeme_of, lexemes_of}
-use Rattle.spf_grammar.specs.Parts.{Part, token, opens, operator, name, number, count, many, few, lined, expression, level, further, compared, operand, arguments, next_argument, names, row, guess, predictor, next_predictor, form, block, otherwise, header, size, array, parameters, next_parameter, function, program, Value, Rule, give, part, either}
-use Rattle.spf_grammar.specs.Rules.{rule, joined, block_of, few_rule, plain_form, has_breaks}
-use Rattle.spf_grammar.specs.Reading.{reads, says}
-use Rattle.spf_grammar.proofs.Derivations.{Parts}
+use Rattle.spf_parse_grammar.specs.Lexemes.{Lexeme, lexeme_of, lexemes_of}
+use Rattle.spf_parse_grammar.specs.Parts.{Part, token, opens, operator, name, number, count, many, few, lined, expression, level, further, compared, operand, arguments, next_argument, names, row, guess, predictor, next_predictor, form, block, otherwise, header, size, array, parameters, next_parameter, function, program, Value, Rule, give, part, either}
+use Rattle.spf_parse_grammar.specs.Rules.{rule, joined, block_of, few_rule, plain_form, has_breaks}
+use Rattle.spf_parse_grammar.specs.Reading.{reads, says}
+use Rattle.spf_parse_grammar.proofs.Derivations.{Parts}
 
 -- a name is a name, and a number a number that a text can hold
 pub record IsWritableLexeme (t : Lexeme) : Type 0 where

@@ -2,9 +2,9 @@
 use Rattle.std.specs.Prelude.{◌≡◌, ◌⊎◌, ℕ, List}
 use Rattle.spf_ast.specs.RawSyntax.{RawProgram}
 use Rattle.spf_ast.specs.Spelling.{IsWritable}
-use Rattle.spf_grammar.specs.Lexemes.{Lexeme}
-use Rattle.spf_grammar.specs.Reading.{Reads}
-use Rattle.spf_grammar.specs.Texts.{IsProgramOf, IsUnexpected, IsTooDeep}
+use Rattle.spf_parse_grammar.specs.Lexemes.{Lexeme}
+use Rattle.spf_parse_grammar.specs.Reading.{Reads}
+use Rattle.spf_parse_grammar.specs.Texts.{IsProgramOf, IsUnexpected, IsTooDeep}
 
 -- tokens go wrong at one place and in one way, and not at all where they are those of a program
 pub record GoWrongOnce (tokens : List Lexeme) (end : ℕ) : Type 0 where

@@ -1,9 +1,11 @@
-//! What holds of tokens, and of what texts say. Each law is the contract of a function that does nothing.
+//! What holds of tokens, and of what texts say. Each law is the contract of a function that does
+//! nothing.
 ghost use Rattle.spf_parse.specs.Laws.{TokensGoWrongOnce, TextsSayWritablePrograms};
 
 use spf_text::laws::tokens_are_spelled_by_their_slices;
 
-/// Tokens go wrong at one place and in one way at most, and not at all where they are those of a program.
+/// Tokens go wrong at one place and in one way at most, and not at all where they are those of a
+/// program.
 pub fn tokens_go_wrong_once()
     ensures { TokensGoWrongOnce }
 {}

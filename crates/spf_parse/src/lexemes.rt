@@ -2,9 +2,9 @@
 
 ghost use Rattle.std.specs.Prelude.{◌≡◌, ◌≤◌, ◌<◌, ◌^◌, ◌==◌, length, map, IfOk, count_by};
 ghost use Rattle.spf_text.specs.Tokens.{AreInOrder};
-ghost use Rattle.spf_grammar.specs.Lexemes.{lexemes as seen_lexemes, lexemes_of};
+ghost use Rattle.spf_parse_grammar.specs.Lexemes.{lexemes as seen_lexemes, lexemes_of};
 
-use spf_grammar::Lexeme;
+use spf_parse_grammar::Lexeme;
 use spf_text::token::Token;
 use std::alloc::{AllocError, Global};
 

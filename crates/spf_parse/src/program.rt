@@ -1,6 +1,7 @@
 // Whole programs.
 
-ghost use Rattle.std.specs.Prelude.{◌≡◌, ◌<◌, ◌≤◌, ◌-◌, ◌⊎◌, ℕ, [], length, drop, map, IfOk, IsOkUnless, Err};
+ghost use Rattle.std.specs.Prelude.{◌≡◌, ◌<◌, ◌≤◌, ◌-◌, ◌⊎◌, ℕ, [], length, drop, map, IfOk};
+ghost use Rattle.std.specs.Prelude.{IsOkUnless, Err};
 ghost use Rattle.spf_text.specs.declared.scanner.ScanError.{ScanError as scan_error};
 ghost use Rattle.spf_text.specs.declared.scanner.ScanError.TheVariants.{TooLong};
 ghost use Rattle.spf_text.specs.Tokens.{max_text};
@@ -8,21 +9,23 @@ ghost use Rattle.spf_ast.specs.View.{array as seen_array};
 ghost use Rattle.spf_ast.specs.RawSyntax.{RawProgram as Program};
 ghost use Rattle.spf_ast.specs.RawView.{raw_program, raw_function};
 ghost use Rattle.spf_ast.specs.Spelling.{IsWellFormed, IsWritable};
-ghost use Rattle.spf_grammar.specs.Lexemes.{lexemes as seen_lexemes};
-ghost use Rattle.spf_grammar.specs.Parts.{many, header as header_part, array as array_part, function as function_part, program as program_part};
-ghost use Rattle.spf_grammar.specs.Rules.{all};
-ghost use Rattle.spf_grammar.specs.Texts.{IsProgramOf, IsUnexpectedAt, IsTooDeepAt, place as place_of};
-ghost use Rattle.spf_rules.specs.Answers.{Answers, Answered};
+ghost use Rattle.spf_parse_grammar.specs.Lexemes.{lexemes as seen_lexemes};
+ghost use Rattle.spf_parse_grammar.specs.Parts.{many, header as header_part, array as array_part};
+ghost use Rattle.spf_parse_grammar.specs.Parts.{function as function_part, program as program_part};
+ghost use Rattle.spf_parse_grammar.specs.Rules.{all};
+ghost use Rattle.spf_parse_grammar.specs.Texts.{IsProgramOf, IsUnexpectedAt, IsTooDeepAt};
+ghost use Rattle.spf_parse_grammar.specs.Texts.{place as place_of};
+ghost use Rattle.spf_parse_parts.specs.Answers.{Answers, Answered};
 ghost use Rattle.spf_parse.specs.Refusals.{IsNoTokenText, as_refusal};
 
 use crate::lexemes::lexemes;
 use spf_ast::raw::{RawFunction, RawProgram};
 use spf_ast::syntax::Array;
-use spf_grammar::Lexeme;
-use spf_rules::fault::Fault;
-use spf_rules::function::{array, function};
-use spf_rules::statement::block;
-use spf_rules::step::{expect, is_next, line_of};
+use spf_parse_grammar::Lexeme;
+use spf_parse_parts::fault::Fault;
+use spf_parse_parts::function::{array, function};
+use spf_parse_parts::statement::block;
+use spf_parse_parts::step::{expect, is_next, line_of};
 use spf_text::token::{Keyword, Sign, TokenKind};
 use spf_text::{ScanError, scan};
 use std::alloc::{AllocError, Global};
@@ -34,10 +37,12 @@ pub enum ParseError {
     /// The text has no tokens.
     #[error(transparent)]
     Scan(ScanError),
-    /// What stands before byte `at` is a prefix of a program, and with the token there it isn't. At the end of the text `at` is its length.
+    /// What stands before byte `at` is a prefix of a program, and with the token there it isn't. At
+    /// the end of the text `at` is its length.
     #[error("text byte {at}: unexpected")]
     Unexpected { at: usize },
-    /// The token at byte `at` is allowed there, but opens the 65th level of nesting, or is the 33rd binary operator of one expression outside its brackets.
+    /// The token at byte `at` is allowed there, but opens the 65th level of nesting, or is the 33rd
+    /// binary operator of one expression outside its brackets.
     #[error("text byte {at}: too deep")]
     TooDeep { at: usize },
     /// There was no memory for the program.
@@ -50,7 +55,8 @@ const WITH_BREAKS: u32 = 2;
 
 /// The version that a text is written in: 1 where it has no header.
 fn header<'b, 'a>(tokens: &'b [Lexeme<'a>]) -> Result<(u32, &'b [Lexeme<'a>]), Fault>
-    ensures { Answers header_part (seen_lexemes tokens.now) (λ x. x.0) (λ x. seen_lexemes x.1.now) result }
+    ensures { Answers header_part (seen_lexemes tokens.now) (λ x. x.0) (λ x. seen_lexemes x.1.now)
+        result }
 {
     if !is_next(tokens, TokenKind::Keyword(Keyword::Version)) {
         return Ok((1, tokens));
@@ -71,7 +77,8 @@ fn arrays<'b, 'a>(
     alloc: Global,
     tokens: &'b [Lexeme<'a>],
 ) -> Result<(Vec<Array>, &'b [Lexeme<'a>]), Fault>
-    ensures { Answers (many array_part) (seen_lexemes tokens.now) (λ x. map seen_array x.0.items) (λ x. seen_lexemes x.1.now) result }
+    ensures { Answers (many array_part) (seen_lexemes tokens.now) (λ x. map seen_array x.0.items)
+        (λ x. seen_lexemes x.1.now) result }
 {
     let mut found = Vec::new(alloc);
     let (_, mut rest) = tokens.split_at(0);
@@ -89,7 +96,8 @@ fn functions<'b, 'a>(
     tokens: &'b [Lexeme<'a>],
     breaks: bool,
 ) -> Result<(Vec<RawFunction>, &'b [Lexeme<'a>]), Fault>
-    ensures { Answers (many (function_part breaks)) (seen_lexemes tokens.now) (λ x. map raw_function x.0.items) (λ x. seen_lexemes x.1.now) result }
+    ensures { Answers (many (function_part breaks)) (seen_lexemes tokens.now)
+        (λ x. map raw_function x.0.items) (λ x. seen_lexemes x.1.now) result }
 {
     let mut found = Vec::new(alloc);
     let (_, mut rest) = tokens.split_at(0);
@@ -106,7 +114,8 @@ fn program<'b, 'a>(
     alloc: Global,
     tokens: &'b [Lexeme<'a>],
 ) -> Result<(RawProgram, &'b [Lexeme<'a>]), Fault>
-    ensures { Answers program_part (seen_lexemes tokens.now) (λ x. raw_program x.0) (λ x. seen_lexemes x.1.now) result }
+    ensures { Answers program_part (seen_lexemes tokens.now) (λ x. raw_program x.0)
+        (λ x. seen_lexemes x.1.now) result }
 {
     let (version, after_header) = header(tokens)?;
     let breaks = version == WITH_BREAKS;
@@ -129,7 +138,8 @@ fn program<'b, 'a>(
 
 /// The program that all these tokens say.
 fn whole(alloc: Global, tokens: &[Lexeme]) -> Result<RawProgram, Fault>
-    ensures { Answered 14 (all program_part) (seen_lexemes tokens.now) (λ p. raw_program p) (λ p. []) result }
+    ensures { Answered 14 (all program_part) (seen_lexemes tokens.now) (λ p. raw_program p)
+        (λ p. []) result }
 {
     let (found, end) = program(alloc, tokens)?;
     if end.len() != 0 {
@@ -166,9 +176,9 @@ fn of_scan(e: ScanError) -> ParseError
 ///
 /// # Errors
 ///
-/// `Scan` comes first, where the text has no tokens. Otherwise the first token that can't stand where it stands
-/// decides: `TooDeep` where the limits alone forbid it, and `Unexpected` where the grammar does. `OutOfMemory` may
-/// come in place of each.
+/// `Scan` comes first, where the text has no tokens. Otherwise the first token that can't stand
+/// where it stands decides: `TooDeep` where the limits alone forbid it, and `Unexpected` where the
+/// grammar does. `OutOfMemory` may come in place of each.
 pub fn parse(alloc: Global, text: &[u8]) -> Result<RawProgram, ParseError>
     // What is given is the program of the text, which has no other.
     ensures program { IfOk result (λ p. IsProgramOf text.now (raw_program p)) }
@@ -177,13 +187,16 @@ pub fn parse(alloc: Global, text: &[u8]) -> Result<RawProgram, ParseError>
     // So it is what resolving asks for.
     ensures well_formed { IfOk result (λ p. IsWellFormed (raw_program p)) }
     // A text that has a program is refused only when memory runs out.
-    ensures accepted { (q : Program) → IsProgramOf text.now q → IsOkUnless result ParseError.OutOfMemory }
+    ensures accepted { (q : Program) → IsProgramOf text.now q
+        → IsOkUnless result ParseError.OutOfMemory }
     // When each error comes, and that it comes there.
     ensures scan { (e : scan_error) → result ≡ Err (ParseError.Scan e) → IsNoTokenText text.now e }
     ensures scan_refused { (e : scan_error) → IsNoTokenText text.now e
         → (result ≡ Err (ParseError.Scan e)) ⊎ (result ≡ Err ParseError.OutOfMemory) }
-    ensures too_long_refused { max_text < length text.now → result ≡ Err (ParseError.Scan (TooLong max_text)) }
-    ensures unexpected { (at : ℕ) → result ≡ Err (ParseError.Unexpected at) → IsUnexpectedAt text.now at }
+    ensures too_long_refused { max_text < length text.now
+        → result ≡ Err (ParseError.Scan (TooLong max_text)) }
+    ensures unexpected { (at : ℕ) → result ≡ Err (ParseError.Unexpected at)
+        → IsUnexpectedAt text.now at }
     ensures unexpected_refused { (at : ℕ) → IsUnexpectedAt text.now at
         → (result ≡ Err (ParseError.Unexpected at)) ⊎ (result ≡ Err ParseError.OutOfMemory) }
     ensures too_deep { (at : ℕ) → result ≡ Err (ParseError.TooDeep at) → IsTooDeepAt text.now at }

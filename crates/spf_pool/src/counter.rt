@@ -42,8 +42,10 @@ impl Counter {
     /// Another hand's counter.
     pub(crate) fn guest(&mut self) -> Result<Counter, AllocError>
         requires { IsCounter self.old × ((known self.old).solo ≡ false) }
-        ensures same { IsCounter self.new × (ledger_of self.new ≡ ledger_of self.old) × (known self.new ≡ known self.old) }
-        ensures guest { IfOk result (λ c. IsCounter c × (ledger_of c ≡ ledger_of self.old) × (known c ≡ guest (known self.old))) }
+        ensures same { IsCounter self.new × (ledger_of self.new ≡ ledger_of self.old)
+            × (known self.new ≡ known self.old) }
+        ensures guest { IfOk result (λ c.
+            IsCounter c × (ledger_of c ≡ ledger_of self.old) × (known c ≡ guest (known self.old))) }
     {
         let ledger = Arc::try_clone(&self.ledger)?;
         let seat = self.ledger.shared.split_seat::<Admits>(&mut self.seat);
@@ -56,7 +58,8 @@ impl Counter {
         requires owner { (known self.old).owner ≡ true }
         requires given { (given ≡ (known self.old).given) × (given + 1 < 65536) }
         ensures same { IsCounter self.new × (ledger_of self.new ≡ ledger_of self.old) }
-        ensures given { known self.new ≡ record (known self.old) { given = (known self.old).given + 1 } }
+        ensures given { known self.new
+            ≡ record (known self.old) { given = (known self.old).given + 1 } }
         ensures receipt { IsReceipt (ledger_of self.old) result }
     {
         let shared = &self.ledger.shared;
@@ -72,7 +75,8 @@ impl Counter {
         ensures later { LaterView (known self.old) (known self.new) }
         ensures more { (known self.old).taken < (known self.new).taken }
         ensures took { (known self.new).took ≡ (known self.old).took + 1 }
-        ensures alone { (known self.old).solo ≡ true → (known self.new).taken ≡ (known self.old).taken + 1 }
+        ensures alone { (known self.old).solo ≡ true
+            → (known self.new).taken ≡ (known self.old).taken + 1 }
     {
         let shared = &self.ledger.shared;
         shared.join_seat::<Redeems>(&mut self.seat, receipt);
@@ -86,7 +90,8 @@ impl Counter {
         ensures later { LaterView (known self.old) (known self.new) }
         ensures looks { (known self.old).looks < (known self.new).looks }
         ensures took { (known self.new).took ≡ (known self.old).took }
-        ensures alone { (known self.old).solo ≡ true → (known self.new).taken ≡ (known self.old).taken }
+        ensures alone { (known self.old).solo ≡ true
+            → (known self.new).taken ≡ (known self.old).taken }
         ensures empty { result ≡ true → (known self.new).taken ≡ (known self.new).given }
         ensures busy { result ≡ false → (known self.new).taken < (known self.new).given }
     {

@@ -1,12 +1,13 @@
 //! A hand's end of a deque: it gives to its own deque, and takes from any.
 ghost use Rattle.std.specs.Prelude.{◌≡◌, ◌+◌, ◌<◌, ◌≤◌, true};
+ghost use Rattle.spf_pool.specs.Limits.{max_capacity};
 ghost use Rattle.spf_pool.specs.Ends.{EndValue, Later, MatchFound, IsSeenEmpty, IsSeenBusy};
 
 use crate::counter::Counter;
 use crate::parcel::{Parcel, Tag};
 use crate::rule::Item;
 use crate::side::Side;
-use spf_key::key::GhostKey;
+use spf_cells_key::key::GhostKey;
 use std::marker::Model;
 
 /// What a look for an item in a deque came to.
@@ -54,10 +55,11 @@ impl<T: Item<K>, K> Drop for End<T, K> {
 }
 
 impl<T: Item<K>, K> End<T, K> {
-    /// Puts an item, with its receipt, at the back of the hand's own deque, to which `given` items were given before.
+    /// Puts an item, with its receipt, at the back of the hand's own deque, to which `given` items
+    /// were given before.
     pub(crate) fn put(&mut self, item: T, given: u64)
         requires owner { self.old.owner ≡ true }
-        requires room { (self.old.given < self.old.capacity) × (self.old.capacity ≤ 8192) }
+        requires room { (self.old.given < self.old.capacity) × (self.old.capacity ≤ max_capacity) }
         requires given { given ≡ self.old.given }
         requires item { T.meets self.old.key item }
         ensures { self.new ≡ record self.old { given = self.old.given + 1 } }
@@ -70,11 +72,14 @@ impl<T: Item<K>, K> End<T, K> {
         self.side.put(parcel);
     }
 
-    /// Takes the item at the front, and counts it as taken. Where it finds none, it looks at the numbers.
+    /// Takes the item at the front, and counts it as taken. Where it finds none, it looks at the
+    /// numbers.
     pub(crate) fn find(&mut self) -> Found<T>
         ensures later { Later self.old self.new }
-        ensures found { MatchFound result (T.meets self.old.key) (IsSeenEmpty self.old self.new) (IsSeenBusy self.old self.new) }
-        ensures took { MatchFound result (λ _. self.new.took ≡ self.old.took + 1) (self.new.took ≡ self.old.took) (self.new.took ≡ self.old.took) }
+        ensures found { MatchFound result (T.meets self.old.key) (IsSeenEmpty self.old self.new)
+            (IsSeenBusy self.old self.new) }
+        ensures took { MatchFound result (λ _. self.new.took ≡ self.old.took + 1)
+            (self.new.took ≡ self.old.took) (self.new.took ≡ self.old.took) }
     {
         match self.side.take() {
             Some(parcel) => {

@@ -1,33 +1,22 @@
 //! A hand: it gives items to its own deque, and takes them from any.
 ghost use Rattle.std.specs.Prelude.{◌≡◌, ◌+◌, ◌<◌, length, slice_index, MatchResult};
 ghost use Rattle.spf_pool.specs.Ends.{MatchFound};
-ghost use Rattle.spf_pool.specs.Hands.{
-  TookNone,
-  TookOne,
-  HandValue,
-  after_giving,
-  LaterHand,
-  SeenEmpty,
-  SeenBusy,
-  SeenAllEmpty,
-  SeenAllEmptyOrBusy,
-  OthersEmpty,
-  OthersEmptyOrBusy,
-  OwnKept,
-  MatchNext,
-};
+ghost use Rattle.spf_pool.specs.Hands.{TookNone, TookOne, HandValue, after_giving, LaterHand};
+ghost use Rattle.spf_pool.specs.Hands.{SeenEmpty, SeenBusy, SeenAllEmpty, SeenAllEmptyOrBusy};
+ghost use Rattle.spf_pool.specs.Hands.{OthersEmpty, OthersEmptyOrBusy, OwnKept, MatchNext};
 
 use crate::end::{End, Found};
 use crate::next::Next;
 use crate::rule::Item;
 use crate::sweep::sweep;
-use spf_key::key::GhostKey;
+use spf_cells_key::key::GhostKey;
 use std::marker::Model;
 
 /// A hand of a pool, for one thread.
 ///
-/// Contracts see of it the key and the deques of its pool, which deque is its own, how many items it may give, how many items it has
-/// seen given to each deque and taken from it, how many it took itself, and how often it has looked at these numbers.
+/// Contracts see of it the key and the deques of its pool, which deque is its own, how many items
+/// it may give, how many items it has seen given to each deque and taken from it, how many it took
+/// itself, and how often it has looked at these numbers.
 pub struct Hand<T: Item<K>, K> {
     pub(crate) key: GhostKey<K>,
     pub(crate) own: usize,
@@ -70,9 +59,11 @@ impl<T: Item<K>, K> Hand<T, K> {
     /// The item comes back exactly where the hand has given `capacity` items before.
     pub fn give(&mut self, item: T) -> Result<(), T>
         requires item { T.meets self.old.key item }
-        ensures given { MatchResult result
-            (λ _. (slice_index self.old.given self.old.own < self.old.capacity) × (self.new ≡ after_giving self.old))
-            (λ x. (x ≡ item) × (slice_index self.old.given self.old.own ≡ self.old.capacity) × (self.new ≡ self.old)) }
+        ensures given { MatchResult result (λ _.
+            (slice_index self.old.given self.old.own < self.old.capacity)
+            × (self.new ≡ after_giving self.old)) (λ x. (x ≡ item)
+            × (slice_index self.old.given self.old.own ≡ self.old.capacity)
+            × (self.new ≡ self.old)) }
     {
         if self.given == self.capacity {
             return Err(item);
@@ -84,9 +75,11 @@ impl<T: Item<K>, K> Hand<T, K> {
 
     // Takes the front of the hand's own deque.
     fn pop(&mut self) -> Found<T>
-        ensures found { MatchFound result (T.meets self.old.key) (SeenEmpty self.old self.new self.new.own)
+        ensures found { MatchFound result (T.meets self.old.key)
+            (SeenEmpty self.old self.new self.new.own)
             (SeenBusy self.old self.new self.new.own × (1 < length self.new.given)) }
-        ensures took { MatchFound result (λ _. TookOne self.old self.new) (TookNone self.old self.new) (TookNone self.old self.new) }
+        ensures took { MatchFound result (λ _. TookOne self.old self.new)
+            (TookNone self.old self.new) (TookNone self.old self.new) }
         ensures later { LaterHand self.old self.new }
     {
         self.ends[self.own].find()
@@ -94,22 +87,28 @@ impl<T: Item<K>, K> Hand<T, K> {
 
     // Takes the front of another hand's deque.
     fn steal(&mut self) -> Found<T>
-        ensures found { MatchFound result (T.meets self.old.key) (OthersEmpty self.old self.new) (OthersEmptyOrBusy self.old self.new) }
-        ensures took { MatchFound result (λ _. TookOne self.old self.new) (TookNone self.old self.new) (TookNone self.old self.new) }
+        ensures found { MatchFound result (T.meets self.old.key) (OthersEmpty self.old self.new)
+            (OthersEmptyOrBusy self.old self.new) }
+        ensures took { MatchFound result (λ _. TookOne self.old self.new)
+            (TookNone self.old self.new) (TookNone self.old self.new) }
         ensures later { LaterHand self.old self.new }
         ensures kept { OwnKept self.old self.new }
     {
         sweep(self.ends.as_mut_slice(), self.own)
     }
 
-    /// Takes the front of the hand's own deque, or else the front of another one. It takes no memory and doesn't wait.
+    /// Takes the front of the hand's own deque, or else the front of another one. It takes no
+    /// memory and doesn't wait.
     ///
-    /// `Empty` comes only where each deque was seen empty in this call: at a look as many items were taken from it as were given.
-    /// `Again` comes only where there are two hands or more, and each deque was looked at in this call and seen empty, or busy: an item
-    /// was given to it that wasn't counted as taken.
+    /// `Empty` comes only where each deque was seen empty in this call: at a look as many items
+    /// were taken from it as were given. `Again` comes only where there are two hands or more, and
+    /// each deque was looked at in this call and seen empty, or busy: an item was given to it that
+    /// wasn't counted as taken.
     pub fn next(&mut self) -> Next<T>
-        ensures next { MatchNext result (T.meets self.old.key) (SeenAllEmpty self.old self.new) (SeenAllEmptyOrBusy self.old self.new) }
-        ensures took { MatchNext result (λ _. TookOne self.old self.new) (TookNone self.old self.new) (TookNone self.old self.new) }
+        ensures next { MatchNext result (T.meets self.old.key) (SeenAllEmpty self.old self.new)
+            (SeenAllEmptyOrBusy self.old self.new) }
+        ensures took { MatchNext result (λ _. TookOne self.old self.new)
+            (TookNone self.old self.new) (TookNone self.old self.new) }
         ensures later { LaterHand self.old self.new }
     {
         match self.pop() {

@@ -4,7 +4,7 @@ ghost use Rattle.atomic_table.specs.Seated.{TableId, table_id_coded};
 ghost use base.Fml.{ftrue};
 
 use crate::ledger::LedgerSeat;
-use spf_key::key::GhostKey;
+use spf_cells_key::key::GhostKey;
 use std::marker::{Model, PhantomData};
 
 /// The name of a ledger, which contracts alone see.
@@ -17,7 +17,8 @@ impl Model for LedgerName {
     ghost also_owns = { λ _. ftrue };
 }
 
-/// What all know that use a deque: the key of the pool, and the deque's ledger. No value of it is made at run time.
+/// What all know that use a deque: the key of the pool, and the deque's ledger. No value of it is
+/// made at run time.
 pub struct Tag<K> {
     pub key: K,
     pub ledger: LedgerName,
@@ -35,7 +36,8 @@ pub enum Stage<K> {
     Shared(Tag<K>),
 }
 
-/// An item with its receipt, or with none the tag, which is put into a new deque and taken from it at once.
+/// An item with its receipt, or with none the tag, which is put into a new deque and taken from it
+/// at once.
 pub struct Parcel<T, K> {
     pub(crate) tag: GhostKey<Tag<K>>,
     pub(crate) load: Option<(T, LedgerSeat)>,

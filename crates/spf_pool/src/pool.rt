@@ -1,11 +1,14 @@
 //! A pool is made, with its hands.
 ghost use Rattle.std.specs.Prelude.{◌≡◌, ◌+◌, ◌<◌, ◌≤◌, true, false, length, map, replicate, IfOk};
+ghost use Rattle.spf_pool.specs.Limits.{max_capacity};
+ghost use Rattle.spf_ast_lemmas.specs.Limits.{max_workers};
 ghost use mathlib.Core.Option.{some};
 ghost use lib.ListN.{get_elem?};
 ghost use Rattle.spf_pool.specs.Ends.{EndValue};
 ghost use Rattle.spf_pool.specs.Counter.{ledger_of};
 ghost use Rattle.spf_pool.specs.Deque.{tag_of};
-ghost use Rattle.spf_pool.specs.Made.{new_end, new_hand, as_guest, AreOpen, AreNewEnds, AreRows, IsLoneHand, AreNewHands};
+ghost use Rattle.spf_pool.specs.Made.{new_end, new_hand, as_guest, AreOpen, AreNewEnds, AreRows};
+ghost use Rattle.spf_pool.specs.Made.{IsLoneHand, AreNewHands};
 
 use crate::counter::Counter;
 use crate::end::End;
@@ -13,7 +16,7 @@ use crate::hand::Hand;
 use crate::parcel::Tag;
 use crate::rule::Item;
 use crate::side::Side;
-use spf_key::key::{GhostKey, ghost_key};
+use spf_cells_key::key::{GhostKey, ghost_key};
 use std::alloc::{AllocError, Global};
 
 // The tag of a deque.
@@ -39,7 +42,7 @@ fn deck<T: Item<K>, K>(
     key: &GhostKey<K>,
     capacity: u64,
 ) -> Result<End<T, K>, AllocError>
-    requires { capacity ≤ 8192 }
+    requires { capacity ≤ max_capacity }
     ensures { IfOk result (λ e. e ≡ new_end key.now.value e.deque capacity true true) }
 {
     let counter = Counter::make(alloc)?;
@@ -60,8 +63,9 @@ fn decks<T: Item<K>, K>(
     workers: u64,
     capacity: u64,
 ) -> Result<Vec<End<T, K>>, AllocError>
-    requires { capacity ≤ 8192 }
-    ensures { IfOk result (λ v. (length v.items ≡ workers) × AreNewEnds key.now.value capacity true v.items) }
+    requires { capacity ≤ max_capacity }
+    ensures { IfOk result
+        (λ v. (length v.items ≡ workers) × AreNewEnds key.now.value capacity true v.items) }
 {
     let mut owners = Vec::new(alloc);
     for _ in 0..workers {
@@ -123,7 +127,8 @@ fn hand_of<T: Item<K>, K>(
     own: usize,
     capacity: u64,
 ) -> Hand<T, K>
-    requires size { (own < length ends.items) × (1 < length ends.items) × (capacity ≤ 8192) }
+    requires size { (own < length ends.items) × (1 < length ends.items)
+        × (capacity ≤ max_capacity) }
     requires owner { owner ≡ new_end key.now.value owner.deque capacity true false }
     requires ends { AreNewEnds key.now.value capacity false ends.items }
     requires same { (e : EndValue K) → get_elem? ends.items own ≡ some e → owner.deque ≡ e.deque }
@@ -164,7 +169,8 @@ fn hands_of<T: Item<K>, K>(
     mut rows: Vec<Vec<End<T, K>>>,
     capacity: u64,
 ) -> Result<Vec<Hand<T, K>>, AllocError>
-    requires size { (1 < length owners.items) × (length rows.items ≡ length owners.items) × (capacity ≤ 8192) }
+    requires size { (1 < length owners.items) × (length rows.items ≡ length owners.items)
+        × (capacity ≤ max_capacity) }
     requires owners { AreNewEnds key.now.value capacity true owners.items }
     requires rows { AreRows owners.items rows.items }
     ensures { IfOk result (λ v. AreNewHands key.now.value capacity (length owners.items) v.items) }
@@ -186,7 +192,7 @@ fn many<T: Item<K>, K>(
     capacity: u64,
 ) -> Result<Vec<Hand<T, K>>, AllocError>
     requires workers { 1 < workers }
-    requires capacity { capacity ≤ 8192 }
+    requires capacity { capacity ≤ max_capacity }
     ensures { IfOk result (λ v. AreNewHands key.now.value capacity workers v.items) }
 {
     let mut owners = decks::<T, K>(alloc, key, workers, capacity)?;
@@ -200,7 +206,7 @@ fn alone<T: Item<K>, K>(
     key: &GhostKey<K>,
     capacity: u64,
 ) -> Result<Hand<T, K>, AllocError>
-    requires { capacity ≤ 8192 }
+    requires { capacity ≤ max_capacity }
     ensures { IfOk result (λ h. IsLoneHand key.now.value capacity h) }
 {
     let mut ends = Vec::new(alloc);
@@ -220,7 +226,7 @@ fn one<T: Item<K>, K>(
     key: &GhostKey<K>,
     capacity: u64,
 ) -> Result<Vec<Hand<T, K>>, AllocError>
-    requires { capacity ≤ 8192 }
+    requires { capacity ≤ max_capacity }
     ensures { IfOk result (λ v. AreNewHands key.now.value capacity 1 v.items) }
 {
     let mut hands = Vec::new(alloc);
@@ -232,9 +238,10 @@ fn one<T: Item<K>, K>(
 pub struct Pool;
 
 impl Pool {
-    /// The hands of a new pool, one for each of 1 to 64 workers. Each has a deque of its own, to which it can give `capacity` items, at
-    /// most 8,192, and takes from all deques. Nothing is given yet. Contracts compare items with the key's value. All memory of the
-    /// pool is taken here.
+    /// The hands of a new pool, one for each of 1 to 64 workers. Each has a deque of its own, to
+    /// which it can give `capacity` items, at most 8,192, and takes from all deques. Nothing is
+    /// given yet. Contracts compare items with the key's value. All memory of the pool is taken
+    /// here.
     ///
     /// # Errors
     ///
@@ -245,8 +252,8 @@ impl Pool {
         workers: u64,
         capacity: u64,
     ) -> Result<Vec<Hand<T, K>>, AllocError>
-        requires workers { (0 < workers) × (workers ≤ 64) }
-        requires capacity { capacity ≤ 8192 }
+        requires workers { (0 < workers) × (workers ≤ max_workers) }
+        requires capacity { capacity ≤ max_capacity }
         ensures made { IfOk result (λ v. AreNewHands key.now.value capacity workers v.items) }
     {
         if workers == 1 {

@@ -1,5 +1,6 @@
 //! A hand's side of a deque: it puts parcels into its own, and takes them from any.
 ghost use Rattle.std.specs.Prelude.{◌≡◌, ◌+◌, ◌<◌, ◌≤◌, true, false, IfOk, MatchOption};
+ghost use Rattle.spf_pool.specs.Limits.{max_capacity};
 ghost use Rattle.spf_pool.specs.Deque.{IsFor, NoneLeft, grown, shrunk, opened, knows_tag};
 ghost use Rattle.spf_pool.specs.Side.{is_own, stage, index, room, IsSide, SameSide};
 ghost use Rattle.spf_pool.specs.declared.parcel.Stage.TheVariants.{Alone, Shared};
@@ -7,7 +8,7 @@ ghost use Rattle.spf_pool.specs.declared.parcel.Stage.TheVariants.{Alone, Shared
 use crate::parcel::{Parcel, Stage, Tag};
 use crate::rule::{Begins, Item, ItemRule, Opens, Puts, Steals, Takes, Tells};
 use crossbeam_deque::{Pass, Steal, Stealer, Worker};
-use spf_key::key::GhostKey;
+use spf_cells_key::key::GhostKey;
 use std::alloc::{AllocError, Global};
 
 /// The owner's side of a deque.
@@ -38,14 +39,16 @@ impl<T: Item<K>, K> Drop for Side<T, K> {
 }
 
 impl<T: Item<K>, K> Side<T, K> {
-    /// The owner's side of a new deque, in which there is room for so many parcels beside the first. That one goes in and out, and tells the tag.
+    /// The owner's side of a new deque, in which there is room for so many parcels beside the
+    /// first. That one goes in and out, and tells the tag.
     pub(crate) fn make(
         alloc: Global,
         capacity: usize,
         tag: GhostKey<Tag<K>>,
     ) -> Result<Side<T, K>, AllocError>
-        requires { capacity ≤ 8192 }
-        ensures { IfOk result (λ s. IsSide s × (is_own s ≡ true) × (stage s ≡ Alone tag.value 0) × (index s ≤ 1) × (capacity + 1 ≤ room s)) }
+        requires { capacity ≤ max_capacity }
+        ensures { IfOk result (λ s. IsSide s × (is_own s ≡ true) × (stage s ≡ Alone tag.value 0)
+            × (index s ≤ 1) × (capacity + 1 ≤ room s)) }
     {
         let mut worker = ItemWorker::<T, K>::fifo_as(alloc, capacity + 1)?;
         worker.push_as::<Tells>(Parcel { tag, load: None }).unwrap();
@@ -73,7 +76,8 @@ impl<T: Item<K>, K> Side<T, K> {
         requires side { IsSide self.old × (is_own self.old ≡ true) }
         requires stage { stage self.old ≡ Shared tag.now.value }
         ensures same { SameSide self.old self.new × (stage self.new ≡ stage self.old) }
-        ensures guest { IfOk result (λ s. IsSide s × (is_own s ≡ false) × (stage s ≡ stage self.old)) }
+        ensures guest { IfOk result
+            (λ s. IsSide s × (is_own s ≡ false) × (stage s ≡ stage self.old)) }
     {
         let _ = tag;
         match self {

@@ -1,7 +1,8 @@
 //! A hand takes from the deques of others.
 ghost use Rattle.std.specs.Prelude.{◌≡◌, ◌+◌, ◌<◌, true, false, ◌||◌, length, MatchResult};
 ghost use Rattle.spf_pool.specs.Ends.{MatchFound};
-ghost use Rattle.spf_pool.specs.Hands.{TookNoneOf, TookOneOf, Swept, LookedAt, TookAt, AreOrdered, MeetsAtSome, AreLater};
+ghost use Rattle.spf_pool.specs.Hands.{TookNoneOf, TookOneOf, Swept, LookedAt, TookAt, AreOrdered};
+ghost use Rattle.spf_pool.specs.Hands.{MeetsAtSome, AreLater};
 
 use crate::end::{End, Found};
 use crate::rule::Item;
@@ -12,13 +13,15 @@ fn either(one: bool, other: bool) -> bool
     one || other
 }
 
-// Looks into one deque, if it isn't the own one. True says that an item was given to it that isn't counted as taken; an item was taken.
+// Looks into one deque, if it isn't the own one. True says that an item was given to it that isn't
+// counted as taken; an item was taken.
 fn look_at<T: Item<K>, K>(ends: &mut [End<T, K>], own: usize, place: usize) -> Result<bool, T>
     requires order { AreOrdered ends.old }
     requires within { place < length ends.old }
     ensures looked { MatchResult result (λ busy. LookedAt own place busy ends.old ends.new)
         (λ x. MeetsAtSome T.meets ends.old x × TookAt own place ends.old ends.new) }
-    ensures took { MatchResult result (λ _. TookNoneOf ends.old ends.new) (λ _. TookOneOf ends.old ends.new) }
+    ensures took { MatchResult result (λ _. TookNoneOf ends.old ends.new)
+        (λ _. TookOneOf ends.old ends.new) }
 {
     if place == own {
         return Ok(false);
@@ -34,9 +37,12 @@ fn look_at<T: Item<K>, K>(ends: &mut [End<T, K>], own: usize, place: usize) -> R
 pub(crate) fn sweep<T: Item<K>, K>(ends: &mut [End<T, K>], own: usize) -> Found<T>
     requires order { AreOrdered ends.old }
     requires within { own < length ends.old }
-    ensures swept { MatchFound result (λ x. MeetsAtSome T.meets ends.old x × AreLater own ends.old ends.new)
-        (Swept own (length ends.old) false ends.old ends.new) (Swept own (length ends.old) true ends.old ends.new) }
-    ensures took { MatchFound result (λ _. TookOneOf ends.old ends.new) (TookNoneOf ends.old ends.new) (TookNoneOf ends.old ends.new) }
+    ensures swept { MatchFound result
+        (λ x. MeetsAtSome T.meets ends.old x × AreLater own ends.old ends.new)
+        (Swept own (length ends.old) false ends.old ends.new)
+        (Swept own (length ends.old) true ends.old ends.new) }
+    ensures took { MatchFound result (λ _. TookOneOf ends.old ends.new)
+        (TookNoneOf ends.old ends.new) (TookNoneOf ends.old ends.new) }
 {
     let mut busy = false;
     let mut place = 0;

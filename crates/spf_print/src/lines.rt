@@ -3,17 +3,21 @@
 ghost use Rattle.std.specs.Prelude.{◌≡◌, ◌++◌, ◌∷◌, [], codes, IfOk, map, pos};
 ghost use Rattle.std.specs.Fmt.{decimal, signed_decimal};
 ghost use Rattle.spf_ast.specs.Syntax.{Store as store_form, Fill as fill_form, Do as do_form};
-ghost use Rattle.spf_ast.specs.View.{name as seen_name, expression, arguments, condition, predictor, fold_head};
-ghost use Rattle.spf_ast.specs.Spelling.{name_at, spelled_names, spelled_expression, spelled_arguments, spelled_condition, spelled_predictor, spelled_fold, spelled_statement};
-ghost use Rattle.spf_canonical.specs.Canonical.{joined, line, expression_text, carried_text, row_text, guess_text, fold_line, statement_text};
-ghost use Rattle.spf_canonical.specs.Printing.{vocabulary_of};
+ghost use Rattle.spf_ast.specs.View.{name as seen_name, expression, arguments, condition};
+ghost use Rattle.spf_ast.specs.View.{predictor, fold_head};
+ghost use Rattle.spf_ast.specs.Spelling.{name_at, spelled_names, spelled_expression};
+ghost use Rattle.spf_ast.specs.Spelling.{spelled_arguments, spelled_condition, spelled_predictor};
+ghost use Rattle.spf_ast.specs.Spelling.{spelled_fold, spelled_statement};
+ghost use Rattle.spf_print_forms.specs.Canonical.{joined, line, expression_text, carried_text};
+ghost use Rattle.spf_print_forms.specs.Canonical.{row_text, guess_text, fold_line, statement_text};
+ghost use Rattle.spf_print_forms.specs.Printing.{vocabulary_of};
 
 use spf_ast::syntax::{Cond, Expr, Fold, Predict};
-use spf_canonical::expressions::{
+use spf_print_forms::expressions::{
     push_arguments, push_condition, push_expression, push_index, push_predict, push_range,
     push_row, push_slice,
 };
-use spf_canonical::pieces::{
+use spf_print_forms::pieces::{
     Names, array_name, function_name, push, push_carried, push_count, slot_name,
 };
 use std::alloc::{AllocError, Global};
@@ -58,7 +62,8 @@ pub(crate) fn push_with_row(
 
 /// Adds a `break`.
 pub(crate) fn push_break(text: &mut Vec<u8>, indent: &[u8]) -> Result<(), AllocError>
-    ensures { IfOk result (λ _. text.new.items ≡ text.old.items ++ line indent.now (codes "break;" ∷ [])) }
+    ensures { IfOk result
+        (λ _. text.new.items ≡ text.old.items ++ line indent.now (codes "break;" ∷ [])) }
 {
     push(text, indent)?;
     push(text, b"break;\n")
@@ -74,9 +79,12 @@ pub(crate) fn push_set(
     slot: u32,
     value: &Expr,
 ) -> Result<(), AllocError>
-    ensures { IfOk result (λ _. text.new.items ≡ text.old.items
-        ++ line indent.now (word.now ∷ name_at (map seen_name names.now.slots.now) slot ∷ codes " = "
-        ∷ expression_text (spelled_expression (vocabulary_of names.now) (expression value.now)) ∷ codes ";" ∷ [])) }
+    ensures { IfOk result (λ _. text.new.items
+        ≡ text.old.items
+        ++ line indent.now (word.now ∷ name_at (map seen_name names.now.slots.now) slot
+        ∷ codes " = "
+        ∷ expression_text (spelled_expression (vocabulary_of names.now) (expression value.now))
+        ∷ codes ";" ∷ [])) }
 {
     push(text, indent)?;
     push(text, word)?;
@@ -138,7 +146,9 @@ pub(crate) fn push_fail(
     indent: &[u8],
     number: u8,
 ) -> Result<(), AllocError>
-    ensures { IfOk result (λ _. text.new.items ≡ text.old.items ++ line indent.now (codes "fail " ∷ signed_decimal (pos number) ∷ codes ";" ∷ [])) }
+    ensures { IfOk result (λ _. text.new.items
+        ≡ text.old.items
+        ++ line indent.now (codes "fail " ∷ signed_decimal (pos number) ∷ codes ";" ∷ [])) }
 {
     push(text, indent)?;
     push(text, b"fail ")?;
@@ -175,10 +185,14 @@ pub(crate) fn push_for_head(
     low: &Expr,
     high: &Expr,
 ) -> Result<(), AllocError>
-    ensures { IfOk result (λ _. text.new.items ≡ text.old.items
-        ++ line indent.now (codes "for " ∷ name_at (vocabulary_of names.now).slots slot ∷ codes " in "
-        ∷ expression_text (spelled_expression (vocabulary_of names.now) (expression low.now)) ∷ codes ".."
-        ∷ expression_text (spelled_expression (vocabulary_of names.now) (expression high.now)) ∷ codes " {" ∷ [])) }
+    ensures { IfOk result (λ _. text.new.items
+        ≡ text.old.items
+        ++ line indent.now (codes "for " ∷ name_at (vocabulary_of names.now).slots slot
+        ∷ codes " in "
+        ∷ expression_text (spelled_expression (vocabulary_of names.now) (expression low.now))
+        ∷ codes ".."
+        ∷ expression_text (spelled_expression (vocabulary_of names.now) (expression high.now))
+        ∷ codes " {" ∷ [])) }
 {
     push(text, indent)?;
     push(text, b"for ")?;
@@ -197,10 +211,11 @@ pub(crate) fn push_while_head(
     test: &Cond,
     most: u64,
 ) -> Result<(), AllocError>
-    ensures { IfOk result (λ _. text.new.items ≡ text.old.items
-        ++ line indent.now (codes "while " ∷ expression_text
-        (spelled_condition (vocabulary_of names.now) (condition test.now)) ∷ codes " max " ∷ decimal most
-        ∷ codes " {" ∷ [])) }
+    ensures { IfOk result (λ _. text.new.items
+        ≡ text.old.items
+        ++ line indent.now (codes "while "
+        ∷ expression_text (spelled_condition (vocabulary_of names.now) (condition test.now))
+        ∷ codes " max " ∷ decimal most ∷ codes " {" ∷ [])) }
 {
     push(text, indent)?;
     push(text, b"while ")?;
@@ -236,9 +251,12 @@ fn push_fold_start(
     indent: &[u8],
     fold: &Fold,
 ) -> Result<(), AllocError>
-    ensures { IfOk result (λ _. text.new.items ≡ text.old.items ++ indent.now
-        ++ joined (codes "specfold " ∷ carried_text (spelled_fold (vocabulary_of names.now) (fold_head fold.now)).carried
-        ∷ codes " = " ∷ row_text (spelled_fold (vocabulary_of names.now) (fold_head fold.now)).start ∷ [])) }
+    ensures { IfOk result (λ _. text.new.items
+        ≡ text.old.items ++ indent.now
+        ++ joined (codes "specfold "
+        ∷ carried_text (spelled_fold (vocabulary_of names.now) (fold_head fold.now)).carried
+        ∷ codes " = " ∷ row_text (spelled_fold (vocabulary_of names.now) (fold_head fold.now)).start
+        ∷ [])) }
 {
     push(text, indent)?;
     push(text, b"specfold ")?;
@@ -254,10 +272,14 @@ fn push_fold_range(
     names: &Names,
     fold: &Fold,
 ) -> Result<(), AllocError>
-    ensures { IfOk result (λ _. text.new.items ≡ text.old.items
-        ++ joined (codes " for " ∷ (spelled_fold (vocabulary_of names.now) (fold_head fold.now)).block
-        ∷ codes " in " ∷ expression_text (spelled_fold (vocabulary_of names.now) (fold_head fold.now)).low
-        ∷ codes ".." ∷ expression_text (spelled_fold (vocabulary_of names.now) (fold_head fold.now)).high ∷ [])) }
+    ensures { IfOk result (λ _. text.new.items
+        ≡ text.old.items
+        ++ joined (codes " for "
+        ∷ (spelled_fold (vocabulary_of names.now) (fold_head fold.now)).block ∷ codes " in "
+        ∷ expression_text (spelled_fold (vocabulary_of names.now) (fold_head fold.now)).low
+        ∷ codes ".."
+        ∷ expression_text (spelled_fold (vocabulary_of names.now) (fold_head fold.now)).high
+        ∷ [])) }
 {
     push(text, b" for ")?;
     push(text, slot_name(names.slots, fold.block))?;
@@ -273,7 +295,9 @@ pub(crate) fn push_fold_head(
     indent: &[u8],
     fold: &Fold,
 ) -> Result<(), AllocError>
-    ensures { IfOk result (λ _. text.new.items ≡ text.old.items ++ fold_line indent.now (spelled_fold (vocabulary_of names.now) (fold_head fold.now))) }
+    ensures { IfOk result (λ _. text.new.items
+        ≡ text.old.items
+        ++ fold_line indent.now (spelled_fold (vocabulary_of names.now) (fold_head fold.now))) }
 {
     push_fold_start(alloc, text, names, indent, fold)?;
     push_fold_range(alloc, text, names, fold)?;
@@ -287,9 +311,10 @@ pub(crate) fn push_pair_head(
     indent: &[u8],
     carried: &[u32],
 ) -> Result<(), AllocError>
-    ensures { IfOk result (λ _. text.new.items ≡ text.old.items
-        ++ line indent.now (codes "spec " ∷ carried_text (spelled_names (vocabulary_of names.now) carried.now)
-        ∷ codes " = {" ∷ [])) }
+    ensures { IfOk result (λ _. text.new.items
+        ≡ text.old.items
+        ++ line indent.now (codes "spec "
+        ∷ carried_text (spelled_names (vocabulary_of names.now) carried.now) ∷ codes " = {" ∷ [])) }
 {
     push(text, indent)?;
     push(text, b"spec ")?;
@@ -305,9 +330,12 @@ pub(crate) fn push_consumer_head(
     indent: &[u8],
     predict: &[Predict],
 ) -> Result<(), AllocError>
-    ensures { IfOk result (λ _. text.new.items ≡ text.old.items
-        ++ line indent.now (codes "} predict "
-        ∷ guess_text (map (spelled_predictor (vocabulary_of names.now)) (map predictor predict.now)) ∷ codes " {" ∷ [])) }
+    ensures { IfOk result (λ _. text.new.items
+        ≡ text.old.items
+        ++ line indent.now
+        (codes "} predict "
+        ∷ guess_text (map (spelled_predictor (vocabulary_of names.now)) (map predictor predict.now))
+        ∷ codes " {" ∷ [])) }
 {
     push(text, indent)?;
     push(text, b"}")?;

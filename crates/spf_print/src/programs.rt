@@ -1,14 +1,17 @@
 // Arrays, functions and whole programs, added to a text.
 
 ghost use Rattle.std.specs.Prelude.{◌≡◌, ◌++◌, ◌∷◌, [], codes, IfOk, map, take};
-ghost use Rattle.spf_ast.specs.View.{name as seen_name, array as seen_array, function as seen_function, program as seen_program};
+ghost use Rattle.spf_ast.specs.View.{name as seen_name, array as seen_array};
+ghost use Rattle.spf_ast.specs.View.{function as seen_function, program as seen_program};
 ghost use Rattle.spf_ast.specs.Spelling.{spelled_function, spelled};
-ghost use Rattle.spf_canonical.specs.Canonical.{line, size_text, array_text, names_text, function_text, arrays_text, functions_text, main_text, header_text, canonical_text};
+ghost use Rattle.spf_print_forms.specs.Canonical.{line, size_text, array_text, names_text};
+ghost use Rattle.spf_print_forms.specs.Canonical.{function_text, arrays_text, functions_text};
+ghost use Rattle.spf_print_forms.specs.Canonical.{main_text, header_text, canonical_text};
 
 use crate::lines::push_with_word;
 use crate::statements::push_nested;
 use spf_ast::syntax::{Array, Function, Name, Program};
-use spf_canonical::pieces::{deeper, names_of, push, push_close, push_name, push_number};
+use spf_print_forms::pieces::{deeper, names_of, push, push_close, push_name, push_number};
 use std::alloc::{AllocError, Global};
 
 /// Adds the size of an array.
@@ -28,7 +31,8 @@ fn push_size(alloc: Global, text: &mut Vec<u8>, factor: i64, offset: i64) -> Res
 
 /// Adds an array.
 fn push_array(alloc: Global, text: &mut Vec<u8>, array: &Array) -> Result<(), AllocError>
-    ensures { IfOk result (λ _. text.new.items ≡ text.old.items ++ array_text (seen_array array.now)) }
+    ensures { IfOk result
+        (λ _. text.new.items ≡ text.old.items ++ array_text (seen_array array.now)) }
 {
     push(text, b"array ")?;
     push_name(text, &array.name)?;
@@ -39,7 +43,8 @@ fn push_array(alloc: Global, text: &mut Vec<u8>, array: &Array) -> Result<(), Al
 
 /// Adds arrays.
 fn push_arrays(alloc: Global, text: &mut Vec<u8>, arrays: &[Array]) -> Result<(), AllocError>
-    ensures { IfOk result (λ _. text.new.items ≡ text.old.items ++ arrays_text (map seen_array arrays.now)) }
+    ensures { IfOk result
+        (λ _. text.new.items ≡ text.old.items ++ arrays_text (map seen_array arrays.now)) }
 {
     for array in arrays {
         push_array(alloc, text, array)?;
@@ -49,7 +54,8 @@ fn push_arrays(alloc: Global, text: &mut Vec<u8>, arrays: &[Array]) -> Result<()
 
 /// Adds names, with a comma and a space between two.
 fn push_names(text: &mut Vec<u8>, names: &[Name]) -> Result<(), AllocError>
-    ensures { IfOk result (λ _. text.new.items ≡ text.old.items ++ names_text (map seen_name names.now)) }
+    ensures { IfOk result
+        (λ _. text.new.items ≡ text.old.items ++ names_text (map seen_name names.now)) }
 {
     if let Some((first, others)) = names.split_first() {
         push_name(text, first)?;
@@ -63,7 +69,8 @@ fn push_names(text: &mut Vec<u8>, names: &[Name]) -> Result<(), AllocError>
 
 /// The names of a function's parameters, which are its first slots.
 fn parameters(function: &Function) -> &[Name]
-    ensures { map seen_name result.now ≡ take function.now.params (map seen_name function.now.slots.items) }
+    ensures { map seen_name result.now
+        ≡ take function.now.params (map seen_name function.now.slots.items) }
 {
     let slots: &[Name] = &function.slots;
     &slots[..(function.params as usize).min(slots.len())]
@@ -71,9 +78,11 @@ fn parameters(function: &Function) -> &[Name]
 
 /// Adds the line that begins a function.
 fn push_function_head(text: &mut Vec<u8>, function: &Function) -> Result<(), AllocError>
-    ensures { IfOk result (λ _. text.new.items ≡ text.old.items
+    ensures { IfOk result (λ _. text.new.items
+        ≡ text.old.items
         ++ line [] (codes "fn " ∷ seen_name function.now.name ∷ codes "("
-        ∷ names_text (take function.now.params (map seen_name function.now.slots.items)) ∷ codes ") {" ∷ [])) }
+        ∷ names_text (take function.now.params (map seen_name function.now.slots.items))
+        ∷ codes ") {" ∷ [])) }
 {
     push(text, b"fn ")?;
     push_name(text, &function.name)?;
@@ -89,7 +98,10 @@ fn push_function(
     program: &Program,
     function: &Function,
 ) -> Result<(), AllocError>
-    ensures { IfOk result (λ _. text.new.items ≡ text.old.items ++ function_text (spelled_function (seen_program program.now) (seen_function function.now))) }
+    ensures { IfOk result (λ _. text.new.items
+        ≡ text.old.items
+        ++ function_text
+        (spelled_function (seen_program program.now) (seen_function function.now))) }
 {
     let names = names_of(program, &function.slots);
     push_function_head(text, function)?;
@@ -105,8 +117,10 @@ fn push_functions(
     program: &Program,
     functions: &[Function],
 ) -> Result<(), AllocError>
-    ensures { IfOk result (λ _. text.new.items ≡ text.old.items
-        ++ functions_text (map (spelled_function (seen_program program.now)) (map seen_function functions.now))) }
+    ensures { IfOk result (λ _. text.new.items
+        ≡ text.old.items
+        ++ functions_text
+        (map (spelled_function (seen_program program.now)) (map seen_function functions.now))) }
 {
     for function in functions {
         push_function(alloc, text, program, function)?;
@@ -116,7 +130,8 @@ fn push_functions(
 
 /// Adds `main`.
 fn push_main(alloc: Global, text: &mut Vec<u8>, program: &Program) -> Result<(), AllocError>
-    ensures { IfOk result (λ _. text.new.items ≡ text.old.items ++ main_text (spelled 0 (seen_program program.now)).main) }
+    ensures { IfOk result (λ _.
+        text.new.items ≡ text.old.items ++ main_text (spelled 0 (seen_program program.now)).main) }
 {
     let names = names_of(program, &program.slots);
     push(text, b"main {\n")?;
@@ -141,7 +156,8 @@ fn push_header(text: &mut Vec<u8>, version: u32) -> Result<(), AllocError>
 ///
 /// There is no memory for the text.
 pub fn print(alloc: Global, program: &Program) -> Result<Vec<u8>, AllocError>
-    ensures { IfOk result (λ text. text.items ≡ canonical_text (spelled 0 (seen_program program.now))) }
+    ensures { IfOk result
+        (λ text. text.items ≡ canonical_text (spelled 0 (seen_program program.now))) }
 {
     let mut text = Vec::new(alloc);
     push_header(&mut text, program.version)?;

@@ -6,8 +6,9 @@ ghost use Rattle.spf_ast.specs.declared.syntax.Fold.{out-Fold};
 ghost use Rattle.spf_ast.specs.declared.syntax.Pair.{out-Pair};
 ghost use Rattle.spf_ast.specs.View.{fold_head, pair_head, statement, block};
 ghost use Rattle.spf_ast.specs.Spelling.{spelled_statement, spelled_block};
-ghost use Rattle.spf_canonical.specs.Canonical.{deeper as deeper_of, statement_text, otherwise_text, block_text};
-ghost use Rattle.spf_canonical.specs.Printing.{vocabulary_of};
+ghost use Rattle.spf_print_forms.specs.Canonical.{deeper as deeper_of, statement_text};
+ghost use Rattle.spf_print_forms.specs.Canonical.{otherwise_text, block_text};
+ghost use Rattle.spf_print_forms.specs.Printing.{vocabulary_of};
 
 use crate::lines::{
     push_break, push_call, push_consumer_head, push_fail, push_fill, push_fold_head, push_for_head,
@@ -15,7 +16,7 @@ use crate::lines::{
     push_with_word,
 };
 use spf_ast::syntax::{Fold, Pair, Stmt, StmtKind};
-use spf_canonical::pieces::{Names, deeper, push_close, push_else};
+use spf_print_forms::pieces::{Names, deeper, push_close, push_else};
 use std::alloc::{AllocError, Global};
 
 /// Adds the statements of a block inside a statement with this indentation.
@@ -27,8 +28,10 @@ pub(crate) fn push_nested(
     indent: &[u8],
     statements: &[Stmt],
 ) -> Result<(), AllocError>
-    ensures { IfOk result (λ _. text.new.items ≡ text.old.items
-        ++ block_text (deeper_of indent.now) (spelled_block (vocabulary_of names.now) (block statements.now))) }
+    ensures { IfOk result (λ _. text.new.items
+        ≡ text.old.items
+        ++ block_text (deeper_of indent.now)
+        (spelled_block (vocabulary_of names.now) (block statements.now))) }
 {
     let inner = deeper(alloc, indent)?;
     for statement in statements {
@@ -46,7 +49,10 @@ fn push_otherwise(
     indent: &[u8],
     statements: &[Stmt],
 ) -> Result<(), AllocError>
-    ensures { IfOk result (λ _. text.new.items ≡ text.old.items ++ otherwise_text indent.now (spelled_block (vocabulary_of names.now) (block statements.now))) }
+    ensures { IfOk result (λ _. text.new.items
+        ≡ text.old.items
+        ++ otherwise_text indent.now
+        (spelled_block (vocabulary_of names.now) (block statements.now))) }
 {
     if statements.is_empty() {
         return push_close(text, indent);
@@ -65,8 +71,10 @@ fn push_statement(
     indent: &[u8],
     kind: &StmtKind,
 ) -> Result<(), AllocError>
-    ensures { IfOk result (λ _. text.new.items ≡ text.old.items
-        ++ statement_text indent.now (spelled_statement (vocabulary_of names.now) (statement kind.now))) }
+    ensures { IfOk result (λ _. text.new.items
+        ≡ text.old.items
+        ++ statement_text indent.now
+        (spelled_statement (vocabulary_of names.now) (statement kind.now))) }
 {
     match kind {
         StmtKind::Let(slot, value) => {

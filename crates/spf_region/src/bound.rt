@@ -1,22 +1,8 @@
 //! What is known of a number at each block.
 ghost use Rattle.std.specs.Prelude.{◌≡◌, neg_ℤ, ◌+ℤ◌, ◌-ℤ◌, ◌*ℤ◌};
-ghost use Rattle.spf_region.specs.Bounds.{
-  is_small,
-  small,
-  known,
-  number,
-  plus,
-  minus,
-  negated,
-  constant,
-  scaled,
-  times,
-  is_at_least_zero,
-  remainder,
-  masked,
-  masked_by,
-  remainder_by,
-};
+ghost use Rattle.spf_region.specs.Bounds.{is_small, small, known, number, plus, minus, negated};
+ghost use Rattle.spf_region.specs.Bounds.{constant, scaled, times, is_at_least_zero, remainder};
+ghost use Rattle.spf_region.specs.Bounds.{masked, masked_by, remainder_by};
 ghost use Rattle.spf_region.specs.Between.{known_between};
 
 /// What is known of a number at block k: it lies between `factor * k + low` and
@@ -252,14 +238,16 @@ impl Bound {
         }
     }
 
-    /// The bound of a remainder, where the divisor is a constant over 0. It is known for every dividend.
+    /// The bound of a remainder, where the divisor is a constant over 0. It is known for every
+    /// dividend.
     pub fn rem(self, other: Bound) -> Bound
         ensures remainder { result ≡ remainder self other }
     {
         remainder_by(self, other.constant())
     }
 
-    /// The bound of the bitwise and, where one side is a constant of at least 0. It is known for every other side.
+    /// The bound of the bitwise and, where one side is a constant of at least 0. It is known for
+    /// every other side.
     pub fn masked(self, other: Bound) -> Bound
         ensures masked { result ≡ masked self other }
     {

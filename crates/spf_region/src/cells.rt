@@ -1,9 +1,11 @@
 //! The cells of ranges at a block.
-ghost use Rattle.std.specs.Prelude.{◌≡◌, ℕ, ◌+◌, ◌<◌, ◌^◌, nat_lt, not, ℤ, pos, ◌+ℤ◌, ◌*ℤ◌, ◌<ℤ◌, ◌≤◌, ◌-◌, unsigned_abs, false, IfOk, length, slice_index_or};
+ghost use Rattle.std.specs.Prelude.{◌≡◌, ℕ, ◌+◌, ◌<◌, ◌^◌, nat_lt, not, ℤ, pos, ◌+ℤ◌, ◌*ℤ◌, ◌<ℤ◌};
+ghost use Rattle.std.specs.Prelude.{◌≤◌, ◌-◌, unsigned_abs, false, IfOk, length, slice_index_or};
 ghost use Rattle.std.specs.List.{All, list_any};
 ghost use Rattle.std.specs.Int.{int_min, int_max};
 ghost use Rattle.spf_region.specs.Ranges.{array_of};
-ghost use Rattle.spf_region.specs.Cells.{at_block, is_cell, cells_at, in_span, in_spans, AreAscending};
+ghost use Rattle.spf_region.specs.Cells.{at_block, is_cell, cells_at, in_span, in_spans};
+ghost use Rattle.spf_region.specs.Cells.{AreAscending};
 ghost use Rattle.spf_region.specs.Joining.{joined_spans};
 
 use crate::range::Range;
@@ -71,7 +73,9 @@ fn span_of(range: &Range, base: u64, size: u64, k: i64) -> Span
 fn span_in(range: &Range, extents: &[(u64, u64)], k: i64) -> Span
     requires inside { array_of range.now < length extents.now }
     requires fits { All (λ e. e.0 + e.1 < 2 ^ 64) extents.now }
-    ensures { (cell : ℕ) → in_span result cell ≡ is_cell (slice_index_or extents.now (array_of range.now) (0, 0)) k range.now cell }
+    ensures { (cell : ℕ)
+        → in_span result cell
+        ≡ is_cell (slice_index_or extents.now (array_of range.now) (0, 0)) k range.now cell }
 {
     let (base, size) = extents[range.array() as usize];
     span_of(range, base, size, k)
@@ -86,7 +90,8 @@ fn spans_of(
 ) -> Result<Vec<Span>, AllocError>
     requires inside { All (λ r. array_of r < length extents.now) ranges.now }
     requires fits { All (λ e. e.0 + e.1 < 2 ^ 64) extents.now }
-    ensures cells { IfOk result (λ v. (cell : ℕ) → in_spans v.items cell ≡ cells_at extents.now k ranges.now cell) }
+    ensures cells { IfOk result
+        (λ v. (cell : ℕ) → in_spans v.items cell ≡ cells_at extents.now k ranges.now cell) }
     ensures filled { IfOk result (λ v. list_any (λ s. not (nat_lt s.from s.to)) v.items ≡ false) }
 {
     let mut spans = Vec::new(alloc);
@@ -120,7 +125,8 @@ fn joined_spans(alloc: Global, sorted: &[Span]) -> Result<Vec<Span>, AllocError>
     Ok(joined)
 }
 
-/// The cells of the ranges at block k, each in the extent of its array, as ascending spans with gaps.
+/// The cells of the ranges at block k, each in the extent of its array, as ascending spans with
+/// gaps.
 pub(crate) fn spans_at(
     alloc: Global,
     ranges: &[Range],
@@ -129,7 +135,8 @@ pub(crate) fn spans_at(
 ) -> Result<Vec<Span>, AllocError>
     requires inside { All (λ r. array_of r < length extents.now) ranges.now }
     requires fits { All (λ e. e.0 + e.1 < 2 ^ 64) extents.now }
-    ensures cells { IfOk result (λ v. (cell : ℕ) → in_spans v.items cell ≡ cells_at extents.now k ranges.now cell) }
+    ensures cells { IfOk result
+        (λ v. (cell : ℕ) → in_spans v.items cell ≡ cells_at extents.now k ranges.now cell) }
     ensures ascending { IfOk result (λ v. AreAscending v.items) }
 {
     let mut spans = spans_of(alloc, ranges, extents, k)?;

@@ -2,22 +2,10 @@
 ghost use Rattle.std.specs.Prelude.{◌≡◌, [], ℕ, ◌+◌, ◌<◌, ◌^◌, length, true, OnOk, OnErr, IfOk};
 ghost use Rattle.std.specs.List.{All};
 ghost use Rattle.spf_region.specs.Cells.{in_spans, cells_at, AreAscending};
-ghost use Rattle.spf_region.specs.Ranges.{
-  offsets_of,
-  wholes_of,
-  joined,
-  whole_joined,
-  array_joined,
-  in_either,
-  whole_in_either,
-  in_both,
-  whole_in_both,
-  covers,
-  has_array,
-  first_unseparated,
-  first_meeting,
-  IsNormal,
-};
+ghost use Rattle.spf_region.specs.Ranges.{offsets_of, wholes_of, joined, whole_joined};
+ghost use Rattle.spf_region.specs.Ranges.{array_joined, in_either, whole_in_either, in_both};
+ghost use Rattle.spf_region.specs.Ranges.{whole_in_both, covers, has_array, first_unseparated};
+ghost use Rattle.spf_region.specs.Ranges.{first_meeting, IsNormal};
 
 use crate::cells::spans_at;
 use crate::merge::{added, merged, met};
@@ -65,8 +53,10 @@ impl RangeList {
     /// `AllocError` where there is no memory for the list. It then stays as it was.
     pub fn add(&mut self, alloc: Global, range: Range) -> Result<(), AllocError>
         ensures offsets { OnOk result (offsets_of self.new ≡ joined range (offsets_of self.old)) }
-        ensures wholes { OnOk result (wholes_of self.new ≡ whole_joined range (wholes_of self.old)) }
-        ensures arrays { OnOk result (has_array self.new ≡ array_joined range (has_array self.old)) }
+        ensures wholes { OnOk result
+            (wholes_of self.new ≡ whole_joined range (wholes_of self.old)) }
+        ensures arrays { OnOk result
+            (has_array self.new ≡ array_joined range (has_array self.old)) }
         ensures normal { IsNormal self.new }
         ensures unchanged { OnErr result (self.new ≡ self.old) }
     {
@@ -85,9 +75,12 @@ impl RangeList {
     ///
     /// `AllocError` where there is no memory for it.
     pub fn join(&self, alloc: Global, other: &RangeList) -> Result<RangeList, AllocError>
-        ensures offsets { IfOk result (λ list. offsets_of list ≡ in_either (offsets_of self.now) (offsets_of other.now)) }
-        ensures wholes { IfOk result (λ list. wholes_of list ≡ whole_in_either (wholes_of self.now) (wholes_of other.now)) }
-        ensures arrays { IfOk result (λ list. has_array list ≡ whole_in_either (has_array self.now) (has_array other.now)) }
+        ensures offsets { IfOk result
+            (λ list. offsets_of list ≡ in_either (offsets_of self.now) (offsets_of other.now)) }
+        ensures wholes { IfOk result
+            (λ list. wholes_of list ≡ whole_in_either (wholes_of self.now) (wholes_of other.now)) }
+        ensures arrays { IfOk result
+            (λ list. has_array list ≡ whole_in_either (has_array self.now) (has_array other.now)) }
         ensures normal { IfOk result (λ list. IsNormal list) }
     {
         Ok(RangeList {
@@ -101,8 +94,10 @@ impl RangeList {
     ///
     /// `AllocError` where there is no memory for it.
     pub fn meet(&self, alloc: Global, other: &RangeList) -> Result<RangeList, AllocError>
-        ensures offsets { IfOk result (λ list. offsets_of list ≡ in_both (offsets_of self.now) (offsets_of other.now)) }
-        ensures wholes { IfOk result (λ list. wholes_of list ≡ whole_in_both (wholes_of self.now) (wholes_of other.now)) }
+        ensures offsets { IfOk result
+            (λ list. offsets_of list ≡ in_both (offsets_of self.now) (offsets_of other.now)) }
+        ensures wholes { IfOk result
+            (λ list. wholes_of list ≡ whole_in_both (wholes_of self.now) (wholes_of other.now)) }
         ensures normal { IfOk result (λ list. IsNormal list) }
     {
         Ok(RangeList {
@@ -161,9 +156,11 @@ impl RangeList {
         extents: &[(u64, u64)],
         k: i64,
     ) -> Result<Vec<Span>, AllocError>
-        requires inside { (array : ℕ) → has_array self.now array ≡ true → array < length extents.now }
+        requires inside { (array : ℕ) → has_array self.now array ≡ true
+            → array < length extents.now }
         requires fits { All (λ e. e.0 + e.1 < 2 ^ 64) extents.now }
-        ensures cells { IfOk result (λ v. (cell : ℕ) → in_spans v.items cell ≡ cells_at extents.now k self.now cell) }
+        ensures cells { IfOk result
+            (λ v. (cell : ℕ) → in_spans v.items cell ≡ cells_at extents.now k self.now cell) }
         ensures ascending { IfOk result (λ v. AreAscending v.items) }
     {
         spans_at(alloc, &self.items, extents, k)

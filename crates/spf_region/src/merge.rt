@@ -1,21 +1,11 @@
 //! Merging two lists of ranges, and finding their common part, in one pass from the left.
 ghost use Rattle.std.specs.Prelude.{◌≡◌, ◌+ℤ◌, pos, int_le, false, IfOk};
 ghost use Rattle.std.specs.Int.{int_min, int_max};
-ghost use Rattle.spf_region.specs.Merging.{in_order, starts_by, ends_by, hull, overlap, filled, interleaved, coalesced, met};
-ghost use Rattle.spf_region.specs.Ranges.{
-  offsets_of,
-  wholes_of,
-  has_array,
-  joined,
-  whole_joined,
-  array_joined,
-  in_either,
-  whole_in_either,
-  in_both,
-  whole_in_both,
-  is_empty,
-  IsNormal,
-};
+ghost use Rattle.spf_region.specs.Merging.{in_order, starts_by, ends_by, hull, overlap, filled};
+ghost use Rattle.spf_region.specs.Merging.{interleaved, coalesced, met};
+ghost use Rattle.spf_region.specs.Ranges.{offsets_of, wholes_of, has_array, joined, whole_joined};
+ghost use Rattle.spf_region.specs.Ranges.{array_joined, in_either, whole_in_either, in_both};
+ghost use Rattle.spf_region.specs.Ranges.{whole_in_both, is_empty, IsNormal};
 
 use crate::range::Range;
 use std::alloc::{AllocError, Global};
@@ -136,8 +126,8 @@ fn hull(range: &Range, next: &Range) -> Option<Range>
     }
 }
 
-// The range of the offsets that are both from `from` to `to` and from `other_from` to `other_to`, if
-// there are any.
+// The range of the offsets that are both from `from` to `to` and from `other_from` to `other_to`,
+// if there are any.
 fn common(
     array: u32,
     factor: i64,
@@ -250,9 +240,12 @@ pub(crate) fn merged(
 ) -> Result<Vec<Range>, AllocError>
     requires left { IsNormal left.now }
     requires right { IsNormal right.now }
-    ensures offsets { IfOk result (λ list. offsets_of list.items ≡ in_either (offsets_of left.now) (offsets_of right.now)) }
-    ensures wholes { IfOk result (λ list. wholes_of list.items ≡ whole_in_either (wholes_of left.now) (wholes_of right.now)) }
-    ensures arrays { IfOk result (λ list. has_array list.items ≡ whole_in_either (has_array left.now) (has_array right.now)) }
+    ensures offsets { IfOk result
+        (λ list. offsets_of list.items ≡ in_either (offsets_of left.now) (offsets_of right.now)) }
+    ensures wholes { IfOk result (λ list.
+        wholes_of list.items ≡ whole_in_either (wholes_of left.now) (wholes_of right.now)) }
+    ensures arrays { IfOk result (λ list.
+        has_array list.items ≡ whole_in_either (has_array left.now) (has_array right.now)) }
     ensures normal { IfOk result (λ list. IsNormal list.items) }
 {
     let all = interleaved(alloc, left, right)?;
@@ -263,9 +256,12 @@ pub(crate) fn merged(
 pub(crate) fn added(alloc: Global, range: Range, ranges: &[Range]) -> Result<Vec<Range>, AllocError>
     requires filled { is_empty range ≡ false }
     requires normal { IsNormal ranges.now }
-    ensures offsets { IfOk result (λ list. offsets_of list.items ≡ joined range (offsets_of ranges.now)) }
-    ensures wholes { IfOk result (λ list. wholes_of list.items ≡ whole_joined range (wholes_of ranges.now)) }
-    ensures arrays { IfOk result (λ list. has_array list.items ≡ array_joined range (has_array ranges.now)) }
+    ensures offsets { IfOk result
+        (λ list. offsets_of list.items ≡ joined range (offsets_of ranges.now)) }
+    ensures wholes { IfOk result
+        (λ list. wholes_of list.items ≡ whole_joined range (wholes_of ranges.now)) }
+    ensures arrays { IfOk result
+        (λ list. has_array list.items ≡ array_joined range (has_array ranges.now)) }
     ensures normal { IfOk result (λ list. IsNormal list.items) }
 {
     let all = interleaved(alloc, &[range], ranges)?;
@@ -295,8 +291,10 @@ fn common_ranges(alloc: Global, left: &[Range], right: &[Range]) -> Result<Vec<R
 pub(crate) fn met(alloc: Global, left: &[Range], right: &[Range]) -> Result<Vec<Range>, AllocError>
     requires left { IsNormal left.now }
     requires right { IsNormal right.now }
-    ensures offsets { IfOk result (λ list. offsets_of list.items ≡ in_both (offsets_of left.now) (offsets_of right.now)) }
-    ensures wholes { IfOk result (λ list. wholes_of list.items ≡ whole_in_both (wholes_of left.now) (wholes_of right.now)) }
+    ensures offsets { IfOk result
+        (λ list. offsets_of list.items ≡ in_both (offsets_of left.now) (offsets_of right.now)) }
+    ensures wholes { IfOk result
+        (λ list. wholes_of list.items ≡ whole_in_both (wholes_of left.now) (wholes_of right.now)) }
     ensures normal { IfOk result (λ list. IsNormal list.items) }
 {
     common_ranges(alloc, left, right)

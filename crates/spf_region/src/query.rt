@@ -1,7 +1,8 @@
 //! What can be asked of ranges in a list.
 ghost use Rattle.std.specs.Prelude.{◌≡◌, not};
 ghost use Rattle.std.specs.List.{list_any};
-ghost use Rattle.spf_region.specs.Ranges.{offsets_of, covers, separate, disjoint, has_array, first_unseparated, first_meeting, IsNormal};
+ghost use Rattle.spf_region.specs.Ranges.{offsets_of, covers, separate, disjoint, has_array};
+ghost use Rattle.spf_region.specs.Ranges.{first_unseparated, first_meeting, IsNormal};
 ghost use Rattle.spf_region.specs.Spanning.{spans};
 
 use crate::range::Range;

@@ -1,7 +1,8 @@
 //! Ranges of cells, and when two of them can't share one.
 ghost use Rattle.std.specs.Prelude.{◌≡◌, ◌-ℤ◌, pos, int_lt};
 ghost use Rattle.std.specs.Int.{int_min, int_max};
-ghost use Rattle.spf_region.specs.Ranges.{array_of, is_empty, separate, disjoint, separate_offsets, disjoint_offsets};
+ghost use Rattle.spf_region.specs.Ranges.{array_of, is_empty, separate, disjoint, separate_offsets};
+ghost use Rattle.spf_region.specs.Ranges.{disjoint_offsets};
 
 /// A whole array, or at block k the cells `factor * k + from` to `factor * k + to` of an array,
 /// the last one included.

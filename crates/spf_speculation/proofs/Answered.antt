@@ -5,9 +5,9 @@ use Rattle.spf_ast.specs.Carried.{Carried}
 use Rattle.spf_ast.specs.Interaction.{Ending, Value, Trapped}
 use Rattle.spf_ast.specs.Plain.{plain_events, plain_answer, plain_memory}
 use Rattle.spf_ast.specs.Program.{environment_of}
-use Rattle.spf_laws.specs.Chained.{Chained, chained_on, chained}
-use Rattle.spf_rollback.specs.Overwriting.{AgreeOnUnwritten}
-use Rattle.spf_entry.specs.Entry.{Entry, IsEntry, number_of, asks_at, plain_blocks}
+use Rattle.spf_ast_laws.specs.Chained.{Chained, chained_on, chained}
+use Rattle.spf_check_rules.specs.Overwriting.{AgreeOnUnwritten}
+use Rattle.spf_speculation_entry.specs.Entry.{Entry, IsEntry, number_of, asks_at, plain_blocks}
 use Rattle.spf_speculation.specs.Laws.{MayBegin, entry_answer, Answered, answered_on, answered}
 use Rattle.spf_speculation.proofs.Within.{length-after}
 use Rattle.spf_speculation.proofs.Blocks.{BlockLaws, not-own, plain-outside, plain-answers, agree-itself}

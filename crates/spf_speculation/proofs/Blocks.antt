@@ -1,7 +1,7 @@
 -- One block: its attempts keep to its cells, and a whole one at the real row is its plain run.
 use Rattle.std.proofs.Common.{◌≡◌, ◌≢◌, ℕ, zero, suc, ◌<◌, true, false, List, [], ◌++◌, length, Some, None, ℤ, pos, ◌+ℤ◌, refl, sym, ap, ◌∙◌, subst, arith, inl, inr, Contains}
 use Rattle.std.proofs.lemmas.Int.{ints}
-use Rattle.spf_lemmas.proofs.Members.{cases}
+use Rattle.spf_ast_lemmas.proofs.Members.{cases}
 use Rattle.spf_ast.specs.declared.syntax.Part.{Part}
 use Rattle.spf_ast.specs.Carried.{Carried}
 use Rattle.spf_ast.specs.Event.{Event, Store, word_at, after, IsConsistent}
@@ -12,12 +12,12 @@ use Rattle.spf_ast.specs.Plain.{plain_events, plain_answer, plain_memory}
 use Rattle.spf_ast.specs.Program.{extents_of}
 use Rattle.spf_ast.specs.BlockRun.{Setup, IsSetup, block_setup, part_asks}
 use Rattle.spf_ast.specs.Laws.{PartsHaveOneBlockRun}
-use Rattle.spf_rollback.specs.Rules.{IsBlockPart, guessed_part, may_write}
-use Rattle.spf_rollback.specs.Freedom.{IsOwn, IsWrittenCell, HaveDisjointSpans}
-use Rattle.spf_rollback.specs.Overwriting.{AgreeOnUnwritten, IsTheSameOn, BlocksOverwrite}
-use Rattle.spf_rollback.proofs.Cells.{has-array-of}
-use Rattle.spf_entry.specs.Entry.{Entry, IsEntry, HasItsBlocks, number_of, own, asks_at, begins_at}
-use Rattle.spf_entry.specs.Attempts.{attempted, IsAttempt, IsWhole}
+use Rattle.spf_check_rules.specs.Rules.{IsBlockPart, guessed_part, may_write}
+use Rattle.spf_check_rules.specs.Freedom.{IsOwn, IsWrittenCell, HaveDisjointSpans}
+use Rattle.spf_check_rules.specs.Overwriting.{AgreeOnUnwritten, IsTheSameOn, BlocksOverwrite}
+use Rattle.spf_check_rules.proofs.Cells.{has-array-of}
+use Rattle.spf_speculation_entry.specs.Entry.{Entry, IsEntry, HasItsBlocks, number_of, own, asks_at, begins_at}
+use Rattle.spf_speculation_entry.specs.Attempts.{attempted, IsAttempt, IsWhole}
 use Rattle.spf_speculation.specs.Runs.{IsRealLog, at_once, again}
 use Rattle.spf_speculation.specs.Laws.{IsItsPlainRun, MayBegin, IsBefore, entry_answer}
 use Rattle.spf_speculation.proofs.Within.{AreWithin, true-or-false, within-append, outside-after, consistent-second, length-after, after-both}

@@ -3,15 +3,15 @@ use Rattle.std.proofs.Common.{◌≡◌, ℕ, zero, suc, ◌+◌, ◌<◌, ◌�
 use Rattle.std.specs.Prelude.{Result, Ok, Err}
 use Rattle.std.proofs.lemmas.Int.{ints}
 use Rattle.std.proofs.lemmas.List.{same_lists, get_or_default}
-use Rattle.spf_lemmas.proofs.Members.{cases}
+use Rattle.spf_ast_lemmas.proofs.Members.{cases}
 use Rattle.spf_ast.specs.declared.outcome.Trap.{Trap}
 use Rattle.spf_ast.specs.Carried.{Carried}
 use Rattle.spf_ast.specs.Event.{Event, word_at, after, IsConsistent}
 use Rattle.spf_ast.specs.Interaction.{State, Ending, Value, Trapped}
 use Rattle.spf_ast.specs.Plain.{plain_events, plain_answer, plain_memory}
 use Rattle.spf_ast.specs.Program.{environment_of}
-use Rattle.spf_laws.specs.Chained.{Chained, chained_on, chained}
-use Rattle.spf_entry.specs.Entry.{Entry, IsEntry, number_of, own, asks_at, plain_blocks, begins_at}
+use Rattle.spf_ast_laws.specs.Chained.{Chained, chained_on, chained}
+use Rattle.spf_speculation_entry.specs.Entry.{Entry, IsEntry, number_of, own, asks_at, plain_blocks, begins_at}
 use Rattle.spf_speculation.specs.Runs.{IsRealLog, IsGuessedLog, LogsComeTo, no_more_blocks, gave_value, gave_trap}
 use Rattle.spf_speculation.specs.Laws.{IsItsPlainRun, MayBegin, IsLeftBy, ContinuesAt, AreThePlainRun}
 use Rattle.spf_speculation.proofs.Within.{AreWithin, alike, length-after}

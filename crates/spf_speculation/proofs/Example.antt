@@ -7,7 +7,7 @@ use Rattle.spf_ast.specs.Event as event
 use Rattle.spf_ast.specs.Event.{Event, after}
 use Rattle.spf_ast.specs.Syntax.{Number, Local, Load, Binary, no_more, argument, Store, Host, end, on_line}
 use Rattle.spf_ast.specs.Construct.{Construct, fold}
-use Rattle.spf_entry.specs.Entry.{Entry, plain_blocks}
+use Rattle.spf_speculation_entry.specs.Entry.{Entry, plain_blocks}
 use Rattle.spf_speculation.specs.Steps.{Step, events_of}
 use Rattle.spf_speculation.specs.Runs.{at_once, again, no_more_blocks, gave_value, IsSpeculativeRun}
 

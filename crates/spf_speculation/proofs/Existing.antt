@@ -2,7 +2,7 @@
 use Rattle.std.proofs.Common.{◌≡◌, ◌≢◌, ◌⊎◌, inl, inr, ℕ, zero, suc, ◌+◌, ◌<◌, ◌≤◌, Bool, true, false, List, [], ◌∷◌, ◌++◌, Some, ℤ, refl, sym, ◌∙◌, subst, arith, eq-eqb, Contains}
 use Rattle.std.specs.Prelude.{slice_set, if◌then◌else◌, ◌==◌, nat_le, Result, Ok, Err}
 use Rattle.std.proofs.lemmas.Bool.Decides.{Decides-eqb, Decides-int_eq}
-use Rattle.spf_lemmas.proofs.Members.{cases, first-in, later-in}
+use Rattle.spf_ast_lemmas.proofs.Members.{cases, first-in, later-in}
 use Rattle.spf_ast.specs.declared.outcome.Trap.{Trap}
 use Rattle.spf_ast.specs.Carried.{Carried, same_carried}
 use Rattle.spf_ast.specs.Event.{Event, Load, Store, Turn, word_at, after, IsConsistent}
@@ -10,9 +10,9 @@ use Rattle.spf_ast.specs.Interaction.{Interaction, Answer, AskLoad, AskStore, As
 use Rattle.spf_ast.specs.Construct.{part_of}
 use Rattle.spf_ast.specs.Plain.{plain_events, plain_answer}
 use Rattle.spf_speculation.specs.Steps.{joined}
-use Rattle.spf_entry.proofs.Rows.{Decides-same_carried}
-use Rattle.spf_entry.specs.Entry.{Entry, IsEntry, own, asks_at, begins_at}
-use Rattle.spf_entry.specs.Attempts.{IsAttempt, IsWhole, OthersAreOf, on_cells}
+use Rattle.spf_speculation_entry.proofs.Rows.{Decides-same_carried}
+use Rattle.spf_speculation_entry.specs.Entry.{Entry, IsEntry, own, asks_at, begins_at}
+use Rattle.spf_speculation_entry.specs.Attempts.{IsAttempt, IsWhole, OthersAreOf, on_cells}
 use Rattle.spf_speculation.specs.Runs.{IsRealLog, at_once, again, IsGuessedLog, LogsComeTo, no_more_blocks, gave_value, gave_trap}
 use Rattle.spf_speculation.specs.Laws.{HasASpeculativeRun}
 use Rattle.spf_speculation.proofs.Within.{alike, true-or-false, outside-after, consistent-both}

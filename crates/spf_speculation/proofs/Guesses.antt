@@ -6,8 +6,8 @@ use Rattle.spf_ast.specs.declared.outcome.Trap.{Trap}
 use Rattle.spf_ast.specs.Carried.{Carried}
 use Rattle.spf_ast.specs.Event.{Event}
 use Rattle.spf_ast.specs.Interaction.{Ending, Value, Trapped}
-use Rattle.spf_entry.specs.Entry.{Entry, begins_at}
-use Rattle.spf_entry.specs.Attempts.{IsAttempt}
+use Rattle.spf_speculation_entry.specs.Entry.{Entry, begins_at}
+use Rattle.spf_speculation_entry.specs.Attempts.{IsAttempt}
 use Rattle.spf_speculation.specs.Runs.{IsRealLog, at_once, again, LogsComeTo, no_more_blocks, gave_value, gave_trap}
 use Rattle.spf_speculation.specs.Laws.{BeginsAtItsGuess}
 use Rattle.spf_speculation.proofs.Blocks.{whole-attempt}

@@ -1,7 +1,7 @@
 -- Logs that are joined block by block are merged.
 use Rattle.std.proofs.Common.{◌≡◌, ◌≢◌, ℕ, zero, suc, ◌<◌, ◌≤◌, List, [], ◌∷◌, ◌++◌, refl, sym, ap, ◌∙◌, subst, arith}
 use Rattle.std.proofs.lemmas.List.{append-nil}
-use Rattle.spf_lemmas.proofs.Members.{cases}
+use Rattle.spf_ast_lemmas.proofs.Members.{cases}
 use Rattle.spf_ast.specs.Event.{Event}
 use Rattle.spf_speculation.specs.Steps.{Step, log_of, AreBelow, Merges, steps_of, joined}
 use Rattle.spf_speculation.proofs.Within.{alike}

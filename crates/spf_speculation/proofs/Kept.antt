@@ -3,10 +3,10 @@ use Rattle.std.proofs.Common.{◌≡◌, ℕ, ◌<◌, Bool, true, false, List, 
 use Rattle.std.specs.Prelude.{if◌then◌else◌, ◌==◌, ◌&&◌, nat_le}
 use Rattle.std.specs.Ordering.{int_eq}
 use Rattle.std.proofs.lemmas.Bool.Decides.{Decides-eqb}
-use Rattle.spf_lemmas.proofs.Members.{cases}
+use Rattle.spf_ast_lemmas.proofs.Members.{cases}
 use Rattle.spf_ast.specs.Event.{Event, Load, Store, Turn, word_at}
 use Rattle.spf_ast.specs.Interaction.{Interaction, Answer, AskLoad, AskStore, AskTurn, Performed, HasReadAll, Ended, Stopped, Misfit, perform, every_cell, reaches}
-use Rattle.spf_entry.specs.Attempts.{on_cells, OthersAreOf, TurnsAreBelow}
+use Rattle.spf_speculation_entry.specs.Attempts.{on_cells, OthersAreOf, TurnsAreBelow}
 use Rattle.spf_speculation.proofs.Within.{true-or-false}
 use Rattle.spf_speculation.proofs.Trees.{chosen, turned, chose-true, chose-false, loaded}
 

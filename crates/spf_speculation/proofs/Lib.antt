@@ -12,3 +12,5 @@ pub mod Runs
 pub mod Existing
 pub mod Statements
 pub mod Example
+pub mod Slots
+pub mod SameGuesses

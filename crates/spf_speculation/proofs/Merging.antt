@@ -3,7 +3,7 @@ use Rattle.std.proofs.Common.{◌≡◌, ◌≢◌, ℕ, ◌<◌, Bool, true, fa
 use Rattle.std.specs.Prelude.{slice_set, if◌then◌else◌, ◌==◌}
 use Rattle.std.proofs.lemmas.Bool.Decides.{Decides-eqb}
 use Rattle.std.proofs.lemmas.List.{get_or-set_other}
-use Rattle.spf_lemmas.proofs.Members.{cases}
+use Rattle.spf_ast_lemmas.proofs.Members.{cases}
 use Rattle.spf_ast.specs.Event.{Event, Load, Store, Turn, word_at, after, IsConsistent}
 use Rattle.spf_speculation.specs.Steps.{Step, events_of, log_of, AreBelow}
 use Rattle.spf_speculation.proofs.Within.{AreWithin, AgreeOn, alike, true-or-false, not-both, agree-set, agree-other, agree-same, agree-back, within-consistent}

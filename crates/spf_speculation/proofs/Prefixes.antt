@@ -9,8 +9,8 @@ use Rattle.spf_ast.specs.Event.{Event, IsConsistent, word_at, after}
 use Rattle.spf_ast.specs.Interaction.{State, Ending, Value, Trapped}
 use Rattle.spf_ast.specs.Plain.{plain_answer, plain_memory}
 use Rattle.spf_ast.specs.Program.{environment_of}
-use Rattle.spf_laws.specs.Chained.{Chained, chained_on, chained}
-use Rattle.spf_entry.specs.Entry.{Entry, IsEntry, number_of, asks_at, plain_blocks}
+use Rattle.spf_ast_laws.specs.Chained.{Chained, chained_on, chained}
+use Rattle.spf_speculation_entry.specs.Entry.{Entry, IsEntry, number_of, asks_at, plain_blocks}
 use Rattle.spf_speculation.specs.Runs.{IsRealLog, LogsComeTo, no_more_blocks, gave_value, gave_trap}
 use Rattle.spf_speculation.specs.Laws.{IsLeftBy, ContinuesAt}
 use Rattle.spf_speculation.specs.Prefixes.{plain_from, IsTheRest, IsValidatedPrefix, EndsAt, IsComplete}

@@ -1,12 +1,12 @@
 -- Speculative runs mean the plain run, and every merging of logs is one.
 use Rattle.std.proofs.Common.{◌≡◌, ◌⊎◌, inl, inr, ℕ, zero, suc, ◌<◌, Bool, true, false, List, ℤ, sym, ◌∙◌, subst, arith}
 use Rattle.std.specs.Prelude.{Result}
-use Rattle.spf_lemmas.proofs.Members.{cases}
+use Rattle.spf_ast_lemmas.proofs.Members.{cases}
 use Rattle.spf_ast.specs.declared.outcome.Trap.{Trap}
 use Rattle.spf_ast.specs.Carried.{Carried}
 use Rattle.spf_ast.specs.Event.{Event, after, IsConsistent}
 use Rattle.spf_speculation.specs.Steps.{Step, events_of, log_of, AreBelow, Merges}
-use Rattle.spf_entry.specs.Entry.{Entry, IsEntry, own, plain_blocks}
+use Rattle.spf_speculation_entry.specs.Entry.{Entry, IsEntry, own, plain_blocks}
 use Rattle.spf_speculation.specs.Runs.{LogsComeTo, IsSpeculativeRun}
 use Rattle.spf_speculation.specs.Laws.{IsLeftBy, AreThePlainRun, IsThePlainRun}
 use Rattle.spf_speculation.proofs.Within.{AreWithin, alike, true-or-false, agree-same, length-after}

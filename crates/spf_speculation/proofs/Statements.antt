@@ -11,9 +11,9 @@ use Rattle.spf_ast.specs.Plain.{plain_memory}
 use Rattle.spf_ast.specs.Program.{extents_of}
 use Rattle.spf_ast.specs.Construct.{carried_of, Moment, plainly, header_means}
 use Rattle.spf_ast.specs.Lawful.{Scope}
-use Rattle.spf_laws.specs.Chained.{Chained, chained, is_trap, IsSettledAs, IsItsBlocks, ConstructsAreTheirBlocks}
+use Rattle.spf_ast_laws.specs.Chained.{Chained, chained, is_trap, IsSettledAs, IsItsBlocks, ConstructsAreTheirBlocks}
 use Rattle.spf_speculation.specs.Steps.{Step, events_of}
-use Rattle.spf_entry.specs.Entry.{Entry, IsEntry, plain_blocks}
+use Rattle.spf_speculation_entry.specs.Entry.{Entry, IsEntry, plain_blocks}
 use Rattle.spf_speculation.specs.Runs.{IsSpeculativeRun}
 use Rattle.spf_speculation.specs.Laws.{IsThePlainRun}
 use Rattle.spf_speculation.specs.Statements.{environment_at, IsReached, IsTheStatement}

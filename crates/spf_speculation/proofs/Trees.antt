@@ -4,7 +4,7 @@ use Rattle.std.specs.Prelude.{slice_set, if◌then◌else◌, ◌==◌, ◌&&◌
 use Rattle.std.specs.Ordering.{int_eq}
 use Rattle.std.proofs.lemmas.List.{get_or-set_other}
 use Rattle.std.proofs.lemmas.Bool.Decides.{Decides-eqb, Decides-int_eq}
-use Rattle.spf_lemmas.proofs.Members.{cases, first-in, later-in}
+use Rattle.spf_ast_lemmas.proofs.Members.{cases, first-in, later-in}
 use Rattle.spf_ast.specs.Event.{Event, Load, Store, Turn, word_at, after, IsConsistent}
 use Rattle.spf_ast.specs.Interaction.{Interaction, Answer, AskLoad, AskStore, AskTurn, Performed, HasReadAll, Ended, Stopped, Misfit, perform, every_cell, reaches}
 use Rattle.spf_ast.specs.Plain.{plain_answer, plain_memory}

@@ -5,9 +5,9 @@ use Rattle.spf_ast.specs.Carried.{Carried}
 use Rattle.spf_ast.specs.Event.{Event, after, word_at, IsConsistent}
 use Rattle.spf_ast.specs.Interaction.{State, Performed, HasReadAll, Ending, Value, Trapped, perform, every_cell}
 use Rattle.spf_ast.specs.Plain.{plain_answer, plain_memory}
-use Rattle.spf_rollback.specs.Overwriting.{AgreeOnUnwritten}
-use Rattle.spf_entry.specs.Entry.{Entry, IsEntry, own, asks_at, plain_blocks, begins_at}
-use Rattle.spf_entry.specs.Attempts.{attempted, IsAttempt, IsWhole, on_cells, OthersAreOf, TurnsAreBelow}
+use Rattle.spf_check_rules.specs.Overwriting.{AgreeOnUnwritten}
+use Rattle.spf_speculation_entry.specs.Entry.{Entry, IsEntry, own, asks_at, plain_blocks, begins_at}
+use Rattle.spf_speculation_entry.specs.Attempts.{attempted, IsAttempt, IsWhole, on_cells, OthersAreOf, TurnsAreBelow}
 use Rattle.spf_speculation.specs.Steps.{Step, events_of, Merges, joined}
 use Rattle.spf_speculation.specs.Runs.{IsRealLog, LogsComeTo, IsSpeculativeRun}
 

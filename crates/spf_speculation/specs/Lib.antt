@@ -3,3 +3,4 @@ pub mod Runs
 pub mod Laws
 pub mod Prefixes
 pub mod Statements
+pub mod Alike

@@ -6,8 +6,8 @@ use Rattle.spf_ast.specs.Event.{Event, IsConsistent}
 use Rattle.spf_ast.specs.Interaction.{State, Value, Trapped}
 use Rattle.spf_ast.specs.Plain.{plain_memory}
 use Rattle.spf_ast.specs.Program.{environment_of}
-use Rattle.spf_laws.specs.Chained.{Chained, chained}
-use Rattle.spf_entry.specs.Entry.{Entry, IsEntry, number_of, asks_at, plain_blocks}
+use Rattle.spf_ast_laws.specs.Chained.{Chained, chained}
+use Rattle.spf_speculation_entry.specs.Entry.{Entry, IsEntry, number_of, asks_at, plain_blocks}
 use Rattle.spf_speculation.specs.Runs.{IsRealLog, IsGuessedLog, LogsComeTo}
 use Rattle.spf_speculation.specs.Laws.{IsLeftBy}
 

@@ -4,8 +4,8 @@ use Rattle.spf_ast.specs.declared.outcome.Trap.{Trap}
 use Rattle.spf_ast.specs.Carried.{Carried}
 use Rattle.spf_ast.specs.Event.{Event, IsConsistent}
 use Rattle.spf_ast.specs.Interaction.{State, Ending, Value, Trapped}
-use Rattle.spf_entry.specs.Entry.{Entry, begins_at}
-use Rattle.spf_entry.specs.Attempts.{IsAttempt, IsWhole}
+use Rattle.spf_speculation_entry.specs.Entry.{Entry, begins_at}
+use Rattle.spf_speculation_entry.specs.Attempts.{IsAttempt, IsWhole}
 use Rattle.spf_speculation.specs.Steps.{Step, events_of, log_of, AreBelow}
 
 -- The log of block n, whose real row is v, with the answer of the block at v: at once, where its first attempt

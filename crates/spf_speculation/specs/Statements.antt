@@ -11,10 +11,10 @@ use Rattle.spf_ast.specs.Program.{environment_of}
 use Rattle.spf_ast.specs.Construct.{construct_of, carried_of, Moment, moment_after, plainly, header_means, RealValues, blocks_from}
 use Rattle.spf_ast.specs.Silence.{FunctionsAreSilent}
 use Rattle.spf_ast.specs.Lawful.{Names, Scope, IsLawfulStatement}
-use Rattle.spf_laws.specs.Agreement.{LookAlike}
-use Rattle.spf_laws.specs.Keeping.{IsSelfContained, AreDeclared}
-use Rattle.spf_laws.specs.Chained.{is_trap, IsSettledAs}
-use Rattle.spf_entry.specs.Entry.{Entry, IsEntry}
+use Rattle.spf_ast_laws.specs.Agreement.{LookAlike}
+use Rattle.spf_ast_laws.specs.Keeping.{IsSelfContained, AreDeclared}
+use Rattle.spf_ast_laws.specs.Chained.{is_trap, IsSettledAs}
+use Rattle.spf_speculation_entry.specs.Entry.{Entry, IsEntry}
 use Rattle.spf_speculation.specs.Steps.{Step, events_of}
 use Rattle.spf_speculation.specs.Runs.{IsSpeculativeRun}
 

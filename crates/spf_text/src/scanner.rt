@@ -1,16 +1,10 @@
 // From a text to its tokens.
 
-ghost use Rattle.std.specs.Prelude.{All, ◌≡◌, ℕ, ◌<◌, ◌≤◌, ◌⊎◌, List, length, IfOk, MatchResult, IsOkUnless};
+ghost use Rattle.std.specs.Prelude.{All, ◌≡◌, ℕ, ◌<◌, ◌≤◌, ◌⊎◌, List, length, IfOk, MatchResult};
+ghost use Rattle.std.specs.Prelude.{IsOkUnless};
 ghost use Rattle.spf_text.specs.declared.token.Token.{Token};
-ghost use Rattle.spf_text.specs.Tokens.{
-  AreTokensOf,
-  AreInOrder,
-  IsSpelledIn,
-  IsFaultyAt,
-  BeginsNothing,
-  BeginsTooLarge,
-  max_text,
-};
+ghost use Rattle.spf_text.specs.Tokens.{AreTokensOf, AreInOrder, IsSpelledIn, IsFaultyAt};
+ghost use Rattle.spf_text.specs.Tokens.{BeginsNothing, BeginsTooLarge, max_text};
 ghost use Rattle.spf_text.specs.Refusals.{IsRefusedWith};
 
 use crate::front::{Front, front_of};

@@ -3,7 +3,7 @@ use Rattle.std.proofs.Common.{◌≡◌, ℕ, ◌<◌, Bool, true, false, List, 
 use Rattle.std.specs.Prelude.{if◌then◌else◌, slice_get, slice_index_or}
 use Rattle.std.proofs.lemmas.List.{append-nil, length-take}
 use Rattle.std.proofs.lemmas.Option.{slice_get-get_or}
-use Rattle.spf_lemmas.proofs.Members.{first-in, later-in}
+use Rattle.spf_ast_lemmas.proofs.Members.{first-in, later-in}
 use Rattle.spf_ast.specs.declared.syntax.Part.{Part}
 use Rattle.spf_ast.specs.Carried.{Carried}
 use Rattle.spf_ast.specs.Event.{Event, Load, Store, Turn}
@@ -13,22 +13,22 @@ use Rattle.spf_ast.specs.Construct.{Construct, constructs_in, part_of, statement
 use Rattle.spf_ast.specs.BlockRun.{block_setup, part_asks}
 use Rattle.spf_ast.specs.Lawful.{IsLawful}
 use Rattle.spf_ast.specs.Slots.{assigns_outer, LeavesOtherSlots}
-use Rattle.spf_laws.specs.Agreement.{GoAlike, HaveOneOutput, AgreeOutside, PartsDeclareAnew}
-use Rattle.spf_laws.specs.Keeping.{PartsAssignWhatTheyDeclare}
-use Rattle.spf_layout.specs.declared.stop.Stop.{Stop}
-use Rattle.spf_layout.specs.declared.stop.Stop.TheVariants as stop
-use Rattle.spf_layout.specs.Frame.{main_slots}
+use Rattle.spf_ast_laws.specs.Agreement.{GoAlike, HaveOneOutput, AgreeOutside, PartsDeclareAnew}
+use Rattle.spf_ast_laws.specs.Keeping.{PartsAssignWhatTheyDeclare}
+use Rattle.spf_exec.specs.declared.stop.Stop.{Stop}
+use Rattle.spf_exec.specs.declared.stop.Stop.TheVariants as stop
+use Rattle.spf_exec_instance.specs.Frame.{main_slots}
 use Rattle.spf_exec.specs.BlockRuns.{stop_result}
-use Rattle.spf_memory.specs.Performs.{performed_as, IsDecided, state}
+use Rattle.spf_exec_memory.specs.Performs.{performed_as, IsDecided, state}
 use Rattle.spf_region.specs.declared.span.Span.{Span}
 use Rattle.spf_region.specs.Cells.{in_spans}
 use Rattle.spf_cells.specs.Log.{events}
 use Rattle.spf_cells.specs.declared.view.Setting.{Setting}
 use Rattle.spf_cells.specs.Values.{LaneValue, CellsValue, IsLaneOf, spans_of}
-use Rattle.spf_rollback.specs.Performances.{IsPerformance}
-use Rattle.spf_entry.specs.Entry.{Entry, IsEntry, number_of, own, asks_at}
-use Rattle.spf_entry.specs.Attempts.{attempted, on_cells, OthersAreOf}
-use Rattle.spf_entry.specs.Sites.{AreMadeFor}
+use Rattle.spf_check_rules.specs.Performances.{IsPerformance}
+use Rattle.spf_speculation_entry.specs.Entry.{Entry, IsEntry, number_of, own, asks_at}
+use Rattle.spf_speculation_entry.specs.Attempts.{attempted, on_cells, OthersAreOf}
+use Rattle.spf_speculation_entry.specs.Sites.{AreMadeFor}
 use Rattle.spf_speculation.specs.Laws.{BlockRunsAreAttempts}
 use Rattle.spf_ticket.specs.InLane.{own_events, is_in, InLane, in_lane, LeadsInLane}
 use Rattle.spf_ticket.specs.Tickets.{EndsAs, Ran, IsReady, IsFresh, IsLawfulReport, IsTicketAt, IsSameTicket}

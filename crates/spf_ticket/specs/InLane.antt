@@ -4,7 +4,7 @@ use Rattle.spf_ast.specs.Event.{Event, Load, Store, Turn}
 use Rattle.spf_region.specs.Cells.{in_spans}
 use Rattle.spf_cells.specs.Log.{events}
 use Rattle.spf_cells.specs.Values.{LaneValue, IsSameLane, spans_of}
-use Rattle.spf_entry.specs.Attempts.{OthersAreOf}
+use Rattle.spf_speculation_entry.specs.Attempts.{OthersAreOf}
 
 -- the events without the loads and stores of other cells than these
 abbrev pub own_events : (ℕ → Bool) → List Event → List Event

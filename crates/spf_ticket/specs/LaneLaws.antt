@@ -6,8 +6,8 @@ use Rattle.spf_ast.specs.Event.{Event, Load, Store, Turn}
 use Rattle.spf_region.specs.Cells.{in_spans}
 use Rattle.spf_cells.specs.Log.{events}
 use Rattle.spf_cells.specs.Values.{LaneValue, IsSameLane, spans_of}
-use Rattle.spf_entry.specs.Attempts.{OthersAreOf}
-use Rattle.spf_memory.specs.MemoryLaws.{Laws}
+use Rattle.spf_speculation_entry.specs.Attempts.{OthersAreOf}
+use Rattle.spf_exec_memory.specs.MemoryLaws.{Laws}
 use Rattle.spf_ticket.specs.InLane.{own_events, is_in, InLane, LeadsInLane}
 
 own-choice : (c : Bool) (x : Event) (es fs : List Event) → (if c then x ∷ (es ++ fs) else (es ++ fs)) ≡ (if c then x ∷ es else es) ++ fs

@@ -6,15 +6,15 @@ use Rattle.spf_ast.specs.Interaction.{Performed, Ended, Stopped, State, Ending, 
 use Rattle.spf_ast.specs.Syntax.{Program}
 use Rattle.spf_ast.specs.Construct.{Construct, part_of}
 use Rattle.spf_ast.specs.ConstructView.{construct}
-use Rattle.spf_laws.specs.Agreement.{AgreeOutside}
-use Rattle.spf_layout.specs.declared.stop.Stop.{Stop}
-use Rattle.spf_layout.specs.declared.stop.Stop.TheVariants as stop
-use Rattle.spf_layout.specs.Frame.{frame_size, main_slots}
-use Rattle.spf_layout.specs.Instance.{program_of}
+use Rattle.spf_ast_laws.specs.Agreement.{AgreeOutside}
+use Rattle.spf_exec.specs.declared.stop.Stop.{Stop}
+use Rattle.spf_exec.specs.declared.stop.Stop.TheVariants as stop
+use Rattle.spf_exec_instance.specs.Frame.{frame_size, main_slots}
+use Rattle.spf_exec_instance.specs.Instance.{program_of}
 use Rattle.spf_cells.specs.Log.{events}
 use Rattle.spf_cells.specs.Values.{CellsValue, IsLaneOf, IsSameLane}
-use Rattle.spf_entry.specs.Entry.{Entry, number_of, plain_blocks, begins_at}
-use Rattle.spf_entry.specs.Attempts.{attempted, IsAttempt}
+use Rattle.spf_speculation_entry.specs.Entry.{Entry, number_of, plain_blocks, begins_at}
+use Rattle.spf_speculation_entry.specs.Attempts.{attempted, IsAttempt}
 use Rattle.spf_ticket.specs.declared.ticket.Ticket.{Ticket}
 use Rattle.spf_ticket.specs.declared.ticket.Report.{Report}
 use Rattle.spf_ticket.specs.declared.run.Job.{Job}

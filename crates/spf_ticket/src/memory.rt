@@ -4,10 +4,11 @@ ghost use Rattle.std.specs.Prelude.{◌≡◌};
 
 use spf_cells::cells::Cells;
 use spf_cells::lane::Lane;
-use spf_memory::memory::{Emitted, Memory};
+use spf_exec_memory::memory::{Emitted, Memory};
 
-/// A cell of the lane's spans goes through the lane; any other cell has its word of the entry, and a store to it changes nothing.
-/// Each turn polls the block's flag once; a number that reaches the attempt's stops the attempt.
+/// A cell of the lane's spans goes through the lane; any other cell has its word of the entry, and
+/// a store to it changes nothing. Each turn polls the block's flag once; a number that reaches the
+/// attempt's stops the attempt.
 #[derive(Drop)]
 pub(crate) struct LaneMemory<'a> {
     pub(crate) cells: &'a Cells,
@@ -20,11 +21,12 @@ pub(crate) struct LaneMemory<'a> {
 impl<'a> Memory for LaneMemory<'a> {
     ghost use Rattle.std.specs.Prelude.{◌≡◌, length, Some, refl};
     ghost use Rattle.std.proofs.Common.{ap};
-    ghost use Rattle.spf_memory.specs.QuietMemory.{full_output};
+    ghost use Rattle.spf_exec_memory.specs.QuietMemory.{full_output};
     ghost use Rattle.spf_ticket.specs.InLane.{in_lane, LeadsInLane};
     ghost use Rattle.spf_ticket.specs.LaneLaws.{lane_laws};
 
-    ghost leads = { λ es a b. LeadsInLane es (in_lane a.lane a.entry.now a.attempt) (in_lane b.lane b.entry.now b.attempt) };
+    ghost leads = { λ es a b. LeadsInLane es
+        (in_lane a.lane a.entry.now a.attempt) (in_lane b.lane b.entry.now b.attempt) };
 
     ghost stop = { λ m. Some m.attempt };
 

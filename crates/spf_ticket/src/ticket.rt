@@ -4,9 +4,10 @@ ghost use Rattle.std.specs.Prelude.{◌≡◌};
 use spf_ast::row::Row;
 use spf_cells::lane::Lane;
 use spf_exec::frame::Frame;
-use spf_layout::stop::Stop;
+use spf_exec::stop::Stop;
 
-/// The leave to make one attempt of one block. It owns the block's only lane, so two attempts of one block can't run at once.
+/// The leave to make one attempt of one block. It owns the block's only lane, so two attempts of
+/// one block can't run at once.
 #[derive(Drop)]
 pub struct Ticket {
     pub(crate) block: u64,
@@ -26,8 +27,8 @@ pub struct Report {
 }
 
 impl Ticket {
-    /// The ticket of a block's first attempt: the block's index and number, the carried row at which it begins, its lane, and a
-    /// frame with the slots of the entry.
+    /// The ticket of a block's first attempt: the block's index and number, the carried row at
+    /// which it begins, its lane, and a frame with the slots of the entry.
     pub fn make(block: u64, number: i64, carried: Row, lane: Lane, frame: Frame) -> Ticket
         requires lane { lane.block ≡ block }
         ensures block { result.block ≡ block }

@@ -10,18 +10,18 @@ use Rattle.spf_ast.specs.Syntax.{Array, Function, Program}
 use Rattle.spf_ast.specs.RawSyntax.{RawFunction}
 use Rattle.spf_ast.specs.Lawful.{Names, AreDifferent, IsNew, IsLawfulFunction, IsScoped, names_at, parameters, declared_in}
 use Rattle.spf_ast.specs.Spelling.{Vocabulary, vocabulary, spelled_function, spelled}
-use Rattle.spf_scopes.specs.declared.fault.TypeFault.TheVariants.{Twice}
-use Rattle.spf_scopes.specs.declared.globals.Outer.TheVariants as outer
-use Rattle.spf_scopes.specs.Names.{has, place_in}
-use Rattle.spf_scopes.specs.Globals.{Globals, either, global_named}
-use Rattle.spf_scopes.specs.Faults.{Setting, Scope, showing, showing_each, when, each_declared_faults, function_faults, arrays_faults, functions_faults, faults}
-use Rattle.spf_scopes.proofs.Tables.{same_bytes}
-use Rattle.spf_typing.proofs.Steps.{none_in}
-use Rattle.spf_typing.proofs.Sound.{contains_here, contains_there, contains_cases}
-use Rattle.spf_typing.proofs.SoundStatements.{Stand, stand_left}
+use Rattle.spf_types_names.specs.declared.fault.TypeFault.TheVariants.{Twice}
+use Rattle.spf_types_names.specs.declared.globals.Outer.TheVariants as outer
+use Rattle.spf_types_names.specs.Names.{has, place_in}
+use Rattle.spf_types_names.specs.Globals.{Globals, either, global_named}
+use Rattle.spf_types_names.specs.Faults.{Setting, Scope, showing, showing_each, when, each_declared_faults, function_faults, arrays_faults, functions_faults, faults}
+use Rattle.spf_types_names.proofs.Tables.{same_bytes}
+use Rattle.spf_types_forms.proofs.Steps.{none_in}
+use Rattle.spf_types_forms.proofs.Sound.{contains_here, contains_there, contains_cases}
+use Rattle.spf_types_forms.proofs.SoundStatements.{Stand, stand_left}
 use Rattle.spf_types.proofs.SoundPrograms.{stand_self, in_range, range_in}
 use Rattle.spf_types.proofs.UniquePrograms.{absent, array_named, function_named, functions_are, globals_back, contains_left, contains_right, range_step, place_inside}
-use Rattle.spf_typing.proofs.Faultless.{Known, Shows, Ready, shows_free, shows_along, fresh_in, declared_none, block_none, valued_none}
+use Rattle.spf_types_forms.proofs.Faultless.{Known, Shows, Ready, shows_free, shows_along, fresh_in, declared_none, block_none, valued_none}
 
 -- ---- names of arrays and functions
 

@@ -11,16 +11,16 @@ use Rattle.spf_ast.specs.declared.syntax.Function as code_function
 use Rattle.spf_ast.specs.Syntax.{Array, Function, Program}
 use Rattle.spf_ast.specs.View.{array, function}
 use Rattle.spf_ast.specs.Size.{by_size, by_depth, by_slots, block_measure, function_measure, counted_before, function_sizes, function_depths, function_slots, IsWithinLimits}
-use Rattle.spf_size.specs.declared.size.Size.{Size}
-use Rattle.spf_scopes.specs.declared.fault.TypeFault.TheVariants.{TooLarge}
-use Rattle.spf_scopes.specs.declared.fault.TypeError.TheVariants.{Refused}
-use Rattle.spf_scopes.specs.Faults.{when, first}
-use Rattle.spf_size.specs.Sizes.{capped, counts_before, all_counts, HasSize, IsTable}
+use Rattle.spf_types_size.specs.declared.size.Size.{Size}
+use Rattle.spf_types_names.specs.declared.fault.TypeFault.TheVariants.{TooLarge}
+use Rattle.spf_types_names.specs.declared.fault.TypeError.TheVariants.{Refused}
+use Rattle.spf_types_names.specs.Faults.{when, first}
+use Rattle.spf_types_size.specs.Sizes.{capped, counts_before, all_counts, HasSize, IsTable}
 use Rattle.spf_types.specs.TooLarge.{large_array, large_arrays, large_functions, is_main_small, limits_passed}
-use Rattle.spf_size.proofs.Lists.{item_at, get_is}
-use Rattle.spf_size.proofs.Counted.{counted_at, counted_stays, counted_beyond, added}
-use Rattle.spf_size.proofs.Tables.{AreCounted, none_counted, one_counted, all_counted, function_there}
-use Rattle.spf_typing.proofs.Steps.{none_in, behind, append_none}
+use Rattle.spf_types_size.proofs.Lists.{item_at, get_is}
+use Rattle.spf_types_size.proofs.Counted.{counted_at, counted_stays, counted_beyond, added}
+use Rattle.spf_types_size.proofs.Tables.{AreCounted, none_counted, one_counted, all_counted, function_there}
+use Rattle.spf_types_forms.proofs.Steps.{none_in, behind, append_none}
 
 -- a count passes a limit exactly where the capped one does
 pub same_small : (s n limit : ℕ) → s ≡ capped n → limit < 2 ^ 64 - 1 → nat_le s limit ≡ nat_le n limit

@@ -3,7 +3,7 @@ use Rattle.std.proofs.Common.{◌≡◌, ℕ, ◌+◌, ◌<◌, ◌≤◌, zero,
 use Rattle.std.specs.Option.{option_map}
 use Rattle.std.specs.Str.{bytes_eq}
 use Rattle.std.proofs.lemmas.Bool.Decides.{nat_tests}
-use Rattle.spf_scopes.specs.Names.{has, place_in}
+use Rattle.spf_types_names.specs.Names.{has, place_in}
 use Rattle.std.proofs.lemmas.List.{length-map, map-append, get_or-map, take_more, drop_all}
 use Rattle.spf_ast.specs.declared.syntax.Name as code_name
 use Rattle.spf_ast.specs.declared.syntax.Array as code_array
@@ -13,16 +13,16 @@ use Rattle.spf_ast.specs.RawSyntax as r
 use Rattle.spf_ast.specs.Syntax.{Array}
 use Rattle.spf_ast.specs.View.{name, array as seen_array, expression, block, function}
 use Rattle.spf_ast.specs.RawView.{raw_expression, raw_block, raw_function}
-use Rattle.spf_scopes.specs.declared.fault.TypeFault.TheVariants.{Twice}
-use Rattle.spf_scopes.specs.declared.globals.Outer.TheVariants as outer
-use Rattle.spf_scopes.specs.Globals.{Globals, globals_of, either, global_named, is_array_at, is_function_at}
-use Rattle.spf_scopes.specs.Locals.{Local, Seen}
-use Rattle.spf_scopes.specs.Faults.{Setting, Fault, when, showing_each, each_declared_faults, arrays_faults, function_faults, functions_faults, valued_faults}
-use Rattle.spf_scopes.specs.Resolved.{scope, free, with_each, after_names, names_in, locals_at_end, resolved_expression, resolved_block, resolved_function}
-use Rattle.spf_size.proofs.Lists.{item_at}
-use Rattle.spf_scopes.proofs.Rows.{append_nil}
-use Rattle.spf_typing.proofs.Blocks.{scope_each-is}
-use Rattle.spf_scopes.proofs.Tables.{bytes_are, map_twice, global_named-seen}
+use Rattle.spf_types_names.specs.declared.fault.TypeFault.TheVariants.{Twice}
+use Rattle.spf_types_names.specs.declared.globals.Outer.TheVariants as outer
+use Rattle.spf_types_names.specs.Globals.{Globals, globals_of, either, global_named, is_array_at, is_function_at}
+use Rattle.spf_types_names.specs.Locals.{Local, Seen}
+use Rattle.spf_types_names.specs.Faults.{Setting, Fault, when, showing_each, each_declared_faults, arrays_faults, function_faults, functions_faults, valued_faults}
+use Rattle.spf_types_names.specs.Resolved.{scope, free, with_each, after_names, names_in, locals_at_end, resolved_expression, resolved_block, resolved_function}
+use Rattle.spf_types_size.proofs.Lists.{item_at}
+use Rattle.spf_types_names.proofs.Rows.{append_nil}
+use Rattle.spf_types_forms.proofs.Blocks.{scope_each-is}
+use Rattle.spf_types_names.proofs.Tables.{bytes_are, map_twice, global_named-seen}
 
 -- the first of these names that is this one stands at this place
 abbrev pub is_place : Option ℕ → ℕ → Bool

@@ -13,20 +13,20 @@ use Rattle.spf_ast.specs.RawSyntax.{RawStatement, Let, Assign, Store, Fill, Emit
 use Rattle.spf_ast.specs.Lawful as lawful
 use Rattle.spf_ast.specs.Lawful.{IsName, AreDifferent, Names, IsNew, names_taken, names_at, parameters, IsLawfulFunction, IsScoped, IsLawfulBlock, IsLawfulExpression}
 use Rattle.spf_ast.specs.Spelling.{Vocabulary, name_at, vocabulary, spelled_function, spelled, IsWritableStatement, IsWritableBlock, IsWritableArray, IsWritableFunction, IsWellFormed, holds_break}
-use Rattle.spf_scopes.specs.declared.globals.Outer.TheVariants as outer
-use Rattle.spf_scopes.specs.Names.{has, place_in}
-use Rattle.spf_scopes.specs.Globals.{Globals, globals_of, either}
-use Rattle.spf_scopes.specs.Locals as l
-use Rattle.spf_scopes.specs.Locals.{binding_of}
-use Rattle.spf_scopes.specs.Faults.{Setting, when, declared_faults, each_declared_faults, function_faults, valued_faults, arrays_faults, functions_faults, block_faults, faults}
-use Rattle.spf_scopes.specs.Resolved as z
-use Rattle.spf_scopes.specs.Resolved.{scope, free, names_of, names_in, resolved_block, resolved_function, resolved}
-use Rattle.spf_scopes.proofs.Tables.{same_bytes, bytes_are, map_twice}
-use Rattle.spf_scopes.proofs.Rows.{append_nil, declared_is}
-use Rattle.spf_typing.proofs.Blocks.{scope_each-is}
-use Rattle.spf_typing.proofs.Sound.{left_none, right_none, contains_here, contains_there, contains_cases, all_none, all_more, at_place, Holds, Fits, slots_of, fixed_slots, lawful_scope, no_when}
-use Rattle.spf_typing.proofs.SoundStatements.{Stand, stand_left, stand_right, is_new, one_more, declared_in_is, block_ok, value_ok}
-use Rattle.spf_typing.proofs.Alike.{Alike, new_along, alike_block, alike_expression, alike_end}
+use Rattle.spf_types_names.specs.declared.globals.Outer.TheVariants as outer
+use Rattle.spf_types_names.specs.Names.{has, place_in}
+use Rattle.spf_types_names.specs.Globals.{Globals, globals_of, either}
+use Rattle.spf_types_names.specs.Locals as l
+use Rattle.spf_types_names.specs.Locals.{binding_of}
+use Rattle.spf_types_names.specs.Faults.{Setting, when, declared_faults, each_declared_faults, function_faults, valued_faults, arrays_faults, functions_faults, block_faults, faults}
+use Rattle.spf_types_names.specs.Resolved as z
+use Rattle.spf_types_names.specs.Resolved.{scope, free, names_of, names_in, resolved_block, resolved_function, resolved}
+use Rattle.spf_types_names.proofs.Tables.{same_bytes, bytes_are, map_twice}
+use Rattle.spf_types_names.proofs.Rows.{append_nil, declared_is}
+use Rattle.spf_types_forms.proofs.Blocks.{scope_each-is}
+use Rattle.spf_types_forms.proofs.Sound.{left_none, right_none, contains_here, contains_there, contains_cases, all_none, all_more, at_place, Holds, Fits, slots_of, fixed_slots, lawful_scope, no_when}
+use Rattle.spf_types_forms.proofs.SoundStatements.{Stand, stand_left, stand_right, is_new, one_more, declared_in_is, block_ok, value_ok}
+use Rattle.spf_types_forms.proofs.Alike.{Alike, new_along, alike_block, alike_expression, alike_end}
 
 -- ---- lists
 

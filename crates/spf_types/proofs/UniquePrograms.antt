@@ -9,17 +9,17 @@ use Rattle.spf_ast.specs.Syntax.{Statement, Let, Assign, Store, Fill, Emit, Fail
 use Rattle.spf_ast.specs.RawSyntax.{RawFunction}
 use Rattle.spf_ast.specs.Lawful.{Names, Scope, behind, showing, showing_fixed, showing_each, in_turn, in_body, in_producer, in_consumer, DeclaresEach, scope_after, declared, declared_in, AreDifferent, IsNew, IsLawfulStatement, IsLawfulBlock, IsLawfulFunction, IsScoped, names_at, names_taken, parameters}
 use Rattle.spf_ast.specs.Spelling.{Vocabulary, vocabulary, name_at, spelled_names, spelled_statement, spelled_block, spelled_function, spelled}
-use Rattle.spf_scopes.specs.declared.globals.Outer.TheVariants as outer
-use Rattle.spf_scopes.specs.Names.{place_in}
-use Rattle.spf_scopes.specs.Globals.{Globals, globals_of, either, global_named}
-use Rattle.spf_scopes.specs.Locals as l
-use Rattle.spf_scopes.specs.Resolved as z
-use Rattle.spf_scopes.specs.Resolved.{free, place_of, names_of, names_in, resolved_function, resolved}
-use Rattle.spf_scopes.proofs.Tables.{same_bytes, bytes_are, map_twice}
-use Rattle.spf_typing.proofs.Sound.{contains_here, contains_there, contains_cases}
-use Rattle.spf_typing.proofs.SoundStatements.{Stand, stand_left}
+use Rattle.spf_types_names.specs.declared.globals.Outer.TheVariants as outer
+use Rattle.spf_types_names.specs.Names.{place_in}
+use Rattle.spf_types_names.specs.Globals.{Globals, globals_of, either, global_named}
+use Rattle.spf_types_names.specs.Locals as l
+use Rattle.spf_types_names.specs.Resolved as z
+use Rattle.spf_types_names.specs.Resolved.{free, place_of, names_of, names_in, resolved_function, resolved}
+use Rattle.spf_types_names.proofs.Tables.{same_bytes, bytes_are, map_twice}
+use Rattle.spf_types_forms.proofs.Sound.{contains_here, contains_there, contains_cases}
+use Rattle.spf_types_forms.proofs.SoundStatements.{Stand, stand_left}
 use Rattle.spf_types.proofs.SoundPrograms.{stand_self, in_range, range_in, le_cases, same_all}
-use Rattle.spf_typing.proofs.Unique.{Back, Finds, finds_more, next_each, count_names, count_back, count_in_back, block_back, value_back}
+use Rattle.spf_types_forms.proofs.Unique.{Back, Finds, finds_more, next_each, count_names, count_back, count_in_back, block_back, value_back}
 
 -- ---- slots
 

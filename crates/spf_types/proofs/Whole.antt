@@ -7,15 +7,15 @@ use Rattle.spf_ast.specs.RawSyntax.{RawProgram}
 use Rattle.spf_ast.specs.View.{program}
 use Rattle.spf_ast.specs.Lawful.{IsScoped}
 use Rattle.spf_ast.specs.Spelling.{IsWellFormed, spelled}
-use Rattle.spf_scopes.specs.declared.fault.TypeFault.{TypeFault}
-use Rattle.spf_scopes.specs.declared.fault.TypeError.{TypeError}
-use Rattle.spf_scopes.specs.declared.fault.TypeError.TheVariants.{Refused, OutOfMemory}
-use Rattle.spf_scopes.specs.Faults.{Fault, faults, first}
-use Rattle.spf_scopes.specs.Resolved.{resolved}
-use Rattle.spf_scopes.specs.Answers.{Answers}
+use Rattle.spf_types_names.specs.declared.fault.TypeFault.{TypeFault}
+use Rattle.spf_types_names.specs.declared.fault.TypeError.{TypeError}
+use Rattle.spf_types_names.specs.declared.fault.TypeError.TheVariants.{Refused, OutOfMemory}
+use Rattle.spf_types_names.specs.Faults.{Fault, faults, first}
+use Rattle.spf_types_names.specs.Resolved.{resolved}
+use Rattle.spf_types_names.specs.Answers.{Answers}
 use Rattle.spf_types.specs.Contract.{IsResolved, IsRefused}
 use Rattle.spf_types.specs.TooLarge.{limits_passed}
-use Rattle.spf_typing.proofs.Steps.{ahead, behind, none_in, first_in, append_none}
+use Rattle.spf_types_forms.proofs.Steps.{ahead, behind, none_in, first_in, append_none}
 use Rattle.spf_types.proofs.Kept.{none_passed, kept_none}
 use Rattle.spf_types.proofs.SoundPrograms.{program_ok}
 use Rattle.spf_types.proofs.UniquePrograms.{program_same}

@@ -4,8 +4,8 @@ use Rattle.spf_ast.specs.Syntax.{Program}
 use Rattle.spf_ast.specs.RawSyntax.{RawProgram}
 use Rattle.spf_ast.specs.Lawful.{IsScoped, IsLawful}
 use Rattle.spf_ast.specs.Spelling.{spelled}
-use Rattle.spf_scopes.specs.declared.fault.TypeFault.{TypeFault}
-use Rattle.spf_scopes.specs.Faults.{faults, first}
+use Rattle.spf_types_names.specs.declared.fault.TypeFault.{TypeFault}
+use Rattle.spf_types_names.specs.Faults.{faults, first}
 use Rattle.spf_types.specs.TooLarge.{limits_passed}
 
 -- the raw program spells this program, which is lawful

@@ -5,10 +5,10 @@ use Rattle.spf_ast.specs.Syntax.{Program}
 use Rattle.spf_ast.specs.RawSyntax.{RawProgram}
 use Rattle.spf_ast.specs.Lawful.{IsScoped, IsLawful}
 use Rattle.spf_ast.specs.Spelling.{IsWellFormed, spelled}
-use Rattle.spf_scopes.specs.declared.fault.TypeFault.{TypeFault}
+use Rattle.spf_types_names.specs.declared.fault.TypeFault.{TypeFault}
 use Rattle.spf_types.specs.Contract.{IsResolved, IsRefused}
-use Rattle.spf_scopes.specs.Faults.{faults}
-use Rattle.spf_scopes.specs.Resolved.{resolved}
+use Rattle.spf_types_names.specs.Faults.{faults}
+use Rattle.spf_types_names.specs.Resolved.{resolved}
 
 -- each program whose names are used only where they are declared, whatever its size, is spelled without faults
 abbrev pub ScopedProgramsHaveNoFaults : Type 0

@@ -2,8 +2,8 @@
 use Rattle.std.specs.Prelude.{ℕ, ◌+◌, Bool, not, ◌&&◌, nat_lt, nat_le, List, [], ◌∷◌, ◌++◌, length, map, drop}
 use Rattle.spf_ast.specs.Syntax.{Array, Function, Program}
 use Rattle.spf_ast.specs.Size.{block_measure, by_size, by_depth, by_slots, function_sizes, function_depths, function_slots}
-use Rattle.spf_scopes.specs.declared.fault.TypeFault.TheVariants.{TooLarge}
-use Rattle.spf_scopes.specs.Faults.{Fault, when}
+use Rattle.spf_types_names.specs.declared.fault.TypeFault.TheVariants.{TooLarge}
+use Rattle.spf_types_names.specs.Faults.{Fault, when}
 
 -- an array that is too many
 abbrev pub large_array : Array → Fault

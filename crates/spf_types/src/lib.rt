@@ -1,4 +1,5 @@
-//! From raw programs to resolved ones: names get the numbers of what they stand for, and kinds are checked.
+//! From raw programs to resolved ones: names get the numbers of what they stand for, and kinds are
+//! checked.
 #![tactic(auto)]
 
 pub mod laws;
@@ -6,4 +7,4 @@ mod limits;
 mod program;
 
 pub use program::resolve;
-pub use spf_scopes::fault::{TypeError, TypeFault};
+pub use spf_types_names::fault::{TypeError, TypeFault};

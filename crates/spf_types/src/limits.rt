@@ -1,18 +1,19 @@
 // The limits of the language.
 
 ghost use Rattle.std.specs.Prelude.{◌≡◌, ◌&&◌, nat_le, nat_lt, length, map, IfOk};
-ghost use Rattle.spf_ast.specs.View.{program as seen_program, array as seen_array, function as seen_function};
-ghost use Rattle.spf_scopes.specs.declared.fault.TypeError.TheVariants.{Refused};
-ghost use Rattle.spf_scopes.specs.declared.fault.TypeFault.TheVariants.{TooLarge};
-ghost use Rattle.spf_size.specs.Sizes.{IsTable, all_counts};
+ghost use Rattle.spf_ast.specs.View.{program as seen_program, array as seen_array};
+ghost use Rattle.spf_ast.specs.View.{function as seen_function};
+ghost use Rattle.spf_types_names.specs.declared.fault.TypeError.TheVariants.{Refused};
+ghost use Rattle.spf_types_names.specs.declared.fault.TypeFault.TheVariants.{TooLarge};
+ghost use Rattle.spf_types_size.specs.Sizes.{IsTable, all_counts};
 ghost use Rattle.spf_types.specs.TooLarge.{large_arrays, large_functions, limits_passed};
-ghost use Rattle.spf_scopes.specs.Answers.{Answers};
+ghost use Rattle.spf_types_names.specs.Answers.{Answers};
 
 use spf_ast::syntax::{Array, Function, Program};
-use spf_scopes::fault::{TypeError, TypeFault};
-use spf_size::functions::{function_size, with_slots};
-use spf_size::measure::block;
-use spf_size::size::Size;
+use spf_types_names::fault::{TypeError, TypeFault};
+use spf_types_size::functions::{function_size, with_slots};
+use spf_types_size::measure::block;
+use spf_types_size::size::Size;
 use std::alloc::Global;
 
 const MAX_ARRAYS: usize = 64;
@@ -42,16 +43,18 @@ fn is_function_small(place: usize, size: Size) -> bool
 
 /// Whether `main` keeps the limits.
 fn is_main_small(size: Size) -> bool
-    ensures { result ≡ (nat_le size.nodes 65536 && (nat_le size.depth 256 && nat_le size.slots 1024)) }
+    ensures { result
+        ≡ (nat_le size.nodes 65536 && (nat_le size.depth 256 && nat_le size.slots 1024)) }
 {
     size.nodes <= MAX_SIZE && size.depth <= MAX_DEPTH && size.slots <= MAX_SLOTS
 }
 
 /// The sizes of all functions; refuses at the first one that is too large.
 fn sizes_of(alloc: Global, functions: &[Function]) -> Result<Vec<Size>, TypeError>
-    ensures answers { Answers (large_functions (all_counts (map seen_function functions.now)).nodes 0
-        (map seen_function functions.now)) (λ _. tt {0}) (tt {0}) result }
-    ensures sizes { IfOk result (λ v. IsTable (all_counts (map seen_function functions.now)) v.items) }
+    ensures answers { Answers (large_functions (all_counts (map seen_function functions.now)).nodes
+        0 (map seen_function functions.now)) (λ _. tt {0}) (tt {0}) result }
+    ensures sizes { IfOk result
+        (λ v. IsTable (all_counts (map seen_function functions.now)) v.items) }
 {
     let mut sizes = Vec::new(alloc);
     for (place, function) in functions.iter().enumerate() {
@@ -80,7 +83,8 @@ pub(crate) fn keeps_limits(
     program: &Program,
     main_line: u32,
 ) -> Result<(), TypeError>
-    ensures { Answers (limits_passed main_line (seen_program program.now)) (λ _. tt {0}) (tt {0}) result }
+    ensures { Answers (limits_passed main_line (seen_program program.now)) (λ _. tt {0}) (tt {0})
+        result }
 {
     few_arrays(&program.arrays)?;
     let sizes = sizes_of(alloc, &program.functions)?;

@@ -1,27 +1,33 @@
 // Arrays, functions and `main`.
 
-ghost use Rattle.std.specs.Prelude.{◌≡◌, ◌⊎◌, ◌++◌, [], IfOk, IsOkUnless, Err, List, ℕ, length, map};
-ghost use Rattle.spf_ast.specs.Syntax.{Block as block_form, Function as function_form, Program as Lawful};
-ghost use Rattle.spf_ast.specs.View.{program as seen_program, array as seen_array, function as seen_function, block as seen_block, name as seen_name};
+ghost use Rattle.std.specs.Prelude.{◌≡◌, ◌⊎◌, ◌++◌, [], IfOk, IsOkUnless, Err, List, ℕ, length};
+ghost use Rattle.std.specs.Prelude.{map};
+ghost use Rattle.spf_ast.specs.Syntax.{Block as block_form, Function as function_form};
+ghost use Rattle.spf_ast.specs.Syntax.{Program as Lawful};
+ghost use Rattle.spf_ast.specs.View.{program as seen_program, array as seen_array};
+ghost use Rattle.spf_ast.specs.View.{function as seen_function, block as seen_block};
+ghost use Rattle.spf_ast.specs.View.{name as seen_name};
 ghost use Rattle.spf_ast.specs.RawView.{raw_function, raw_program};
-ghost use Rattle.spf_scopes.specs.HereView.{setting};
-ghost use Rattle.spf_scopes.specs.Globals.{globals_of, global_named, is_array_at, is_function_at};
-ghost use Rattle.spf_scopes.specs.Faults.{arrays_faults, functions_faults, function_faults, faults};
-ghost use Rattle.spf_scopes.specs.Resolved.{resolved_function, resolved};
-ghost use Rattle.spf_scopes.specs.Answers.{Answers};
+ghost use Rattle.spf_types_names.specs.HereView.{setting};
+ghost use Rattle.spf_types_names.specs.Globals.{globals_of, global_named, is_array_at};
+ghost use Rattle.spf_types_names.specs.Globals.{is_function_at};
+ghost use Rattle.spf_types_names.specs.Faults.{arrays_faults, functions_faults, function_faults};
+ghost use Rattle.spf_types_names.specs.Faults.{faults};
+ghost use Rattle.spf_types_names.specs.Resolved.{resolved_function, resolved};
+ghost use Rattle.spf_types_names.specs.Answers.{Answers};
 ghost use Rattle.spf_types.specs.TooLarge.{limits_passed};
 ghost use Rattle.spf_types.specs.Contract.{IsResolved, IsRefused};
 ghost use Rattle.spf_ast.specs.Spelling.{IsWellFormed};
-ghost use Rattle.spf_scopes.specs.declared.fault.TypeFault.{TypeFault as Fault};
+ghost use Rattle.spf_types_names.specs.declared.fault.TypeFault.{TypeFault as Fault};
 
 use crate::limits::keeps_limits;
 use spf_ast::raw::{RawFunction, RawProgram};
 use spf_ast::syntax::{Array, Function, Name, Program, Stmt};
-use spf_scopes::fault::{TypeError, TypeFault};
-use spf_scopes::globals::{GlobalTable, Outer, short};
-use spf_scopes::locals::LocalTable;
-use spf_scopes::names::{Here, declared_each};
-use spf_typing::statement::{block, valued};
+use spf_types_forms::statement::{block, valued};
+use spf_types_names::fault::{TypeError, TypeFault};
+use spf_types_names::globals::{GlobalTable, Outer, short};
+use spf_types_names::locals::LocalTable;
+use spf_types_names::names::{Here, declared_each};
 use std::alloc::Global;
 
 /// What a resolved program has besides its arrays.
@@ -102,7 +108,8 @@ fn functions_of<'a>(
 ) -> Result<Vec<Function>, TypeError>
     requires { globals.now ≡ globals_of (map seen_array arrays.now) (map raw_function raw.now) }
     ensures { Answers (functions_faults globals.now globals.now.arrays 0 (map raw_function raw.now))
-        (λ v. map seen_function v.items) (map (resolved_function globals.now) (map raw_function raw.now)) result }
+        (λ v. map seen_function v.items)
+        (map (resolved_function globals.now) (map raw_function raw.now)) result }
 {
     let mut functions = Vec::new(alloc);
     for (place, function) in raw.iter().enumerate() {
@@ -126,8 +133,9 @@ fn functions_of<'a>(
 
 /// What a program has besides its arrays.
 fn parts_of(alloc: Global, raw: &RawProgram) -> Result<Parts, TypeError>
-    ensures { Answers {A = List function_form × List (List ℕ) × block_form} (faults (raw_program raw.now))
-        (λ p. (map seen_function p.functions.items, map seen_name p.slots.items, seen_block p.main.items)) (
+    ensures { Answers {A = List function_form × List (List ℕ) × block_form}
+        (faults (raw_program raw.now)) (λ p.
+        (map seen_function p.functions.items, map seen_name p.slots.items, seen_block p.main.items)) (
           (resolved (raw_program raw.now)).functions,
           (resolved (raw_program raw.now)).slots,
           (resolved (raw_program raw.now)).main,
@@ -156,7 +164,9 @@ fn parts_of(alloc: Global, raw: &RawProgram) -> Result<Parts, TypeError>
 
 /// The program that a raw one stands for, tested against the limits.
 fn resolved_of(alloc: Global, raw: RawProgram) -> Result<Program, TypeError>
-    ensures { Answers (faults (raw_program raw) ++ limits_passed raw.main_line (resolved (raw_program raw))) seen_program (resolved (raw_program raw)) result }
+    ensures { Answers
+        (faults (raw_program raw) ++ limits_passed raw.main_line (resolved (raw_program raw)))
+        seen_program (resolved (raw_program raw)) result }
 {
     let parts = parts_of(alloc, &raw)?;
     let program = Program {
@@ -170,22 +180,26 @@ fn resolved_of(alloc: Global, raw: RawProgram) -> Result<Program, TypeError>
     Ok(program)
 }
 
-/// Resolves a raw program: each name becomes the number of the array, the function or the slot that it stands for.
+/// Resolves a raw program: each name becomes the number of the array, the function or the slot that
+/// it stands for.
 ///
 /// # Errors
 ///
-/// `Refused` tells the first fault of the program, in the order of its text; where it has none, `TooLarge` at the
-/// first array or function at which it passes a limit, or at `main`. `OutOfMemory` comes where memory is short, as it
-/// is for lists of 2^32 names.
+/// `Refused` tells the first fault of the program, in the order of its text; where it has none,
+/// `TooLarge` at the first array or function at which it passes a limit, or at `main`.
+/// `OutOfMemory` comes where memory is short, as it is for lists of 2^32 names.
 pub fn resolve(alloc: Global, raw: RawProgram) -> Result<Program, TypeError>
     requires { IsWellFormed (raw_program raw) }
     // What is given is the program that the raw one stands for, and there is no other.
     ensures program { IfOk result (λ p. IsResolved (raw_program raw) (seen_program p)) }
-    ensures only { IfOk result (λ p. (q : Lawful) → IsResolved (raw_program raw) q → q ≡ seen_program p) }
+    ensures only { IfOk result
+        (λ p. (q : Lawful) → IsResolved (raw_program raw) q → q ≡ seen_program p) }
     // A raw program that stands for one is refused only when memory runs out.
-    ensures accepted { (q : Lawful) → IsResolved (raw_program raw) q → IsOkUnless result TypeError.OutOfMemory }
+    ensures accepted { (q : Lawful) → IsResolved (raw_program raw) q
+        → IsOkUnless result TypeError.OutOfMemory }
     // When it is refused, and that it is refused then.
-    ensures refused { (what : Fault) (line : ℕ) → result ≡ Err (TypeError.Refused what line) → IsRefused (raw_program raw) what line }
+    ensures refused { (what : Fault) (line : ℕ) → result ≡ Err (TypeError.Refused what line)
+        → IsRefused (raw_program raw) what line }
     ensures refused_exactly { (what : Fault) (line : ℕ) → IsRefused (raw_program raw) what line
         → (result ≡ Err (TypeError.Refused what line)) ⊎ (result ≡ Err TypeError.OutOfMemory) }
 {

@@ -1,4 +1,4 @@
-use Rattle.spf_programs.specs.Lexer.{machine_length}
+use Rattle.spf_apps_programs.specs.Lexer.{machine_length}
 use Rattle.spf_apps_texts.proofs.PackBitsText.{packbits_is_its_text}
 use Rattle.spf_apps_texts.proofs.HuffmanText.{huffman_is_its_text}
 use Rattle.spf_apps_texts.proofs.LexerText.{lexer_is_its_text}

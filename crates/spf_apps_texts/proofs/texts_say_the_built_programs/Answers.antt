@@ -1,6 +1,6 @@
-use Rattle.spf_programs.specs.PackBits.{packbits_program}
-use Rattle.spf_programs.specs.Huffman.{huffman_program}
-use Rattle.spf_programs.specs.Lexer.{lexer_program}
+use Rattle.spf_apps_programs.specs.PackBits.{packbits_program}
+use Rattle.spf_apps_programs.specs.Huffman.{huffman_program}
+use Rattle.spf_apps_programs.specs.Lexer.{lexer_program}
 use Rattle.spf_apps_texts.specs.Texts.{packbits_text, huffman_text, lexer_text}
 use Rattle.spf_apps_texts.proofs.Said.{is_text}
 use Rattle.spf_apps_texts.proofs.texts_say_the_built_programs.Goals as goal

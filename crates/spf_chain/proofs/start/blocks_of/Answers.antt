@@ -1,5 +1,5 @@
 use Rattle.std.proofs.Common.{◌≡◌, ◌∙◌, ap, length}
-use Rattle.spf_chain.specs.declared.validated.Guess.{Guess}
+use Rattle.spf_guess_statistics.specs.declared.guess.Guess.{Guess}
 use Rattle.spf_chain.proofs.Beginning.{one_block}
 use Rattle.spf_chain.proofs.start.blocks_of.Goals as goal
 

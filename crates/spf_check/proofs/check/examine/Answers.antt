@@ -5,7 +5,7 @@ use Rattle.spf_ast.specs.Construct.{Construct, constructs_in}
 use Rattle.spf_ast.specs.ConstructView.{construct}
 use Rattle.spf_check.specs.Verdicts.{AreWritesBefore, IsExamined}
 use Rattle.spf_check.specs.declared.check.Examined.TheVariants as examined
-use Rattle.spf_lemmas.proofs.Indices.{one-longer}
+use Rattle.spf_ast_lemmas.proofs.Indices.{one-longer}
 use Rattle.spf_check.proofs.Examining.{KeptBefore, one-more-kept, one-more-written, all-kept, first-refused, of-this, as-many}
 use Rattle.spf_check.proofs.check.examine.Goals as goal
 

@@ -2,7 +2,7 @@ use Rattle.std.proofs.Common.{subst}
 use Rattle.spf_ast.specs.declared.syntax.Part.TheVariants.{Consumer, Predictor, Producer}
 use Rattle.spf_ast.specs.View.{program}
 use Rattle.spf_effects.specs.Effects.{AreEffects}
-use Rattle.spf_findings.specs.Parts.{part_effects}
+use Rattle.spf_effects_findings.specs.Parts.{part_effects}
 use Rattle.spf_check.proofs.check.pair_effects.Goals as goal
 
 pub returns : goal.returns

@@ -5,7 +5,7 @@ use Rattle.spf_ast.specs.View.{block, program}
 use Rattle.spf_ast.specs.Construct.{constructs_in}
 use Rattle.spf_ast.specs.ConstructView.{construct}
 use Rattle.spf_check.specs.Text.{AreConstructTexts, IsConstructText}
-use Rattle.spf_lemmas.proofs.Indices.{at-index}
+use Rattle.spf_ast_lemmas.proofs.Indices.{at-index}
 use Rattle.spf_check.proofs.Examining.{of-this, as-many}
 use Rattle.spf_check.proofs.Explained.{texts-grow}
 use Rattle.spf_check.proofs.explain.explain.Goals as goal

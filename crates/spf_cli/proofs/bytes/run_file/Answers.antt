@@ -1,7 +1,7 @@
 use Rattle.std.proofs.Common.{◌≡◌, ◌⊎◌, ◌∙◌, inl, subst, map}
-use Rattle.spf_commands.specs.Whole.{handed, RunsText}
-use Rattle.spf_commands.specs.Status.{status_number}
-use Rattle.spf_commands.specs.Answering.{seen_answer}
+use Rattle.spf_cli_answers.specs.Whole.{handed, RunsText}
+use Rattle.spf_cli_answers.specs.Status.{status_number}
+use Rattle.spf_cli_answers.specs.Answering.{seen_answer}
 use Rattle.spf_cli.specs.Answered.{sinks}
 use Rattle.spf_cli.proofs.Puts.{put_whole, put_part, hand_cause}
 use Rattle.spf_cli.proofs.bytes.run_file.Goals as goal

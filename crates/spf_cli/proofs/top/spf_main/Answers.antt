@@ -1,7 +1,7 @@
 use Rattle.std.proofs.Common.{◌∙◌, map, string_bytes}
-use Rattle.spf_commands.specs.Answering.{seen_answer}
-use Rattle.spf_commands.specs.Status.{status_number}
-use Rattle.spf_commands.specs.Whole.{handed, Whole}
+use Rattle.spf_cli_answers.specs.Answering.{seen_answer}
+use Rattle.spf_cli_answers.specs.Status.{status_number}
+use Rattle.spf_cli_answers.specs.Whole.{handed, Whole}
 use Rattle.spf_cli.specs.Answered.{sinks}
 use Rattle.spf_cli.proofs.Puts.{answered_by, put_whole, put_part, words_cause, file_cause, sink_cause}
 use Rattle.spf_cli.proofs.top.spf_main.Goals as goal

@@ -1,6 +1,6 @@
 use Rattle.spf_ast.specs.View.{block}
-use Rattle.spf_findings.specs.Forms.{block_finds}
-use Rattle.spf_walk.specs.Settings.{setting}
+use Rattle.spf_effects_findings.specs.Forms.{block_finds}
+use Rattle.spf_effects_walk.specs.Settings.{setting}
 use Rattle.spf_effects.proofs.Gathering.{effects_are}
 use Rattle.spf_effects.proofs.analysis.block_effects.Goals as goal
 

@@ -1,4 +1,4 @@
-use Rattle.spf_walk.proofs.Results.{if_ok}
+use Rattle.spf_effects_walk.proofs.Results.{if_ok}
 use Rattle.spf_effects.proofs.analysis.effects.Goals as goal
 
 pub returns-in-Fold : goal.returns-in-Fold

@@ -1,6 +1,6 @@
 use Rattle.spf_ast.specs.View.{block, arguments}
-use Rattle.spf_findings.specs.Forms.{block_then_row}
-use Rattle.spf_walk.specs.Settings.{setting}
+use Rattle.spf_effects_findings.specs.Forms.{block_then_row}
+use Rattle.spf_effects_walk.specs.Settings.{setting}
 use Rattle.spf_effects.proofs.Gathering.{effects_are}
 use Rattle.spf_effects.proofs.analysis.effects_and.Goals as goal
 

@@ -5,11 +5,11 @@ use Rattle.spf_ast.specs.Syntax.{end}
 use Rattle.spf_ast.specs.View.{program, block, arguments, predictor, fold_head}
 use Rattle.spf_region.specs.declared.bound.Bound.TheVariants.{Known}
 use Rattle.spf_effects.specs.Effects.{AreEffects, effects_of}
-use Rattle.spf_findings.specs.Forms.{Setting, block_then_row, declared}
-use Rattle.spf_findings.specs.Parts.{guesses_find, outside, within_fold}
+use Rattle.spf_effects_findings.specs.Forms.{Setting, block_then_row, declared}
+use Rattle.spf_effects_findings.specs.Parts.{guesses_find, outside, within_fold}
 use Rattle.spf_effects.proofs.Gathering.{main_setting_is}
-use Rattle.spf_walk.proofs.Results.{if_ok}
-use Rattle.spf_walk.proofs.Walked.{written_back}
+use Rattle.spf_effects_walk.proofs.Results.{if_ok}
+use Rattle.spf_effects_walk.proofs.Walked.{written_back}
 use Rattle.spf_effects.proofs.analysis.fold_effects.Goals as goal
 
 pub returns-in-Body : goal.returns-in-Body

@@ -4,10 +4,10 @@ use Rattle.spf_ast.specs.declared.syntax.Pair.{out-Pair}
 use Rattle.spf_ast.specs.Syntax.{end}
 use Rattle.spf_ast.specs.View.{program, block, arguments, predictor}
 use Rattle.spf_effects.specs.Effects.{AreEffects, effects_of}
-use Rattle.spf_findings.specs.Forms.{Setting, block_finds, block_then_row}
-use Rattle.spf_findings.specs.Parts.{guesses_find, outside}
+use Rattle.spf_effects_findings.specs.Forms.{Setting, block_finds, block_then_row}
+use Rattle.spf_effects_findings.specs.Parts.{guesses_find, outside}
 use Rattle.spf_effects.proofs.Gathering.{main_setting_is}
-use Rattle.spf_walk.proofs.Results.{if_ok}
+use Rattle.spf_effects_walk.proofs.Results.{if_ok}
 use Rattle.spf_effects.proofs.analysis.pair_effects.Goals as goal
 
 pub returns-in-Producer : goal.returns-in-Producer

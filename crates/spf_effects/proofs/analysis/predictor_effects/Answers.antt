@@ -1,9 +1,9 @@
 use Rattle.std.proofs.Common.{[], map, refl, subst}
 use Rattle.spf_ast.specs.Syntax.{end}
 use Rattle.spf_ast.specs.View.{predictor}
-use Rattle.spf_findings.specs.Extends.{Extends, Lists}
-use Rattle.spf_findings.specs.Parts.{guesses_find}
-use Rattle.spf_walk.specs.Settings.{setting}
+use Rattle.spf_effects_findings.specs.Extends.{Extends, Lists}
+use Rattle.spf_effects_findings.specs.Parts.{guesses_find}
+use Rattle.spf_effects_walk.specs.Settings.{setting}
 use Rattle.spf_effects.proofs.Gathering.{effects_are}
 use Rattle.spf_effects.proofs.Guessing.{guesses_next, guesses_end}
 use Rattle.spf_effects.proofs.analysis.predictor_effects.Goals as goal

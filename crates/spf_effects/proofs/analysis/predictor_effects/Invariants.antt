@@ -1,5 +1,5 @@
 use Rattle.std.specs.Prelude.{[]}
-use Rattle.spf_walk.specs.Settings.{setting}
+use Rattle.spf_effects_walk.specs.Settings.{setting}
 use Rattle.spf_effects.proofs.Guessing.{GuessesLead}
 use Rattle.spf_effects.proofs.analysis.predictor_effects.Given as goal
 

@@ -1,6 +1,6 @@
 use Rattle.std.proofs.Common.{ap}
 use Rattle.spf_ast.specs.View.{block}
-use Rattle.spf_findings.specs.Extends.{Lists}
+use Rattle.spf_effects_findings.specs.Extends.{Lists}
 use Rattle.spf_effects.proofs.Gathering.{assigns_outer_is}
 use Rattle.spf_effects.proofs.effects.gathered.Goals as goal
 

@@ -1,4 +1,4 @@
-use Rattle.spf_findings.proofs.Either.{extends_either}
+use Rattle.spf_effects_findings.proofs.Either.{extends_either}
 use Rattle.spf_effects.proofs.laws.choice.Goals as goal
 
 pub returns : goal.returns

@@ -1,4 +1,4 @@
-use Rattle.spf_findings.proofs.Then.{extends_then}
+use Rattle.spf_effects_findings.proofs.Then.{extends_then}
 use Rattle.spf_effects.proofs.laws.sequence.Goals as goal
 
 pub returns : goal.returns

@@ -2,13 +2,13 @@ use Rattle.std.proofs.Common.{sym, ap, subst, arith, ◌≤◌}
 use Rattle.spf_ast.specs.ConstructView.{construct as seen_construct}
 use Rattle.spf_ast.specs.Lawful.{IsLawful}
 use Rattle.spf_ast.specs.Program.{environment_of}
-use Rattle.spf_layout.specs.Instance.{program_of}
+use Rattle.spf_exec_instance.specs.Instance.{program_of}
 use Rattle.spf_check.specs.Accepting.{IsAccepted}
 use Rattle.spf_exec.specs.Pieces.{Stand, moment_of, seen_header}
-use Rattle.spf_entry.specs.Entry.{plain_blocks}
-use Rattle.spf_guess.specs.declared.stats.Stats.{Stats}
-use Rattle.spf_construct.specs.Guesses.{AreAtMost}
-use Rattle.spf_progress.specs.Progress.{entry_there, guess_there}
+use Rattle.spf_speculation_entry.specs.Entry.{plain_blocks}
+use Rattle.spf_guess_statistics.specs.declared.stats.Stats.{Stats}
+use Rattle.spf_engine_construct.specs.Guesses.{AreAtMost}
+use Rattle.spf_engine_laws.specs.Progress.{entry_there, guess_there}
 use Rattle.spf_engine.proofs.Ending.{few-none}
 use Rattle.spf_engine.proofs.Passing.{has-its-blocks, leads, blocks-come, leads-nothing, header-leads}
 use Rattle.spf_engine.proofs.construct.pass_construct.Goals as goal

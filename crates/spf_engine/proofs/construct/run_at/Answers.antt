@@ -1,9 +1,9 @@
 use Rattle.std.proofs.Common.{◌∙◌, sym, ap, ◌++◌, length}
 use Rattle.spf_ast.specs.ConstructView.{construct as seen_construct}
-use Rattle.spf_layout.specs.Instance.{program_of}
+use Rattle.spf_exec_instance.specs.Instance.{program_of}
 use Rattle.spf_exec.specs.Pieces.{seen_header}
-use Rattle.spf_entry.specs.Entry.{plain_blocks}
-use Rattle.spf_guess.specs.Guess.{tells}
+use Rattle.spf_speculation_entry.specs.Entry.{plain_blocks}
+use Rattle.spf_guess_statistics.specs.Guess.{tells}
 use Rattle.spf_engine.proofs.Passing.{entry_with, come-as, refilled-is, retold}
 use Rattle.spf_engine.proofs.construct.run_at.Goals as goal
 

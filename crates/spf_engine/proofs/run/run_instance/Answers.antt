@@ -1,10 +1,10 @@
 use Rattle.std.proofs.Common.{◌∙◌, sym, subst, refl, [], map}
 use Rattle.spf_ast.specs.Lawful.{IsLawful}
 use Rattle.spf_ast.specs.Construct.{constructs_in, reals}
-use Rattle.spf_layout.specs.Instance.{program_of}
-use Rattle.spf_predictors.specs.Answers.{handed_in}
-use Rattle.spf_progress.specs.Progress.{no_progress}
-use Rattle.spf_progress.specs.Traces.{AreTraces}
+use Rattle.spf_exec_instance.specs.Instance.{program_of}
+use Rattle.spf_guess.specs.Answers.{handed_in}
+use Rattle.spf_engine_laws.specs.Progress.{no_progress}
+use Rattle.spf_engine_laws.specs.Traces.{AreTraces}
 use Rattle.spf_engine.specs.Runs.{AreFew, GoesFurther}
 use Rattle.spf_engine.proofs.Ending.{few-none}
 use Rattle.spf_engine.proofs.Stepping.{if-err, told-nothing, finishes-so, traps-so, goes-on-so}

@@ -1,9 +1,9 @@
 use Rattle.std.proofs.Common.{◌≡◌, length, map}
 use Rattle.spf_ast.specs.Pieces.{statement_count}
-use Rattle.spf_layout.specs.Instance.{program_of}
+use Rattle.spf_exec_instance.specs.Instance.{program_of}
 use Rattle.spf_exec.specs.Pieces.{IsRunOf, ahead}
-use Rattle.spf_predictors.specs.Answers.{handed_in, WereTold}
-use Rattle.spf_progress.specs.Progress.{Progress, GoesOn}
+use Rattle.spf_guess.specs.Answers.{handed_in, WereTold}
+use Rattle.spf_engine_laws.specs.Progress.{Progress, GoesOn}
 use Rattle.spf_engine.specs.Runs.{AreFew, AgreesWith}
 use Rattle.spf_engine.proofs.run.run_instance.Given as goal
 

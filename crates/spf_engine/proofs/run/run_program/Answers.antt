@@ -1,8 +1,8 @@
 use Rattle.std.proofs.Common.{◌∙◌, map}
 use Rattle.spf_ast.specs.Program.{outcome}
 use Rattle.spf_ast.specs.View.{program as seen_program}
-use Rattle.spf_guess.specs.Statistics.{tally}
-use Rattle.spf_predictors.specs.Answers.{handed_in}
+use Rattle.spf_guess_statistics.specs.Statistics.{tally}
+use Rattle.spf_guess.specs.Answers.{handed_in}
 use Rattle.spf_engine.proofs.Stepping.{if-err, told-nothing, retold-as, traces-as}
 use Rattle.spf_engine.proofs.run.run_program.Goals as goal
 

@@ -1,8 +1,8 @@
 use Rattle.std.proofs.Common.{sym, subst, length}
 use Rattle.spf_ast.specs.ConstructView.{construct as seen_construct}
 use Rattle.spf_ast.specs.Construct.{constructs_in}
-use Rattle.spf_layout.specs.Instance.{program_of}
-use Rattle.spf_guess.specs.declared.stats.Stats.{Stats}
+use Rattle.spf_exec_instance.specs.Instance.{program_of}
+use Rattle.spf_guess_statistics.specs.declared.stats.Stats.{Stats}
 use Rattle.spf_engine.specs.Runs.{GoesFurther}
 use Rattle.spf_engine.proofs.Missing.{handed-in}
 use Rattle.spf_engine.proofs.Places.{numbered}

@@ -1,6 +1,6 @@
 use Rattle.std.proofs.Common.{sym, subst}
 use Rattle.spf_ast.specs.Lawful.{IsLawful}
-use Rattle.spf_layout.specs.Instance.{program_of}
+use Rattle.spf_exec_instance.specs.Instance.{program_of}
 use Rattle.spf_exec.specs.Pieces.{Advanced}
 use Rattle.spf_engine.proofs.Ending.{few-advanced, advance-counts}
 use Rattle.spf_engine.proofs.Stepping.{same-told-first, over-ok, over-err, if-err, paused-so, further-from}

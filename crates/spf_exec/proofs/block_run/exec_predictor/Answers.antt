@@ -2,12 +2,12 @@ use Rattle.std.proofs.Common.{rules, ◌≡◌, w64, FitsSigned, Ok, Err, length
 use Rattle.std.proofs.lemmas.Int.{to_z-of_z}
 use Rattle.spf_ast.specs.Construct.{constructs_in}
 use Rattle.spf_ast.specs.ConstructView.{construct}
-use Rattle.spf_registers.specs.Registers.{rooms}
-use Rattle.spf_layout.specs.Frame.{main_slots}
-use Rattle.spf_layout.specs.Instance.{program_of}
-use Rattle.spf_memory.specs.declared.memory.Halt.TheVariants as h
-use Rattle.spf_memory.specs.declared.quiet.ReadOnly.{ReadOnly}
-use Rattle.spf_memory.specs.QuietMemory.{full_output}
+use Rattle.spf_code_registers.specs.Registers.{rooms}
+use Rattle.spf_exec_instance.specs.Frame.{main_slots}
+use Rattle.spf_exec_instance.specs.Instance.{program_of}
+use Rattle.spf_exec_memory.specs.declared.memory.Halt.TheVariants as h
+use Rattle.spf_exec_memory.specs.declared.quiet.ReadOnly.{ReadOnly}
+use Rattle.spf_exec_memory.specs.QuietMemory.{full_output}
 use Rattle.spf_exec.specs.Sources.{callable_of}
 use Rattle.spf_exec.proofs.Rooms.{room_at}
 use Rattle.spf_exec.proofs.Sources.{construct_at}

@@ -5,8 +5,8 @@ use Rattle.spf_ast.specs.declared.syntax.Fold.{out-Fold}
 use Rattle.spf_ast.specs.View.{fold_head, block}
 use Rattle.spf_ast.specs.Construct.{guess_at}
 use Rattle.spf_ast.specs.Program.{environment_of}
-use Rattle.spf_layout.specs.Frame.{main_slots}
-use Rattle.spf_layout.specs.Instance.{program_of}
+use Rattle.spf_exec_instance.specs.Frame.{main_slots}
+use Rattle.spf_exec_instance.specs.Instance.{program_of}
 use Rattle.spf_exec.proofs.Leaving.{number-leaves}
 use Rattle.spf_exec.proofs.Prefixes.{take_set}
 use Rattle.spf_exec.proofs.Sources.{from_slots}

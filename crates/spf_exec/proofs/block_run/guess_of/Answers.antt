@@ -1,9 +1,9 @@
 use Rattle.std.proofs.Common.{◌≡◌, ◌+◌, ◌<◌, ◌≤◌, length, ap, arith}
 use Rattle.spf_ast.specs.Construct.{guess_at}
 use Rattle.spf_ast.specs.Program.{environment_of}
-use Rattle.spf_registers.specs.Registers.{rooms}
-use Rattle.spf_layout.specs.Instance.{program_of}
-use Rattle.spf_memory.proofs.Steps.{along, at_once}
+use Rattle.spf_code_registers.specs.Registers.{rooms}
+use Rattle.spf_exec_instance.specs.Instance.{program_of}
+use Rattle.spf_exec_memory.proofs.Steps.{along, at_once}
 use Rattle.spf_exec.specs.Sources.{callable_of}
 use Rattle.spf_exec.proofs.Sources.{guess_code_at, guess_there, no_guess}
 use Rattle.spf_exec.proofs.block_run.guess_of.Goals as goal

@@ -4,14 +4,14 @@ use Rattle.spf_ast.specs.declared.syntax.Pair.{out-Pair}
 use Rattle.spf_ast.specs.View.{pair_head, block}
 use Rattle.spf_ast.specs.Meaning.{gives, block_means}
 use Rattle.spf_ast.specs.Program.{environment_of}
-use Rattle.spf_registers.specs.Registers.{rooms, arguments_need, block_needs}
+use Rattle.spf_code_registers.specs.Registers.{rooms, arguments_need, block_needs}
 use Rattle.spf_code.specs.Code.{code_sets}
 use Rattle.spf_code.specs.NodeView.{code}
-use Rattle.spf_lowering.specs.Lowering.{block_changes}
-use Rattle.spf_lowering.proofs.Fitted.{block_fits}
-use Rattle.spf_layout.specs.Frame.{main_slots}
-use Rattle.spf_layout.specs.Instance.{program_of}
-use Rattle.spf_memory.proofs.Steps.{along, at_once, then_value, exit_halt}
+use Rattle.spf_code_lowering.specs.Lowering.{block_changes}
+use Rattle.spf_code_lowering.proofs.Fitted.{block_fits}
+use Rattle.spf_exec_instance.specs.Frame.{main_slots}
+use Rattle.spf_exec_instance.specs.Instance.{program_of}
+use Rattle.spf_exec_memory.proofs.Steps.{along, at_once, then_value, exit_halt}
 use Rattle.spf_exec.specs.Sources.{callable_of, wholly, block_row}
 use Rattle.spf_exec.proofs.Fitting.{row_fits}
 use Rattle.spf_exec.proofs.Leaving.{producer-leaves, consumer-leaves}

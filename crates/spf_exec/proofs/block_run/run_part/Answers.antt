@@ -1,8 +1,8 @@
 use Rattle.std.proofs.Common.{rules, ◌≡◌, length, ap, ◌∙◌, arith}
 use Rattle.spf_ast.specs.Construct.{constructs_in}
 use Rattle.spf_ast.specs.ConstructView.{construct}
-use Rattle.spf_registers.specs.Registers.{rooms}
-use Rattle.spf_layout.specs.Instance.{program_of}
+use Rattle.spf_code_registers.specs.Registers.{rooms}
+use Rattle.spf_exec_instance.specs.Instance.{program_of}
 use Rattle.spf_exec.specs.Sources.{callable_of}
 use Rattle.spf_exec.proofs.Rooms.{room_at}
 use Rattle.spf_exec.proofs.Sources.{construct_at, orderly_construct}

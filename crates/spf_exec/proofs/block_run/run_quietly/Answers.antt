@@ -1,7 +1,7 @@
 use Rattle.spf_ast.specs.ConstructView.{construct}
-use Rattle.spf_layout.specs.Frame.{main_slots}
-use Rattle.spf_layout.specs.Instance.{program_of}
-use Rattle.spf_memory.specs.QuietMemory.{full_output}
+use Rattle.spf_exec_instance.specs.Frame.{main_slots}
+use Rattle.spf_exec_instance.specs.Instance.{program_of}
+use Rattle.spf_exec_memory.specs.QuietMemory.{full_output}
 use Rattle.spf_exec.proofs.BlockRuns.{quiet_run}
 use Rattle.spf_exec.proofs.block_run.run_quietly.Goals as goal
 

@@ -1,10 +1,10 @@
 use Rattle.std.proofs.Common.{ℕ, List, length, sym, ◌∙◌, subst}
-use Rattle.spf_registers.specs.Registers.{rooms}
+use Rattle.spf_code_registers.specs.Registers.{rooms}
 use Rattle.spf_code.specs.declared.function.FunctionCode.{FunctionCode}
 use Rattle.spf_code.specs.Fits.{FunctionsFit}
 use Rattle.spf_code.specs.Settings.{setting_before}
-use Rattle.spf_lowering.proofs.Fitted.{functions_fit}
-use Rattle.spf_layout.specs.Instance.{program_of}
+use Rattle.spf_code_lowering.proofs.Fitted.{functions_fit}
+use Rattle.spf_exec_instance.specs.Instance.{program_of}
 use Rattle.spf_exec.specs.Sources.{FitsProgram}
 use Rattle.spf_exec.proofs.Sources.{fits_main}
 use Rattle.spf_exec.proofs.Within.{layout_within}

@@ -1,13 +1,13 @@
 use Rattle.std.proofs.Common.{◌≡◌, ◌+◌, ◌-◌, length, refl, arith}
 use Rattle.spf_ast.specs.Interaction.{◌>>◌}
 use Rattle.spf_exec.specs.Sources.{reads_row}
-use Rattle.spf_registers.specs.Registers.{rooms}
-use Rattle.spf_layout.specs.Instance.{program_of}
-use Rattle.spf_layout.specs.Frame.{main_slots}
-use Rattle.spf_memory.specs.Performs.{state}
-use Rattle.spf_memory.proofs.Steps.{at_once, then_value, exit_halt}
-use Rattle.spf_instructions.specs.Instructions.{setting}
-use Rattle.spf_machine.specs.Machine.{whole_means}
+use Rattle.spf_code_registers.specs.Registers.{rooms}
+use Rattle.spf_exec_instance.specs.Instance.{program_of}
+use Rattle.spf_exec_instance.specs.Frame.{main_slots}
+use Rattle.spf_exec_memory.specs.Performs.{state}
+use Rattle.spf_exec_memory.proofs.Steps.{at_once, then_value, exit_halt}
+use Rattle.spf_exec_instructions.specs.Instructions.{setting}
+use Rattle.spf_exec_machine.specs.Machine.{whole_means}
 use Rattle.spf_code.specs.NodeView.{code}
 use Rattle.spf_exec.proofs.Sources.{answer-performed}
 use Rattle.spf_exec.proofs.entry.row_of.Goals as goal

@@ -7,9 +7,9 @@ use Rattle.spf_ast.specs.Program.{environment_of}
 use Rattle.spf_ast.specs.Construct.{constructs_in}
 use Rattle.spf_ast.specs.ConstructView.{construct}
 use Rattle.spf_ast.specs.Pieces.{rest_from, from_construct, construct_first}
-use Rattle.spf_layout.specs.Instance.{program_of}
+use Rattle.spf_exec_instance.specs.Instance.{program_of}
 use Rattle.spf_exec.specs.Pieces.{EndsAt, TrapsAt, stand}
-use Rattle.spf_memory.proofs.Outcome.{trapped_outcome}
+use Rattle.spf_exec_memory.proofs.Outcome.{trapped_outcome}
 use Rattle.spf_exec.proofs.Constructs.{constructs_from}
 use Rattle.spf_exec.proofs.Prefixes.{rest_is, advanced_ok, prefix_is, back_is, part_from}
 use Rattle.spf_exec.proofs.pieces.advance_from.Goals as goal

@@ -1,6 +1,6 @@
 use Rattle.std.proofs.Common.{Err, ap, ◌∙◌}
 use Rattle.spf_exec.specs.Pieces.{header_result}
-use Rattle.spf_memory.proofs.Outcome.{trapped_outcome}
+use Rattle.spf_exec_memory.proofs.Outcome.{trapped_outcome}
 use Rattle.spf_exec.proofs.pieces.fold_header.Goals as goal
 
 pub returns-in-Ok-clause-answer : goal.returns-in-Ok-clause-answer

@@ -3,9 +3,9 @@ use Rattle.spf_ast.specs.Carried.{IsWidth}
 use Rattle.spf_ast.specs.Construct.{constructs_in}
 use Rattle.spf_ast.specs.ConstructView.{construct, construct_on}
 use Rattle.spf_ast.specs.View.{pair_head}
-use Rattle.spf_registers.specs.Registers.{rooms, block_needs}
-use Rattle.spf_lowering.specs.Lowering.{IsConstructCode}
-use Rattle.spf_layout.specs.Instance.{program_of}
+use Rattle.spf_code_registers.specs.Registers.{rooms, block_needs}
+use Rattle.spf_code_lowering.specs.Lowering.{IsConstructCode}
+use Rattle.spf_exec_instance.specs.Instance.{program_of}
 use Rattle.spf_exec.specs.Sources.{callable_of, construct_needs, ConstructIsOrderly}
 use Rattle.spf_exec.proofs.Rooms.{room_at}
 use Rattle.spf_exec.proofs.Sources.{construct_at, orderly_construct}

@@ -4,12 +4,12 @@ use Rattle.spf_ast.specs.View.{block, fold_head}
 use Rattle.spf_ast.specs.Construct.{fold, header_means}
 use Rattle.spf_ast.specs.Program.{environment_of, extents_of}
 use Rattle.spf_ast.proofs.Leaving.{calls-leave, header-leaves}
-use Rattle.spf_layout.specs.Frame.{main_slots}
-use Rattle.spf_layout.specs.Instance.{program_of}
-use Rattle.spf_memory.specs.declared.plain.Plain.{Plain}
-use Rattle.spf_memory.specs.declared.quiet.Quiet.{Quiet}
+use Rattle.spf_exec_instance.specs.Frame.{main_slots}
+use Rattle.spf_exec_instance.specs.Instance.{program_of}
+use Rattle.spf_exec_memory.specs.declared.plain.Plain.{Plain}
+use Rattle.spf_exec_memory.specs.declared.quiet.Quiet.{Quiet}
 use Rattle.spf_exec.specs.Pieces.{header_result}
-use Rattle.spf_memory.specs.QuietMemory.{full_output}
+use Rattle.spf_exec_memory.specs.QuietMemory.{full_output}
 use Rattle.spf_exec.proofs.BlockRuns.{quiet_outcome, plain_cells, header_decided}
 use Rattle.spf_exec.proofs.pieces.header_quietly.Goals as goal
 

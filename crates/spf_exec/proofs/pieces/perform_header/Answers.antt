@@ -1,7 +1,7 @@
 use Rattle.std.proofs.Common.{rules, w64, FitsSigned, sym, ◌∙◌}
 use Rattle.std.proofs.lemmas.Int.{to_z-of_z}
 use Rattle.std.proofs.lemmas.Result.{err_from_is_err_and}
-use Rattle.spf_memory.proofs.Steps.{at_once, traps_now, then_value, then_halt}
+use Rattle.spf_exec_memory.proofs.Steps.{at_once, traps_now, then_value, then_halt}
 use Rattle.spf_exec.proofs.pieces.perform_header.Goals as goal
 
 pub returns-in_err-start-clause-performs : goal.returns-in_err-start-clause-performs

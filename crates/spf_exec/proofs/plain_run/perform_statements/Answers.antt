@@ -2,12 +2,12 @@ use Rattle.std.proofs.Common.{rules, ◌≡◌, ◌<◌, ◌≤◌, ◌+◌, len
 use Rattle.spf_ast.specs.Meaning.{statement_means, main_means}
 use Rattle.spf_ast.specs.Program.{environment_of}
 use Rattle.spf_ast.specs.View.{statement}
-use Rattle.spf_registers.specs.Registers.{rooms, statement_needs}
+use Rattle.spf_code_registers.specs.Registers.{rooms, statement_needs}
 use Rattle.spf_code.specs.NodeView.{code}
-use Rattle.spf_lowering.proofs.Fitted.{run_fits}
-use Rattle.spf_layout.specs.Instance.{program_of}
-use Rattle.spf_memory.proofs.Steps.{along, exit_halt, steps}
-use Rattle.spf_memory.proofs.Turns.{still}
+use Rattle.spf_code_lowering.proofs.Fitted.{run_fits}
+use Rattle.spf_exec_instance.specs.Instance.{program_of}
+use Rattle.spf_exec_memory.proofs.Steps.{along, exit_halt, steps}
+use Rattle.spf_exec_memory.proofs.Turns.{still}
 use Rattle.spf_exec.specs.Sources.{callable_of}
 use Rattle.spf_exec.proofs.Rooms.{statement_room}
 use Rattle.spf_exec.proofs.Sources.{between, next_between, orderly_at, whole-then, runs_statement, statement_at}

@@ -1,10 +1,10 @@
 use Rattle.std.proofs.Common.{◌≡◌, length}
 use Rattle.spf_ast.specs.Meaning.{main_means}
 use Rattle.spf_ast.specs.Program.{environment_of}
-use Rattle.spf_layout.specs.Frame.{main_slots}
-use Rattle.spf_layout.specs.Instance.{program_of}
-use Rattle.spf_memory.specs.Performs.{state}
-use Rattle.spf_memory.proofs.Steps.{Continues}
+use Rattle.spf_exec_instance.specs.Frame.{main_slots}
+use Rattle.spf_exec_instance.specs.Instance.{program_of}
+use Rattle.spf_exec_memory.specs.Performs.{state}
+use Rattle.spf_exec_memory.proofs.Steps.{Continues}
 use Rattle.spf_exec.proofs.Sources.{between}
 use Rattle.spf_exec.proofs.plain_run.perform_statements.Given as goal
 

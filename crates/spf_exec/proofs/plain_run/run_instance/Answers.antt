@@ -1,9 +1,9 @@
 use Rattle.std.proofs.Common.{rules, ◌≡◌, ◌-◌, length, replicate, take, drop, Err, pos, refl, ap, ◌∙◌}
 use Rattle.spf_ast.specs.View.{block}
-use Rattle.spf_registers.specs.Registers.{rooms, block_needs}
-use Rattle.spf_layout.specs.Frame.{main_slots}
-use Rattle.spf_layout.specs.Instance.{program_of}
-use Rattle.spf_memory.proofs.Outcome.{trapped_outcome}
+use Rattle.spf_code_registers.specs.Registers.{rooms, block_needs}
+use Rattle.spf_exec_instance.specs.Frame.{main_slots}
+use Rattle.spf_exec_instance.specs.Instance.{program_of}
+use Rattle.spf_exec_memory.proofs.Outcome.{trapped_outcome}
 use Rattle.spf_exec.proofs.Outcome.{whole_outcome}
 use Rattle.spf_exec.proofs.Prefixes.{take_zeros}
 use Rattle.spf_exec.proofs.Sources.{all_of}

@@ -1,4 +1,4 @@
-use Rattle.spf_grammar.specs.Lexemes.{lexemes_of}
+use Rattle.spf_parse_grammar.specs.Lexemes.{lexemes_of}
 use Rattle.spf_parse.proofs.Writables.{writable, tokens_writable}
 use Rattle.spf_parse.proofs.laws.texts_say_writable_programs.Goals as goal
 

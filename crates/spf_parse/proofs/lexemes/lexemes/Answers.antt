@@ -1,6 +1,6 @@
 use Rattle.std.proofs.Common.{◌≡◌, ◌+◌, ◌≤◌, length, arith, get_or}
 use Rattle.std.proofs.lemmas.List.{map-append}
-use Rattle.spf_grammar.specs.Lexemes.{line_at, lexeme_of}
+use Rattle.spf_parse_grammar.specs.Lexemes.{line_at, lexeme_of}
 use Rattle.spf_parse.proofs.Counting.{order_at, line_more, no_token, mapped}
 use Rattle.spf_parse.proofs.lexemes.lexemes.Goals as goal
 use Rattle.spf_parse.proofs.lexemes.lexemes.Goals.{After-line_ends-line}

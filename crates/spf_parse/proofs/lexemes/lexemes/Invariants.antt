@@ -1,7 +1,7 @@
 use Rattle.std.proofs.Common.{◌≡◌, ◌≤◌, length, drop}
 use Rattle.std.specs.Prelude.{take, map}
 use Rattle.spf_text.specs.Tokens.{AreInOrder}
-use Rattle.spf_grammar.specs.Lexemes.{line_at, lexeme_of, lexeme}
+use Rattle.spf_parse_grammar.specs.Lexemes.{line_at, lexeme_of, lexeme}
 use Rattle.spf_parse.proofs.lexemes.lexemes.Given as goal
 
 -- the line is that of the place so far, and the tokens so far are lexemes

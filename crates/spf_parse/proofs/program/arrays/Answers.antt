@@ -2,10 +2,10 @@ use Rattle.std.proofs.Common.{rules, refl, map}
 use Rattle.std.proofs.lemmas.Result.{err_from_is_err_and}
 use Rattle.std.proofs.lemmas.List.{map-append}
 use Rattle.spf_ast.specs.View.{array as seen_array}
-use Rattle.spf_grammar.specs.Parts.{give, array}
-use Rattle.spf_rules.proofs.Steps.{start, go0, halt0}
-use Rattle.spf_rules.proofs.Tokens.{takes}
-use Rattle.spf_rules.proofs.Expressions.{regroup}
+use Rattle.spf_parse_grammar.specs.Parts.{give, array}
+use Rattle.spf_parse_parts.proofs.Steps.{start, go0, halt0}
+use Rattle.spf_parse_parts.proofs.Tokens.{takes}
+use Rattle.spf_parse_parts.proofs.Expressions.{regroup}
 use Rattle.spf_parse.proofs.Programs.{array_some, next_array, arrays_done}
 use Rattle.spf_parse.proofs.program.arrays.Goals as goal
 

@@ -1,9 +1,9 @@
 use Rattle.std.proofs.Common.{length, map}
 use Rattle.spf_ast.specs.View.{array as seen_array}
-use Rattle.spf_grammar.specs.Lexemes.{lexemes}
-use Rattle.spf_grammar.specs.Parts.{many, array, part}
-use Rattle.spf_grammar.specs.Rules.{all}
-use Rattle.spf_rules.specs.Answers.{Leads}
+use Rattle.spf_parse_grammar.specs.Lexemes.{lexemes}
+use Rattle.spf_parse_grammar.specs.Parts.{many, array, part}
+use Rattle.spf_parse_grammar.specs.Rules.{all}
+use Rattle.spf_parse_parts.specs.Answers.{Leads}
 use Rattle.spf_parse.proofs.Programs.{last_of}
 use Rattle.spf_parse.proofs.program.arrays.Given as goal
 

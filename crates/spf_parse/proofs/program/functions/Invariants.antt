@@ -1,9 +1,9 @@
 use Rattle.std.proofs.Common.{length, map}
 use Rattle.spf_ast.specs.RawView.{raw_function}
-use Rattle.spf_grammar.specs.Lexemes.{lexemes}
-use Rattle.spf_grammar.specs.Parts.{many, function, part}
-use Rattle.spf_grammar.specs.Rules.{all}
-use Rattle.spf_rules.specs.Answers.{Leads}
+use Rattle.spf_parse_grammar.specs.Lexemes.{lexemes}
+use Rattle.spf_parse_grammar.specs.Parts.{many, function, part}
+use Rattle.spf_parse_grammar.specs.Rules.{all}
+use Rattle.spf_parse_parts.specs.Answers.{Leads}
 use Rattle.spf_parse.proofs.Programs.{last_of}
 use Rattle.spf_parse.proofs.program.functions.Given as goal
 

@@ -1,6 +1,6 @@
 use Rattle.std.proofs.Common.{refl, rules}
 use Rattle.std.proofs.lemmas.Result.{err_from_is_err_and}
-use Rattle.spf_rules.proofs.Steps.{go0, halt0}
+use Rattle.spf_parse_parts.proofs.Steps.{go0, halt0}
 use Rattle.spf_parse.proofs.Programs.{no_header, some_header, first_version, second_version}
 use Rattle.spf_parse.proofs.program.header.Goals as goal
 

@@ -1,13 +1,13 @@
 use Rattle.std.proofs.Common.{true, false, ◌≡◌, [], length, refl, sym, ap, ◌∙◌, subst, Ok, Err, ◌-◌}
 use Rattle.std.specs.Prelude.{drop}
 use Rattle.spf_ast.specs.RawView.{raw_program}
-use Rattle.spf_grammar.specs.Lexemes.{lexemes, lexemes_of}
-use Rattle.spf_grammar.specs.Parts.{program, give}
-use Rattle.spf_grammar.specs.Rules.{all}
-use Rattle.spf_grammar.specs.Texts.{IsUnexpected, IsTooDeep, place}
+use Rattle.spf_parse_grammar.specs.Lexemes.{lexemes, lexemes_of}
+use Rattle.spf_parse_grammar.specs.Parts.{program, give}
+use Rattle.spf_parse_grammar.specs.Rules.{all}
+use Rattle.spf_parse_grammar.specs.Texts.{IsUnexpected, IsTooDeep, place}
 use Rattle.spf_parse.specs.declared.program.ParseError.TheVariants as parse
-use Rattle.spf_rules.specs.Answers.{Leads, Faults}
-use Rattle.spf_rules.proofs.Tokens.{seen_length}
+use Rattle.spf_parse_parts.specs.Answers.{Leads, Faults}
+use Rattle.spf_parse_parts.proofs.Tokens.{seen_length}
 use Rattle.spf_parse.proofs.Texts.{reads_is, unexpected_is, too_deep_is}
 use Rattle.spf_parse.proofs.Verdicts.{Verdict, by_verdict, read, wrong, deep, refusal, tokens_of, program_of, only_of, accepted_of, scan_of, scan_refused_of, too_long_of, unexpected_of, unexpected_refused_of, too_deep_of, too_deep_refused_of}
 use Rattle.spf_parse.proofs.Writables.{writable, tokens_writable}

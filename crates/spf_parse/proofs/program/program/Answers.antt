@@ -1,7 +1,7 @@
 use Rattle.std.proofs.Common.{refl}
 use Rattle.std.proofs.lemmas.Result.{err_from_is_err_and}
-use Rattle.spf_grammar.specs.Parts.{give, program}
-use Rattle.spf_rules.proofs.Steps.{start, go, halt, go0, halt0, twelve_fourteen, twelve_thirteen, thirteen_fourteen, unfold_part}
+use Rattle.spf_parse_grammar.specs.Parts.{give, program}
+use Rattle.spf_parse_parts.proofs.Steps.{start, go, halt, go0, halt0, twelve_fourteen, twelve_thirteen, thirteen_fourteen, unfold_part}
 use Rattle.spf_parse.proofs.Programs.{header_follows}
 use Rattle.spf_parse.proofs.program.program.Goals as goal
 

@@ -1,13 +1,13 @@
 use Rattle.std.proofs.Common.{◌≡◌, length, refl, sym, ◌∙◌, ap, subst, arith}
 use Rattle.std.proofs.lemmas.Result.{err_from_is_err_and}
 use Rattle.spf_ast.specs.RawView.{raw_program}
-use Rattle.spf_grammar.specs.Lexemes.{lexemes}
-use Rattle.spf_grammar.specs.Parts.{give, program}
-use Rattle.spf_grammar.specs.Rules.{all}
-use Rattle.spf_rules.specs.Answers.{Leads}
-use Rattle.spf_rules.proofs.Steps.{start, halt0, weaker}
-use Rattle.spf_rules.proofs.Tokens.{length_fails, seen_length, empty_is}
-use Rattle.spf_rules.proofs.Beginnings.{stops_all}
+use Rattle.spf_parse_grammar.specs.Lexemes.{lexemes}
+use Rattle.spf_parse_grammar.specs.Parts.{give, program}
+use Rattle.spf_parse_grammar.specs.Rules.{all}
+use Rattle.spf_parse_parts.specs.Answers.{Leads}
+use Rattle.spf_parse_parts.proofs.Steps.{start, halt0, weaker}
+use Rattle.spf_parse_parts.proofs.Tokens.{length_fails, seen_length, empty_is}
+use Rattle.spf_parse_parts.proofs.Beginnings.{stops_all}
 use Rattle.spf_parse.proofs.Programs.{program_more}
 use Rattle.spf_parse.proofs.program.whole.Goals as goal
 

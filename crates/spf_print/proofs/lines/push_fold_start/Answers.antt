@@ -2,8 +2,8 @@ use Rattle.std.proofs.Common.{◌≡◌, ◌++◌, ◌∷◌, [], codes, ℕ, Li
 use Rattle.std.proofs.lemmas.Result.{IfOk-equal}
 use Rattle.spf_ast.specs.Spelling.{spelled_fold}
 use Rattle.spf_ast.specs.View.{fold_head}
-use Rattle.spf_canonical.specs.Canonical.{joined, carried_text, row_text}
-use Rattle.spf_canonical.specs.Printing.{vocabulary_of}
+use Rattle.spf_print_forms.specs.Canonical.{joined, carried_text, row_text}
+use Rattle.spf_print_forms.specs.Printing.{vocabulary_of}
 use Rattle.spf_print.proofs.lines.push_fold_start.Goals as goal
 
 -- five pieces that were added one by one

@@ -1,7 +1,7 @@
 use Rattle.std.proofs.Common.{◌≡◌, ◌++◌, drop, map}
 use Rattle.spf_ast.specs.View.{function, program}
 use Rattle.spf_ast.specs.Spelling.{spelled_function}
-use Rattle.spf_canonical.specs.Canonical.{functions_text}
+use Rattle.spf_print_forms.specs.Canonical.{functions_text}
 use Rattle.spf_print.proofs.programs.push_functions.Given as goal
 
 -- the text with what is left to add

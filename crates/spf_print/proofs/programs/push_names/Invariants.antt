@@ -1,6 +1,6 @@
 use Rattle.std.proofs.Common.{◌≡◌, ◌++◌, drop, map}
 use Rattle.spf_ast.specs.View.{name}
-use Rattle.spf_canonical.specs.Canonical.{further_names_text}
+use Rattle.spf_print_forms.specs.Canonical.{further_names_text}
 use Rattle.spf_print.proofs.programs.push_names.Given as goal
 
 -- the text with what is left to add

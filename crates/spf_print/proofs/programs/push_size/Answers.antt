@@ -2,7 +2,7 @@ use Rattle.std.proofs.Common.{◌≡◌, ◌++◌, ◌∷◌, [], codes, List, �
 use Rattle.std.specs.Fmt.{signed_decimal}
 use Rattle.std.proofs.lemmas.Int.{to_z-of_z}
 use Rattle.std.proofs.lemmas.Result.{IfOk-equal}
-use Rattle.spf_canonical.specs.Canonical.{joined, size_text}
+use Rattle.spf_print_forms.specs.Canonical.{joined, size_text}
 use Rattle.spf_print.proofs.programs.push_size.Goals as goal
 
 -- three pieces, joined

@@ -3,11 +3,11 @@ use Rattle.std.proofs.lemmas.Result.{IfOk-equal}
 use Rattle.spf_ast.specs.declared.syntax.Stmt.{Stmt}
 use Rattle.spf_ast.specs.View.{statement, block}
 use Rattle.spf_ast.specs.Spelling.{spelled_statement, spelled_block}
-use Rattle.spf_canonical.specs.Canonical.{deeper, statement_text, block_text}
-use Rattle.spf_canonical.specs.Printing.{vocabulary_of}
-use Rattle.spf_canonical.proofs.Repeating.{one_more, none_left}
+use Rattle.spf_print_forms.specs.Canonical.{deeper, statement_text, block_text}
+use Rattle.spf_print_forms.specs.Printing.{vocabulary_of}
+use Rattle.spf_print_forms.proofs.Repeating.{one_more, none_left}
 use Rattle.spf_ast.proofs.Views.{statement-if, statement-for, statement-while, statement-fold, statement-pair}
-use Rattle.spf_canonical.proofs.Printing.{and_then, both, otherwise_is, statement_is}
+use Rattle.spf_print_forms.proofs.Printing.{and_then, both, otherwise_is, statement_is}
 use Rattle.spf_print.proofs.statements.+statement.Goals as goal
 
 pub push_nested-returns : goal.push_nested-returns

@@ -1,8 +1,8 @@
 use Rattle.std.proofs.Common.{◌≡◌, ◌++◌, drop}
 use Rattle.spf_ast.specs.View.{block}
 use Rattle.spf_ast.specs.Spelling.{spelled_block}
-use Rattle.spf_canonical.specs.Canonical.{deeper, block_text}
-use Rattle.spf_canonical.specs.Printing.{vocabulary_of}
+use Rattle.spf_print_forms.specs.Canonical.{deeper, block_text}
+use Rattle.spf_print_forms.specs.Printing.{vocabulary_of}
 use Rattle.spf_print.proofs.statements.+statement.Given as goal
 
 -- the text with what is left to add

@@ -1,4 +1,4 @@
-use Rattle.spf_scopes.specs.Resolved.{resolved}
+use Rattle.spf_types_names.specs.Resolved.{resolved}
 use Rattle.spf_types.proofs.SoundPrograms.{program_ok}
 use Rattle.spf_types.proofs.laws.programs_without_faults_are_scoped.Goals as goal
 

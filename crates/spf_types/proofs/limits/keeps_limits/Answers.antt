@@ -2,8 +2,8 @@ use Rattle.std.proofs.Common.{◌+◌, ◌≡◌, length, rules, refl, sym, ap, 
 use Rattle.std.proofs.lemmas.List.{length-map}
 use Rattle.std.proofs.lemmas.Result.{err_from_is_err_and}
 use Rattle.spf_ast.specs.View.{program, name}
-use Rattle.spf_size.specs.Sizes.{capped, IsTable, all_counts}
-use Rattle.spf_typing.proofs.Steps.{ahead, behind}
+use Rattle.spf_types_size.specs.Sizes.{capped, IsTable, all_counts}
+use Rattle.spf_types_forms.proofs.Steps.{ahead, behind}
 use Rattle.spf_types.proofs.Kept.{same_main, none_at_main, refused_main}
 use Rattle.spf_types.proofs.limits.keeps_limits.Goals as goal
 

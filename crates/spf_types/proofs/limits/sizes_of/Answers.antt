@@ -1,6 +1,6 @@
 use Rattle.std.proofs.Common.{◌≡◌, ◌+◌, length, map, rules, refl, sym, ap, ◌∙◌, subst}
 use Rattle.spf_ast.specs.View.{function}
-use Rattle.spf_size.specs.Sizes.{capped, IsTable, counts_before}
+use Rattle.spf_types_size.specs.Sizes.{capped, IsTable, counts_before}
 use Rattle.spf_types.proofs.Kept.{none_measured, one_measured, refused_function, all_measured}
 use Rattle.spf_types.proofs.limits.sizes_of.Goals as goal
 

@@ -5,9 +5,9 @@ use Rattle.std.proofs.lemmas.Result.{err_from_is_err_and}
 use Rattle.spf_ast.specs.Syntax.{Block, Expression}
 use Rattle.spf_ast.specs.View.{name, expression}
 use Rattle.spf_ast.specs.RawView.{raw_expression, raw_block}
-use Rattle.spf_scopes.specs.HereView.{setting}
+use Rattle.spf_types_names.specs.HereView.{setting}
 use Rattle.spf_types.proofs.Programs.{from_none, params_none, valued_is, function_form}
-use Rattle.spf_typing.proofs.Steps.{behind, along, none_in}
+use Rattle.spf_types_forms.proofs.Steps.{behind, along, none_in}
 use Rattle.spf_types.proofs.program.function_of.Goals as goal
 
 pub returns-in_err-body : goal.returns-in_err-body

@@ -1,10 +1,10 @@
 use Rattle.std.proofs.Common.{take, drop, map, not, sym, ap, ◌∙◌, ◌+◌, ◌++◌, false}
 use Rattle.std.proofs.lemmas.Result.{err_from_is_err_and}
 use Rattle.spf_ast.specs.RawView.{raw_function}
-use Rattle.spf_scopes.specs.declared.fault.TypeFault.TheVariants.{Twice}
-use Rattle.spf_scopes.specs.Faults.{first, when, function_faults, functions_faults}
+use Rattle.spf_types_names.specs.declared.fault.TypeFault.TheVariants.{Twice}
+use Rattle.spf_types_names.specs.Faults.{first, when, function_faults, functions_faults}
 use Rattle.spf_types.proofs.Programs.{function_twice, function_behind, one_function, function_name}
-use Rattle.spf_typing.proofs.Steps.{ahead, along}
+use Rattle.spf_types_forms.proofs.Steps.{ahead, along}
 use Rattle.spf_types.proofs.program.functions_of.Goals as goal
 
 pub returns-then-not-is_function : goal.returns-then-not-is_function

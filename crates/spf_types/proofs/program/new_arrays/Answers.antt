@@ -1,7 +1,7 @@
 use Rattle.std.proofs.Common.{take, drop, map, not, sym, ap, ◌∙◌, ◌+◌, ◌++◌}
 use Rattle.spf_ast.specs.View.{array as seen_array}
-use Rattle.spf_scopes.specs.declared.fault.TypeFault.TheVariants.{Twice}
-use Rattle.spf_scopes.specs.Faults.{first, when, arrays_faults}
+use Rattle.spf_types_names.specs.declared.fault.TypeFault.TheVariants.{Twice}
+use Rattle.spf_types_names.specs.Faults.{first, when, arrays_faults}
 use Rattle.spf_types.proofs.Programs.{array_twice, array_behind, array_name}
 use Rattle.spf_types.proofs.program.new_arrays.Goals as goal
 

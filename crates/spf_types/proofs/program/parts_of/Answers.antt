@@ -3,10 +3,10 @@ use Rattle.std.proofs.lemmas.Result.{err_from_is_err_and}
 use Rattle.std.proofs.lemmas.List.{length-map}
 use Rattle.spf_ast.specs.View.{array as seen_array}
 use Rattle.spf_ast.specs.RawView.{raw_function, raw_block}
-use Rattle.spf_scopes.specs.Globals.{globals_of}
-use Rattle.spf_scopes.specs.Faults.{block_faults}
-use Rattle.spf_scopes.specs.Resolved.{scope}
-use Rattle.spf_typing.proofs.Steps.{ahead, behind, along}
+use Rattle.spf_types_names.specs.Globals.{globals_of}
+use Rattle.spf_types_names.specs.Faults.{block_faults}
+use Rattle.spf_types_names.specs.Resolved.{scope}
+use Rattle.spf_types_forms.proofs.Steps.{ahead, behind, along}
 use Rattle.spf_types.proofs.program.parts_of.Goals as goal
 
 pub returns-in_err-resolved : goal.returns-in_err-resolved

@@ -3,7 +3,7 @@ use Rattle.std.proofs.lemmas.Result.{err_from_is_err_and}
 use Rattle.spf_ast.specs.Syntax.{Function, Block}
 use Rattle.spf_ast.specs.View.{array}
 use Rattle.spf_types.specs.TooLarge.{limits_passed}
-use Rattle.spf_typing.proofs.Steps.{behind, along, none_in}
+use Rattle.spf_types_forms.proofs.Steps.{behind, along, none_in}
 use Rattle.spf_types.proofs.program.resolved_of.Goals as goal
 
 pub returns-in_err-keeps_limits : goal.returns-in_err-keeps_limits

@@ -5,12 +5,12 @@ use Rattle.spf_chain.specs.declared.validated.Settled.TheVariants.{Carried}
 use Rattle.spf_chain.proofs.Lists.{set_here, not-both}
 use Rattle.spf_speculation.specs.Prefixes.{PrefixesHaveRealValues}
 use Rattle.spf_speculation.specs.Laws.{UnstoppedAttemptsAreWhole}
-use Rattle.spf_lane_runs.specs.Lanes.{LanesStopNoSecondAttempt}
-use Rattle.spf_entry.specs.Entry.{plain_blocks, begins_at}
+use Rattle.spf_speculation_lanes.specs.Lanes.{LanesStopNoSecondAttempt}
+use Rattle.spf_speculation_entry.specs.Entry.{plain_blocks, begins_at}
 use Rattle.spf_ticket.specs.declared.ticket.Report.{Report}
 use Rattle.spf_ticket.specs.declared.ticket.Ticket.{Ticket}
 use Rattle.spf_ticket.specs.Tickets.{IsFresh}
-use Rattle.spf_entry.specs.Sites.{entry_at, guess_at}
+use Rattle.spf_speculation_entry.specs.Sites.{entry_at, guess_at}
 use Rattle.spf_chain.specs.Homes.{known_in, IsHome, AreHomes}
 use Rattle.spf_chain.specs.Chains.{ChainValue, cells_of, next_block, NeedsRerun, IsAgain, sent_again}
 use Rattle.spf_chain.specs.Kept.{chain_value, cells_inside, IsKept}

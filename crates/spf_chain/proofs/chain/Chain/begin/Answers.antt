@@ -4,8 +4,8 @@ use Rattle.std.proofs.lemmas.List.{length-replicate}
 use Rattle.spf_chain.specs.declared.validated.Settled.TheVariants.{Carried}
 use Rattle.spf_chain.specs.Beginning.{guesses_for, unvalidated}
 use Rattle.spf_ticket.specs.declared.ticket.Report.{Report}
-use Rattle.spf_entry.specs.declared.site.Site.{Site}
-use Rattle.spf_entry.specs.Sites.{entry_at, guess_at}
+use Rattle.spf_speculation_entry.specs.declared.site.Site.{Site}
+use Rattle.spf_speculation_entry.specs.Sites.{entry_at, guess_at}
 use Rattle.spf_chain.specs.Homes.{log_in}
 use Rattle.spf_chain.specs.Standing.{PrefixAt}
 use Rattle.spf_chain.specs.Chains.{ChainValue}

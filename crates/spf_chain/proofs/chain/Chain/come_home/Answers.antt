@@ -3,7 +3,7 @@ use Rattle.std.proofs.lemmas.List.{length-set}
 use Rattle.std.proofs.lemmas.Option.{slice_get_read}
 use Rattle.spf_chain.proofs.Lists.{set_other}
 use Rattle.spf_cells.specs.Values.{CellsValue}
-use Rattle.spf_entry.specs.Sites.{entry_at, guess_at}
+use Rattle.spf_speculation_entry.specs.Sites.{entry_at, guess_at}
 use Rattle.spf_chain.specs.Homes.{IsHome}
 use Rattle.spf_chain.specs.Chains.{ChainValue, cells_of}
 use Rattle.spf_chain.specs.Kept.{cells_inside}

@@ -7,9 +7,9 @@ use Rattle.spf_chain.specs.declared.validated.Settled.{Settled}
 use Rattle.spf_speculation.specs.Steps.{Step, Merges}
 use Rattle.spf_speculation.specs.Runs.{LogsComeTo, IsSpeculativeRun}
 use Rattle.spf_speculation.specs.Prefixes.{PrefixesComplete}
-use Rattle.spf_lane_runs.specs.Lanes.{trace_of, logs_in, AreLanesFor, EveryMergingOfLanes, LanesGiveThePlainMemory}
+use Rattle.spf_speculation_lanes.specs.Lanes.{trace_of, logs_in, AreLanesFor, EveryMergingOfLanes, LanesGiveThePlainMemory}
 use Rattle.spf_chain.specs.declared.chain.Chain.TheInside.{Inside}
-use Rattle.spf_entry.specs.Sites.{entry_at, guess_at}
+use Rattle.spf_speculation_entry.specs.Sites.{entry_at, guess_at}
 use Rattle.spf_chain.specs.Standing.{reals}
 use Rattle.spf_chain.specs.Chains.{ChainValue, HasEnded, cells_of}
 use Rattle.spf_chain.specs.Kept.{chain_value, cells_inside, IsKept}

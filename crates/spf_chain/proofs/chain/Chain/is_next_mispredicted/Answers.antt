@@ -2,7 +2,7 @@ use Rattle.std.proofs.Common.{◌≡◌, ◌≢◌, ◌∙◌, ◌<◌, arith, s
 use Rattle.std.specs.Prelude.{IsTrue, not}
 use Rattle.std.proofs.lemmas.Option.{slice_get_read}
 use Rattle.spf_ast.specs.Carried.{Carried, same_carried}
-use Rattle.spf_entry.proofs.Rows.{Decides-same_carried}
+use Rattle.spf_speculation_entry.proofs.Rows.{Decides-same_carried}
 use Rattle.spf_chain.proofs.Lists.{true-or-false, not-both}
 use Rattle.spf_chain.proofs.Raising.{next-raise}
 use Rattle.spf_chain.proofs.chain.Chain.is_next_mispredicted.Goals as goal

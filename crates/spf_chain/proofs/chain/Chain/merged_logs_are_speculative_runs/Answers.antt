@@ -1,6 +1,6 @@
 use Rattle.std.proofs.Common.{◌≡◌, map, subst}
-use Rattle.spf_entry.specs.Entry.{plain_blocks}
-use Rattle.spf_entry.specs.Sites.{entry_at}
+use Rattle.spf_speculation_entry.specs.Entry.{plain_blocks}
+use Rattle.spf_speculation_entry.specs.Sites.{entry_at}
 use Rattle.spf_chain.specs.Chains.{ChainValue}
 use Rattle.spf_chain.proofs.Finishing.{merged, came-out}
 use Rattle.spf_chain.proofs.chain.Chain.merged_logs_are_speculative_runs.Goals as goal

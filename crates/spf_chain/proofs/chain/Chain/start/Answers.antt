@@ -6,20 +6,20 @@ use Rattle.spf_ast.specs.declared.syntax.Program as code_program
 use Rattle.spf_ast.specs.Syntax.{Program}
 use Rattle.spf_ast.specs.View.{program}
 use Rattle.spf_ast.specs.Construct.{Construct, constructs_in}
-use Rattle.spf_layout.specs.Layout.{LayoutValue, IsLayoutOf}
-use Rattle.spf_layout.specs.Frame.{frame_size}
-use Rattle.spf_layout.specs.Instance.{InstanceValue, program_of}
+use Rattle.spf_exec_instance.specs.Layout.{LayoutValue, IsLayoutOf}
+use Rattle.spf_exec_instance.specs.Frame.{frame_size}
+use Rattle.spf_exec_instance.specs.Instance.{InstanceValue, program_of}
 use Rattle.spf_exec.specs.declared.pieces.Header as code
 use Rattle.spf_region.specs.declared.span.Span.{Span}
-use Rattle.spf_rollback.specs.Freedom.{IsRollbackFree}
+use Rattle.spf_check_rules.specs.Freedom.{IsRollbackFree}
 use Rattle.spf_check.specs.Checking.{IsFree}
 use Rattle.spf_check.specs.Plans.{AreBlocksOf, IsPlanOf}
 use Rattle.spf_cells.specs.declared.view.Setting.{Setting}
 use Rattle.spf_cells.specs.Values.{CellsValue, WardenValue}
 use Rattle.spf_cells.specs.Made.{new_warden}
-use Rattle.spf_entry.specs.declared.site.Site.{Site}
-use Rattle.spf_entry.specs.Sites.{entry_at, guess_at, RaisesMispredicted}
-use Rattle.spf_chain.specs.declared.validated.Guess.{Guess}
+use Rattle.spf_speculation_entry.specs.declared.site.Site.{Site}
+use Rattle.spf_speculation_entry.specs.Sites.{entry_at, guess_at, RaisesMispredicted}
+use Rattle.spf_guess_statistics.specs.declared.guess.Guess.{Guess}
 use Rattle.spf_chain.specs.Sites.{IsGround}
 use Rattle.spf_chain.specs.Beginning.{IsBegin, AreFirstTickets, site_of, begun}
 use Rattle.spf_chain.proofs.Starting.{AreParts, entry-is, made-for, started}

@@ -1,6 +1,6 @@
 use Rattle.std.proofs.Common.{◌≡◌, ◌∙◌, ◌≤◌, ◌++◌, arith, sym, ap, length, slice_get, subst}
 use Rattle.std.proofs.lemmas.List.{length-take-le}
-use Rattle.spf_entry.specs.Sites.{entry_at, guess_at}
+use Rattle.spf_speculation_entry.specs.Sites.{entry_at, guess_at}
 use Rattle.spf_chain.specs.Homes.{AreHomes, known_in}
 use Rattle.spf_chain.specs.Standing.{StandsOver, history_of}
 use Rattle.spf_chain.specs.Chains.{ChainValue}
@@ -11,7 +11,7 @@ use Rattle.std.proofs.Common.{ℕ, ◌<◌, Some}
 use Rattle.spf_ticket.specs.declared.ticket.Report.{Report}
 use Rattle.spf_speculation.specs.Prefixes.{PrefixesHaveRealValues}
 use Rattle.spf_speculation.specs.Laws.{UnstoppedAttemptsAreWhole}
-use Rattle.spf_lane_runs.specs.Lanes.{LanesStopNoSecondAttempt}
+use Rattle.spf_speculation_lanes.specs.Lanes.{LanesStopNoSecondAttempt}
 use Rattle.spf_chain.specs.declared.validated.Settled.TheVariants.{Trapped}
 use Rattle.spf_chain.specs.declared.validation.Validation.{Validation}
 use Rattle.spf_chain.specs.declared.chain.Chain.TheInside.{Inside}

@@ -1,7 +1,7 @@
 use Rattle.std.proofs.Common.{◌≡◌, ◌∙◌, sym, ap, subst}
 use Rattle.spf_cells.specs.Values.{CellsValue}
-use Rattle.spf_entry.specs.Sites.{entry_at, guess_at, AreMadeFor}
-use Rattle.spf_layout.specs.Frame.{frame_size}
+use Rattle.spf_speculation_entry.specs.Sites.{entry_at, guess_at, AreMadeFor}
+use Rattle.spf_exec_instance.specs.Frame.{frame_size}
 use Rattle.spf_ticket.specs.declared.ticket.Ticket.{Ticket}
 use Rattle.spf_ticket.specs.declared.ticket.Report.{Report}
 use Rattle.spf_ticket.specs.declared.run.Job.{Job}

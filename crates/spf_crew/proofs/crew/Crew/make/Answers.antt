@@ -4,7 +4,7 @@ use Rattle.std.proofs.lemmas.Option.{slice_get-get_or}
 use Rattle.spf_cells.specs.Values.{CellsValue}
 use Rattle.spf_chain.specs.Chains.{ChainValue}
 use Rattle.spf_chain.specs.Beginning.{IsStarted}
-use Rattle.spf_entry.specs.Sites.{entry_at, guess_at}
+use Rattle.spf_speculation_entry.specs.Sites.{entry_at, guess_at}
 use Rattle.spf_pool.specs.Hands.{HandValue}
 use Rattle.spf_pool.specs.Made.{AreNewHands}
 use Rattle.spf_ticket.specs.Tickets.{IsFresh}

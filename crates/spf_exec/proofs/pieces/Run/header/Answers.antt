@@ -1,5 +1,5 @@
 use Rattle.spf_ast.specs.ConstructView.{construct}
-use Rattle.spf_layout.specs.Instance.{program_of}
+use Rattle.spf_exec_instance.specs.Instance.{program_of}
 use Rattle.spf_exec.proofs.Constructs.{index_of_first}
 use Rattle.spf_exec.proofs.pieces.Run.header.Goals as goal
 

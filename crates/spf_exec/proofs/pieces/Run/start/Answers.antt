@@ -1,6 +1,6 @@
 use Rattle.std.proofs.Common.{refl, ap, ◌∙◌, length, replicate, take, pos}
-use Rattle.spf_registers.specs.Registers.{rooms, block_needs}
-use Rattle.spf_layout.specs.Instance.{program_of}
+use Rattle.spf_code_registers.specs.Registers.{rooms, block_needs}
+use Rattle.spf_exec_instance.specs.Instance.{program_of}
 use Rattle.spf_exec.proofs.Prefixes.{take_zeros}
 use Rattle.spf_exec.proofs.pieces.Run.start.Goals as goal
 

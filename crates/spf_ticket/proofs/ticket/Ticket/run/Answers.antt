@@ -5,9 +5,9 @@ use mir.Val.{to_z, of_z}
 use Rattle.spf_ast.specs.Construct.{part_of, statements_of}
 use Rattle.spf_ast.specs.ConstructView.{construct}
 use Rattle.spf_ast.specs.Slots.{assigns_outer}
-use Rattle.spf_laws.specs.Agreement.{AgreeOutside}
-use Rattle.spf_layout.specs.Instance.{program_of}
-use Rattle.spf_layout.specs.Frame.{main_slots}
+use Rattle.spf_ast_laws.specs.Agreement.{AgreeOutside}
+use Rattle.spf_exec_instance.specs.Instance.{program_of}
+use Rattle.spf_exec_instance.specs.Frame.{main_slots}
 use Rattle.spf_ticket.specs.InLane.{in_lane}
 use Rattle.spf_ticket.proofs.Running.{Made, Runs, lane-cells, made-run, slots-kept, fresh-ran}
 use Rattle.spf_ticket.proofs.ticket.Ticket.run.Goals as goal

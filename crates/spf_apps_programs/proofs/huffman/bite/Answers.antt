@@ -1,0 +1,5 @@
+use Rattle.spf_apps_programs.proofs.huffman.bite.Goals as goal
+
+pub returns : goal.returns
+returns c =
+    c.function.ensures _ _ _ c.name.ensures c.names-slots.ensures c.bite_body.ensures

@@ -1,0 +1,5 @@
+use Rattle.spf_apps_programs.proofs.lexer.look.Goals as goal
+
+pub returns : goal.returns
+returns c =
+    c.function.ensures _ _ _ c.name.ensures c.names-slots.ensures c.look_body.ensures

@@ -1,0 +1,4 @@
+use Rattle.spf_apps_programs.proofs.packbits.block_begin.Goals as goal
+
+pub returns : goal.returns
+returns c = c.binary.ensures _ _ c.number.ensures c.local.ensures

@@ -1,0 +1,38 @@
+-- It makes a value of no bytes, whose ghost field is what the caller names.
+use Rattle.atomic_table.proofs.Names.{◌≡◌, [], ◌∷◌, refl, a_type, Val, inst_fn, SProp, emp, ‵, raw, ◌⊛◌, ◌$◌, ◌∵◌, !, qed, by, keep, split, fjoin, use0, no_more, and_then, returns, enter, alloc_all, pass_all, free_all, look_at, get, sets, agg, tables, RattleType, owns, types_at, nothing, param, layouts, alive, Stays, walk_of, fact, fact_i}
+use seplogic.Ra.Ura.{Ura}
+use base.Logic.{ent}
+use types.Logic.{Logic, sem}
+use mir.Val.{vstruct, vnil}
+use denote.Shadow.{makes_shadow}
+use denote.Struct.Struct.{Struct}
+use denote.Struct.Owning.{shape}
+use Rattle.atomic_table.proofs.Fields.{token_val}
+use Rattle.atomic_table.proofs.Walks.{proved, leaves}
+use Rattle.spf_cells_key.specs.contracts.key.GhostKey as key
+use Rattle.spf_cells_key.specs.contracts.key.ghost_key.{ended, clauses}
+use Rattle.spf_cells_key.specs.contracts.key.ghost_key.Key.{name as #self}
+use Rattle.spf_cells_key.proofs.key.ghost_key.Statement.{statement}
+use Rattle.spf_cells_key.proofs.key.ghost_key.Code as code
+
+module _ (U : RattleType) where
+  abbrev Fields : RattleType
+  Fields = Struct (shape (key.the_type U))
+
+  made : {M : Type 1} {𝓤 : Ura M} (𝓛 : Logic 𝓤) → ent 𝓤 (emp 𝓤) (sem 𝓛 (Fields.own_val (tt, tt) (token_val ∷ [])))
+  made 𝓛 = makes_shadow 𝓛 (Fields.own_val (tt, tt) (token_val ∷ [])) (λ vss. (tt, ((λ uss. (tt, tt)), tt))) ((vstruct vnil ∷ [], tt), (refl, ((tt, (refl, tt)), tt)))
+
+pub ghost_key_spec : {M : Type 1} → statement M
+ghost_key_spec 𝓤 𝓛 𝓜 𝓡 wired U _ =
+    let H = 𝓛.H in let 𝓣 = tables 𝓤 H 𝓜 𝓡 𝓡.env in let W : RattleType = param 0 U in let En = ended U in let c = clauses U 𝓛 𝓜.mem 𝓡.returns in
+    let inst = layouts (a_type ∷ []) (U, tt) in let fn = inst_fn inst code.function in let closed = code.unfolded 𝓤 H 𝓜 𝓡 wired (U, tt) in let Br : RattleType = key.the_row W in
+    let hs : Stays En.signature.params En.kept = tt in
+    proved 𝓛 En hs c 𝓜 𝓡 tt (#self inst) fn closed (λ κs. tt) (λ κs. tt) (λ κs qs bounds a gh are.
+    let r : Br.Denot = record { marker = record {}; value = gh } in
+    let Said : Type 0 = r.value ≡ gh in let y : (walk_of 𝓛 En hs c).Ghost = ((κs, qs, bounds, a, tt), gh) in let Post : Val → SProp 𝓤 = (walk_of 𝓛 En hs c).post y in
+    qed 𝓛 ((raw (alive 𝓛 En.signature κs qs) ⊛ ‵ (owns (types_at En.signature.params κs) a y.0.4)) ∷ raw ((c κs a).requires gh) ∷ []) ∵
+    split ! $ keep ! (0 ∷ []) $ nothing ! $ use0 𝓛 (‵ ((Fields W).own_val (tt, tt) (token_val ∷ []))) (made W 𝓛) $ fjoin ! $
+    enter ! 𝓣.C 𝓣.Λ fn [] Post $ alloc_all ! (λ l. pass_all ! refl tt $
+    sets ! (agg ! (no_more !)) refl (tt, tt) $ sets ! (agg ! (and_then ! (get ! refl) (no_more !))) refl (tt, (tt, tt)) $
+    use0 𝓛 (raw (fact 𝓤 Said)) (fact_i 𝓤 Said (emp 𝓤) refl) $ nothing ! $
+    returns ! (look_at ! 0 refl) $ free_all ! refl $ keep ! (3 ∷ 0 ∷ 2 ∷ 1 ∷ []) $ by ! (leaves 𝓛 En hs c y token_val r tt tt)))

@@ -1,0 +1,203 @@
+-- Each status of the whole answer has its cause.
+use Rattle.std.specs.Prelude.{Option, Some, None, Result, Ok, Err}
+use Rattle.std.proofs.Common.{◌≡◌, ◌⊎◌, ◌++◌, ℕ, Bool, true, false, List, [], ◌∷◌, length, refl, ap, ◌∙◌, inl, inr, nat_le, arith}
+use Rattle.spf_ast.specs.Syntax.{Program}
+use Rattle.spf_ast.specs.Program.{Outcome, Done, Stopped, outcome, cell_count_of, max_cells}
+use Rattle.spf_exec_instance.specs.RunErrors.{counted}
+use Rattle.spf_edge.specs.declared.files.FetchError.{FetchError}
+use Rattle.spf_edge.specs.declared.files.FetchError.TheVariants.{Missing, Failed, TooLong, OutOfMemory}
+use Rattle.spf_edge.specs.Fetches.{Fetch}
+use Rattle.spf_guess_statistics.specs.declared.stats.Stats.{Stats}
+use Rattle.spf_cli_words.specs.Command.{Command, Run, Check, Explain, Print, Unpack, Unhuff, Lex, Demo, Options, DecodeOptions}
+use Rattle.spf_apps_programs.specs.PackBits.{packbits_program}
+use Rattle.spf_apps_programs.specs.Huffman.{huffman_program}
+use Rattle.spf_apps_programs.specs.Lexer.{lexer_program}
+use Rattle.spf_cli_answers.specs.Answer.{Answer, not_understood, text_refused, accepted, rule_refused, explained, printed, file_failed, file_too_long, too_many_cells, host_missing, not_huf1, not_lex1, ran, shown}
+use Rattle.spf_cli_answers.specs.Reading.{Verdict, Says, Refuses}
+use Rattle.spf_cli_answers.specs.Course.{Wanted, Is, Either, Course, Ends, After, Fetches}
+use Rattle.spf_cli_answers.specs.Whole.{Handed, handed, Judged, Read, CheckedBy, Allowed, Explained, WithHosts, host_wanted, RunsTo, stats_of, Runs, RunsOn, Decodes, Unpacking, Unhuffing, Lexing, WithHuf1, WithLex1, Demonstrates, WholeOf, AskForNothing, Whole, block_of, run_options, by_blocks, with_stats, RunsText, demo_program, demo_input, max_program, max_machine, max_input}
+use Rattle.spf_cli_answers.specs.Laws.{HasFailed, StatusesHaveCauses}
+
+-- the status is none of those for words, for a file, for a put and for want of memory
+record IsCommon (answer : Answer) : Type 0 where
+  words : answer.status ≡ 2 → ⊥
+  file : answer.status ≡ 5 → ⊥
+  put : answer.status ≡ 6 → ⊥
+  memory : answer.status ≡ 8 → ⊥
+
+-- the status of an answer by another name
+status_as : (a said : Answer) (n : ℕ) → a ≡ said → said.status ≡ n → a.status ≡ n
+status_as a said n e is = ap (λ (x : Answer). x.status) e ∙ is
+
+done : (a said : Answer) → a ≡ said → said.status ≡ 0 → IsCommon a
+done a said e is = let s = status_as a said 0 e is in record { words = λ t. omega (arith, s, t); file = λ t. omega (arith, s, t); put = λ t. omega (arith, s, t); memory = λ t. omega (arith, s, t) }
+
+trapped : (a said : Answer) → a ≡ said → said.status ≡ 1 → IsCommon a
+trapped a said e is = let s = status_as a said 1 e is in record { words = λ t. omega (arith, s, t); file = λ t. omega (arith, s, t); put = λ t. omega (arith, s, t); memory = λ t. omega (arith, s, t) }
+
+no_program : (a said : Answer) → a ≡ said → said.status ≡ 3 → IsCommon a
+no_program a said e is = let s = status_as a said 3 e is in record { words = λ t. omega (arith, s, t); file = λ t. omega (arith, s, t); put = λ t. omega (arith, s, t); memory = λ t. omega (arith, s, t) }
+
+refused : (a said : Answer) → a ≡ said → said.status ≡ 4 → IsCommon a
+refused a said e is = let s = status_as a said 4 e is in record { words = λ t. omega (arith, s, t); file = λ t. omega (arith, s, t); put = λ t. omega (arith, s, t); memory = λ t. omega (arith, s, t) }
+
+over_limit : (a said : Answer) → a ≡ said → said.status ≡ 7 → IsCommon a
+over_limit a said e is = let s = status_as a said 7 e is in record { words = λ t. omega (arith, s, t); file = λ t. omega (arith, s, t); put = λ t. omega (arith, s, t); memory = λ t. omega (arith, s, t) }
+
+wrong_format : (a said : Answer) → a ≡ said → said.status ≡ 9 → IsCommon a
+wrong_format a said e is = let s = status_as a said 9 e is in record { words = λ t. omega (arith, s, t); file = λ t. omega (arith, s, t); put = λ t. omega (arith, s, t); memory = λ t. omega (arith, s, t) }
+
+-- ---- what is wanted
+
+abbrev AreCommon : Wanted → Type 0
+AreCommon wanted = (a : Answer) → wanted a → IsCommon a
+
+ran_common : (options : Options) (p : Program) (len : ℕ) (o : Outcome) (stats : Stats) (a : Answer) → a ≡ ran options p len o stats → IsCommon a
+ran_common options p len (Done cells output) stats a e = done a _ e refl
+ran_common options p len (Stopped trap output) stats a e = trapped a _ e refl
+
+shown_common : (o : Outcome) (stats : Stats) (a : Answer) → a ≡ shown o stats → IsCommon a
+shown_common (Done cells output) stats a e = done a _ e refl
+shown_common (Stopped trap output) stats a e = trapped a _ e refl
+
+hosts_common : (wanted : Option ℕ) (said a : Answer) → (a ≡ said → IsCommon a) → WithHosts wanted (Is said) a → IsCommon a
+hosts_common None said a f e = f e
+hosts_common (Some host) said a f e = over_limit a (host_missing host) e refl
+
+either_common : (b : Bool) (P Q : Wanted) (a : Answer) → (P a → IsCommon a) → (Q a → IsCommon a) → Either b P Q a → IsCommon a
+either_common true P Q a f g h = f h
+either_common false P Q a f g h = g h
+
+runs_common : (said : Outcome → Stats → Answer) → ((o : Outcome) (stats : Stats) (a : Answer) → a ≡ said o stats → IsCommon a)
+    → (options : Options) (given : Handed) (p : Program) (input : List ℕ) (a : Answer) → RunsTo said options given p input a → IsCommon a
+runs_common said f options given p input a h =
+    either_common (nat_le (cell_count_of p (length input)) (max_cells p))
+    (WithHosts (host_wanted options given p) (Is (said (outcome p input) (stats_of options given p input)))) (Is (too_many_cells (counted (cell_count_of p (length input))) (max_cells p))) a
+    (hosts_common (host_wanted options given p) (said (outcome p input) (stats_of options given p input)) a (f (outcome p input) (stats_of options given p input) a))
+    (λ e. over_limit a (too_many_cells (counted (cell_count_of p (length input))) (max_cells p)) e refl) h
+
+run_common : (options : Options) (given : Handed) (p : Program) (input : List ℕ) (a : Answer) → Runs options given p input a → IsCommon a
+run_common options given p input a h = runs_common (ran options p (length input)) (ran_common options p (length input)) options given p input a h
+
+-- ---- courses
+
+-- a common status, or that of a file after a fetch that failed
+abbrev IsCaused : List Fetch → Answer → Type 0
+IsCaused fetches a = IsCommon a ⊎ ((a.status ≡ 5) × HasFailed fetches)
+
+abbrev AreCaused : Course → Type 0
+AreCaused course = (fetches : List Fetch) (a : Answer) → course fetches a → IsCaused fetches a
+
+caused_ends : (wanted : Wanted) → ((a : Answer) → wanted a → IsCommon a) → AreCaused (Ends wanted)
+caused_ends wanted f [] a h = inl (f a h)
+caused_ends wanted f (fetch ∷ fetches) a h = absurd h
+
+caused_after : (name : List ℕ) (limit : ℕ) (next : List ℕ → Course) → ((content : List ℕ) → AreCaused (next content)) → (fetch : Fetch) (fetches : List Fetch) (a : Answer)
+    → (r : Result (List ℕ) FetchError) → fetch.gave ≡ r → After name limit r next fetches a → IsCaused (fetch ∷ fetches) a
+caused_after name limit next f fetch fetches a (Ok content) is h =
+    elim (f content fetches a h) [
+      | inl common ↦ inl common
+      | inr file ↦ inr (file.0, inr (inr file.1))
+    ]
+caused_after name limit next f fetch [] a (Err Missing) is h = inr (status_as a (file_failed name) 5 h refl, inl is)
+caused_after name limit next f fetch [] a (Err Failed) is h = inr (status_as a (file_failed name) 5 h refl, inr (inl is))
+caused_after name limit next f fetch [] a (Err TooLong) is h = inl (over_limit a (file_too_long name limit) h refl)
+caused_after name limit next f fetch [] a (Err OutOfMemory) is h = absurd h
+caused_after name limit next f fetch (other ∷ fetches) a (Err error) is h = absurd h
+
+caused_fetches : (name : List ℕ) (limit : ℕ) (next : List ℕ → Course) → ((content : List ℕ) → AreCaused (next content)) → AreCaused (Fetches name limit next)
+caused_fetches name limit next f [] a h = absurd h
+caused_fetches name limit next f (fetch ∷ fetches) a h = caused_after name limit next f fetch fetches a fetch.gave refl h.2
+
+caused_read : (text : List ℕ) (next : Program → Course) → ((p : Program) → AreCaused (next p)) → AreCaused (Read text next)
+caused_read text next f fetches a h = by h.0 h.2
+  where
+    by : (v : Verdict) → Judged v next fetches a → IsCaused fetches a
+    by (Says p) judged = f p fetches a judged
+    by (Refuses refusal) judged = caused_ends (Is (text_refused refusal)) (λ b e. no_program b (text_refused refusal) e refl) fetches a judged
+
+caused_checked : (p : Program) (next : Course) → AreCaused next → AreCaused (CheckedBy p next)
+caused_checked p next f fetches a h =
+    elim h [
+      | inl x ↦ f fetches a x.1
+      | inr x ↦ caused_ends (Is (rule_refused p x.0 x.1 x.2)) (λ b e. refused b (rule_refused p x.0 x.1 x.2) e refl) fetches a x.4
+    ]
+
+caused_allowed : (plain : Bool) (p : Program) (next : Course) → AreCaused next → AreCaused (Allowed plain p next)
+caused_allowed true p next f = f
+caused_allowed false p next f = caused_checked p next f
+
+caused_runs : (options : Options) (given : Handed) (input : List ℕ) (p : Program) → AreCaused (RunsOn options given input p)
+caused_runs options given input p =
+    caused_fetches input max_input (λ content. Ends (Runs options given p content)) (λ content. caused_ends (Runs options given p content) (run_common options given p content))
+
+decoded_common : (options : DecodeOptions) (p : Program) (input : List ℕ) (a : Answer) → Decodes options p input a → IsCommon a
+decoded_common options p input a h = run_common (run_options options) (handed []) p input a h
+
+caused_command : (given : Handed) (command : Command) → AreCaused (WholeOf given command)
+caused_command given (Run program input options) =
+    caused_fetches program max_program (λ text. Read text (λ p. Allowed options.plain p (RunsOn options given input p))) (λ text.
+    caused_read text (λ p. Allowed options.plain p (RunsOn options given input p)) (λ p. caused_allowed options.plain p (RunsOn options given input p) (caused_runs options given input p)))
+caused_command given (Check program) =
+    caused_fetches program max_program (λ text. Read text (λ p. CheckedBy p (Ends (Is accepted)))) (λ text.
+    caused_read text (λ p. CheckedBy p (Ends (Is accepted))) (λ p. caused_checked p (Ends (Is accepted)) (caused_ends (Is accepted) (λ a e. done a accepted e refl))))
+caused_command given (Explain program) =
+    caused_fetches program max_program (λ text. Read text (λ p. Ends (Explained p))) (λ text.
+    caused_read text (λ p. Ends (Explained p)) (λ p. caused_ends (Explained p) (λ a x. done a (explained x.0) x.2 refl)))
+caused_command given (Print program) =
+    caused_fetches program max_program (λ text. Read text (λ p. Ends (Is (printed p)))) (λ text.
+    caused_read text (λ p. Ends (Is (printed p))) (λ p. caused_ends (Is (printed p)) (λ a e. done a (printed p) e refl)))
+caused_command given (Unpack input options) =
+    caused_fetches input max_input (λ content. Ends (Unpacking options content)) (λ content.
+    caused_ends (Unpacking options content) (λ a h. decoded_common options (packbits_program (block_of options)) content a h.0))
+caused_command given (Unhuff input options) =
+    caused_fetches input max_input (λ content. WithHuf1 content (Ends (Unhuffing options content))) (λ content fetches a h.
+    elim h [
+      | inl x ↦ caused_ends (Unhuffing options content) (λ b y. decoded_common options (huffman_program (block_of options)) content b y.0) fetches a x.1
+      | inr x ↦ caused_ends (Is (not_huf1 x.0)) (λ b e. wrong_format b (not_huf1 x.0) e refl) fetches a x.2
+    ])
+caused_command given (Lex machine input options) =
+    caused_fetches machine max_machine (λ table. WithLex1 table (λ states classes. Fetches input max_input (λ content. Ends (Lexing options table states classes content)))) (λ table fetches a h.
+    elim h [
+      | inl x ↦ caused_fetches input max_input (λ content. Ends (Lexing options table x.0 x.1 content)) (λ content.
+          caused_ends (Lexing options table x.0 x.1 content) (λ b y. decoded_common options (lexer_program (block_of options) x.0 x.1) (table ++ content) b y.0)) fetches a x.3
+      | inr x ↦ caused_ends (Is (not_lex1 x.0)) (λ b e. wrong_format b (not_lex1 x.0) e refl) fetches a x.2
+    ])
+caused_command given (Demo decoder seed size workers) =
+    caused_ends (Demonstrates decoder seed size) (λ a h. runs_common shown shown_common by_blocks (handed []) (demo_program decoder) (demo_input decoder h.0) a h.3)
+
+-- ---- words
+
+-- what is so of a command's answer with this status, and of that to words that ask for none
+by_words : {A : Type 0} (given : Handed) (words : List (List ℕ)) (fetches : List Fetch) (a : Answer) → Whole given words fetches a
+    → (IsCommon a → A) → ((a.status ≡ 5) → HasFailed fetches → A) → (AskForNothing words → a.status ≡ 2 → A) → A
+by_words given words fetches a h common file none =
+    elim h [
+      | inl x ↦ elim (caused_command given x.0 fetches a x.2) [
+        | inl c ↦ common c
+        | inr f ↦ file f.0 f.1
+      ]
+      | inr x ↦ none x.0 (said fetches x.1)
+    ]
+  where
+    said : (xs : List Fetch) → Ends (Is not_understood) xs a → a.status ≡ 2
+    said [] e = status_as a not_understood 2 e refl
+    said (x ∷ xs) e = absurd e
+
+-- a run over bytes at hand fetches nothing
+at_hand_common : (given : Handed) (workers : ℕ) (text input : List ℕ) (a : Answer) → RunsText given workers text input a → IsCommon a
+at_hand_common given workers text input a h =
+    elim (caused_read text (λ p. CheckedBy p (Ends (Runs (with_stats workers) given p input))) (λ p.
+    caused_checked p (Ends (Runs (with_stats workers) given p input)) (caused_ends (Runs (with_stats workers) given p input) (run_common (with_stats workers) given p input))) [] a h) [
+      | inl common ↦ common
+      | inr file ↦ absurd file.1
+    ]
+
+pub statuses_have_causes : StatusesHaveCauses
+statuses_have_causes = record {
+  words = λ given words fetches a h s. by_words given words fetches a h (λ c. absurd (c.words s)) (λ five failed. absurd (omega (arith, s, five))) (λ none two. none);
+  file = λ given words fetches a h s. by_words given words fetches a h (λ c. absurd (c.file s)) (λ five failed. failed) (λ none two. absurd (omega (arith, s, two)));
+  put = λ given words fetches a h s. by_words given words fetches a h (λ c. c.put s) (λ five failed. omega (arith, s, five)) (λ none two. omega (arith, s, two));
+  memory = λ given words fetches a h s. by_words given words fetches a h (λ c. c.memory s) (λ five failed. omega (arith, s, five)) (λ none two. omega (arith, s, two));
+  at_hand = λ given workers text input a h. (at_hand_common given workers text input a h).put;
+}

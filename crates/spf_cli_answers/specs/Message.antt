@@ -1,0 +1,115 @@
+-- The lines that the program writes on the error stream.
+use Rattle.std.specs.Prelude.{ℕ, List, [], ◌∷◌, ◌++◌, take, drop, codes, ℤ, Option}
+use Rattle.std.specs.Fmt.{decimal, signed_decimal}
+use Rattle.spf_ast.specs.declared.outcome.Trap.{Trap}
+use Rattle.spf_ast.specs.declared.outcome.TrapKind.{TrapKind}
+use Rattle.spf_ast.specs.declared.outcome.TrapKind.TheVariants as trap
+use Rattle.spf_types_names.specs.declared.fault.TypeFault.{TypeFault}
+use Rattle.spf_types_names.specs.declared.fault.TypeFault.TheVariants as fault
+use Rattle.spf_ast.specs.Syntax.{Array}
+use Rattle.spf_region.specs.declared.range.Range.{Range}
+use Rattle.spf_check.specs.declared.rule.Rule.{Rule}
+use Rattle.spf_check.specs.Text.{rule_name, perhaps_range}
+use Rattle.spf_ast.specs.Program.{size_of}
+
+-- a line of these pieces, with its end
+abbrev pub line : List (List ℕ) → List ℕ
+line [] = 10 ∷ []
+line (piece ∷ pieces) = piece ++ line pieces
+
+-- how a kind of trap is called
+abbrev pub kind_name : TrapKind → List ℕ
+kind_name trap.Overflow = codes "overflow"
+kind_name trap.DivZero = codes "divide-by-zero"
+kind_name trap.Index = codes "index"
+kind_name trap.Shift = codes "shift"
+kind_name trap.Range = codes "range"
+kind_name trap.Turns = codes "turns"
+kind_name trap.Emit = codes "emit"
+kind_name trap.Blocks = codes "blocks"
+kind_name (trap.Fail number) = codes "fail " ++ decimal number
+
+-- `trap KIND line N`
+abbrev pub trap_line : Trap → List ℕ
+trap_line t = line (codes "trap " ∷ kind_name t.kind ∷ codes " line " ∷ decimal t.line ∷ [])
+
+-- `words not understood`
+abbrev pub words_line : List ℕ
+words_line = line (codes "words not understood" ∷ [])
+
+-- `file NAME failed`
+abbrev pub failed_line : List ℕ → List ℕ
+failed_line name = line (codes "file " ∷ name ∷ codes " failed" ∷ [])
+
+-- `file NAME over N bytes`
+abbrev pub long_line : List ℕ → ℕ → List ℕ
+long_line name limit = line (codes "file " ∷ name ∷ codes " over " ∷ decimal limit ∷ codes " bytes" ∷ [])
+
+-- `cells N over LIMIT`
+abbrev pub too_many_line : (count limit : ℕ) → List ℕ
+too_many_line count limit = line (codes "cells " ∷ decimal count ∷ codes " over " ∷ decimal limit ∷ [])
+
+-- `host N not handed in`
+abbrev pub host_line : ℕ → List ℕ
+host_line host = line (codes "host " ∷ decimal host ∷ codes " not handed in" ∷ [])
+
+-- `input byte N: not HUF1`
+abbrev pub not_huf1_line : ℕ → List ℕ
+not_huf1_line place = line (codes "input byte " ∷ decimal place ∷ codes ": not HUF1" ∷ [])
+
+-- `machine byte N: not LEX1`
+abbrev pub not_lex1_line : ℕ → List ℕ
+not_lex1_line place = line (codes "machine byte " ∷ decimal place ∷ codes ": not LEX1" ∷ [])
+
+-- `sum S blocks B hits H misses M`
+abbrev pub sum_line : ℕ → ℕ → ℕ → ℕ → List ℕ
+sum_line sum blocks hits misses =
+    line (codes "sum " ∷ decimal sum ∷ codes " blocks " ∷ decimal blocks ∷ codes " hits " ∷ decimal hits ∷ codes " misses " ∷ decimal misses ∷ [])
+
+-- `accepted`
+abbrev pub accepted_line : List ℕ
+accepted_line = line (codes "accepted" ∷ [])
+
+-- `refused RULE line N RANGE`, or without a range `refused RULE line N`
+abbrev pub rule_line : List Array → Rule → ℕ → Option Range → List ℕ
+rule_line arrays rule at range =
+    line (codes "refused " ∷ rule_name rule ∷ codes " line " ∷ decimal at ∷ perhaps_range arrays range ∷ [])
+
+-- `text byte N: FAULT`
+abbrev pub byte_line : ℕ → List ℕ → List ℕ
+byte_line at what = line (codes "text byte " ∷ decimal at ∷ codes ": " ∷ what ∷ [])
+
+-- how a fault of names and kinds is called
+abbrev pub fault_name : TypeFault → List ℕ
+fault_name fault.UnknownName = codes "unknown name"
+fault_name fault.Twice = codes "declared twice"
+fault_name fault.Arity = codes "wrong number of arguments"
+fault_name fault.Kind = codes "wrong kind"
+fault_name fault.CallsLater = codes "calls later function"
+fault_name fault.TooLarge = codes "too large"
+fault_name fault.Misplaced = codes "misplaced emit"
+fault_name fault.MisplacedBreak = codes "misplaced break"
+
+-- `line N: FAULT`
+abbrev pub fault_line : TypeFault → ℕ → List ℕ
+fault_line what at = line (codes "line " ∷ decimal at ∷ codes ": " ∷ fault_name what ∷ [])
+
+-- `blocks B hits H misses M blind D`
+abbrev pub stats_line : ℕ → ℕ → ℕ → ℕ → List ℕ
+stats_line blocks hits misses blind =
+    line (codes "blocks " ∷ decimal blocks ∷ codes " hits " ∷ decimal hits ∷ codes " misses " ∷ decimal misses ∷ codes " blind " ∷ decimal blind ∷ [])
+
+-- numbers, each after a space
+abbrev pub numbers : List ℤ → List ℕ
+numbers [] = []
+numbers (word ∷ words) = codes " " ++ (signed_decimal word ++ numbers words)
+
+-- `cells NAME`, followed by the words of an array
+abbrev pub array_line : List ℕ → List ℤ → List ℕ
+array_line name words = line (codes "cells " ∷ name ∷ numbers words ∷ [])
+
+-- the lines of arrays whose cells follow each other, for an input of this length
+abbrev pub array_lines : ℕ → List Array → List ℤ → List (List ℕ)
+array_lines len [] cells = []
+array_lines len (a ∷ rest) cells =
+    array_line a.name (take (size_of len a) cells) ∷ array_lines len rest (drop (size_of len a) cells)

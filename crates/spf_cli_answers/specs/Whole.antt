@@ -1,0 +1,213 @@
+-- The whole answer of the program: what it says to these words, by what the fetches of their files give.
+use Rattle.std.specs.Prelude.{◌≡◌, ◌⊎◌, ℕ, Bool, true, false, if◌then◌else◌, nat_le, List, [], ◌++◌, length, Option, Some, None, unwrap_or}
+use Rattle.spf_ast.specs.Syntax.{Program}
+use Rattle.spf_ast.specs.Program.{Outcome, outcome, cell_count_of, max_cells}
+use Rattle.spf_exec_instance.specs.RunErrors.{counted}
+use Rattle.spf_cli_answers.specs.Answer.{
+  Answer,
+  not_understood,
+  text_refused,
+  accepted,
+  rule_refused,
+  explained,
+  too_many_cells,
+  host_missing,
+  not_huf1,
+  not_lex1,
+  printed,
+  ran,
+  shown,
+}
+use Rattle.spf_cli_answers.specs.Course.{Wanted, Is, Both, Either, Course, Ends, Fetches}
+use Rattle.spf_cli_words.specs.Command.{Command, Run, Check, Explain, Print, Unpack, Unhuff, Lex, Demo, Options, DecodeOptions, Asks}
+use Rattle.spf_region.specs.declared.range.Range.{Range}
+use Rattle.spf_check.specs.declared.rule.Rule.{Rule}
+use Rattle.spf_check.specs.Accepting.{IsAccepted, IsFirstRefusal}
+use Rattle.spf_check.specs.Explaining.{Explains}
+use Rattle.spf_guess_statistics.specs.declared.stats.Stats.{Stats}
+use Rattle.spf_ast.specs.Construct.{constructs_in}
+use Rattle.spf_guess_statistics.specs.Guess.{Hosts}
+use Rattle.spf_guess_statistics.specs.Statistics.{none, tally}
+use Rattle.spf_guess.specs.Answers.{Answers, handed_in}
+use Rattle.spf_guess.specs.Missing.{missing_host}
+use Rattle.spf_apps_formats.specs.declared.generate.Kind.{Kind}
+use Rattle.spf_apps_formats.specs.declared.generate.Kind.TheVariants as kind
+use Rattle.spf_apps_formats.specs.Draws.{IsGenerated}
+use Rattle.spf_apps_formats.specs.Toy.{machine as toy_machine}
+use Rattle.spf_apps_formats.specs.Laws.{AreBytes}
+use Rattle.spf_apps_formats.specs.Huf1.{IsHuf1, IsNoHuf1At}
+use Rattle.spf_apps_formats.specs.Lex1.{IsLex1, IsNoLex1At}
+use Rattle.spf_apps_programs.specs.PackBits.{packbits_program}
+use Rattle.spf_apps_programs.specs.Huffman.{huffman_program}
+use Rattle.spf_apps_programs.specs.Lexer.{lexer_program}
+use Rattle.spf_cli_answers.specs.Reading.{Verdict, Says, Refuses, IsVerdict}
+use Rattle.spf_cli_answers.specs.Decoded.{Unpacked, Unhuffed, Tokenized}
+
+-- how many bytes the file of a program, that of a machine, and that of an input may have
+abbrev pub max_program : ℕ
+max_program = 1048576
+
+abbrev pub max_machine : ℕ
+max_machine = 16384
+
+abbrev pub max_input : ℕ
+max_input = 4194304
+
+-- with the program that a text says, or without one
+abbrev pub Judged : Verdict → (Program → Course) → Course
+Judged (Says p) next = next p
+Judged (Refuses refusal) next = Ends (Is (text_refused refusal))
+
+abbrev pub Read : List ℕ → (Program → Course) → Course
+Read text next fetches answer = (v : Verdict) × IsVerdict text v × Judged v next fetches answer
+
+-- with a program that the rules accept, or by the first refusal of one that they don't
+abbrev pub CheckedBy : Program → Course → Course
+CheckedBy p next fetches answer =
+    (IsAccepted p × next fetches answer)
+    ⊎ ((rule : Rule) × (line : ℕ) × (range : Option Range) × IsFirstRefusal p rule line range
+    × Ends (Is (rule_refused p rule line range)) fetches answer)
+
+-- with a program that may be run: by the plain meaning each may, else those that the rules accept
+abbrev pub Allowed : Bool → Program → Course → Course
+Allowed true p next = next
+Allowed false p next = CheckedBy p next
+
+-- the explanation of a program
+abbrev pub Explained : Program → Wanted
+Explained p answer = (text : List ℕ) × Explains p text × (answer ≡ explained text)
+
+-- the predictors that are handed in: what each answers, and how many they are
+pub record Handed : Type 0 where
+  pub hosts : Hosts
+  pub count : ℕ
+
+-- the predictors whose answers these are
+abbrev pub handed : List Answers → Handed
+handed predictors = record { hosts = handed_in predictors; count = length predictors }
+
+-- the statistics of a run; by the plain meaning no block is guessed
+abbrev pub stats_of : Options → Handed → Program → List ℕ → Stats
+stats_of options given p input = if options.plain then none else (tally given.hosts p input).stats
+
+-- the first host that a run would ask and that isn't handed in; by the plain meaning none is asked
+abbrev pub host_wanted : Options → Handed → Program → Option ℕ
+host_wanted options given p = if options.plain then None else missing_host given.count (constructs_in p.main)
+
+-- where no host is missing
+abbrev pub WithHosts : Option ℕ → Wanted → Wanted
+WithHosts None next = next
+WithHosts (Some host) next = Is (host_missing host)
+
+-- a program is run on an input, and this is said of how it ended and of its statistics
+abbrev pub RunsTo : (Outcome → Stats → Answer) → Options → Handed → Program → List ℕ → Wanted
+RunsTo said options given p input =
+    Either (nat_le (cell_count_of p (length input)) (max_cells p))
+    (WithHosts (host_wanted options given p) (Is (said (outcome p input) (stats_of options given p input))))
+    (Is (too_many_cells (counted (cell_count_of p (length input))) (max_cells p)))
+
+-- a program is run on an input
+abbrev pub Runs : Options → Handed → Program → List ℕ → Wanted
+Runs options given p input = RunsTo (ran options p (length input)) options given p input
+
+-- a program is run on the file of an input
+abbrev pub RunsOn : Options → Handed → List ℕ → Program → Course
+RunsOn options given input p = Fetches input max_input (λ content. Ends (Runs options given p content))
+
+-- ---- bytes at hand
+
+-- a run by blocks on so many workers, which shows its statistics
+abbrev pub with_stats : ℕ → Options
+with_stats workers = record { workers = Some workers; stats = true; cells = false; plain = false }
+
+-- the program that a text says is run so, where the rules accept it, on an input; nothing is fetched
+abbrev pub RunsText : Handed → ℕ → List ℕ → List ℕ → Wanted
+RunsText given workers text input = Read text (λ p. CheckedBy p (Ends (Runs (with_stats workers) given p input))) []
+
+-- ---- decoders
+
+-- how many input bytes a block has: as many as the words say, else 1,024
+abbrev pub block_of : DecodeOptions → ℕ
+block_of options = unwrap_or options.block 1024
+
+-- the options of a decoder's run, which goes by blocks and shows no cells
+abbrev pub run_options : DecodeOptions → Options
+run_options options = record { workers = options.workers; stats = options.stats; cells = false; plain = false }
+
+-- a decoder's program is run on an input, with no hosts
+abbrev pub Decodes : DecodeOptions → Program → List ℕ → Wanted
+Decodes options p input = Runs (run_options options) (handed []) p input
+
+-- with a file that is HUF1, or by the place at which it isn't
+abbrev pub WithHuf1 : List ℕ → Course → Course
+WithHuf1 file next fetches answer =
+    (IsHuf1 file × next fetches answer)
+    ⊎ ((place : ℕ) × IsNoHuf1At file place × Ends (Is (not_huf1 place)) fetches answer)
+
+-- with a file that is LEX1, or by the place at which it isn't
+abbrev pub WithLex1 : List ℕ → (ℕ → ℕ → Course) → Course
+WithLex1 file next fetches answer =
+    ((states : ℕ) × (classes : ℕ) × IsLex1 file states classes × next states classes fetches answer)
+    ⊎ ((place : ℕ) × IsNoLex1At file place × Ends (Is (not_lex1 place)) fetches answer)
+
+-- what is wanted of the answers of the decoders: that of a run of their programs, which writes what the formats mean
+abbrev pub Unpacking : DecodeOptions → List ℕ → Wanted
+Unpacking options file = Both (Decodes options (packbits_program (block_of options)) file) (Unpacked (block_of options) file)
+
+abbrev pub Unhuffing : DecodeOptions → List ℕ → Wanted
+Unhuffing options file = Both (Decodes options (huffman_program (block_of options)) file) (Unhuffed (block_of options) file)
+
+abbrev pub Lexing : DecodeOptions → List ℕ → ℕ → ℕ → List ℕ → Wanted
+Lexing options machine states classes content =
+    Both (Decodes options (lexer_program (block_of options) states classes) (machine ++ content))
+    (Tokenized (block_of options) machine content)
+
+-- ---- demos
+
+-- a demo's program, for blocks of 1,024 bytes
+abbrev pub demo_program : Kind → Program
+demo_program kind.Unpack = packbits_program 1024
+demo_program kind.Unhuff = huffman_program 1024
+demo_program kind.Lex = lexer_program 1024 6 6
+
+-- its input: the generated file, after the toy machine where it is a lexer's
+abbrev pub demo_input : Kind → List ℕ → List ℕ
+demo_input kind.Unpack file = file
+demo_input kind.Unhuff file = file
+demo_input kind.Lex file = toy_machine ++ file
+
+-- by blocks, with nothing shown but what is said
+abbrev pub by_blocks : Options
+by_blocks = record { workers = None; stats = false; cells = false; plain = false }
+
+-- a decoder's program is run, with no hosts, on the input that a seed and a size generate
+abbrev pub Demonstrates : Kind → ℕ → ℕ → Wanted
+Demonstrates decoder seed size answer =
+    (file : List ℕ) × AreBytes file × IsGenerated decoder seed size file
+    × RunsTo shown by_blocks (handed []) (demo_program decoder) (demo_input decoder file) answer
+
+-- ---- commands
+
+-- the course of a command: its files in their order, each with its tests
+abbrev pub WholeOf : Handed → Command → Course
+WholeOf given (Run program input options) =
+    Fetches program max_program (λ text. Read text (λ p. Allowed options.plain p (RunsOn options given input p)))
+WholeOf given (Check program) = Fetches program max_program (λ text. Read text (λ p. CheckedBy p (Ends (Is accepted))))
+WholeOf given (Explain program) = Fetches program max_program (λ text. Read text (λ p. Ends (Explained p)))
+WholeOf given (Print program) = Fetches program max_program (λ text. Read text (λ p. Ends (Is (printed p))))
+WholeOf given (Unpack input options) = Fetches input max_input (λ content. Ends (Unpacking options content))
+WholeOf given (Unhuff input options) = Fetches input max_input (λ content. WithHuf1 content (Ends (Unhuffing options content)))
+WholeOf given (Lex machine input options) =
+    Fetches machine max_machine (λ table. WithLex1 table (λ states classes.
+    Fetches input max_input (λ content. Ends (Lexing options table states classes content))))
+WholeOf given (Demo decoder seed size workers) = Ends (Demonstrates decoder seed size)
+
+-- the words ask for no command
+abbrev pub AskForNothing : List (List ℕ) → Type 0
+AskForNothing words = (command : Command) → Asks words command → ⊥
+
+-- the course of these words, where these predictors are handed in
+abbrev pub Whole : Handed → List (List ℕ) → Course
+Whole given words fetches answer =
+    ((command : Command) × Asks words command × WholeOf given command fetches answer)
+    ⊎ (AskForNothing words × Ends (Is not_understood) fetches answer)

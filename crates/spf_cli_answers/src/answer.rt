@@ -1,0 +1,592 @@
+// What the program answers, before any of it is put anywhere.
+
+ghost use Rattle.std.specs.Prelude.{◌≡◌, ◌≤◌, ◌<◌, ◌^◌, ◌++◌, ◌∷◌, [], Ok, IfOk, IfErr, map};
+ghost use Rattle.std.specs.Prelude.{length, string_bytes, true, false};
+ghost use Rattle.spf_ast_lemmas.specs.Limits.{max_workers};
+ghost use Rattle.spf_ast.specs.View.{program as seen_program, array as seen_array};
+ghost use Rattle.spf_ast.specs.Program.{extents_from, seen_outcome};
+ghost use Rattle.spf_ast.specs.Lawful.{IsLawful};
+ghost use Rattle.spf_exec_instance.specs.Instance.{program_of as instance_program};
+ghost use Rattle.spf_guess_statistics.specs.Statistics.{tally};
+ghost use Rattle.spf_guess.specs.Answers.{handed_in, WereTold};
+ghost use Rattle.spf_engine.specs.Runs.{WereToldFirst};
+ghost use Rattle.spf_edge.specs.Fetches.{AreMade};
+ghost use Rattle.spf_cli_answers.specs.Message.{array_lines};
+ghost use Rattle.spf_cli_words.specs.Command.{Run as run_command, Check as check_command};
+ghost use Rattle.spf_cli_words.specs.Command.{Explain as explain_command, Print as print_command};
+ghost use Rattle.spf_cli_words.specs.Command.{IsUpTo, HasNumbers};
+ghost use Rattle.spf_cli_answers.specs.Reading.{IsVerdict, Says};
+ghost use Rattle.spf_check.specs.Accepting.{IsAccepted};
+ghost use Rattle.spf_cli_answers.specs.Answer.{refused as refused_answer};
+ghost use Rattle.spf_cli_answers.specs.Answer.{accepted as accepted_answer};
+ghost use Rattle.spf_cli_answers.specs.Answer.{rule_refused as rule_refused_answer, file_failed};
+ghost use Rattle.spf_cli_answers.specs.Answer.{too_many_cells, host_missing, printed, stats_lines};
+ghost use Rattle.spf_cli_answers.specs.Answer.{ran as ran_answer};
+ghost use Rattle.spf_cli_words.specs.Asked.{seen_command, seen_options};
+ghost use Rattle.spf_cli_answers.specs.Status.{status_number};
+ghost use Rattle.spf_cli_words.specs.Only.{IsOnly};
+ghost use Rattle.spf_cli_answers.specs.Whole.{Handed, handed, Runs, RunsOn, Whole, WholeOf};
+ghost use Rattle.spf_cli_answers.specs.Answering.{lines_of, seen_answer, IsFetchExit, IsReadExit};
+ghost use Rattle.spf_cli_answers.specs.Answering.{IsRuleExit, IsNotAccepted, IsNotRun, IsFollowed};
+ghost use Rattle.spf_cli_answers.specs.Answering.{AnswersWith, IsRunToItsEnd, IsLeftUnrun};
+
+use crate::decoding::{demo, lex_files, unhuff_file, unpack_file};
+use crate::message::{
+    array_line, failed_line, host_line, long_line, rule_line, stats_line, too_many_line, trap_line,
+};
+use crate::reading::{Unread, read_program, refusal_line};
+use crate::status::Status;
+use spf_ast::outcome::Outcome;
+use spf_ast::syntax::{Array, Program};
+use spf_check::check::check;
+use spf_check::checked::Checked;
+use spf_check::explain::explain;
+use spf_check::rule::{CheckError, Refusal};
+use spf_cli_words::{Command, Options, WordsError, read_words};
+use spf_edge::{FetchError, Files};
+use spf_engine::run::run_instance;
+use spf_exec::plain_run;
+use spf_exec_instance::arrays::max_cells_of;
+use spf_exec_instance::instance::Instance;
+use spf_exec_instance::layout::RunError;
+use spf_guess::Predictor;
+use spf_guess::missing::first_missing;
+use spf_guess_statistics::stats::Stats;
+use spf_print::print;
+use spf_ticket_gate::Gate;
+use std::alloc::{AllocError, Global};
+use std::sync::Wait;
+use std::thread::Threads;
+
+/// How many bytes the file of a program may have.
+const MAX_PROGRAM: u64 = 1_048_576;
+
+/// How many bytes the file of an input may have.
+pub(crate) const MAX_INPUT: u64 = 4_194_304;
+
+/// How many workers run the blocks where the words don't say it.
+const DEFAULT_WORKERS: u64 = 4;
+
+/// A status, with the bytes for the output and the lines for the error stream.
+#[derive(Drop)]
+pub struct Answer {
+    /// How the command ended.
+    pub status: Status,
+    /// What goes to the output.
+    pub output: Vec<u8>,
+    /// What goes to the error stream, line by line.
+    pub messages: Vec<Vec<u8>>,
+}
+
+/// Why there is no more to do: the answer stands, or memory runs out.
+#[derive(Drop)]
+pub(crate) enum Exit {
+    Answered(Answer),
+    NoMemory,
+}
+
+impl From<AllocError> for Exit {
+    ghost use Rattle.std.specs.Prelude.{◌≡◌};
+    ghost use Rattle.spf_cli_answers.specs.declared.answer.Exit.TheVariants.{NoMemory};
+
+    ghost from_gives = { λ _ left. left ≡ NoMemory };
+
+    fn from(_: AllocError) -> Self {
+        Exit::NoMemory
+    }
+}
+
+/// Adds a line to messages.
+fn push_line(messages: &mut Vec<Vec<u8>>, line: String) -> Result<(), AllocError>
+    ensures { IfOk result
+        (λ _. lines_of messages.new.items ≡ lines_of messages.old.items ++ string_bytes line ∷ []) }
+{
+    messages.push(line.into_bytes())?;
+    Ok(())
+}
+
+/// An answer with one line, and nothing on the output.
+fn said(alloc: Global, status: Status, line: Vec<u8>) -> Result<Answer, AllocError>
+    ensures { IfOk result (λ a. seen_answer a ≡ refused_answer (status_number status) line.items) }
+{
+    let mut messages = Vec::new(alloc);
+    messages.push(line)?;
+    Ok(Answer {
+        status,
+        output: Vec::new(alloc),
+        messages,
+    })
+}
+
+/// The same, of a line as text.
+pub(crate) fn refused(alloc: Global, status: Status, line: String) -> Result<Answer, AllocError>
+    ensures { IfOk result
+        (λ a. seen_answer a ≡ refused_answer (status_number status) (string_bytes line)) }
+{
+    said(alloc, status, line.into_bytes())
+}
+
+/// The answer where a file can't be had.
+fn failed(alloc: Global, name: &str) -> Result<Answer, AllocError>
+    ensures { IfOk result (λ a. seen_answer a ≡ file_failed name.now) }
+{
+    refused(alloc, Status::FileFailed, failed_line(alloc, name)?)
+}
+
+/// The content of a file.
+pub(crate) fn fetch<F: Files>(
+    alloc: Global,
+    files: &mut F,
+    name: &str,
+    limit: u64,
+) -> Result<Vec<u8>, Exit>
+    ensures content { IfOk result (λ content. AreMade (F.state files.old) (F.state files.new)
+        (record { name = name.now; limit = limit; gave = Ok content.items } ∷ [])) }
+    ensures left { IfErr result
+        (IsFetchExit (F.state files.old) (F.state files.new) name.now limit) }
+{
+    match files.fetch(alloc, name, limit) {
+        Ok(content) => Ok(content),
+        Err(FetchError::Missing) => Err(Exit::Answered(failed(alloc, name)?)),
+        Err(FetchError::Failed) => Err(Exit::Answered(failed(alloc, name)?)),
+        Err(FetchError::TooLong) => Err(Exit::Answered(refused(
+            alloc,
+            Status::OverLimit,
+            long_line(alloc, name, limit)?,
+        )?)),
+        Err(FetchError::OutOfMemory) => Err(Exit::NoMemory),
+    }
+}
+
+/// The program that a text says.
+pub(crate) fn read(alloc: Global, text: &[u8]) -> Result<Program, Exit>
+    ensures program { IfOk result (λ p. IsOnly (IsVerdict text.now) (Says (seen_program p))) }
+    ensures left { IfErr result (IsReadExit text.now) }
+{
+    match read_program(alloc, text) {
+        Ok(program) => Ok(program),
+        Err(Unread::Refused(refusal)) => Err(Exit::Answered(refused(
+            alloc,
+            Status::NoProgram,
+            refusal_line(alloc, refusal)?,
+        )?)),
+        Err(Unread::NoMemory) => Err(Exit::NoMemory),
+    }
+}
+
+/// The answer where a program keeps the rules.
+fn accepted(alloc: Global) -> Result<Answer, AllocError>
+    ensures { IfOk result (λ a. seen_answer a ≡ accepted_answer) }
+{
+    said(alloc, Status::Done, b"accepted\n".to_vec(alloc)?)
+}
+
+/// The answer where a top construct of a program breaks a rule.
+fn rule_refused(alloc: Global, program: &Program, refusal: Refusal) -> Result<Answer, AllocError>
+    ensures { IfOk result (λ a. seen_answer a
+        ≡ rule_refused_answer (seen_program program.now) refusal.rule refusal.line refusal.range) }
+{
+    let line = rule_line(alloc, &program.arrays, refusal)?;
+    said(alloc, Status::Refused, line)
+}
+
+/// What is left where a program isn't accepted.
+fn not_accepted(alloc: Global, error: CheckError) -> Exit
+    ensures { IsNotAccepted error result }
+{
+    match error {
+        CheckError::Refused { program, refusal } => match rule_refused(alloc, &program, refusal) {
+            Ok(given) => Exit::Answered(given),
+            Err(_) => Exit::NoMemory,
+        },
+        CheckError::OutOfMemory { .. } => Exit::NoMemory,
+    }
+}
+
+/// Has the rules accept a program.
+pub(crate) fn accept(alloc: Global, program: Program) -> Result<Checked, Exit>
+    requires lawful { IsLawful (seen_program program) }
+    ensures same { IfOk result (λ checked. checked ≡ program) }
+    ensures accepted { IfOk result (λ _. IsAccepted (seen_program program)) }
+    ensures left { IfErr result (IsRuleExit (seen_program program)) }
+{
+    match check(alloc, program) {
+        Ok(checked) => Ok(checked),
+        Err(error) => Err(not_accepted(alloc, error)),
+    }
+}
+
+/// Adds the statistics, where they are asked for.
+fn push_stats(
+    alloc: Global,
+    messages: &mut Vec<Vec<u8>>,
+    options: Options,
+    stats: Stats,
+) -> Result<(), AllocError>
+    ensures { IfOk result (λ _. lines_of messages.new.items
+        ≡ lines_of messages.old.items ++ stats_lines (seen_options options) stats) }
+{
+    if options.stats {
+        let line = stats_line(alloc, stats.blocks, stats.hits, stats.misses, stats.blind)?;
+        push_line(messages, line)?;
+    }
+    Ok(())
+}
+
+/// Adds the lines of arrays, whose cells follow each other, for an input of `len` bytes.
+fn push_arrays(
+    alloc: Global,
+    messages: &mut Vec<Vec<u8>>,
+    arrays: &[Array],
+    extents: &[(u64, u64)],
+    len: u64,
+    cells: &[i64],
+) -> Result<(), AllocError>
+    requires { extents.now ≡ extents_from len 0 (map seen_array arrays.now) }
+    ensures { IfOk result (λ _. lines_of messages.new.items
+        ≡ lines_of messages.old.items ++ array_lines len (map seen_array arrays.now) cells.now) }
+{
+    let mut rest = cells;
+    for (place, array) in arrays.iter().enumerate() {
+        let (_, size) = extents[place];
+        let (own, others) = rest.split_at((size as usize).min(rest.len()));
+        messages.push(array_line(alloc, &array.name, own)?)?;
+        rest = others;
+    }
+    Ok(())
+}
+
+/// The answer of a run that ended so.
+fn ran(
+    alloc: Global,
+    options: Options,
+    instance: &Instance,
+    outcome: Outcome,
+    stats: Stats,
+) -> Result<Answer, AllocError>
+    ensures { IfOk result (λ a. seen_answer a
+        ≡ ran_answer (seen_options options) (instance_program instance.now)
+        (length instance.now.input) (seen_outcome outcome) stats) }
+{
+    let mut messages = Vec::new(alloc);
+    match outcome {
+        Outcome::Done { cells, output } => {
+            push_stats(alloc, &mut messages, options, stats)?;
+            if options.cells {
+                push_arrays(
+                    alloc,
+                    &mut messages,
+                    &instance.program().arrays,
+                    instance.layout().extents(),
+                    instance.input().len() as u64,
+                    &cells,
+                )?;
+            }
+            Ok(Answer {
+                status: Status::Done,
+                output,
+                messages,
+            })
+        }
+        Outcome::Trapped { trap, output } => {
+            push_line(&mut messages, trap_line(alloc, trap)?)?;
+            push_stats(alloc, &mut messages, options, stats)?;
+            Ok(Answer {
+                status: Status::Trapped,
+                output,
+                messages,
+            })
+        }
+    }
+}
+
+/// The answer where the arrays of a program have too many cells, or memory runs out.
+pub(crate) fn not_run(alloc: Global, program: &Program, error: RunError) -> Exit
+    ensures { IsNotRun (seen_program program.now) error result }
+{
+    match error {
+        RunError::TooManyCells { count } => match too_many(alloc, count, max_cells_of(program)) {
+            Ok(given) => Exit::Answered(given),
+            Err(_) => Exit::NoMemory,
+        },
+        RunError::OutOfMemory => Exit::NoMemory,
+    }
+}
+
+/// The answer where the arrays have so many cells, which are over the limit.
+fn too_many(alloc: Global, count: u128, limit: u32) -> Result<Answer, AllocError>
+    ensures { IfOk result (λ a. seen_answer a ≡ too_many_cells count limit) }
+{
+    refused(
+        alloc,
+        Status::OverLimit,
+        too_many_line(alloc, count, limit)?,
+    )
+}
+
+/// The answer where a host isn't handed in.
+pub(crate) fn without_host(alloc: Global, host: u64) -> Result<Answer, AllocError>
+    ensures { IfOk result (λ a. seen_answer a ≡ host_missing host) }
+{
+    refused(alloc, Status::OverLimit, host_line(alloc, host)?)
+}
+
+/// The answer of a run by the plain meaning.
+fn run_plainly(
+    alloc: Global,
+    options: Options,
+    program: &Program,
+    input: &[u8],
+) -> Result<Answer, Exit>
+    requires lawful { IsLawful (seen_program program.now) }
+    requires plain { options.plain ≡ true }
+    ensures { (handed : Handed)
+        → AnswersWith
+        (IsOnly (Runs (seen_options options) handed (seen_program program.now) input.now)) result }
+{
+    // Law: no `break` of a lawful program leaves `main` or a part.
+    spf_ast::laws::breaks_stay_in_their_loops();
+    let instance = match Instance::make(alloc, program, input) {
+        Ok(instance) => instance,
+        Err(error) => return Err(not_run(alloc, program, error)),
+    };
+    let outcome = plain_run::run_instance(alloc, &instance)?;
+    Ok(ran(alloc, options, &instance, outcome, Stats::none())?)
+}
+
+/// How many workers run the blocks: as many as the options say, else 4.
+fn worker_count(options: Options) -> u64
+    requires workers { IsUpTo max_workers options.workers }
+    ensures { (0 < result) × (result ≤ max_workers) }
+{
+    options.workers.unwrap_or(DEFAULT_WORKERS)
+}
+
+/// The answer of a run by blocks from guesses.
+pub(crate) fn run_by_blocks<R: Threads + Wait + Sync, G: Gate + Sync>(
+    rt: &R,
+    alloc: Global,
+    options: Options,
+    checked: &Checked,
+    input: &[u8],
+    hosts: &mut Vec<Box<dyn Predictor>>,
+    gate: &G,
+) -> Result<Answer, Exit>
+    requires blocks { options.plain ≡ false }
+    requires workers { IsUpTo max_workers options.workers }
+    ensures answer { AnswersWith (IsOnly (Runs (seen_options options)
+        (handed (map (λ h. answer h) hosts.old.items)) (seen_program checked.now) input.now))
+        result }
+    ensures told_first { WereToldFirst (handed_in (map (λ h. answer h) hosts.old.items))
+        (seen_program checked.now) input.now (handed_in (map (λ h. answer h) hosts.new.items)) }
+    ensures told { AnswersWith (λ a. IsRunToItsEnd a
+        → WereTold (handed_in (map (λ h. answer h) hosts.old.items)) (tally
+        (handed_in (map (λ h. answer h) hosts.old.items)) (seen_program checked.now)
+        input.now).telling (handed_in (map (λ h. answer h) hosts.new.items))) result }
+    ensures unrun { AnswersWith (λ a. IsLeftUnrun a
+        → WereTold (handed_in (map (λ h. answer h) hosts.old.items)) []
+        (handed_in (map (λ h. answer h) hosts.new.items))) result }
+{
+    let program = checked.program();
+    // Law: no `break` of a lawful program leaves `main` or a part.
+    spf_ast::laws::breaks_stay_in_their_loops();
+    let instance = match Instance::make(alloc, program, input) {
+        Ok(instance) => instance,
+        Err(error) => return Err(not_run(alloc, program, error)),
+    };
+    if let Some(host) = first_missing(program, hosts.len() as u64) {
+        return Ok(without_host(alloc, host)?);
+    }
+    let workers = worker_count(options);
+    let report = run_instance(rt, alloc, checked, &instance, workers, hosts, gate)?;
+    Ok(ran(alloc, options, &instance, report.outcome, report.stats)?)
+}
+
+/// The answer of `run` with `--plain` over a program, on the file of an input.
+fn run_plainly_on<F: Files>(
+    alloc: Global,
+    program: &Program,
+    input: &str,
+    options: Options,
+    files: &mut F,
+) -> Result<Answer, Exit>
+    requires lawful { IsLawful (seen_program program.now) }
+    requires plain { options.plain ≡ true }
+    ensures { (handed : Handed) → AnswersWith (IsFollowed
+        (RunsOn (seen_options options) handed input.now (seen_program program.now))
+        (F.state files.old) (F.state files.new)) result }
+{
+    let content = fetch(alloc, files, input, MAX_INPUT)?;
+    run_plainly(alloc, options, program, &content)
+}
+
+/// The answer of `run` over an accepted program, on the file of an input.
+fn run_by_blocks_on<R: Threads + Wait + Sync, F: Files, G: Gate + Sync>(
+    rt: &R,
+    alloc: Global,
+    checked: &Checked,
+    input: &str,
+    options: Options,
+    files: &mut F,
+    hosts: &mut Vec<Box<dyn Predictor>>,
+    gate: &G,
+) -> Result<Answer, Exit>
+    requires blocks { options.plain ≡ false }
+    requires workers { IsUpTo max_workers options.workers }
+    ensures { AnswersWith (IsFollowed
+        (RunsOn (seen_options options) (handed (map (λ h. answer h) hosts.old.items)) input.now
+        (seen_program checked.now)) (F.state files.old) (F.state files.new)) result }
+{
+    let content = fetch(alloc, files, input, MAX_INPUT)?;
+    run_by_blocks(rt, alloc, options, checked, &content, hosts, gate)
+}
+
+/// The answer of `run` over two files.
+fn run_files<R: Threads + Wait + Sync, F: Files, G: Gate + Sync>(
+    rt: &R,
+    alloc: Global,
+    program: &str,
+    input: &str,
+    options: Options,
+    files: &mut F,
+    hosts: &mut Vec<Box<dyn Predictor>>,
+    gate: &G,
+) -> Result<Answer, Exit>
+    requires workers { IsUpTo max_workers options.workers }
+    ensures { AnswersWith (IsFollowed (WholeOf (handed (map (λ h. answer h) hosts.old.items))
+        (run_command program.now input.now (seen_options options)))
+        (F.state files.old) (F.state files.new)) result }
+{
+    // Law: a program has one verdict and one explanation.
+    crate::laws::rules_say_one_thing();
+    let text = fetch(alloc, files, program, MAX_PROGRAM)?;
+    let parsed = read(alloc, &text)?;
+    if options.plain {
+        return run_plainly_on(alloc, &parsed, input, options, files);
+    }
+    let checked = accept(alloc, parsed)?;
+    run_by_blocks_on(rt, alloc, &checked, input, options, files, hosts, gate)
+}
+
+/// The answer of `check` over a file.
+fn check_file<F: Files>(alloc: Global, program: &str, files: &mut F) -> Result<Answer, Exit>
+    ensures { (handed : Handed)
+        → AnswersWith (IsFollowed (WholeOf handed (check_command program.now)) (F.state files.old)
+        (F.state files.new)) result }
+{
+    // Law: a program has one verdict and one explanation.
+    crate::laws::rules_say_one_thing();
+    let text = fetch(alloc, files, program, MAX_PROGRAM)?;
+    let parsed = read(alloc, &text)?;
+    accept(alloc, parsed)?;
+    Ok(accepted(alloc)?)
+}
+
+/// The answer of `explain` over a file.
+fn explain_file<F: Files>(alloc: Global, program: &str, files: &mut F) -> Result<Answer, Exit>
+    ensures { (handed : Handed)
+        → AnswersWith (IsFollowed (WholeOf handed (explain_command program.now)) (F.state files.old)
+        (F.state files.new)) result }
+{
+    // Law: a program has one verdict and one explanation.
+    crate::laws::rules_say_one_thing();
+    let text = fetch(alloc, files, program, MAX_PROGRAM)?;
+    let parsed = read(alloc, &text)?;
+    let explanation = explain(alloc, &parsed)?;
+    Ok(Answer {
+        status: Status::Done,
+        output: explanation,
+        messages: Vec::new(alloc),
+    })
+}
+
+/// The answer of `print` over a file.
+fn print_file<F: Files>(alloc: Global, program: &str, files: &mut F) -> Result<Answer, Exit>
+    ensures { (handed : Handed)
+        → AnswersWith (IsFollowed (WholeOf handed (print_command program.now)) (F.state files.old)
+        (F.state files.new)) result }
+{
+    let text = fetch(alloc, files, program, MAX_PROGRAM)?;
+    let parsed = read(alloc, &text)?;
+    Ok(Answer {
+        status: Status::Done,
+        output: print(alloc, &parsed)?,
+        messages: Vec::new(alloc),
+    })
+}
+
+/// The answer of a command.
+fn answer_command<R: Threads + Wait + Sync, F: Files, G: Gate + Sync>(
+    rt: &R,
+    alloc: Global,
+    command: Command,
+    files: &mut F,
+    hosts: &mut Vec<Box<dyn Predictor>>,
+    gate: &G,
+) -> Result<Answer, Exit>
+    requires numbers { HasNumbers (seen_command command) }
+    ensures { AnswersWith (IsFollowed (WholeOf (handed (map (λ h. answer h) hosts.old.items))
+        (seen_command command.entry)) (F.state files.old) (F.state files.new)) result }
+{
+    match command {
+        Command::Run {
+            program,
+            input,
+            options,
+        } => run_files(rt, alloc, program, input, options, files, hosts, gate),
+        Command::Check { program } => check_file(alloc, program, files),
+        Command::Explain { program } => explain_file(alloc, program, files),
+        Command::Print { program } => print_file(alloc, program, files),
+        Command::Unpack { input, options } => {
+            unpack_file(rt, alloc, input, options, files, gate)
+        }
+        Command::Unhuff { input, options } => {
+            unhuff_file(rt, alloc, input, options, files, gate)
+        }
+        Command::Lex {
+            machine,
+            input,
+            options,
+        } => lex_files(rt, alloc, machine, input, options, files, gate),
+        Command::Demo {
+            kind,
+            seed,
+            size,
+            workers,
+        } => demo(rt, alloc, kind, seed, size, workers, gate),
+    }
+}
+
+/// The answer to the words of a command line.
+///
+/// `words` are the words after the program's name and after those that ask for hosts. `files` are
+/// those that the words name. `hosts` are the predictors that a program names by number; they are
+/// asked and told here. `gate` watches the attempts. Blocks run in threads, and the call waits for
+/// them.
+pub fn answer_words<R: Threads + Wait + Sync, F: Files, G: Gate + Sync>(
+    rt: &R,
+    alloc: Global,
+    words: &[String],
+    files: &mut F,
+    hosts: &mut Vec<Box<dyn Predictor>>,
+    gate: &G,
+) -> Result<Answer, AllocError>
+    // The files that the command needs are fetched, each once and in order, and what they give
+    // decides the answer.
+    ensures { IfOk result (λ a. IsFollowed (Whole (handed (map (λ h. answer h) hosts.old.items))
+        (map string_bytes words.now)) (F.state files.old) (F.state files.new) (seen_answer a)) }
+{
+    let command = match read_words(alloc, words) {
+        Ok(command) => command,
+        Err(WordsError::NotUnderstood) => {
+            let line = String::from_str(alloc, "words not understood\n")?;
+            return refused(alloc, Status::NotUnderstood, line);
+        }
+        Err(WordsError::OutOfMemory) => return Err(AllocError),
+    };
+    match answer_command(rt, alloc, command, files, hosts, gate) {
+        Ok(given) => Ok(given),
+        Err(Exit::Answered(given)) => Ok(given),
+        Err(Exit::NoMemory) => Err(AllocError),
+    }
+}

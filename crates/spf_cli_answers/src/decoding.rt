@@ -1,0 +1,331 @@
+// The answers of the decoders: PackBits, HUF1, lexers' machines, and each of them on a generated
+// input.
+
+ghost use Rattle.std.specs.Prelude.{◌≡◌, ◌≤◌, ◌∷◌, [], IfOk, unwrap_or};
+ghost use Rattle.spf_ast_lemmas.specs.Limits.{max_workers};
+ghost use Rattle.std.specs.List.{sum_by};
+ghost use Rattle.spf_ast.specs.View.{program as seen_program};
+ghost use Rattle.spf_ast.specs.Program.{seen_outcome};
+ghost use Rattle.spf_ast.specs.Lawful.{IsLawful};
+ghost use Rattle.spf_check.specs.Accepting.{IsAccepted};
+ghost use Rattle.spf_cli_words.specs.Command.{Unpack as unpack_command, Unhuff as unhuff_command};
+ghost use Rattle.spf_cli_words.specs.Command.{Lex as lex_command, Demo as demo_command};
+ghost use Rattle.spf_cli_words.specs.Command.{HasDecodeNumbers, HasNumbers};
+ghost use Rattle.spf_cli_words.specs.Asked.{seen_options, seen_decode_options};
+ghost use Rattle.spf_cli_words.specs.Only.{IsOnly};
+ghost use Rattle.spf_apps_formats.specs.Laws.{AreBytes};
+ghost use Rattle.spf_apps_formats.specs.Lex1.{IsLex1};
+ghost use Rattle.spf_apps_programs.specs.Laws.{IsBlockSize};
+ghost use Rattle.spf_cli_answers.specs.Answer.{not_huf1 as not_huf1_answer};
+ghost use Rattle.spf_cli_answers.specs.Answer.{not_lex1 as not_lex1_answer, shown as shown_answer};
+ghost use Rattle.spf_cli_answers.specs.Status.{status_number};
+ghost use Rattle.spf_cli_answers.specs.Course.{Fetches, Ends};
+ghost use Rattle.spf_cli_answers.specs.Whole.{Handed, Decodes, Demonstrates, RunsTo, demo_program};
+ghost use Rattle.spf_cli_answers.specs.Whole.{demo_input, by_blocks, handed, block_of, max_input};
+ghost use Rattle.spf_cli_answers.specs.Whole.{run_options as run_options_of, Lexing, WholeOf};
+ghost use Rattle.spf_cli_answers.specs.Answering.{seen_answer, IsFollowed, AnswersWith};
+
+use crate::answer::{
+    Answer, Exit, MAX_INPUT, fetch, not_run, refused, run_by_blocks, without_host,
+};
+use crate::message::{not_huf1_line, not_lex1_line, sum_line, trap_line};
+use crate::status::Status;
+use spf_apps::{huffman, lexer, packbits};
+use spf_apps_formats::generate::{Kind, generate};
+use spf_apps_formats::huf1::huf1_check;
+use spf_apps_formats::lex1::{lex_input, lex1_check};
+use spf_apps_formats::toy::toy_machine;
+use spf_ast::outcome::Outcome;
+use spf_ast::syntax::Program;
+use spf_check::check::check;
+use spf_check::checked::Checked;
+use spf_cli_words::{DecodeOptions, Options};
+use spf_edge::Files;
+use spf_engine::run::run_instance;
+use spf_exec_instance::instance::Instance;
+use spf_guess::Predictor;
+use spf_guess::missing::first_missing;
+use spf_guess_statistics::stats::Stats;
+use spf_ticket_gate::Gate;
+use std::alloc::{AllocError, Global};
+use std::sync::Wait;
+use std::thread::Threads;
+
+/// How many bytes the file of a machine may have.
+const MAX_MACHINE: u64 = 16_384;
+
+/// How many input bytes a block has where the words don't say it.
+const DEFAULT_BLOCK: u64 = 1024;
+
+/// How many states, and how many classes, the toy machine has.
+const TOY_COUNT: u64 = 6;
+
+/// How many input bytes a block has.
+fn block_size(options: DecodeOptions) -> u64
+    requires numbers { HasDecodeNumbers (seen_decode_options options) }
+    ensures size { result ≡ block_of (seen_decode_options options) }
+    ensures within { IsBlockSize result }
+{
+    options.block.unwrap_or(DEFAULT_BLOCK)
+}
+
+/// The options of a decoder's run.
+fn run_options(options: DecodeOptions) -> Options
+    ensures { seen_options result ≡ run_options_of (seen_decode_options options) }
+{
+    Options {
+        workers: options.workers,
+        stats: options.stats,
+        cells: false,
+        plain: false,
+    }
+}
+
+/// The rules accept the program, so this fails only when memory runs out.
+fn accepted(alloc: Global, program: Program) -> Result<Checked, AllocError>
+    requires lawful { IsLawful (seen_program program) }
+    requires accepted { IsAccepted (seen_program program) }
+    ensures same { IfOk result (λ checked. checked ≡ program) }
+{
+    match check(alloc, program) {
+        Ok(checked) => Ok(checked),
+        Err(_) => Err(AllocError),
+    }
+}
+
+/// The answer of a decoder's program over an input.
+fn decode<R: Threads + Wait + Sync, G: Gate + Sync>(
+    rt: &R,
+    alloc: Global,
+    options: DecodeOptions,
+    program: Program,
+    input: &[u8],
+    gate: &G,
+) -> Result<Answer, Exit>
+    requires lawful { IsLawful (seen_program program) }
+    requires accepted { IsAccepted (seen_program program) }
+    requires numbers { HasDecodeNumbers (seen_decode_options options) }
+    ensures { AnswersWith
+        (IsOnly (Decodes (seen_decode_options options) (seen_program program) input.now)) result }
+{
+    let checked = accepted(alloc, program)?;
+    let mut hosts: Vec<Box<dyn Predictor>> = Vec::new(alloc);
+    let options = run_options(options);
+    run_by_blocks(rt, alloc, options, &checked, input, &mut hosts, gate)
+}
+
+/// The answer of `unpack` over a file.
+pub(crate) fn unpack_file<R: Threads + Wait + Sync, F: Files, G: Gate + Sync>(
+    rt: &R,
+    alloc: Global,
+    input: &str,
+    options: DecodeOptions,
+    files: &mut F,
+    gate: &G,
+) -> Result<Answer, Exit>
+    requires numbers { HasDecodeNumbers (seen_decode_options options) }
+    ensures { (given : Handed) → AnswersWith (IsFollowed
+        (WholeOf given (unpack_command input.now (seen_decode_options options)))
+        (F.state files.old) (F.state files.new)) result }
+{
+    // Law: a decoder's run answers what its format says.
+    crate::laws::decoders_keep_their_formats();
+    let content = fetch(alloc, files, input, MAX_INPUT)?;
+    let program = packbits(alloc, block_size(options))?;
+    decode(rt, alloc, options, program, &content, gate)
+}
+
+/// The answer where an input isn't HUF1.
+fn not_huf1(alloc: Global, place: u64) -> Result<Answer, AllocError>
+    ensures { IfOk result (λ a. seen_answer a ≡ not_huf1_answer place) }
+{
+    refused(alloc, Status::WrongFormat, not_huf1_line(alloc, place)?)
+}
+
+/// The answer of `unhuff` over a file.
+pub(crate) fn unhuff_file<R: Threads + Wait + Sync, F: Files, G: Gate + Sync>(
+    rt: &R,
+    alloc: Global,
+    input: &str,
+    options: DecodeOptions,
+    files: &mut F,
+    gate: &G,
+) -> Result<Answer, Exit>
+    requires numbers { HasDecodeNumbers (seen_decode_options options) }
+    ensures { (given : Handed) → AnswersWith (IsFollowed
+        (WholeOf given (unhuff_command input.now (seen_decode_options options)))
+        (F.state files.old) (F.state files.new)) result }
+{
+    // Law: a file is of its format, or refused at one place.
+    spf_apps_formats::laws::files_have_one_verdict();
+    // Law: a decoder's run answers what its format says.
+    crate::laws::decoders_keep_their_formats();
+    let content = fetch(alloc, files, input, MAX_INPUT)?;
+    if let Err(place) = huf1_check(&content) {
+        return Ok(not_huf1(alloc, place)?);
+    }
+    let program = huffman(alloc, block_size(options))?;
+    decode(rt, alloc, options, program, &content, gate)
+}
+
+/// The answer where a machine isn't LEX1.
+fn not_lex1(alloc: Global, place: u64) -> Result<Answer, AllocError>
+    ensures { IfOk result (λ a. seen_answer a ≡ not_lex1_answer place) }
+{
+    refused(alloc, Status::WrongFormat, not_lex1_line(alloc, place)?)
+}
+
+/// The answer of `lex` with a machine, on the file of an input.
+fn lex_on<R: Threads + Wait + Sync, F: Files, G: Gate + Sync>(
+    rt: &R,
+    alloc: Global,
+    options: DecodeOptions,
+    machine: &[u8],
+    states: u64,
+    classes: u64,
+    input: &str,
+    files: &mut F,
+    gate: &G,
+) -> Result<Answer, Exit>
+    requires numbers { HasDecodeNumbers (seen_decode_options options) }
+    requires lex1 { IsLex1 machine.now states classes }
+    ensures { AnswersWith (IsFollowed (Fetches input.now max_input (λ content.
+        Ends (Lexing (seen_decode_options options) machine.now states classes content)))
+        (F.state files.old) (F.state files.new)) result }
+{
+    // Law: a decoder's run answers what its format says.
+    crate::laws::decoders_keep_their_formats();
+    let content = fetch(alloc, files, input, MAX_INPUT)?;
+    let program = lexer(alloc, block_size(options), states, classes)?;
+    let joined = lex_input(alloc, machine, &content)?;
+    decode(rt, alloc, options, program, &joined, gate)
+}
+
+/// The answer of `lex` over two files.
+pub(crate) fn lex_files<R: Threads + Wait + Sync, F: Files, G: Gate + Sync>(
+    rt: &R,
+    alloc: Global,
+    machine: &str,
+    input: &str,
+    options: DecodeOptions,
+    files: &mut F,
+    gate: &G,
+) -> Result<Answer, Exit>
+    requires numbers { HasDecodeNumbers (seen_decode_options options) }
+    ensures { (given : Handed) → AnswersWith (IsFollowed
+        (WholeOf given (lex_command machine.now input.now (seen_decode_options options)))
+        (F.state files.old) (F.state files.new)) result }
+{
+    // Law: a file is of its format, or refused at one place.
+    spf_apps_formats::laws::files_have_one_verdict();
+    let table = fetch(alloc, files, machine, MAX_MACHINE)?;
+    match lex1_check(&table) {
+        Ok((states, classes)) => lex_on(
+            rt, alloc, options, &table, states, classes, input, files, gate,
+        ),
+        Err(place) => Ok(not_lex1(alloc, place)?),
+    }
+}
+
+/// The sum of bytes.
+fn sum(bytes: &[u8]) -> u128
+    ensures { result ≡ sum_by (λ byte. byte) bytes.now }
+{
+    let mut sum = 0;
+    for byte in bytes {
+        sum += u128::from(*byte);
+    }
+    sum
+}
+
+/// The answer of a demo that ended so.
+fn shown(alloc: Global, outcome: Outcome, stats: Stats) -> Result<Answer, AllocError>
+    ensures { IfOk result (λ a. seen_answer a ≡ shown_answer (seen_outcome outcome) stats) }
+{
+    match outcome {
+        Outcome::Done { output, .. } => {
+            let line = sum_line(alloc, sum(&output), stats.blocks, stats.hits, stats.misses)?;
+            Ok(Answer {
+                status: Status::Done,
+                output: line.into_bytes(),
+                messages: Vec::new(alloc),
+            })
+        }
+        Outcome::Trapped { trap, .. } => refused(alloc, Status::Trapped, trap_line(alloc, trap)?),
+    }
+}
+
+/// The answer of a demo's program over its input.
+fn demonstrate<R: Threads + Wait + Sync, G: Gate + Sync>(
+    rt: &R,
+    alloc: Global,
+    checked: &Checked,
+    input: &[u8],
+    workers: u64,
+    gate: &G,
+) -> Result<Answer, Exit>
+    requires workers { (1 ≤ workers) × (workers ≤ max_workers) }
+    ensures { AnswersWith
+        (IsOnly (RunsTo shown_answer by_blocks (handed []) (seen_program checked.now) input.now))
+        result }
+{
+    let program = checked.program();
+    // Law: no `break` of a lawful program leaves `main` or a part.
+    spf_ast::laws::breaks_stay_in_their_loops();
+    let instance = match Instance::make(alloc, program, input) {
+        Ok(instance) => instance,
+        Err(error) => return Err(not_run(alloc, program, error)),
+    };
+    if let Some(host) = first_missing(program, 0) {
+        return Ok(without_host(alloc, host)?);
+    }
+    let mut hosts: Vec<Box<dyn Predictor>> = Vec::new(alloc);
+    let report = run_instance(rt, alloc, checked, &instance, workers, &mut hosts, gate)?;
+    Ok(shown(alloc, report.outcome, report.stats)?)
+}
+
+/// The program of a demo.
+fn demo_decoder(alloc: Global, kind: Kind) -> Result<Program, AllocError>
+    ensures program { IfOk result (λ p. seen_program p ≡ demo_program kind) }
+    ensures lawful { IfOk result (λ p. IsLawful (seen_program p)) }
+    ensures accepted { IfOk result (λ p. IsAccepted (seen_program p)) }
+{
+    match kind {
+        Kind::Unpack => packbits(alloc, DEFAULT_BLOCK),
+        Kind::Unhuff => huffman(alloc, DEFAULT_BLOCK),
+        Kind::Lex => lexer(alloc, DEFAULT_BLOCK, TOY_COUNT, TOY_COUNT),
+    }
+}
+
+/// The input of a demo, whose file is this.
+fn whole_input(alloc: Global, kind: Kind, file: Vec<u8>) -> Result<Vec<u8>, AllocError>
+    ensures input { IfOk result (λ input. input.items ≡ demo_input kind file.items) }
+    ensures bytes { AreBytes file.items }
+{
+    match kind {
+        Kind::Unpack | Kind::Unhuff => Ok(file),
+        Kind::Lex => lex_input(alloc, &toy_machine(alloc)?, &file),
+    }
+}
+
+/// The answer of `demo`.
+pub(crate) fn demo<R: Threads + Wait + Sync, G: Gate + Sync>(
+    rt: &R,
+    alloc: Global,
+    kind: Kind,
+    seed: u64,
+    size: u64,
+    workers: u64,
+    gate: &G,
+) -> Result<Answer, Exit>
+    requires numbers { HasNumbers (demo_command kind seed size workers) }
+    ensures { AnswersWith (IsOnly (Demonstrates kind seed size)) result }
+{
+    // Law: a kind, a seed and a size have one input.
+    spf_apps_formats::laws::each_demo_input_is_generated_once();
+    let program = demo_decoder(alloc, kind)?;
+    let checked = accepted(alloc, program)?;
+    let file = generate(alloc, kind, seed, size)?;
+    let input = whole_input(alloc, kind, file)?;
+    demonstrate(rt, alloc, &checked, &input, workers, gate)
+}

@@ -1,0 +1,15 @@
+//! From the words of a command line to its answer, before any of it is put; and the same for a run
+//! over bytes at hand.
+#![tactic(auto)]
+
+mod answer;
+mod at_hand;
+mod decoding;
+pub mod laws;
+mod message;
+mod reading;
+mod status;
+
+pub use answer::{Answer, answer_words};
+pub use at_hand::answer_text;
+pub use status::{Status, number};

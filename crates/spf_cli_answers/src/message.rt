@@ -1,0 +1,207 @@
+// The lines that the program writes on the error stream.
+
+ghost use Rattle.std.specs.Prelude.{◌≡◌, ◌++◌, codes, IfOk, map, string_bytes};
+ghost use Rattle.std.specs.Fmt.{signed_decimal};
+ghost use Rattle.spf_ast.specs.View.{name as seen_name, array as seen_array};
+ghost use Rattle.spf_check.specs.Text.{perhaps_range};
+ghost use Rattle.spf_cli_answers.specs.Message.{trap_line as trap_line_of};
+ghost use Rattle.spf_cli_answers.specs.Message.{failed_line as failed_line_of};
+ghost use Rattle.spf_cli_answers.specs.Message.{long_line as long_line_of};
+ghost use Rattle.spf_cli_answers.specs.Message.{too_many_line as too_many_line_of};
+ghost use Rattle.spf_cli_answers.specs.Message.{host_line as host_line_of};
+ghost use Rattle.spf_cli_answers.specs.Message.{not_huf1_line as not_huf1_line_of};
+ghost use Rattle.spf_cli_answers.specs.Message.{not_lex1_line as not_lex1_line_of};
+ghost use Rattle.spf_cli_answers.specs.Message.{sum_line as sum_line_of, byte_line as byte_line_of};
+ghost use Rattle.spf_cli_answers.specs.Message.{fault_line as fault_line_of};
+ghost use Rattle.spf_cli_answers.specs.Message.{fault_name as fault_name_of};
+ghost use Rattle.spf_cli_answers.specs.Message.{stats_line as stats_line_of, numbers};
+ghost use Rattle.spf_cli_answers.specs.Message.{array_line as array_line_of};
+ghost use Rattle.spf_cli_answers.specs.Message.{rule_line as rule_line_of};
+
+use spf_ast::outcome::{Trap, TrapKind};
+use spf_ast::syntax::{Array, Name};
+use spf_check::rule::Refusal;
+use spf_check::text::{push_range, rule_name};
+use spf_region::range::Range;
+use spf_types::TypeFault;
+use std::alloc::{AllocError, Global};
+
+/// `trap KIND line N`.
+pub(crate) fn trap_line(alloc: Global, trap: Trap) -> Result<String, AllocError>
+    ensures { IfOk result (λ text. string_bytes text ≡ trap_line_of trap) }
+{
+    let line = trap.line;
+    match trap.kind {
+        TrapKind::Overflow => format!(in alloc; "trap overflow line {line}\n"),
+        TrapKind::DivZero => format!(in alloc; "trap divide-by-zero line {line}\n"),
+        TrapKind::Index => format!(in alloc; "trap index line {line}\n"),
+        TrapKind::Shift => format!(in alloc; "trap shift line {line}\n"),
+        TrapKind::Range => format!(in alloc; "trap range line {line}\n"),
+        TrapKind::Turns => format!(in alloc; "trap turns line {line}\n"),
+        TrapKind::Emit => format!(in alloc; "trap emit line {line}\n"),
+        TrapKind::Blocks => format!(in alloc; "trap blocks line {line}\n"),
+        TrapKind::Fail(number) => format!(in alloc; "trap fail {number} line {line}\n"),
+    }
+}
+
+/// `file NAME failed`.
+pub(crate) fn failed_line(alloc: Global, name: &str) -> Result<String, AllocError>
+    ensures { IfOk result (λ text. string_bytes text ≡ failed_line_of name.now) }
+{
+    format!(in alloc; "file {name} failed\n")
+}
+
+/// `file NAME over N bytes`.
+pub(crate) fn long_line(alloc: Global, name: &str, limit: u64) -> Result<String, AllocError>
+    ensures { IfOk result (λ text. string_bytes text ≡ long_line_of name.now limit) }
+{
+    format!(in alloc; "file {name} over {limit} bytes\n")
+}
+
+/// `cells N over LIMIT`.
+pub(crate) fn too_many_line(alloc: Global, count: u128, limit: u32) -> Result<String, AllocError>
+    ensures { IfOk result (λ text. string_bytes text ≡ too_many_line_of count limit) }
+{
+    format!(in alloc; "cells {count} over {limit}\n")
+}
+
+/// `host N not handed in`.
+pub(crate) fn host_line(alloc: Global, host: u64) -> Result<String, AllocError>
+    ensures { IfOk result (λ text. string_bytes text ≡ host_line_of host) }
+{
+    format!(in alloc; "host {host} not handed in\n")
+}
+
+/// `input byte N: not HUF1`.
+pub(crate) fn not_huf1_line(alloc: Global, place: u64) -> Result<String, AllocError>
+    ensures { IfOk result (λ text. string_bytes text ≡ not_huf1_line_of place) }
+{
+    format!(in alloc; "input byte {place}: not HUF1\n")
+}
+
+/// `machine byte N: not LEX1`.
+pub(crate) fn not_lex1_line(alloc: Global, place: u64) -> Result<String, AllocError>
+    ensures { IfOk result (λ text. string_bytes text ≡ not_lex1_line_of place) }
+{
+    format!(in alloc; "machine byte {place}: not LEX1\n")
+}
+
+/// `sum S blocks B hits H misses M`.
+pub(crate) fn sum_line(
+    alloc: Global,
+    sum: u128,
+    blocks: u64,
+    hits: u64,
+    misses: u64,
+) -> Result<String, AllocError>
+    ensures { IfOk result (λ text. string_bytes text ≡ sum_line_of sum blocks hits misses) }
+{
+    format!(in alloc; "sum {sum} blocks {blocks} hits {hits} misses {misses}\n")
+}
+
+/// `text byte N: FAULT`.
+pub(crate) fn byte_line(alloc: Global, at: usize, what: &str) -> Result<String, AllocError>
+    ensures { IfOk result (λ text. string_bytes text ≡ byte_line_of at what.now) }
+{
+    format!(in alloc; "text byte {at}: {what}\n")
+}
+
+/// How a fault of names and kinds is called.
+fn fault_name(fault: TypeFault) -> &'static str
+    ensures { result.now ≡ fault_name_of fault }
+{
+    match fault {
+        TypeFault::UnknownName => "unknown name",
+        TypeFault::Twice => "declared twice",
+        TypeFault::Arity => "wrong number of arguments",
+        TypeFault::Kind => "wrong kind",
+        TypeFault::CallsLater => "calls later function",
+        TypeFault::TooLarge => "too large",
+        TypeFault::Misplaced => "misplaced emit",
+        TypeFault::MisplacedBreak => "misplaced break",
+    }
+}
+
+/// `line N: FAULT`.
+pub(crate) fn fault_line(alloc: Global, fault: TypeFault, line: u32) -> Result<String, AllocError>
+    ensures { IfOk result (λ text. string_bytes text ≡ fault_line_of fault line) }
+{
+    let name = fault_name(fault);
+    format!(in alloc; "line {line}: {name}\n")
+}
+
+/// Adds a range to a line, after a space, where there is one.
+fn push_perhaps_range(
+    alloc: Global,
+    line: &mut Vec<u8>,
+    arrays: &[Array],
+    range: Option<Range>,
+) -> Result<(), AllocError>
+    ensures { IfOk result
+        (λ _. line.new.items ≡ line.old.items ++ perhaps_range (map seen_array arrays.now) range) }
+{
+    let Some(range) = range else {
+        return Ok(());
+    };
+    line.push(b' ')?;
+    push_range(alloc, arrays, range, line)
+}
+
+/// `refused RULE line N RANGE`, or without a range `refused RULE line N`.
+pub(crate) fn rule_line(
+    alloc: Global,
+    arrays: &[Array],
+    refusal: Refusal,
+) -> Result<Vec<u8>, AllocError>
+    ensures { IfOk result (λ line. line.items
+        ≡ rule_line_of (map seen_array arrays.now) refusal.rule refusal.line refusal.range) }
+{
+    let (name, at) = (rule_name(refusal.rule), refusal.line);
+    let mut line = format!(in alloc; "refused {name} line {at}")?.into_bytes();
+    push_perhaps_range(alloc, &mut line, arrays, refusal.range)?;
+    line.push(b'\n')?;
+    Ok(line)
+}
+
+/// `blocks B hits H misses M blind D`.
+pub(crate) fn stats_line(
+    alloc: Global,
+    blocks: u64,
+    hits: u64,
+    misses: u64,
+    blind: u64,
+) -> Result<String, AllocError>
+    ensures { IfOk result (λ text. string_bytes text ≡ stats_line_of blocks hits misses blind) }
+{
+    format!(in alloc; "blocks {blocks} hits {hits} misses {misses} blind {blind}\n")
+}
+
+/// Adds a number to a line, after a space.
+fn push_number(alloc: Global, line: &mut Vec<u8>, word: i64) -> Result<(), AllocError>
+    ensures { IfOk result
+        (λ _. line.new.items ≡ line.old.items ++ (codes " " ++ signed_decimal word)) }
+{
+    let text = format!(in alloc; " {word}")?;
+    line.extend_from_slice(text.as_bytes())
+}
+
+/// Adds numbers to a line, each after a space.
+fn push_numbers(alloc: Global, line: &mut Vec<u8>, words: &[i64]) -> Result<(), AllocError>
+    ensures { IfOk result (λ _. line.new.items ≡ line.old.items ++ numbers words.now) }
+{
+    for word in words {
+        push_number(alloc, line, *word)?;
+    }
+    Ok(())
+}
+
+/// `cells NAME`, followed by the words of an array.
+pub(crate) fn array_line(alloc: Global, name: &Name, words: &[i64]) -> Result<Vec<u8>, AllocError>
+    ensures { IfOk result (λ line. line.items ≡ array_line_of (seen_name name.now) words.now) }
+{
+    let mut line = b"cells ".to_vec(alloc)?;
+    line.extend_from_slice(&name.bytes)?;
+    push_numbers(alloc, &mut line, words)?;
+    line.push(b'\n')?;
+    Ok(line)
+}

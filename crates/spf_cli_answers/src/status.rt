@@ -1,0 +1,36 @@
+// The statuses with which the program ends.
+
+ghost use Rattle.std.specs.Prelude.{◌≡◌};
+ghost use Rattle.spf_cli_answers.specs.Status.{status_number};
+
+/// How the program ended.
+#[derive(Clone, Copy, PartialEq, Eq, Debug)]
+pub enum Status {
+    /// The command is done.
+    Done = 0,
+    /// The program trapped.
+    Trapped = 1,
+    /// The words aren't understood.
+    NotUnderstood = 2,
+    /// The text has no lawful program.
+    NoProgram = 3,
+    /// The rules refuse the program.
+    Refused = 4,
+    /// A file could not be read.
+    FileFailed = 5,
+    /// A sink failed.
+    PutFailed = 6,
+    /// A limit was passed, or a host isn't handed in.
+    OverLimit = 7,
+    /// Memory ran out.
+    NoMemory = 8,
+    /// The input isn't HUF1, or the machine isn't LEX1.
+    WrongFormat = 9,
+}
+
+/// The number of a status.
+pub fn number(status: Status) -> u8
+    ensures { result ≡ status_number status }
+{
+    status as u8
+}

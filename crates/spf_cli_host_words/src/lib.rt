@@ -1,0 +1,6 @@
+//! The words of the command line that ask for predictors to be handed in.
+#![tactic(auto)]
+
+pub mod host_words;
+
+pub use host_words::{HostKind, HostWords, read_hosts};

@@ -1,0 +1,254 @@
+// Lowering of programs.
+
+ghost use Rattle.std.specs.Prelude.{◌≡◌, [], ℕ, map, IfOk};
+ghost use Rattle.spf_ast.specs.declared.syntax.Fold.{out-Fold};
+ghost use Rattle.spf_ast.specs.declared.syntax.Pair.{out-Pair};
+ghost use Rattle.spf_ast.specs.Construct.{constructs_in};
+ghost use Rattle.spf_ast.specs.ConstructView.{construct as seen_construct};
+ghost use Rattle.spf_ast.specs.View.{expression as seen_expression, arguments as seen_arguments};
+ghost use Rattle.spf_ast.specs.View.{predictor as seen_predictor, statement as seen_statement};
+ghost use Rattle.spf_ast.specs.View.{block as seen_block, function as seen_function};
+ghost use Rattle.spf_ast.specs.View.{program as seen_program, fold_head, pair_head};
+ghost use Rattle.spf_ast.specs.Meaning.{callable_before};
+ghost use Rattle.spf_code.specs.Code.{code_sets};
+ghost use Rattle.spf_code.specs.NodeView.{code};
+ghost use Rattle.spf_code_lowering.specs.Lowering.{IsRowCode, IsExpressionCode, IsGuessCode};
+ghost use Rattle.spf_code_lowering.specs.Lowering.{AreGuessCodes, IsFoldCode, IsPairCode};
+ghost use Rattle.spf_code_lowering.specs.Lowering.{IsConstructCode, AreConstructCodes};
+ghost use Rattle.spf_code_lowering.specs.Lowering.{AreStatementCodes, IsRun, IsCodeOfProgram};
+ghost use Rattle.spf_code_lowering.specs.Lowering.{SetsWhatIsChanged, SetsNoSlot};
+
+use crate::expression::{Scope, count_of, hold, pass};
+use crate::function::functions;
+use crate::statement::{block, statement};
+use spf_ast::construct::{ConstructKind, TopConstruct, as_construct};
+use spf_ast::syntax::{Expr, Fold, Pair, Predict, Program, Stmt};
+use spf_code::node::Node;
+use spf_code::program::{ConstructCode, HeaderCode, ProgramCode, RowCode, ValueCode};
+use std::alloc::{AllocError, Global};
+
+/// How many slots there are.
+fn slot_count(slots: usize) -> Result<u32, AllocError>
+    ensures { IfOk result (λ count. count ≡ slots) }
+{
+    if slots > u32::MAX as usize {
+        return Err(AllocError);
+    }
+    Ok(slots as u32)
+}
+
+/// The code of statements and then of a row.
+fn row_code(
+    scope: &Scope,
+    statements: &[Stmt],
+    line: u32,
+    row: &[Expr],
+) -> Result<RowCode, AllocError>
+    ensures code { (calls : ℕ → ℕ)
+        → IfOk result (λ v. IsRowCode
+        (callable_before (map seen_function scope.now.functions.now) scope.now.below) calls
+        scope.now.own (seen_block statements.now) line (seen_arguments row.now) v) }
+    ensures sets { IfOk result
+        (λ v. SetsWhatIsChanged scope.now.own (seen_block statements.now) (code v.nodes.items)) }
+{
+    let mut nodes = block(scope, statements)?;
+    pass(scope, line, scope.own, row, &mut nodes)?;
+    Ok(RowCode {
+        nodes,
+        register: scope.own,
+        width: count_of(row)?,
+    })
+}
+
+/// The code of an expression.
+fn expression_code(scope: &Scope, line: u32, value: &Expr) -> Result<ValueCode, AllocError>
+    ensures code { (calls : ℕ → ℕ)
+        → IfOk result (λ v. IsExpressionCode
+        (callable_before (map seen_function scope.now.functions.now) scope.now.below) calls
+        scope.now.own line (seen_expression value.now) v) }
+    ensures sets { IfOk result (λ v. SetsNoSlot scope.now.own (code v.nodes.items)) }
+{
+    let mut nodes = Vec::new(scope.alloc);
+    let held = hold(scope, line, scope.own, value, &mut nodes)?;
+    Ok(ValueCode {
+        nodes,
+        register: held.register,
+    })
+}
+
+/// No code: what stands for a part that a construct doesn't have.
+fn no_value(alloc: Global) -> ValueCode
+    ensures { result.nodes.items ≡ [] }
+{
+    ValueCode {
+        nodes: Vec::new(alloc),
+        register: 0,
+    }
+}
+
+/// No code: what stands for the start of a pair.
+fn no_row(alloc: Global) -> RowCode
+    ensures { result.nodes.items ≡ [] }
+{
+    RowCode {
+        nodes: Vec::new(alloc),
+        register: 0,
+        width: 0,
+    }
+}
+
+/// The code of a guess. One that is handed in needs none.
+fn guess_code(scope: &Scope, line: u32, predict: &Predict) -> Result<ValueCode, AllocError>
+    ensures code { (calls : ℕ → ℕ)
+        → IfOk result (λ v. IsGuessCode
+        (callable_before (map seen_function scope.now.functions.now) scope.now.below) calls
+        scope.now.own line (seen_predictor predict.now) v) }
+    ensures sets { IfOk result (λ v. SetsNoSlot scope.now.own (code v.nodes.items)) }
+{
+    match predict {
+        Predict::Expr(guess) => expression_code(scope, line, guess),
+        Predict::Host(_) => Ok(no_value(scope.alloc)),
+    }
+}
+
+/// The code of the guesses of a row's parts.
+fn guess_codes(scope: &Scope, line: u32, predict: &[Predict]) -> Result<Vec<ValueCode>, AllocError>
+    ensures codes { (calls : ℕ → ℕ)
+        → IfOk result (λ v. AreGuessCodes
+        (callable_before (map seen_function scope.now.functions.now) scope.now.below) calls
+        scope.now.own line (map seen_predictor predict.now) v.items) }
+{
+    let mut codes = Vec::new(scope.alloc);
+    for part in predict {
+        codes.push(guess_code(scope, line, part)?)?;
+    }
+    Ok(codes)
+}
+
+/// The code of a fold's parts.
+fn fold_code(scope: &Scope, line: u32, fold: &Fold) -> Result<ConstructCode, AllocError>
+    ensures code { (calls : ℕ → ℕ)
+        → IfOk result (λ k. IsFoldCode
+        (callable_before (map seen_function scope.now.functions.now) scope.now.below) calls
+        scope.now.own line (fold_head fold.now) (seen_block (out-Fold fold.now).body.items) k) }
+{
+    let header = HeaderCode {
+        start: row_code(scope, &[], line, &fold.start)?,
+        low: expression_code(scope, line, &fold.low)?,
+        high: expression_code(scope, line, &fold.high)?,
+    };
+    let first = row_code(scope, &fold.body, fold.next_line, &fold.next)?;
+    let guesses = guess_codes(scope, line, &fold.predict)?;
+    Ok(ConstructCode {
+        header,
+        first,
+        consumer: Vec::new(scope.alloc),
+        guesses,
+    })
+}
+
+/// The code of a pair's parts.
+fn pair_code(scope: &Scope, line: u32, pair: &Pair) -> Result<ConstructCode, AllocError>
+    ensures code { (calls : ℕ → ℕ)
+        → IfOk result (λ k. IsPairCode
+        (callable_before (map seen_function scope.now.functions.now) scope.now.below) calls
+        scope.now.own line (pair_head pair.now) (seen_block (out-Pair pair.now).producer.items)
+        (seen_block (out-Pair pair.now).consumer.items) k) }
+{
+    let header = HeaderCode {
+        start: no_row(scope.alloc),
+        low: no_value(scope.alloc),
+        high: no_value(scope.alloc),
+    };
+    let first = row_code(scope, &pair.producer, pair.give_line, &pair.give)?;
+    let consumer = block(scope, &pair.consumer)?;
+    let guesses = guess_codes(scope, line, &pair.predict)?;
+    Ok(ConstructCode {
+        header,
+        first,
+        consumer,
+        guesses,
+    })
+}
+
+/// The code of a top construct's parts.
+fn construct_code(scope: &Scope, construct: TopConstruct) -> Result<ConstructCode, AllocError>
+    ensures code { (calls : ℕ → ℕ)
+        → IfOk result (λ k. IsConstructCode
+        (callable_before (map seen_function scope.now.functions.now) scope.now.below) calls
+        scope.now.own (seen_construct construct.entry) k) }
+{
+    match construct.kind {
+        ConstructKind::Fold(fold) => fold_code(scope, construct.line, fold),
+        ConstructKind::Pair(pair) => pair_code(scope, construct.line, pair),
+    }
+}
+
+/// The code of each top construct among these statements.
+fn construct_codes(scope: &Scope, main: &[Stmt]) -> Result<Vec<ConstructCode>, AllocError>
+    ensures codes { (calls : ℕ → ℕ)
+        → IfOk result (λ codes. AreConstructCodes
+        (callable_before (map seen_function scope.now.functions.now) scope.now.below) calls
+        scope.now.own (constructs_in (seen_block main.now)) codes.items) }
+{
+    let mut codes = Vec::new(scope.alloc);
+    for stmt in main {
+        if let Some(construct) = as_construct(stmt) {
+            let code = construct_code(scope, construct)?;
+            codes.push(code)?;
+        }
+    }
+    Ok(codes)
+}
+
+/// The code of one statement.
+fn statement_code(scope: &Scope, stmt: &Stmt) -> Result<Vec<Node>, AllocError>
+    ensures code { (calls : ℕ → ℕ)
+        → IfOk result (λ k. IsRun
+        (callable_before (map seen_function scope.now.functions.now) scope.now.below) calls
+        stmt.now.line scope.now.own (seen_statement stmt.now.kind) (code k.items)) }
+{
+    let mut nodes = Vec::new(scope.alloc);
+    statement(scope, stmt.line, &stmt.kind, &mut nodes)?;
+    Ok(nodes)
+}
+
+/// The code of each of these statements.
+fn statement_codes(scope: &Scope, main: &[Stmt]) -> Result<Vec<Vec<Node>>, AllocError>
+    ensures codes { (calls : ℕ → ℕ)
+        → IfOk result (λ codes. AreStatementCodes
+        (callable_before (map seen_function scope.now.functions.now) scope.now.below) calls
+        scope.now.own (seen_block main.now) codes.items) }
+{
+    let mut codes = Vec::new(scope.alloc);
+    for stmt in main {
+        let code = statement_code(scope, stmt)?;
+        codes.push(code)?;
+    }
+    Ok(codes)
+}
+
+/// Lowers a program, in time and memory that are linear in its size. Its code depends on the
+/// program alone.
+///
+/// # Errors
+///
+/// `AllocError` where there is no memory for the code.
+pub fn lower(alloc: Global, program: &Program) -> Result<ProgramCode, AllocError>
+    ensures { IfOk result (λ code. IsCodeOfProgram (seen_program program.now) code) }
+{
+    let functions = functions(alloc, &program.functions)?;
+    let scope = Scope {
+        alloc,
+        functions: &program.functions,
+        below: program.functions.len(),
+        own: slot_count(program.slots.len())?,
+    };
+    let main = statement_codes(&scope, &program.main)?;
+    let constructs = construct_codes(&scope, &program.main)?;
+    Ok(ProgramCode {
+        functions,
+        main,
+        constructs,
+    })
+}

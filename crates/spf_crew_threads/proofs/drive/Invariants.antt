@@ -1,0 +1,13 @@
+use Rattle.std.proofs.Common.{◌≡◌}
+use Rattle.spf_crew.specs.Mates.{IsMateOf}
+use Rattle.spf_crew_threads.proofs.drive.Given as goal
+
+-- the mate is still of this crew, with its numbers
+abbrev pub invariant-loop : goal.invariant-loop
+invariant-loop g l = record {
+  can : (goal.iterator-loop g).can_next l.iterator';
+  ends : (goal.iterator-loop g).is_finite l.iterator';
+  of : IsMateOf l.crew l.mate;
+  from : l.mate.place.from ≡ l.fn.mate.place.from;
+  to : l.mate.place.to ≡ l.fn.mate.place.to;
+}

@@ -1,0 +1,167 @@
+//! Runs the mates of a crew, each in a thread of its own, until the chain has ended.
+#![tactic(auto)]
+
+ghost use Rattle.std.specs.Prelude.{◌≡◌, ◌<◌, ◌≤◌, length, IfOk};
+ghost use Rattle.spf_ast_lemmas.specs.Limits.{max_workers};
+ghost use Rattle.std.specs.List.{All};
+ghost use Rattle.spf_chain.specs.Beginning.{IsStarted};
+ghost use Rattle.spf_chain.specs.Chains.{cells_of, HasEnded};
+ghost use Rattle.spf_chain.specs.Finishing.{EveryMergingRuns};
+ghost use Rattle.spf_chain.specs.Homes.{log_in};
+ghost use Rattle.spf_chain.specs.Jobs.{CanRun};
+ghost use Rattle.spf_speculation_entry.specs.Sites.{entry_at};
+ghost use Rattle.spf_ticket.specs.Tickets.{IsJobOf};
+ghost use Rattle.spf_crew.specs.Mates.{IsMateOf};
+ghost use Rattle.spf_crew_threads.specs.Driving.{HasReadAt, HaveAllReadAt, MakesAttempts};
+
+use crossbeam_utils::Backoff;
+use spf_cells::cells::Cells;
+use spf_chain::chain::Chain;
+use spf_crew::attempt::{Attempter, GatedJob, HasConstruct, HasInstance};
+use spf_crew::crew::Crew;
+use spf_crew::mate::Mate;
+use spf_crew::turn::Turn;
+use spf_ticket::run::Job;
+use spf_ticket::ticket::Ticket;
+use spf_ticket_gate::Gate;
+use std::alloc::{AllocError, Global};
+use std::sync::Wait;
+use std::thread::{Threads, for_each_mut};
+
+/// The most threads that run at once: as many as there may be workers.
+const MOST_THREADS: usize = 64;
+
+/// A mate takes turns until it has ended. It pauses where a turn was idle.
+fn drive<R: Wait, A: Attempter>(rt: &R, crew: &Crew, attempter: &A, mate: &mut Mate)
+    requires own { IsMateOf crew.now mate.old }
+    requires serves { A.serves crew.now.setting attempter.now }
+    ensures { HasReadAt crew.now mate.old mate.new }
+{
+    let backoff = Backoff::new();
+    for _ in rt.forever() {
+        match mate.turn(crew, attempter) {
+            Turn::Worked => backoff.reset(),
+            Turn::Idle { why: _ } => backoff.snooze(),
+            Turn::Ended => break,
+        }
+    }
+}
+
+/// The mates take turns, each in a thread of its own, until each has ended.
+fn in_threads<R: Threads + Wait + Sync, A: Attempter + Sync>(
+    rt: &R,
+    crew: &Crew,
+    attempter: &A,
+    mates: &mut [Mate],
+)
+    requires own { All (IsMateOf crew.now) mates.old }
+    requires serves { A.serves crew.now.setting attempter.now }
+    ensures count { length mates.new ≡ length mates.old }
+    ensures each { HaveAllReadAt crew.now mates.old mates.new }
+{
+    for_each_mut(
+        rt,
+        mates,
+        MOST_THREADS,
+        &|_, mate|
+            requires own { IsMateOf crew.now mate.old }
+            requires serves { A.serves crew.now.setting attempter.now }
+            ensures { HasReadAt crew.entry.now mate.old mate.new }
+        { drive(rt, crew, attempter, mate) },
+    );
+}
+
+/// The same, where the attempts are those of a construct's blocks.
+fn drive_blocks<
+    R: Threads + Wait + Sync,
+    I: HasInstance + Sync,
+    C: HasConstruct + Sync,
+    G: Gate + Sync,
+>(
+    rt: &R,
+    crew: &Crew,
+    instance: &I,
+    construct: &C,
+    index: u32,
+    entry: &[i64],
+    gate: &G,
+    mates: &mut [Mate],
+)
+    requires own { All (IsMateOf crew.now) mates.old }
+    requires serves { MakesAttempts crew.now.setting (record {
+      instance = I.instance instance.now;
+      construct = C.construct construct.now;
+      index = index;
+      entry = entry;
+    }) }
+    ensures count { length mates.new ≡ length mates.old }
+    ensures each { HaveAllReadAt crew.now mates.old mates.new }
+{
+    let attempter = GatedJob {
+        instance,
+        construct,
+        index,
+        entry,
+        gate,
+    };
+    in_threads(rt, crew, &attempter, mates);
+}
+
+/// The same, where they are those of this job.
+fn drive_all<R: Threads + Wait + Sync, G: Gate + Sync>(
+    rt: &R,
+    crew: &Crew,
+    job: Job,
+    gate: &G,
+    mates: &mut [Mate],
+)
+    requires own { All (IsMateOf crew.now) mates.old }
+    requires serves { MakesAttempts crew.now.setting job }
+    ensures count { length mates.new ≡ length mates.old }
+    ensures each { HaveAllReadAt crew.now mates.old mates.new }
+{
+    drive_blocks(
+        rt,
+        crew,
+        &job.instance,
+        &job.construct,
+        job.index,
+        job.entry,
+        gate,
+        mates,
+    );
+}
+
+/// Runs the blocks of a construct whose chain has just started, by 1 to 64 workers, each in a
+/// thread of its own. Where a thread can't be started, the calling thread does its work. Each block
+/// is attempted from its guess, and again from its real row where the guess was wrong; afterwards
+/// the chain has ended. `job` is the construct with the memory at its entry. The gate is called
+/// before and after each attempt. It waits until all workers have ended.
+///
+/// # Errors
+///
+/// `AllocError` where there is no memory for the crew.
+pub fn run_crew<R: Threads + Wait + Sync, G: Gate + Sync>(
+    rt: &R,
+    alloc: Global,
+    chain: Chain,
+    cells: Cells,
+    tickets: Vec<Ticket>,
+    workers: u64,
+    job: Job,
+    gate: &G,
+) -> Result<(Chain, Cells), AllocError>
+    requires workers { (0 < workers) × (workers ≤ max_workers) }
+    requires started { IsStarted chain.site chain cells tickets.items }
+    requires job { CanRun job }
+    requires entry { IsJobOf (entry_at chain.site) job }
+    ensures ended { IfOk result (λ r. HasEnded r.0) }
+    ensures site { IfOk result (λ r. r.0.site ≡ chain.site) }
+    ensures own { IfOk result (λ r. r.1 ≡ cells_of r.0) }
+    ensures cells { IfOk result (λ r. r.1 ≡ cells) }
+    ensures merging { IfOk result (λ r. EveryMergingRuns r.0 (log_in r.0.homes)) }
+{
+    let (crew, mut mates) = Crew::make(alloc, chain, cells, tickets, workers)?;
+    drive_all(rt, &crew, job, gate, mates.as_mut_slice());
+    Ok(crew.close(mates))
+}

@@ -1,5 +1,0 @@
-use Rattle.spf_decoding.proofs.Overflow.{stops}
-use Rattle.spf_decoding.proofs.packbits_stops.Goals as goal
-
-pub returns : goal.returns
-returns c = λ size file output f u beyond. stops size file output f.block f.bytes f.cells f.blocks u beyond

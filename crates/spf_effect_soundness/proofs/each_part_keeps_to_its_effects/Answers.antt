@@ -1,5 +1,0 @@
-use Rattle.spf_effect_soundness.proofs.Law.{keeps-to-its-effects}
-use Rattle.spf_effect_soundness.proofs.each_part_keeps_to_its_effects.Goals as goal
-
-pub returns : goal.returns
-returns c = keeps-to-its-effects

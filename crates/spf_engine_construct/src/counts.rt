@@ -1,0 +1,56 @@
+//! How good the guesses were.
+ghost use Rattle.std.specs.Prelude.{◌≡◌, ◌≤◌, ◌+◌, length, map, drop, not, if◌then◌else◌};
+ghost use Rattle.spf_ast.specs.Meaning.{max_blocks};
+ghost use Rattle.spf_ast.specs.Carried.{same_carried};
+ghost use Rattle.spf_engine_construct.specs.Guesses.{seen_guess, real_values, paired, counts_of};
+ghost use Rattle.spf_engine_construct.specs.Guesses.{AreAtMost};
+
+use spf_chain::validated::Validated;
+use spf_guess_statistics::guess::Guess;
+use spf_guess_statistics::stats::Stats;
+
+/// 1 where it is so, else 0.
+fn one_if(so: bool) -> u64
+    ensures { result ≡ if so then 1 else 0 }
+{
+    if so { 1 } else { 0 }
+}
+
+/// The statistics with the counts of one more guess.
+fn with_guess(stats: Stats, guess: &Guess, block: &Validated) -> Stats
+    requires room { AreAtMost stats max_blocks }
+    ensures blocks { result.blocks ≡ stats.blocks }
+    ensures hits { result.hits
+        ≡ stats.hits + (if same_carried guess.now.value block.now.real then 1 else 0) }
+    ensures misses { result.misses
+        ≡ stats.misses + (if not (same_carried guess.now.value block.now.real) then 1 else 0) }
+    ensures blind { result.blind ≡ stats.blind + (if guess.now.blind then 1 else 0) }
+{
+    let hit = guess.value.is_same(&block.real);
+    Stats {
+        blocks: stats.blocks,
+        hits: stats.hits + one_if(hit),
+        misses: stats.misses + one_if(!hit),
+        blind: stats.blind + one_if(guess.blind),
+    }
+}
+
+/// The statistics of validated blocks with the guesses for them.
+pub(crate) fn count_blocks(history: &[Validated], guesses: &[Guess]) -> Stats
+    requires few { length history.now ≤ max_blocks }
+    requires enough { length history.now ≤ length guesses.now + 1 }
+    ensures counts { result
+        ≡ counts_of (length history.now)
+        (paired (map seen_guess guesses.now) (drop 1 (real_values history.now))) }
+    ensures few { AreAtMost result max_blocks }
+{
+    let mut stats = Stats::none();
+    stats.blocks = history.len() as u64;
+    let Some((_, others)) = history.split_first() else {
+        return stats;
+    };
+    for place in 0..others.len() {
+        stats = with_guess(stats, &guesses[place], &others[place]);
+    }
+    stats
+}

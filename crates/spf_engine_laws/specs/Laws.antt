@@ -1,0 +1,71 @@
+-- What runs in pieces come to.
+use Rattle.std.specs.Prelude.{◌≡◌, ℕ, ◌+◌, List, length, Some, Ok, Err, ℤ}
+use Rattle.spf_ast.specs.declared.outcome.Trap.{Trap}
+use Rattle.spf_ast.specs.Syntax.{Program}
+use Rattle.spf_ast.specs.Program.{environment_of, Done, Stopped}
+use Rattle.spf_ast.specs.Construct.{Construct, Header, header_means, carried_of}
+use Rattle.spf_ast.specs.Pieces.{construct_first}
+use Rattle.spf_ast.specs.Carried.{Carried, with_carried}
+use Rattle.spf_ast.specs.Silence.{FunctionsAreSilent}
+use Rattle.spf_ast.specs.Lawful.{IsLawful}
+use Rattle.spf_exec_instance.specs.Frame.{main_slots}
+use Rattle.spf_exec.specs.declared.pieces.Pause.{Pause}
+use Rattle.spf_exec.specs.declared.pieces.Pause.TheVariants as pause
+use Rattle.spf_exec.specs.Pieces.{Stand, HasBegun, Advanced, EndsAt, TrapsAt, ahead}
+use Rattle.spf_check_rules.specs.Rules.{KeepsTheRules}
+use Rattle.spf_guess_statistics.specs.Guess.{Hosts}
+use Rattle.spf_engine_laws.specs.Traces.{Trace}
+use Rattle.spf_engine_laws.specs.Progress.{Progress, no_progress, GoesOn, HasCome, BlocksComeTo, entry_there, guess_there, with_construct}
+
+-- a run that begins goes on as the plain run of its program
+abbrev pub RunsBegin : Type 0
+RunsBegin = (hosts : Hosts) (p : Program) (input : List ℕ) (s : Stand) → IsLawful p → HasBegun p (length input) s → GoesOn hosts p input s no_progress
+
+-- a run that paused so goes on before a construct, or has come to its end
+abbrev pub IsPausedSo : Hosts → Program → List ℕ → Stand → Progress → Pause → Type 0
+IsPausedSo hosts p input s progress (pause.AtConstruct number construct) = GoesOn hosts p input s progress
+IsPausedSo hosts p input s progress pause.Finished = HasCome hosts p input (Done s.cells s.output) progress
+IsPausedSo hosts p input s progress (pause.Trapped trap) = HasCome hosts p input (Stopped trap s.output) progress
+
+-- so it is after a run was advanced
+abbrev pub RunsAdvance : Type 0
+RunsAdvance =
+    (hosts : Hosts) (p : Program) (input : List ℕ) (before after : Stand) (progress : Progress) (paused : Pause)
+    → GoesOn hosts p input before progress → Advanced p input before after paused → IsPausedSo hosts p input after progress paused
+
+-- a header that traps ends the run
+abbrev pub HeadersEndRuns : Type 0
+HeadersEndRuns =
+    (hosts : Hosts) (p : Program) (input : List ℕ) (before after : Stand) (progress : Progress) (construct : Construct) (trap : Trap)
+    → GoesOn hosts p input before progress → construct_first (ahead p before) ≡ Some construct
+    → TrapsAt p (header_means (environment_of p input) construct) before after trap
+    → HasCome hosts p input (Stopped trap after.output) progress
+
+-- Where the header of a construct is done that keeps the rules, and its blocks came to a row: the run goes on after
+-- it, with this row in the carried slots and with the memory that the blocks left.
+abbrev pub ConstructsSettle : Type 0
+ConstructsSettle =
+    (hosts : Hosts) (p : Program) (input : List ℕ) (before after last : Stand) (progress : Progress)
+    (construct : Construct) (header : Header) (value : Carried) (values : List Carried) (traces : List Trace)
+    → GoesOn hosts p input before progress → construct_first (ahead p before) ≡ Some construct
+    → EndsAt p (header_means (environment_of p input) construct) before after header
+    → FunctionsAreSilent p.functions → KeepsTheRules p construct
+    → BlocksComeTo (entry_there p input construct header after)
+    (guess_there hosts progress.telling p input construct header after) (Ok value) values last.cells traces
+    → main_slots p last.frame ≡ with_carried (carried_of construct) value (main_slots p after.frame)
+    → last.output ≡ after.output → last.place ≡ before.place + 1
+    → GoesOn hosts p input last (with_construct (guess_there hosts progress.telling p input construct header after) construct header values traces progress)
+
+-- where one of them trapped, the run has come to its end
+abbrev pub ConstructsEndRuns : Type 0
+ConstructsEndRuns =
+    (hosts : Hosts) (p : Program) (input : List ℕ) (before after : Stand) (progress : Progress)
+    (construct : Construct) (header : Header) (trap : Trap) (values : List Carried) (memory : List ℤ) (traces : List Trace)
+    → GoesOn hosts p input before progress → construct_first (ahead p before) ≡ Some construct
+    → EndsAt p (header_means (environment_of p input) construct) before after header
+    → FunctionsAreSilent p.functions → KeepsTheRules p construct
+    → BlocksComeTo (entry_there p input construct header after)
+    (guess_there hosts progress.telling p input construct header after) (Err trap) values memory traces
+    → HasCome hosts p input (Stopped trap after.output)
+    (with_construct (guess_there hosts progress.telling p input construct header after) construct header values
+    traces progress)

@@ -1,0 +1,118 @@
+-- A run in pieces that goes on as the plain run of its program does.
+use Rattle.std.specs.Prelude.{◌≡◌, ℕ, true, false, List, [], ◌++◌, length, Result, Ok, ℤ, pos, ◌+ℤ◌}
+use Rattle.spf_ast.specs.declared.outcome.Trap.{Trap}
+use Rattle.spf_ast.specs.Interaction.{Value}
+use Rattle.spf_ast.specs.Syntax.{Program, Block, followed_by}
+use Rattle.spf_ast.specs.Meaning.{main_means}
+use Rattle.spf_ast.specs.Carried.{Carried}
+use Rattle.spf_ast.specs.Plain.{plain_answer, plain_memory}
+use Rattle.spf_ast.specs.Program.{environment_of, start_of, zeros_of, Outcome, outcome, outcome_from}
+use Rattle.spf_ast.specs.Construct.{Moment, Construct, Header, constructs_in, Reached, reached_from, reals}
+use Rattle.spf_ast.specs.Lawful.{Scope, names_at, IsLawfulBlock}
+use Rattle.spf_exec_instance.specs.Frame.{main_slots}
+use Rattle.spf_exec.specs.Pieces.{Stand, moment_of, ahead}
+use Rattle.spf_ast_laws.specs.Agreement.{LookAlike}
+use Rattle.spf_ast_laws.specs.Keeping.{AreDeclared}
+use Rattle.spf_speculation_entry.specs.Entry.{Entry, plain_blocks}
+use Rattle.spf_speculation.specs.Steps.{Step, Merges}
+use Rattle.spf_speculation.specs.Runs.{IsSpeculativeRun}
+use Rattle.spf_speculation_lanes.specs.Lanes.{logs_in}
+use Rattle.spf_guess_statistics.specs.declared.stats.Stats.{Stats}
+use Rattle.spf_guess_statistics.specs.Guess.{Guess, Hosts, Telling, guess_for, tells}
+use Rattle.spf_guess_statistics.specs.Statistics.{none, plus, statistics_with, tally_from, tally}
+use Rattle.spf_engine_laws.specs.Traces.{Trace, AreTraces, begin_with}
+
+-- ---- where a run is
+
+-- the plain run of the program is at this moment when these statements of `main` are still to come: those before them came to it
+pub record IsAt (p : Program) (input : List ℕ) (rest : Block) (m : Moment) : Type 0 where
+  pub before : Block
+  pub parts : followed_by before rest ≡ p.main
+  pub state : plain_answer (main_means (environment_of p input) before (start_of p)) (zeros_of p (length input)) ≡ Value tt m.state
+  pub memory : plain_memory (main_means (environment_of p input) before (start_of p)) (zeros_of p (length input)) ≡ m.memory
+
+-- what a run has counted, what it has told its hosts, and the traces of its constructs, up to where it is
+pub record Progress : Type 0 where
+  pub stats : Stats
+  pub telling : List Telling
+  pub traces : List Trace
+
+-- none yet
+abbrev pub no_progress : Progress
+no_progress = record { stats = none; telling = []; traces = [] }
+
+-- with what the constructs still add that the plain run will reach, the progress is that of the whole run
+pub record IsCompletedBy (hosts : Hosts) (p : Program) (input : List ℕ) (constructs : List Construct)
+    (others : List Reached) (progress : Progress) : Type 0 where
+  pub stats_are : plus progress.stats (tally_from hosts p input constructs others progress.telling).stats ≡ (tally hosts p input).stats
+  pub telling_is : (tally_from hosts p input constructs others progress.telling).telling ≡ (tally hosts p input).telling
+  pub traces_are : (more : List Trace) → AreTraces hosts p input constructs others progress.telling more
+      → AreTraces hosts p input (constructs_in p.main) (reals p input) [] (progress.traces ++ more)
+
+-- A run of a lawful program is where its plain run is at the same place: they agree on the slots that are visible
+-- there, on the output and on the memory. What the plain run does from this moment on gives the program's outcome,
+-- and completes the run's progress.
+pub record GoesOn (hosts : Hosts) (p : Program) (input : List ℕ) (s : Stand) (progress : Progress) : Type 0 where
+  pub scope : Scope
+  pub moment : Moment
+  pub there : IsAt p input (ahead p s) moment
+  pub lawful : IsLawfulBlock (names_at p (length p.functions) p.slots) true scope (ahead p s)
+  pub declared : AreDeclared scope
+  pub outside : scope.in_loop ≡ false
+  pub alike : LookAlike scope.visible moment.state (moment_of p s).state
+  pub memory : moment.memory ≡ s.cells
+  pub outcome_is : outcome_from (plain_answer (main_means (environment_of p input) (ahead p s) moment.state) moment.memory)
+      (plain_memory (main_means (environment_of p input) (ahead p s) moment.state) moment.memory)
+      ≡ outcome p input
+  pub completes : IsCompletedBy hosts p input (constructs_in (ahead p s)) (reached_from (environment_of p input) (ahead p s) moment) progress
+
+-- ---- constructs
+
+-- the entry of a construct at which a run stands, with this header
+abbrev pub entry_there : Program → List ℕ → Construct → Header → Stand → Entry
+entry_there p input c h s = record {
+  program = p;
+  construct = c;
+  input = input;
+  slots = main_slots p s.frame;
+  memory = s.cells;
+  header = h;
+}
+
+-- the guess for each of its blocks, after hosts were told so much
+abbrev pub guess_there : Hosts → List Telling → Program → List ℕ → Construct → Header → Stand → ℕ → Guess
+guess_there hosts telling p input c h s n = guess_for hosts telling p input c (main_slots p s.frame) s.cells (h.low +ℤ pos n)
+
+-- the trace has one log for each block, and every merging of the logs is a speculative run from these guesses, with these values and this result
+pub record HasRuns (e : Entry) (guess : ℕ → Guess) (r : Result Carried Trap) (values : List Carried) (trace : Trace) : Type 0 where
+  pub logs : length trace ≡ e.header.blocks
+  pub merging : (steps : List Step) → Merges e.header.blocks (logs_in trace) steps → IsSpeculativeRun e (λ n. (guess n).value) steps values r
+
+-- The blocks from this entry came to this result, began at these rows, and left this memory where none trapped.
+-- Their trace is one of speculative runs from these guesses; without blocks there is no trace.
+pub record BlocksComeTo (e : Entry) (guess : ℕ → Guess) (r : Result Carried Trap) (values : List Carried) (memory : List ℤ) (traces : List Trace) : Type 0 where
+  pub result : (plain_blocks e).result ≡ r
+  pub values_are : (plain_blocks e).values ≡ values
+  pub memory_is : (v : Carried) → r ≡ Ok v → memory ≡ (plain_blocks e).memory
+  pub traces_are : begin_with e.header.blocks (HasRuns e guess r values) (λ others. others ≡ []) traces
+
+-- the progress after a construct whose blocks began at these rows, had these guesses and left these traces
+abbrev pub with_construct : (ℕ → Guess) → Construct → Header → List Carried → List Trace → Progress → Progress
+with_construct guess c h values traces progress = record {
+  stats = plus progress.stats (statistics_with guess values);
+  telling = progress.telling ++ tells c h values;
+  traces = progress.traces ++ traces;
+}
+
+-- ---- the end
+
+-- the progress is that of the whole run
+pub record IsWhole (hosts : Hosts) (p : Program) (input : List ℕ) (progress : Progress) : Type 0 where
+  pub stats_are : progress.stats ≡ (tally hosts p input).stats
+  pub telling_is : progress.telling ≡ (tally hosts p input).telling
+  pub traces_are : AreTraces hosts p input (constructs_in p.main) (reals p input) [] progress.traces
+
+-- a run has come to its end with the program's outcome
+pub record HasCome (hosts : Hosts) (p : Program) (input : List ℕ) (o : Outcome) (progress : Progress) : Type 0 where
+  pub outcome_is : o ≡ outcome p input
+  pub whole : IsWhole hosts p input progress

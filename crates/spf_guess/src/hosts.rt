@@ -1,0 +1,50 @@
+//! The predictors that the caller hands in, as a list; the first of them is host 0.
+ghost use Rattle.std.specs.Prelude.{◌≡◌, ◌<◌, ◌++◌, ◌∷◌, [], List, map, length};
+ghost use Rattle.spf_guess_statistics.specs.Guess.{Hosts, Telling, told_to};
+ghost use Rattle.spf_guess.specs.Answers.{AnswersAlike, WasTold, handed_in, WereTold};
+
+use crate::Predictor;
+
+/// What this host guesses for a block.
+fn ask_one(host: &mut Box<dyn Predictor>, block: i64) -> i64
+    ensures answer { result ≡ answer host.old [] block }
+    ensures same { AnswersAlike (answer host.old) (answer host.new) }
+{
+    host.guess(block)
+}
+
+/// Tells this host a real part of a block's row.
+fn tell_one(host: &mut Box<dyn Predictor>, block: i64, real: i64)
+    ensures told { WasTold (answer host.old) (record { block = block; real = real })
+        (answer host.new) }
+{
+    host.tell(block, real)
+}
+
+/// What a host guesses for the block of this number: what it answered at first after all that it
+/// was told since.
+pub fn ask(hosts: &mut Vec<Box<dyn Predictor>>, host: u64, block: i64) -> i64
+    requires { host < length hosts.old.items }
+    ensures guess { (before : Hosts) (telling : List Telling)
+        → WereTold before telling (handed_in (map (λ h. answer h) hosts.old.items))
+        → result ≡ before host (told_to host telling) block }
+    ensures told { (before : Hosts) (telling : List Telling)
+        → WereTold before telling (handed_in (map (λ h. answer h) hosts.old.items))
+        → WereTold before telling (handed_in (map (λ h. answer h) hosts.new.items)) }
+    ensures count { length hosts.new.items ≡ length hosts.old.items }
+{
+    ask_one(&mut hosts[host as usize], block)
+}
+
+/// Tells a host what a part of the row really was at which the block of this number began.
+pub fn tell(hosts: &mut Vec<Box<dyn Predictor>>, host: u64, block: i64, real: i64)
+    requires { host < length hosts.old.items }
+    ensures told { (before : Hosts) (telling : List Telling)
+        → WereTold before telling (handed_in (map (λ h. answer h) hosts.old.items))
+        → WereTold before
+        (telling ++ record { host = host; told = record { block = block; real = real } } ∷ [])
+        (handed_in (map (λ h. answer h) hosts.new.items)) }
+    ensures count { length hosts.new.items ≡ length hosts.old.items }
+{
+    tell_one(&mut hosts[host as usize], block, real)
+}

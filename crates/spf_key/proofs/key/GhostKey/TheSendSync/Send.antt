@@ -1,7 +1,0 @@
--- A key may go to another thread: it owns nothing.
-use denote.RattleType.{RattleType}
-use denote.Param.Send.{IsSend}
-use Rattle.spf_key.specs.contracts.key.GhostKey.{the_row}
-
-pub send : (V : RattleType) → IsSend (the_row V)
-send V = record { owned = λ d vs. ((λ vss. (tt, ((λ uss. (tt, tt)), tt))), tt); leaving = λ k f vs. tt }

@@ -1,4 +1,0 @@
-use Rattle.spf_key.proofs.key.GhostKey.again.Given as goal
-
-abbrev pub ghost-with : goal.ghost-with
-ghost-with g a = a.self.now.value

@@ -1,5 +1,0 @@
-use Rattle.std.proofs.Common.{ℕ, length}
-use Rattle.spf_lowering.proofs.statement.+copy_row.Given as goal
-
-abbrev pub decreases-copy_row : goal.decreases-copy_row
-decreases-copy_row l = length l.slots.now

@@ -1,7 +1,0 @@
-mod Best
-mod Counts
-pub mod Handed
-mod Kept
-pub mod Named
-mod Stores
-mod Tables

@@ -1,5 +1,0 @@
-pub mod Answers
-pub mod Counting
-pub mod Kinds
-pub mod Missing
-pub mod Stores

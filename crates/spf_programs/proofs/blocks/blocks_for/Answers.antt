@@ -1,4 +1,0 @@
-use Rattle.spf_programs.proofs.blocks.blocks_for.Goals as goal
-
-pub returns : goal.returns
-returns c = λ _ bytes. c.binary.ensures _ _ (c.binary-rounded.ensures _ _ bytes c.number.ensures) c.number-2.ensures

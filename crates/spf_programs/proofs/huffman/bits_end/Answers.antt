@@ -1,4 +1,0 @@
-use Rattle.spf_programs.proofs.huffman.bits_end.Goals as goal
-
-pub returns : goal.returns
-returns c = c.binary.ensures _ _ c.bits_begin.ensures c.number.ensures

@@ -1,4 +1,0 @@
-use Rattle.spf_programs.proofs.huffman.is_whole.Goals as goal
-
-pub returns : goal.returns
-returns c = c.compare.ensures _ _ (c.load-found.ensures _ c.local.ensures) c.number.ensures

@@ -1,4 +1,0 @@
-use Rattle.spf_programs.proofs.packbits.block_begin.Goals as goal
-
-pub returns : goal.returns
-returns c = c.binary.ensures _ _ c.number.ensures c.local.ensures

@@ -1,4 +1,0 @@
-use Rattle.spf_programs.proofs.packbits.block_end.Goals as goal
-
-pub returns : goal.returns
-returns c = c.binary.ensures _ _ c.block_begin.ensures c.number.ensures

@@ -1,7 +1,0 @@
-use Rattle.spf_ast.specs.Spelling.{spelled}
-use Rattle.spf_roundtrip.proofs.ReadBack.{read_back}
-use Rattle.spf_roundtrip.proofs.Writable.{writable}
-use Rattle.spf_roundtrip.proofs.laws.printed_programs_read_back.Goals as goal
-
-pub returns : goal.returns
-returns c = record { writable = writable; text = λ p w. read_back (spelled 0 p) (writable 0 p w) }

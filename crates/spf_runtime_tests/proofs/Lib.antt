@@ -1,4 +1,0 @@
-pub mod CountingFold
-pub mod Crossing
-pub mod Examples
-pub mod Joined

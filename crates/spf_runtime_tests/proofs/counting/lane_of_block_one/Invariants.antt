@@ -1,5 +1,0 @@
-use Rattle.std.proofs.Common.{[], ◌∷◌}
-use Rattle.spf_runtime_tests.proofs.counting.lane_of_block_one.Given as goal
-
-abbrev pub ghost-make : goal.ghost-make
-ghost-make a = 1 ∷ []

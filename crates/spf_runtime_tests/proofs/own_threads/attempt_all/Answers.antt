@@ -1,6 +1,0 @@
-use denote.Param.Send.{sendable}
-use Rattle.spf_sharing.proofs.Crossing.{instance_sync}
-use Rattle.spf_runtime_tests.proofs.own_threads.attempt_all.Goals as goal
-
-pub attempt_blocks-requires-sync-I : goal.attempt_blocks-requires-sync-I
-attempt_blocks-requires-sync-I g c κs within = search (instance_sync, sendable) depth 60

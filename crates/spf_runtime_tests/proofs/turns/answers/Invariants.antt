@@ -1,7 +1,0 @@
-use Rattle.std.specs.List.{All}
-use Rattle.spf_crew.specs.Mates.{IsMateOf}
-use Rattle.spf_runtime_tests.proofs.turns.answers.Given as goal
-
--- the mates are still of this crew
-abbrev pub invariant-loop-mate : goal.invariant-loop-mate
-invariant-loop-mate g l = All (IsMateOf l.crew) l.mates

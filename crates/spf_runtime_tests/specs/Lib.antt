@@ -1,4 +1,0 @@
-pub mod CountingFold
-pub mod Digits
-pub mod Examples
-pub mod Joined

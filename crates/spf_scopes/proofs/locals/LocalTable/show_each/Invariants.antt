@@ -1,5 +1,0 @@
-use Rattle.spf_scopes.proofs.Rows.{AreShown}
-use Rattle.spf_scopes.proofs.locals.LocalTable.show_each.Given as goal
-
-abbrev pub invariant-loop-place : goal.invariant-loop-place
-invariant-loop-place l = AreShown l.initial.self l.self l.first l.fixed l.names l.place

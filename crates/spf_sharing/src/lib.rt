@@ -1,2 +1,0 @@
-//! What may cross threads: a program, its code, and an instance of it.
-#![tactic(auto)]

@@ -1,5 +1,0 @@
-use Rattle.spf_size.proofs.Tables.{AreCounted}
-use Rattle.spf_size.proofs.functions.sizes.Given as goal
-
-abbrev pub invariant-loop-function : goal.invariant-loop-function
-invariant-loop-function l = AreCounted l.functions l.sizes.items l.function-index

@@ -1,0 +1,238 @@
+// Files of the formats, by hand and from their documents.
+ghost use Rattle.std.specs.Prelude.{◌≤◌, ◌<◌, ◌^◌, length};
+
+use spf_apps_formats::encoder::{EncodeError, encode_huf1};
+use spf_apps_formats::generate::{Kind, generate};
+use spf_apps_formats::huf1::huf1_check;
+use spf_apps_formats::lex1::{lex_input, lex1_check};
+use spf_apps_formats::toy::toy_machine;
+use std::alloc::{AllocError, Global};
+use std::test::Fail;
+
+/// The lengths of a code in which these symbols have code words.
+fn lengths_with(words: &[(u8, u8)]) -> [u8; 256] {
+    let mut lengths = [0; 256];
+    for (symbol, length) in words {
+        lengths[*symbol as usize] = *length;
+    }
+    lengths
+}
+
+/// A HUF1 header with these lengths, and a count of 0.
+fn header_with(alloc: Global, words: &[(u8, u8)]) -> Result<Vec<u8>, AllocError> {
+    let mut file = Vec::new(alloc);
+    file.extend_from_slice(b"HUF1")?;
+    file.extend_from_slice(&lengths_with(words))?;
+    file.extend_from_slice(&[0; 4])?;
+    Ok(file)
+}
+
+#[test]
+fn a_wrong_signature_is_found_at_its_first_byte(rt: HostRuntime) {
+    let cases: [(&[u8], u64); 6] = [
+        (b"", 0),
+        (b"HUF", 3),
+        (b"HUF1", 4),
+        (b"HUF2", 3),
+        (b"huf1", 0),
+        (b"HuF", 1),
+    ];
+    for (file, place) in cases {
+        assert_eq!(rt; huf1_check(file), Err(place), "for {file:?}");
+    }
+}
+
+/// What the check says of the first bytes of a header with these lengths.
+fn verdict(alloc: Global, words: &[(u8, u8)], count: usize) -> Result<Result<(), u64>, AllocError> {
+    let file = header_with(alloc, words)?;
+    Ok(huf1_check(file.get(..count).unwrap_or(&[])))
+}
+
+#[test]
+fn lengths_over_15_come_before_those_without_room(rt: HostRuntime) {
+    let cases: [(&[(u8, u8)], usize, Result<(), u64>); 8] = [
+        (&[], 264, Ok(())),
+        (&[(65, 1), (66, 2), (67, 2)], 264, Ok(())),
+        (&[(65, 1), (66, 1), (67, 1)], 264, Err(71)),
+        (&[(0, 15), (255, 15)], 264, Ok(())),
+        (&[(9, 1), (10, 1), (200, 15)], 264, Err(204)),
+        (&[(9, 1), (10, 1), (11, 1), (255, 16)], 264, Err(259)),
+        (&[(0, 255)], 264, Err(4)),
+        (&[], 263, Err(263)),
+    ];
+    for (words, count, wanted) in cases {
+        assert_eq!(rt;
+            verdict(rt.alloc(), words, count),
+            Ok(wanted),
+            "for {words:?}"
+        );
+    }
+}
+
+/// Whether symbols are encoded with these lengths into a file that is so long and ends so.
+fn is_encoded(alloc: Global, words: &[(u8, u8)], symbols: &[u8], size: usize, end: &[u8]) -> bool
+    requires { length symbols.now < 2 ^ 32 }
+{
+    let lengths = lengths_with(words);
+    match encode_huf1(alloc, &lengths, symbols) {
+        Ok(file) => {
+            file.len() == size
+                && file.starts_with(b"HUF1")
+                && file.get(4..260) == Some(lengths.as_slice())
+                && file.ends_with(end)
+        }
+        Err(_) => false,
+    }
+}
+
+#[test]
+fn symbols_are_encoded_by_canonical_words(rt: HostRuntime) {
+    let alloc = rt.alloc();
+    let three = [(65, 1), (66, 2), (67, 2)];
+    // The example of RFC 1951, section 3.2.2: A to H have 010, 011, 100, 101, 110, 00, 1110 and
+    // 1111.
+    let eight = [
+        (b'A', 3),
+        (b'B', 3),
+        (b'C', 3),
+        (b'D', 3),
+        (b'E', 3),
+        (b'F', 2),
+        (b'G', 4),
+        (b'H', 4),
+    ];
+    let coded = [0b0100_1110, 0b0101_1100, 0b0111_0111, 0b1000_0000];
+    assert_eq!(rt;
+        [
+            is_encoded(alloc, &three, b"ABACAB", 266, &[0, 0, 0, 6, 0x4d, 0x00]),
+            is_encoded(alloc, &eight, b"ABCDEFGH", 268, &coded),
+            is_encoded(alloc, &eight, b"", 264, &[]),
+        ],
+        [true; 3]
+    );
+}
+
+/// Why symbols are not encoded with these lengths.
+fn refusal(alloc: Global, words: &[(u8, u8)], symbols: &[u8]) -> Option<EncodeError>
+    requires { length symbols.now < 2 ^ 32 }
+{
+    encode_huf1(alloc, &lengths_with(words), symbols).err()
+}
+
+#[test]
+fn lengths_are_refused_before_symbols(rt: HostRuntime) {
+    let alloc = rt.alloc();
+    // three words of one bit, and a symbol without a word
+    assert_eq!(rt;
+        [
+            refusal(alloc, &[(65, 1), (66, 1), (67, 1)], b"D"),
+            refusal(alloc, &[(65, 1), (66, 1)], b"ABDC"),
+        ],
+        [
+            Some(EncodeError::BadLengths { place: 71 }),
+            Some(EncodeError::NoCode { at: 2 }),
+        ]
+    );
+}
+
+#[test]
+fn the_toy_machine_is_a_machine(rt: HostRuntime) -> Result<(), Fail> {
+    let alloc = rt.alloc();
+    let machine = toy_machine(alloc)?;
+    let input = lex_input(alloc, &machine, b"a+b")?;
+    assert_eq!(rt; lex1_check(&machine), Ok((6, 6)));
+    assert_eq!(rt; [machine.len(), input.len()], [334, 337]);
+    // An `x` in a gap begins a word; a star in a comment may end it.
+    assert_eq!(rt;
+        [
+            machine.get(6 + 0x78) == Some(&1),
+            machine.get(264) == Some(&1),
+            machine.get(265) == Some(&1),
+            machine.ends_with(&[0, 0, 5, 0]),
+            input.starts_with(&machine),
+            input.ends_with(b"a+b"),
+        ],
+        [true; 6]
+    );
+    Ok(())
+}
+
+/// What the check says of the first bytes of the toy machine and a byte more, where one byte is set
+/// to another.
+fn changed(
+    alloc: Global,
+    at: usize,
+    byte: u8,
+    count: usize,
+) -> Result<Result<(u64, u64), u64>, AllocError> {
+    let mut file = toy_machine(alloc)?;
+    file.push(0)?;
+    if let Some(old) = file.get_mut(at) {
+        *old = byte;
+    }
+    Ok(lex1_check(file.get(..count).unwrap_or(&[])))
+}
+
+#[test]
+fn a_machine_is_refused_at_what_is_wrong_first(rt: HostRuntime) {
+    // Which byte is set to what, how many bytes there are, and the place of the fault.
+    let cases: [(usize, u8, usize, u64); 18] = [
+        (1, 0, 334, 1),
+        (4, 0, 334, 4),
+        (4, 65, 334, 4),
+        (5, 0, 334, 5),
+        (5, 65, 334, 5),
+        (5, 7, 334, 334),
+        (5, 5, 334, 322),
+        (6, 6, 334, 6),
+        (332, 6, 334, 332),
+        // A wrong length comes before a wrong class.
+        (261, 9, 334, 261),
+        (261, 9, 335, 334),
+        (261, 9, 0, 0),
+        (261, 9, 3, 3),
+        (261, 9, 4, 4),
+        (261, 9, 5, 5),
+        (261, 9, 6, 6),
+        (261, 9, 262, 262),
+        (261, 9, 333, 333),
+    ];
+    for (at, byte, count, place) in cases {
+        assert_eq!(rt;
+            changed(rt.alloc(), at, byte, count),
+            Ok(Err(place)),
+            "byte {at} of {count} is {byte}"
+        );
+    }
+}
+
+/// Whether this input is drawn.
+fn is_drawn(alloc: Global, kind: Kind, seed: u64, size: u64, wanted: &[u8]) -> bool
+    requires { (1 ≤ size) × (size ≤ 1000000) }
+{
+    match generate(alloc, kind, seed, size) {
+        Ok(file) => file.as_slice() == wanted,
+        Err(_) => false,
+    }
+}
+
+#[test]
+fn inputs_are_drawn_from_their_seed(rt: HostRuntime) -> Result<(), Fail> {
+    let alloc = rt.alloc();
+    let long = generate(alloc, Kind::Unpack, 0, 65)?;
+    let coded = generate(alloc, Kind::Unhuff, 0, 20)?;
+    assert_eq!(rt;
+        [
+            is_drawn(alloc, Kind::Lex, 0, 2, b"1b"),
+            is_drawn(alloc, Kind::Lex, 7, 24, b"/+cccha g*hgbb\"e\"h 1bc/e"),
+            is_drawn(alloc, Kind::Unpack, 3, 2, &[3, 247, 135, 148, 105]),
+            is_drawn(alloc, Kind::Unpack, 2, 1, &[196, 85]),
+            long.len() == 65,
+            coded.starts_with(b"HUF1\x01\x02\x03\x04\x04\x00"),
+            coded.ends_with(&[0, 0, 0, 20, 226, 142, 57, 171, 0]),
+            huf1_check(&coded) == Ok(()),
+        ],
+        [true; 8]
+    );
+    Ok(())
+}

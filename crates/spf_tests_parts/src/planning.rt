@@ -1,0 +1,81 @@
+// Which cells the blocks of worked programs write.
+
+ghost use Rattle.spf_ast.specs.View.{program as seen_program};
+ghost use Rattle.spf_ast.specs.Lawful.{IsLawful};
+
+use spf_ast::construct::find_construct;
+use spf_check::check::check;
+use spf_check::checked::Checked;
+use spf_exec_instance::arrays::layout;
+use spf_parse::parse;
+use spf_region::span::{Plan, Span};
+use spf_types::resolve;
+use std::alloc::Global;
+use std::test::Fail;
+
+// The checked program of a text.
+fn checked(alloc: Global, text: &str) -> Option<Checked> {
+    let raw = parse(alloc, text.as_bytes()).ok()?;
+    let program = resolve(alloc, raw).ok()?;
+    check(alloc, program).ok()
+}
+
+// The spans of the first two blocks of its first construct, for an empty input, from the block
+// number `low` on.
+fn planned(alloc: Global, text: &str, low: i32) -> Option<Plan> {
+    let checked = checked(alloc, text)?;
+    let found = layout(alloc, checked.program(), 0).ok()?;
+    // A plan is asked for a construct that is there.
+    find_construct(&checked.program().main, 0)?;
+    checked.plan(alloc, 0, &found, low as i64, 2).ok()
+}
+
+fn span(from: u64, to: u64) -> Span {
+    Span { from, to }
+}
+
+#[test]
+fn blocks_have_the_spans_of_what_they_may_write(rt: HostRuntime) -> Result<(), Fail> {
+    let alloc = rt.alloc();
+    let rows: [(&str, i32, &[Span], &[Span]); 5] = [
+        (
+            "array a[5]; array out[6]; main { specfold s = 0 for k in 0..3 predict 1 { fill out[2*k..2*k + 2] = 0; out[2*k + (s & 1)] = 7; next s + 1; } }",
+            1,
+            &[span(7, 9)],
+            &[span(9, 11)],
+        ),
+        (
+            "array out[6]; main { specfold s = 0 for k in 0..3 predict 1 { fill out[2*k..2*k + 2] = 0; next s + 1; } }",
+            -1,
+            &[],
+            &[span(0, 2)],
+        ),
+        (
+            "array out[8]; main { specfold s = 0 for k in 0..2 predict 1 { out[4*k] = s; out[4*k + 2] = s; next s; } }",
+            0,
+            &[span(0, 1), span(2, 3)],
+            &[span(4, 5), span(6, 7)],
+        ),
+        (
+            "array out[4]; main { spec x = { out[3] = 1; give 3; } predict 4 { out[0] = x; out[1] = x; } }",
+            7,
+            &[span(3, 4)],
+            &[span(0, 2)],
+        ),
+        (
+            "main { specfold s = 0 for k in 0..3 predict 1 { next s + 1; } }",
+            0,
+            &[],
+            &[],
+        ),
+    ];
+    for (text, low, first, second) in rows {
+        let Some(plan) = planned(alloc, text, low) else {
+            return Err(Fail::new(text));
+        };
+        assert!(rt; plan.blocks.len() == 2, "{text}");
+        let spans = [plan.blocks[0].as_slice(), plan.blocks[1].as_slice()];
+        assert!(rt; spans == [first, second], "{text}");
+    }
+    Ok(())
+}

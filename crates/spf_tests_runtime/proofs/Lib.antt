@@ -1,0 +1,3 @@
+pub mod CountingFold
+pub mod Crossing
+pub mod Examples

@@ -1,0 +1,3 @@
+pub mod CountingFold
+pub mod Digits
+pub mod Examples

@@ -1,0 +1,267 @@
+//! One hand, two in turn, and four in threads, where all items were given by one, and where each
+//! gives its own.
+ghost use Rattle.std.specs.Prelude.{◌<◌, ◌≤◌};
+ghost use Rattle.spf_pool.specs.Limits.{max_capacity};
+ghost use Rattle.spf_ast_lemmas.specs.Limits.{max_workers};
+
+use spf_cells_key::key::{GhostKey, ghost_key};
+use spf_pool::hand::Hand;
+use spf_pool::next::Next;
+use spf_pool::pool::Pool;
+use spf_pool::rule::Item;
+use std::alloc::{AllocError, Global};
+use std::thread::{Threads, for_each_mut};
+
+/// A numbered item, of which nothing is asked.
+#[derive(Drop)]
+struct Numbered {
+    number: u64,
+}
+
+impl Item<()> for Numbered {
+    ghost meets = { λ k x. Unit {0} };
+}
+
+/// A hand, how many items it is still to give, how many came back to it, and how many it found,
+/// with the sum of their numbers.
+#[derive(Drop)]
+struct Busy {
+    hand: Hand<Numbered, ()>,
+    gives: u64,
+    refused: u64,
+    count: u64,
+    sum: u64,
+}
+
+fn hands(alloc: Global, workers: u64, capacity: u64) -> Result<Vec<Busy>, AllocError>
+    requires workers { (0 < workers) × (workers ≤ max_workers) }
+    requires capacity { capacity ≤ max_capacity }
+{
+    let key: GhostKey<()> = ghost_key::<()>();
+    let hands = Pool::make::<Numbered, ()>(alloc, &key, workers, capacity)?;
+    let mut all = Vec::new(alloc);
+    for hand in hands {
+        all.push(Busy {
+            hand,
+            gives: 0,
+            refused: 0,
+            count: 0,
+            sum: 0,
+        })?;
+    }
+    Ok(all)
+}
+
+/// A call of the hand with this index.
+#[derive(Clone, Copy)]
+enum Call {
+    /// It gives an item with this number.
+    Give(usize, u64),
+    /// It takes the next item.
+    Next(usize),
+}
+
+/// The number of the item that was found; 1000 stands for `Empty`, and 2000 for `Again`.
+fn number(found: Next<Numbered>) -> u64 {
+    match found {
+        Next::Got(item) => item.number,
+        Next::Empty => 1000,
+        Next::Again => 2000,
+    }
+}
+
+/// The number of the item that came back, or 0.
+fn refused(given: Result<(), Numbered>) -> u64 {
+    match given {
+        Ok(()) => 0,
+        Err(item) => item.number,
+    }
+}
+
+/// What a call answers; 3000 stands for a hand that there is not.
+fn answer(all: &mut [Busy], call: Call) -> u64 {
+    let (Call::Give(hand, _) | Call::Next(hand)) = call;
+    let Some(busy) = all.get_mut(hand) else {
+        return 3000;
+    };
+    match call {
+        Call::Give(_, number) => refused(busy.hand.give(Numbered { number })),
+        Call::Next(_) => number(busy.hand.next()),
+    }
+}
+
+/// The first of these calls that isn't answered as it is to be, and its answer, where hands of a
+/// new pool are called one after another.
+fn first_wrong(
+    alloc: Global,
+    workers: u64,
+    capacity: u64,
+    calls: &[(Call, u64)],
+) -> Result<Option<(usize, u64)>, AllocError>
+    requires workers { (0 < workers) × (workers ≤ max_workers) }
+    requires capacity { capacity ≤ max_capacity }
+{
+    let mut all = hands(alloc, workers, capacity)?;
+    for (place, (call, wanted)) in calls.iter().enumerate() {
+        let found = answer(&mut all, *call);
+        if found != *wanted {
+            return Ok(Some((place, found)));
+        }
+    }
+    Ok(None)
+}
+
+/// Gives items with the numbers below `count`.
+fn give_below(busy: &mut Busy, count: u64) {
+    for number in 0..count {
+        if busy.hand.give(Numbered { number }).is_err() {
+            busy.refused = busy.refused.wrapping_add(1);
+        }
+    }
+}
+
+/// Gives an item, if one is to be given.
+fn give_one(busy: &mut Busy) {
+    if busy.gives == 0 {
+        return;
+    }
+    busy.gives -= 1;
+    if busy.hand.give(Numbered { number: busy.gives }).is_err() {
+        busy.refused = busy.refused.wrapping_add(1);
+    }
+}
+
+/// Gives and takes, until all own items were given and each deque was seen empty.
+fn work(busy: &mut Busy) {
+    for _ in 0..u64::MAX {
+        give_one(busy);
+        match busy.hand.next() {
+            Next::Got(item) => {
+                busy.count = busy.count.wrapping_add(1);
+                busy.sum = busy.sum.wrapping_add(item.number);
+            }
+            Next::Empty => {
+                if busy.gives == 0 {
+                    return;
+                }
+            }
+            Next::Again => {}
+        }
+    }
+}
+
+/// How many items came back to each of four hands, and the number that it finds next.
+fn ends(all: &mut [Busy]) -> [(u64, u64); 4] {
+    let mut ends = [(0, 0); 4];
+    for (end, busy) in ends.iter_mut().zip(all) {
+        *end = (busy.refused, number(busy.hand.next()));
+    }
+    ends
+}
+
+/// How many items were found, and the sum of their numbers.
+fn totals(all: &[Busy]) -> (u64, u64) {
+    let mut count = 0u64;
+    let mut sum = 0u64;
+    for busy in all {
+        count = count.wrapping_add(busy.count);
+        sum = sum.wrapping_add(busy.sum);
+    }
+    (count, sum)
+}
+
+/// What four threads leave: how many hands there are, how many items were found, with the sum of
+/// their numbers, and for each hand how many items came back to it and the number that it finds
+/// next.
+type Left = (usize, (u64, u64), [(u64, u64); 4]);
+
+/// What four threads leave, where the first hand gave so many items before, and each hand gives so
+/// many.
+fn in_four<R: Threads + Sync>(
+    rt: &R,
+    alloc: Global,
+    by_first: u64,
+    by_each: u64,
+) -> Result<Left, AllocError> {
+    let mut all = hands(alloc, 4, 8192)?;
+    if let Some(first) = all.first_mut() {
+        give_below(first, by_first);
+    }
+    for busy in all.iter_mut() {
+        busy.gives = by_each;
+    }
+    for_each_mut(rt, all.as_mut_slice(), 4, &|_, busy| work(busy));
+    Ok((all.len(), totals(&all), ends(&mut all)))
+}
+
+#[test]
+fn hands_answer_in_turn(rt: HostRuntime) {
+    let alloc = rt.alloc();
+    // one hand alone
+    let alone = [
+        (Call::Give(0, 1), 0),
+        (Call::Give(0, 2), 0),
+        (Call::Give(0, 3), 0),
+        (Call::Give(0, 4), 4),
+        (Call::Next(0), 1),
+        (Call::Next(0), 2),
+        (Call::Next(0), 3),
+        (Call::Next(0), 1000),
+        (Call::Next(0), 1000),
+        (Call::Give(0, 5), 5),
+        (Call::Next(1), 3000),
+    ];
+    // a thief takes the oldest item
+    let thief = [
+        (Call::Give(0, 1), 0),
+        (Call::Give(0, 2), 0),
+        (Call::Give(0, 3), 0),
+        (Call::Give(0, 4), 4),
+        (Call::Next(1), 1),
+        (Call::Next(0), 2),
+        (Call::Next(0), 3),
+        (Call::Next(0), 1000),
+        (Call::Give(0, 5), 5),
+        (Call::Next(2), 3000),
+    ];
+    // the own deque comes first
+    let own_first = [
+        (Call::Next(1), 1000),
+        (Call::Give(0, 1), 0),
+        (Call::Give(1, 71), 0),
+        (Call::Give(0, 2), 0),
+        (Call::Give(1, 72), 0),
+        (Call::Next(1), 71),
+        (Call::Next(0), 1),
+        (Call::Next(2), 2),
+        (Call::Next(0), 72),
+        (Call::Next(1), 1000),
+        (Call::Next(2), 1000),
+        (Call::Next(3), 3000),
+    ];
+    assert_eq!(rt;
+        [
+            first_wrong(alloc, 1, 3, &alone),
+            first_wrong(alloc, 2, 3, &thief),
+            first_wrong(alloc, 3, 8, &own_first),
+        ],
+        [Ok(None), Ok(None), Ok(None)]
+    );
+}
+
+#[test]
+fn four_threads_take_each_item_once(rt: HostRuntime) {
+    let alloc = rt.alloc();
+    assert_eq!(rt;
+        [
+            // the items of one deque
+            in_four(&rt, alloc, 8192, 0),
+            // each gives and takes; the last 8 items of each come back to it
+            in_four(&rt, alloc, 0, 8200),
+        ],
+        [
+            Ok((4, (8192, 8192 * 8191 / 2), [(0, 1000); 4])),
+            Ok((4, (4 * 8192, 4 * (8200 * 8199 / 2 - 28)), [(8, 1000); 4])),
+        ]
+    );
+}

@@ -1,0 +1,44 @@
+use Rattle.std.proofs.Common.{◌+◌, ◌*◌}
+use Rattle.spf_ast.specs.declared.raw.RawFold.{out-RawFold}
+use Rattle.spf_ast.specs.declared.raw.RawPair.{out-RawPair}
+use Rattle.spf_types_names.specs.HereView.{setting}
+use Rattle.spf_types_forms.proofs.Weight.{kind_weight, stmts_weight}
+use Rattle.spf_types_forms.proofs.Blocks.{IsResolved}
+use Rattle.spf_types_forms.proofs.statement.+block.Given as goal
+
+abbrev pub decreases-block : goal.decreases-block
+decreases-block l = 2 * stmts_weight l.raw.now
+
+abbrev pub decreases-inner : goal.decreases-inner
+decreases-inner l = 2 * stmts_weight l.raw.now + 1
+
+abbrev pub decreases-statement_kind : goal.decreases-statement_kind
+decreases-statement_kind l = 2 * kind_weight l.raw.now
+
+abbrev pub decreases-choice : goal.decreases-choice
+decreases-choice l = 2 * (stmts_weight l.first.now + stmts_weight l.second.now) + 2
+
+abbrev pub decreases-counted : goal.decreases-counted
+decreases-counted l = 2 * stmts_weight l.body.now + 1
+
+abbrev pub decreases-repeated : goal.decreases-repeated
+decreases-repeated l = 2 * stmts_weight l.body.now + 2
+
+abbrev pub decreases-rowed : goal.decreases-rowed
+decreases-rowed l = 2 * stmts_weight l.raw.now + 1
+
+abbrev pub decreases-folded : goal.decreases-folded
+decreases-folded l = 2 * stmts_weight (out-RawFold l.raw.now).body.items + 2
+
+abbrev pub decreases-fold : goal.decreases-fold
+decreases-fold l = 2 * stmts_weight (out-RawFold l.raw.now).body.items + 3
+
+abbrev pub decreases-consumed : goal.decreases-consumed
+decreases-consumed l = 2 * stmts_weight (out-RawPair l.raw.now).consumer.items + 1
+
+abbrev pub decreases-pair : goal.decreases-pair
+decreases-pair l = 2 * (stmts_weight (out-RawPair l.raw.now).producer.items + stmts_weight (out-RawPair l.raw.now).consumer.items) + 2
+
+abbrev pub invariant-block-loop-statement : goal.invariant-block-loop-statement
+invariant-block-loop-statement l =
+    IsResolved (setting l.here) l.initial.locals l.locals l.raw l.statements.items l.statement-index

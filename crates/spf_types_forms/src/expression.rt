@@ -1,0 +1,230 @@
+// Expressions: numbers, and truth values as conditions.
+
+ghost use Rattle.std.specs.Prelude.{◌≡◌, IfErr, Some, length, map};
+ghost use Rattle.spf_ast.specs.View.{expression as seen_expression, arguments as seen_arguments};
+ghost use Rattle.spf_ast.specs.View.{condition as seen_condition, predictor as seen_predictor};
+ghost use Rattle.spf_ast.specs.View.{name as seen_name};
+ghost use Rattle.spf_ast.specs.RawView.{raw_expression, raw_arguments, raw_predictor};
+ghost use Rattle.spf_types_names.specs.declared.fault.TypeError.TheVariants.{Refused};
+ghost use Rattle.spf_types_names.specs.declared.fault.TypeFault.TheVariants.{Kind};
+ghost use Rattle.spf_types_names.specs.HereView.{setting};
+ghost use Rattle.spf_types_names.specs.Faults.{expression_faults, arguments_faults};
+ghost use Rattle.spf_types_names.specs.Faults.{predictor_faults, predictors_faults, called_faults};
+ghost use Rattle.spf_types_names.specs.Faults.{no_truth, a_number, a_truth, first};
+ghost use Rattle.spf_types_names.specs.Resolved.{scope, resolved_expression, resolved_arguments};
+ghost use Rattle.spf_types_names.specs.Resolved.{resolved_condition, resolved_predictor};
+ghost use Rattle.spf_types_names.specs.Resolved.{resolved_predictors};
+ghost use Rattle.spf_types_names.specs.Answers.{Answers};
+
+use spf_ast::raw::{RawExpr, RawPredict};
+use spf_ast::syntax::{Cond, Expr, Predict};
+use spf_types_names::fault::{TypeError, TypeFault};
+use spf_types_names::locals::LocalTable;
+use spf_types_names::names::{Here, called, callee, indexed, used};
+
+/// A value of the wrong kind.
+fn wrong_kind(line: u32) -> TypeError
+    ensures { result ≡ Refused Kind line }
+{
+    let fault = TypeFault::Kind;
+    TypeError::Refused { fault, line }
+}
+
+/// An expression that gives a number.
+#[cycle(number)]
+pub(crate) fn number<'a>(
+    here: &Here<'_, 'a>,
+    locals: &LocalTable<'a>,
+    line: u32,
+    raw: &'a RawExpr,
+) -> Result<Expr, TypeError>
+    ensures { Answers (expression_faults (setting here.now) (scope locals.now.locals) line a_number
+        (raw_expression raw.now)) seen_expression
+        (resolved_expression here.now.globals.now locals.now.locals (raw_expression raw.now))
+        result }
+{
+    match raw {
+        RawExpr::Number(n) => Ok(Expr::Number(*n)),
+        RawExpr::Local(name) => {
+            let slot = used(here, locals, line, name)?;
+            Ok(Expr::Local(slot))
+        }
+        RawExpr::Len => Ok(Expr::Len),
+        RawExpr::Input(index) => {
+            let index = boxed(here, locals, line, index)?;
+            Ok(Expr::Input(index))
+        }
+        RawExpr::Load(name, index) => {
+            let array = indexed(here, locals, line, name)?;
+            let index = boxed(here, locals, line, index)?;
+            Ok(Expr::Load(array, index))
+        }
+        RawExpr::Call(name, given) => {
+            let function = called(here, locals, line, name, given.len())?;
+            let arguments = numbers(here, locals, line, given)?;
+            Ok(Expr::Call(function, arguments))
+        }
+        RawExpr::Neg(inner) => {
+            let inner = boxed(here, locals, line, inner)?;
+            Ok(Expr::Neg(inner))
+        }
+        RawExpr::Binary(op, left, right) => {
+            let left = boxed(here, locals, line, left)?;
+            let right = boxed(here, locals, line, right)?;
+            Ok(Expr::Binary(*op, left, right))
+        }
+        RawExpr::Compare(..) | RawExpr::Both(..) | RawExpr::Either(..) | RawExpr::Not(_) => {
+            Err(wrong_kind(line))
+        }
+    }
+}
+
+/// An expression that gives a number, in a box. What waits for a later part is held so: where that
+/// part fails, a box is dropped by one call.
+#[cycle(number)]
+pub(crate) fn boxed<'a>(
+    here: &Here<'_, 'a>,
+    locals: &LocalTable<'a>,
+    line: u32,
+    raw: &'a RawExpr,
+) -> Result<Box<Expr>, TypeError>
+    ensures { Answers (expression_faults (setting here.now) (scope locals.now.locals) line a_number
+        (raw_expression raw.now)) (λ b. seen_expression b.value)
+        (resolved_expression here.now.globals.now locals.now.locals (raw_expression raw.now))
+        result }
+{
+    let expr = number(here, locals, line, raw)?;
+    Ok(Box::new(here.alloc, expr)?)
+}
+
+/// Arguments.
+#[cycle(number)]
+pub(crate) fn numbers<'a>(
+    here: &Here<'_, 'a>,
+    locals: &LocalTable<'a>,
+    line: u32,
+    raw: &'a [RawExpr],
+) -> Result<Vec<Expr>, TypeError>
+    ensures { Answers
+        (arguments_faults (setting here.now) (scope locals.now.locals) line (raw_arguments raw.now))
+        (λ v. seen_arguments v.items)
+        (resolved_arguments here.now.globals.now locals.now.locals (raw_arguments raw.now)) result }
+{
+    let mut arguments = Vec::new(here.alloc);
+    for argument in raw {
+        let expr = number(here, locals, line, argument)?;
+        arguments.push(expr)?;
+    }
+    Ok(arguments)
+}
+
+/// A condition.
+#[cycle(truth)]
+fn truth<'a>(
+    here: &Here<'_, 'a>,
+    locals: &LocalTable<'a>,
+    line: u32,
+    raw: &'a RawExpr,
+) -> Result<Cond, TypeError>
+    ensures { Answers (expression_faults (setting here.now) (scope locals.now.locals) line a_truth
+        (raw_expression raw.now)) seen_condition
+        (resolved_condition here.now.globals.now locals.now.locals (raw_expression raw.now))
+        result }
+{
+    match raw {
+        RawExpr::Compare(test, left, right) => {
+            let left = boxed(here, locals, line, left)?;
+            let right = boxed(here, locals, line, right)?;
+            Ok(Cond::Compare(*test, left, right))
+        }
+        RawExpr::Both(first, second) => {
+            let first = boxed_truth(here, locals, line, first)?;
+            let second = boxed_truth(here, locals, line, second)?;
+            Ok(Cond::Both(first, second))
+        }
+        RawExpr::Either(first, second) => {
+            let first = boxed_truth(here, locals, line, first)?;
+            let second = boxed_truth(here, locals, line, second)?;
+            Ok(Cond::Either(first, second))
+        }
+        RawExpr::Not(inner) => {
+            let inner = boxed_truth(here, locals, line, inner)?;
+            Ok(Cond::Not(inner))
+        }
+        RawExpr::Local(name) => {
+            used(here, locals, line, name)?;
+            Err(wrong_kind(line))
+        }
+        RawExpr::Load(name, _) => {
+            indexed(here, locals, line, name)?;
+            Err(wrong_kind(line))
+        }
+        RawExpr::Call(name, given) => {
+            callee(here, locals, line, name, given.len())?;
+            Err(wrong_kind(line))
+        }
+        RawExpr::Number(_)
+        | RawExpr::Len
+        | RawExpr::Input(_)
+        | RawExpr::Neg(_)
+        | RawExpr::Binary(..) => Err(wrong_kind(line)),
+    }
+}
+
+/// A condition, in a box.
+#[cycle(truth)]
+pub(crate) fn boxed_truth<'a>(
+    here: &Here<'_, 'a>,
+    locals: &LocalTable<'a>,
+    line: u32,
+    raw: &'a RawExpr,
+) -> Result<Box<Cond>, TypeError>
+    ensures { Answers (expression_faults (setting here.now) (scope locals.now.locals) line a_truth
+        (raw_expression raw.now)) (λ b. seen_condition b.value)
+        (resolved_condition here.now.globals.now locals.now.locals (raw_expression raw.now))
+        result }
+{
+    let cond = truth(here, locals, line, raw)?;
+    Ok(Box::new(here.alloc, cond)?)
+}
+
+/// A predictor of one part of a row.
+fn predictor<'a>(
+    here: &Here<'_, 'a>,
+    locals: &LocalTable<'a>,
+    line: u32,
+    raw: &'a RawPredict,
+) -> Result<Predict, TypeError>
+    ensures { Answers
+        (predictor_faults (setting here.now) (scope locals.now.locals) line (raw_predictor raw.now))
+        seen_predictor
+        (resolved_predictor here.now.globals.now locals.now.locals (raw_predictor raw.now)) result }
+{
+    match raw {
+        RawPredict::Expr(guess) => {
+            let guess = number(here, locals, line, guess)?;
+            Ok(Predict::Expr(guess))
+        }
+        RawPredict::Host(number) => Ok(Predict::Host(*number)),
+    }
+}
+
+/// The predictors of a row's parts.
+pub(crate) fn predictors<'a>(
+    here: &Here<'_, 'a>,
+    locals: &LocalTable<'a>,
+    line: u32,
+    raw: &'a [RawPredict],
+) -> Result<Vec<Predict>, TypeError>
+    ensures { Answers (predictors_faults (setting here.now) (scope locals.now.locals) line
+        (map raw_predictor raw.now)) (λ v. map seen_predictor v.items)
+        (resolved_predictors here.now.globals.now locals.now.locals (map raw_predictor raw.now))
+        result }
+{
+    let mut guesses = Vec::new(here.alloc);
+    for part in raw {
+        let guess = predictor(here, locals, line, part)?;
+        guesses.push(guess)?;
+    }
+    Ok(guesses)
+}

@@ -1,0 +1,179 @@
+// Statements without blocks.
+
+ghost use Rattle.std.specs.Prelude.{◌≡◌, IfOk, length};
+ghost use Rattle.spf_ast.specs.View.{statement as seen_statement, name as seen_name};
+ghost use Rattle.spf_ast.specs.RawView.{raw_expression, raw_arguments};
+ghost use Rattle.spf_ast.specs.RawSyntax as raw_form;
+ghost use Rattle.spf_types_names.specs.HereView.{setting};
+ghost use Rattle.spf_types_names.specs.Faults.{statement_faults};
+ghost use Rattle.spf_types_names.specs.Resolved.{scope, resolved_statement, after_statement};
+ghost use Rattle.spf_types_names.specs.Answers.{Answers};
+
+use crate::expression::{boxed, number, numbers};
+use spf_ast::raw::RawExpr;
+use spf_ast::syntax::{Name, StmtKind};
+use spf_types_names::fault::{TypeError, TypeFault};
+use spf_types_names::locals::LocalTable;
+use spf_types_names::names::{Here, assigned, called, declarable, indexed, leaves_loop};
+
+/// A `let`.
+pub(crate) fn declaration<'a>(
+    here: &Here<'_, 'a>,
+    locals: &mut LocalTable<'a>,
+    line: u32,
+    name: &'a Name,
+    value: &'a RawExpr,
+) -> Result<StmtKind, TypeError>
+    ensures answers { Answers (statement_faults (setting here.now) (scope locals.old.locals) line
+        (raw_form.Let (seen_name name.now) (raw_expression value.now))) seen_statement
+        (resolved_statement here.now.globals.now locals.old.locals (length locals.old.slots)
+        (raw_form.Let (seen_name name.now) (raw_expression value.now))) result }
+    ensures after { IfOk result (λ _. locals.new
+        ≡ after_statement locals.old
+        (raw_form.Let (seen_name name.now) (raw_expression value.now))) }
+{
+    declarable(here, locals, line, name)?;
+    let value = boxed(here, locals, line, value)?;
+    let slot = locals.declare(here.alloc, name)?;
+    locals.show(name, slot, false)?;
+    Ok(StmtKind::Let(slot, Box::into_inner(value)))
+}
+
+/// An assignment.
+pub(crate) fn assignment<'a>(
+    here: &Here<'_, 'a>,
+    locals: &LocalTable<'a>,
+    line: u32,
+    name: &'a Name,
+    value: &'a RawExpr,
+) -> Result<StmtKind, TypeError>
+    ensures { Answers (statement_faults (setting here.now) (scope locals.now.locals) line
+        (raw_form.Assign (seen_name name.now) (raw_expression value.now))) seen_statement
+        (resolved_statement here.now.globals.now locals.now.locals (length locals.now.slots)
+        (raw_form.Assign (seen_name name.now) (raw_expression value.now))) result }
+{
+    let slot = assigned(here, locals, line, name)?;
+    let value = number(here, locals, line, value)?;
+    Ok(StmtKind::Assign(slot, value))
+}
+
+/// A store.
+pub(crate) fn store<'a>(
+    here: &Here<'_, 'a>,
+    locals: &LocalTable<'a>,
+    line: u32,
+    name: &'a Name,
+    index: &'a RawExpr,
+    value: &'a RawExpr,
+) -> Result<StmtKind, TypeError>
+    ensures { Answers (statement_faults (setting here.now) (scope locals.now.locals) line
+        (raw_form.Store (seen_name name.now) (raw_expression index.now) (raw_expression value.now)))
+        seen_statement (resolved_statement here.now.globals.now locals.now.locals
+        (length locals.now.slots)
+        (raw_form.Store (seen_name name.now) (raw_expression index.now) (raw_expression value.now)))
+        result }
+{
+    let array = indexed(here, locals, line, name)?;
+    let index = boxed(here, locals, line, index)?;
+    let value = number(here, locals, line, value)?;
+    Ok(StmtKind::Store(array, Box::into_inner(index), value))
+}
+
+/// A `fill`.
+pub(crate) fn fill<'a>(
+    here: &Here<'_, 'a>,
+    locals: &LocalTable<'a>,
+    line: u32,
+    name: &'a Name,
+    low: &'a RawExpr,
+    high: &'a RawExpr,
+    value: &'a RawExpr,
+) -> Result<StmtKind, TypeError>
+    ensures { Answers (statement_faults (setting here.now) (scope locals.now.locals) line
+        (raw_form.Fill (seen_name name.now) (raw_expression low.now) (raw_expression high.now)
+        (raw_expression value.now))) seen_statement
+        (resolved_statement here.now.globals.now locals.now.locals (length locals.now.slots)
+        (raw_form.Fill (seen_name name.now) (raw_expression low.now) (raw_expression high.now)
+        (raw_expression value.now))) result }
+{
+    let array = indexed(here, locals, line, name)?;
+    let low = boxed(here, locals, line, low)?;
+    let high = boxed(here, locals, line, high)?;
+    let value = number(here, locals, line, value)?;
+    Ok(StmtKind::Fill(array, Box::into_inner(low), Box::into_inner(high), value))
+}
+
+/// An `emit`.
+pub(crate) fn emission<'a>(
+    here: &Here<'_, 'a>,
+    locals: &LocalTable<'a>,
+    line: u32,
+    value: &'a RawExpr,
+) -> Result<StmtKind, TypeError>
+    ensures { Answers (statement_faults (setting here.now) (scope locals.now.locals) line
+        (raw_form.Emit (raw_expression value.now))) seen_statement
+        (resolved_statement here.now.globals.now locals.now.locals (length locals.now.slots)
+        (raw_form.Emit (raw_expression value.now))) result }
+{
+    if !here.in_main {
+        let fault = TypeFault::Misplaced;
+        return Err(TypeError::Refused { fault, line });
+    }
+    let value = number(here, locals, line, value)?;
+    Ok(StmtKind::Emit(value))
+}
+
+/// A `fail`.
+pub(crate) fn failure<'a>(
+    here: &Here<'_, 'a>,
+    locals: &LocalTable<'a>,
+    line: u32,
+    number: i64,
+) -> Result<StmtKind, TypeError>
+    ensures { Answers
+        (statement_faults (setting here.now) (scope locals.now.locals) line (raw_form.Fail number))
+        seen_statement (resolved_statement here.now.globals.now locals.now.locals
+        (length locals.now.slots) (raw_form.Fail number)) result }
+{
+    match u8::try_from(number) {
+        Ok(number) => Ok(StmtKind::Fail(number)),
+        Err(_) => {
+            let fault = TypeFault::Kind;
+            Err(TypeError::Refused { fault, line })
+        }
+    }
+}
+
+/// A `break`.
+pub(crate) fn departure<'a>(
+    here: &Here<'_, 'a>,
+    locals: &LocalTable<'a>,
+    line: u32,
+) -> Result<StmtKind, TypeError>
+    ensures { Answers
+        (statement_faults (setting here.now) (scope locals.now.locals) line raw_form.Break)
+        seen_statement (resolved_statement here.now.globals.now locals.now.locals
+        (length locals.now.slots) raw_form.Break) result }
+{
+    leaves_loop(here, line)?;
+    Ok(StmtKind::Break)
+}
+
+#[tactic(auto, using(crate::proofs::Arguments::count_of_raw))]
+/// A call whose answer is dropped.
+pub(crate) fn call<'a>(
+    here: &Here<'_, 'a>,
+    locals: &LocalTable<'a>,
+    line: u32,
+    name: &'a Name,
+    given: &'a [RawExpr],
+) -> Result<StmtKind, TypeError>
+    ensures { Answers (statement_faults (setting here.now) (scope locals.now.locals) line
+        (raw_form.Do (seen_name name.now) (raw_arguments given.now))) seen_statement
+        (resolved_statement here.now.globals.now locals.now.locals (length locals.now.slots)
+        (raw_form.Do (seen_name name.now) (raw_arguments given.now))) result }
+{
+    let function = called(here, locals, line, name, given.len())?;
+    let arguments = numbers(here, locals, line, given)?;
+    Ok(StmtKind::Call(function, arguments))
+}

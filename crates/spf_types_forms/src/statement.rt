@@ -1,0 +1,415 @@
+// Statements and blocks, which lead to each other.
+
+ghost use Rattle.std.specs.Prelude.{◌≡◌, ◌∷◌, true, false, IfOk, None, length, map};
+ghost use Rattle.spf_ast.specs.declared.syntax.Fold.{out-Fold};
+ghost use Rattle.spf_ast.specs.declared.syntax.Pair.{out-Pair};
+ghost use Rattle.spf_ast.specs.Syntax.{Arguments, Block, Expression};
+ghost use Rattle.spf_ast.specs.declared.raw.RawFold.{out-RawFold};
+ghost use Rattle.spf_ast.specs.declared.raw.RawPair.{out-RawPair};
+ghost use Rattle.spf_ast.specs.View.{expression as seen_expression, arguments as seen_arguments};
+ghost use Rattle.spf_ast.specs.View.{predictor as seen_predictor, fold_head, pair_head};
+ghost use Rattle.spf_ast.specs.View.{statement as seen_statement, block as seen_block};
+ghost use Rattle.spf_ast.specs.View.{name as seen_name};
+ghost use Rattle.spf_ast.specs.RawView.{raw_expression, raw_arguments, raw_statement, raw_block};
+ghost use Rattle.spf_ast.specs.RawView.{raw_fold_head, raw_pair_head};
+ghost use Rattle.spf_ast.specs.RawSyntax as raw_form;
+ghost use Rattle.spf_types_names.specs.HereView.{setting};
+ghost use Rattle.spf_types_names.specs.Locals.{binding_of, AreNew};
+ghost use Rattle.spf_types_names.specs.Faults.{statement_faults, block_faults, valued_faults};
+ghost use Rattle.spf_types_names.specs.Faults.{rowed_faults, in_part};
+ghost use Rattle.spf_types_names.specs.Resolved.{scope, fixed, with_each, locals_at_end};
+ghost use Rattle.spf_types_names.specs.Resolved.{resolved_arguments, resolved_expression};
+ghost use Rattle.spf_types_names.specs.Resolved.{resolved_statement, resolved_block};
+ghost use Rattle.spf_types_names.specs.Resolved.{after_statement, after_block, after_inner};
+ghost use Rattle.spf_types_names.specs.Answers.{Answers};
+
+use crate::expression::{boxed, boxed_truth, numbers, predictors};
+use crate::header::{Header, header_of, pair_names, pair_widths};
+use crate::simple::{assignment, call, declaration, departure, emission, failure, fill, store};
+use spf_ast::raw::{RawExpr, RawFold, RawPair, RawStmt, RawStmtKind};
+use spf_ast::syntax::{Expr, Fold, Name, Pair, Predict, Stmt, StmtKind};
+use spf_types_names::fault::TypeError;
+use spf_types_names::locals::{LocalTable, row_slots};
+use spf_types_names::names::{Here, declarable};
+
+/// Statements one after another, whose locals may be used after them.
+#[cycle(block)]
+pub fn block<'a>(
+    here: &Here<'_, 'a>,
+    locals: &mut LocalTable<'a>,
+    raw: &'a [RawStmt],
+) -> Result<Vec<Stmt>, TypeError>
+    ensures answers { Answers
+        (block_faults (setting here.now) (scope locals.old.locals) (raw_block raw.now))
+        (λ v. seen_block v.items) (resolved_block here.now.globals.now locals.old.locals
+        (length locals.old.slots) (raw_block raw.now)) result }
+    ensures after { IfOk result (λ _. locals.new ≡ after_block locals.old (raw_block raw.now)) }
+{
+    let mut statements = Vec::new(here.alloc);
+    for statement in raw {
+        let line = statement.line;
+        let kind = statement_kind(here, locals, line, &statement.kind)?;
+        statements.push(Stmt { line, kind })?;
+    }
+    Ok(statements)
+}
+
+/// A block, whose locals may not be used after it.
+#[cycle(block)]
+fn inner<'a>(
+    here: &Here<'_, 'a>,
+    locals: &mut LocalTable<'a>,
+    raw: &'a [RawStmt],
+) -> Result<Vec<Stmt>, TypeError>
+    ensures answers { Answers
+        (block_faults (setting here.now) (scope locals.old.locals) (raw_block raw.now))
+        (λ v. seen_block v.items) (resolved_block here.now.globals.now locals.old.locals
+        (length locals.old.slots) (raw_block raw.now)) result }
+    ensures after { IfOk result (λ _. locals.new ≡ after_inner locals.old (raw_block raw.now)) }
+{
+    let count = locals.count();
+    let statements = block(here, locals, raw)?;
+    locals.close(count);
+    Ok(statements)
+}
+
+/// What a statement is.
+#[cycle(block)]
+fn statement_kind<'a>(
+    here: &Here<'_, 'a>,
+    locals: &mut LocalTable<'a>,
+    line: u32,
+    raw: &'a RawStmtKind,
+) -> Result<StmtKind, TypeError>
+    ensures answers { Answers
+        (statement_faults (setting here.now) (scope locals.old.locals) line (raw_statement raw.now))
+        seen_statement (resolved_statement here.now.globals.now locals.old.locals
+        (length locals.old.slots) (raw_statement raw.now)) result }
+    ensures after { IfOk result
+        (λ _. locals.new ≡ after_statement locals.old (raw_statement raw.now)) }
+{
+    match raw {
+        RawStmtKind::Let(name, value) => declaration(here, locals, line, name, value),
+        RawStmtKind::Assign(name, value) => assignment(here, locals, line, name, value),
+        RawStmtKind::Store(name, index, value) => store(here, locals, line, name, index, value),
+        RawStmtKind::Fill(name, low, high, value) => {
+            fill(here, locals, line, name, low, high, value)
+        }
+        RawStmtKind::Emit(value) => emission(here, locals, line, value),
+        RawStmtKind::Fail(number) => failure(here, locals, line, *number),
+        RawStmtKind::If(test, first, second) => choice(here, locals, line, test, first, second),
+        RawStmtKind::For(name, low, high, body) => {
+            counted(here, locals, line, name, low, high, body)
+        }
+        RawStmtKind::While(test, most, body) => repeated(here, locals, line, test, *most, body),
+        RawStmtKind::Call(name, given) => call(here, locals, line, name, given),
+        RawStmtKind::Fold(raw) => fold(here, locals, line, raw),
+        RawStmtKind::Pair(raw) => pair(here, locals, line, raw),
+        RawStmtKind::Break => departure(here, locals, line),
+    }
+}
+
+/// An `if`.
+#[cycle(block)]
+fn choice<'a>(
+    here: &Here<'_, 'a>,
+    locals: &mut LocalTable<'a>,
+    line: u32,
+    test: &'a RawExpr,
+    first: &'a [RawStmt],
+    second: &'a [RawStmt],
+) -> Result<StmtKind, TypeError>
+    ensures answers { Answers (statement_faults (setting here.now) (scope locals.old.locals) line
+        (raw_form.If (raw_expression test.now) (raw_block first.now) (raw_block second.now)))
+        seen_statement (resolved_statement here.now.globals.now locals.old.locals
+        (length locals.old.slots)
+        (raw_form.If (raw_expression test.now) (raw_block first.now) (raw_block second.now)))
+        result }
+    ensures after { IfOk result (λ _. locals.new ≡ after_statement locals.old
+        (raw_form.If (raw_expression test.now) (raw_block first.now) (raw_block second.now))) }
+{
+    let test = boxed_truth(here, locals, line, test)?;
+    let first = inner(here, locals, first)?;
+    let second = inner(here, locals, second)?;
+    Ok(StmtKind::If(Box::into_inner(test), first, second))
+}
+
+/// A `for`.
+#[cycle(block)]
+fn counted<'a>(
+    here: &Here<'_, 'a>,
+    locals: &mut LocalTable<'a>,
+    line: u32,
+    name: &'a Name,
+    low: &'a RawExpr,
+    high: &'a RawExpr,
+    body: &'a [RawStmt],
+) -> Result<StmtKind, TypeError>
+    ensures answers { Answers (statement_faults (setting here.now) (scope locals.old.locals) line
+        (raw_form.For (seen_name name.now) (raw_expression low.now) (raw_expression high.now)
+        (raw_block body.now))) seen_statement (resolved_statement here.now.globals.now
+        locals.old.locals (length locals.old.slots) (raw_form.For (seen_name name.now)
+        (raw_expression low.now) (raw_expression high.now) (raw_block body.now))) result }
+    ensures after { IfOk result (λ _. locals.new ≡ after_statement locals.old
+        (raw_form.For (seen_name name.now) (raw_expression low.now) (raw_expression high.now)
+        (raw_block body.now))) }
+{
+    declarable(here, locals, line, name)?;
+    let low = boxed(here, locals, line, low)?;
+    let high = boxed(here, locals, line, high)?;
+    let count = locals.count();
+    let slot = locals.declare(here.alloc, name)?;
+    locals.show(name, slot, true)?;
+    let inside = here.in_turn();
+    let body = block(&inside, locals, body)?;
+    locals.close(count);
+    Ok(StmtKind::For(slot, Box::into_inner(low), Box::into_inner(high), body))
+}
+
+/// A `while`.
+#[cycle(block)]
+fn repeated<'a>(
+    here: &Here<'_, 'a>,
+    locals: &mut LocalTable<'a>,
+    line: u32,
+    test: &'a RawExpr,
+    most: u64,
+    body: &'a [RawStmt],
+) -> Result<StmtKind, TypeError>
+    ensures answers { Answers (statement_faults (setting here.now) (scope locals.old.locals) line
+        (raw_form.While (raw_expression test.now) most (raw_block body.now))) seen_statement
+        (resolved_statement here.now.globals.now locals.old.locals (length locals.old.slots)
+        (raw_form.While (raw_expression test.now) most (raw_block body.now))) result }
+    ensures after { IfOk result (λ _. locals.new
+        ≡ after_statement locals.old
+        (raw_form.While (raw_expression test.now) most (raw_block body.now))) }
+{
+    let test = boxed_truth(here, locals, line, test)?;
+    let inside = here.in_turn();
+    let body = inner(&inside, locals, body)?;
+    Ok(StmtKind::While(Box::into_inner(test), most, body))
+}
+
+/// Statements, and then a number on a line. The locals may not be used after it.
+pub fn valued<'a>(
+    here: &Here<'_, 'a>,
+    locals: &mut LocalTable<'a>,
+    raw: &'a [RawStmt],
+    line: u32,
+    value: &'a RawExpr,
+) -> Result<(Vec<Stmt>, Box<Expr>), TypeError>
+    ensures answers { Answers {A = Block × Expression} (valued_faults (setting here.now)
+        (scope locals.old.locals) (raw_block raw.now) line (raw_expression value.now))
+        (λ p. (seen_block p.0.items, seen_expression p.1.value)) (
+          resolved_block
+              here.now.globals.now locals.old.locals (length locals.old.slots) (raw_block raw.now),
+          resolved_expression here.now.globals.now
+              (locals_at_end locals.old.locals (length locals.old.slots) (raw_block raw.now))
+              (raw_expression value.now),
+        ) result }
+    ensures after { IfOk result (λ _. locals.new ≡ after_inner locals.old (raw_block raw.now)) }
+{
+    let count = locals.count();
+    let statements = block(here, locals, raw)?;
+    let value = boxed(here, locals, line, value)?;
+    locals.close(count);
+    Ok((statements, value))
+}
+
+/// Statements of a construct's part, and then a row on a line. The locals may not be used after it.
+#[cycle(block)]
+fn rowed<'a>(
+    here: &Here<'_, 'a>,
+    locals: &mut LocalTable<'a>,
+    raw: &'a [RawStmt],
+    line: u32,
+    row: &'a [RawExpr],
+) -> Result<(Vec<Stmt>, Vec<Expr>), TypeError>
+    ensures answers { Answers {A = Block × Arguments} (rowed_faults (setting here.now)
+        (scope locals.old.locals) (raw_block raw.now) line (raw_arguments row.now))
+        (λ p. (seen_block p.0.items, seen_arguments p.1.items)) (
+          resolved_block
+              here.now.globals.now locals.old.locals (length locals.old.slots) (raw_block raw.now),
+          resolved_arguments here.now.globals.now
+              (locals_at_end locals.old.locals (length locals.old.slots) (raw_block raw.now))
+              (raw_arguments row.now),
+        ) result }
+    ensures after { IfOk result (λ _. locals.new ≡ after_inner locals.old (raw_block raw.now)) }
+{
+    let count = locals.count();
+    let inside = here.in_part();
+    let statements = block(&inside, locals, raw)?;
+    let parts = numbers(here, locals, line, row)?;
+    locals.close(count);
+    Ok((statements, parts))
+}
+
+/// The body of a fold and its `next`.
+#[cycle(block)]
+fn folded<'a>(
+    here: &Here<'_, 'a>,
+    locals: &mut LocalTable<'a>,
+    raw: &'a RawFold,
+    first: u32,
+    block: u32,
+) -> Result<(Vec<Stmt>, Vec<Expr>), TypeError>
+    requires carried { AreNew locals.old.locals (raw_fold_head raw.now).carried }
+    requires block { binding_of
+        (with_each true locals.old.locals first (raw_fold_head raw.now).carried)
+        (raw_fold_head raw.now).block ≡ None }
+    ensures answers { let inside = fixed (raw_fold_head raw.now).block block
+        ∷ with_each true locals.old.locals first (raw_fold_head raw.now).carried in Answers
+        {A = Block × Arguments} (rowed_faults (setting here.now) (scope inside)
+        (raw_block (out-RawFold raw.now).body.items) (raw_fold_head raw.now).next_line
+        (raw_fold_head raw.now).next) (λ p. (seen_block p.0.items, seen_arguments p.1.items)) (
+          resolved_block here.now.globals.now inside (length locals.old.slots)
+              (raw_block (out-RawFold raw.now).body.items),
+          resolved_arguments here.now.globals.now
+              (locals_at_end inside (length locals.old.slots)
+              (raw_block (out-RawFold raw.now).body.items)) (raw_fold_head raw.now).next,
+        ) result }
+    ensures after { IfOk result
+        (λ _. locals.new ≡ after_inner locals.old (raw_block (out-RawFold raw.now).body.items)) }
+{
+    let count = locals.count();
+    locals.show_each(&raw.carried, first, true)?;
+    locals.show(&raw.block, block, true)?;
+    let answer = rowed(here, locals, &raw.body, raw.next_line, &raw.next)?;
+    locals.close(count);
+    Ok(answer)
+}
+
+/// A `specfold`.
+#[cycle(block)]
+fn fold<'a>(
+    here: &Here<'_, 'a>,
+    locals: &mut LocalTable<'a>,
+    line: u32,
+    raw: &'a RawFold,
+) -> Result<StmtKind, TypeError>
+    ensures answers { Answers (statement_faults (setting here.now) (scope locals.old.locals) line
+        (raw_form.Fold (raw_fold_head raw.now) (raw_block (out-RawFold raw.now).body.items)))
+        seen_statement (resolved_statement here.now.globals.now locals.old.locals
+        (length locals.old.slots)
+        (raw_form.Fold (raw_fold_head raw.now) (raw_block (out-RawFold raw.now).body.items)))
+        result }
+    ensures after { IfOk result (λ _. locals.new ≡ after_statement locals.old
+        (raw_form.Fold (raw_fold_head raw.now) (raw_block (out-RawFold raw.now).body.items))) }
+{
+    let header = header_of(here, locals, line, raw)?;
+    let (body, next) = folded(here, locals, raw, header.first, header.block)?;
+    locals.show_each(&raw.carried, header.first, false)?;
+    let fold = fold_of(header, body, next, raw.next_line);
+    Ok(StmtKind::Fold(Box::new(here.alloc, fold)?))
+}
+
+/// The consumer of a pair.
+#[cycle(block)]
+fn consumed<'a>(
+    here: &Here<'_, 'a>,
+    locals: &mut LocalTable<'a>,
+    raw: &'a RawPair,
+    first: u32,
+) -> Result<Vec<Stmt>, TypeError>
+    requires { AreNew locals.old.locals (raw_pair_head raw.now).carried }
+    ensures answers { let inside = with_each true locals.old.locals first
+        (raw_pair_head raw.now).carried in Answers (block_faults (in_part (setting here.now))
+        (scope inside) (raw_block (out-RawPair raw.now).consumer.items)) (λ v. seen_block v.items)
+        (resolved_block here.now.globals.now inside (length locals.old.slots)
+        (raw_block (out-RawPair raw.now).consumer.items)) result }
+    ensures after { IfOk result (λ _.
+        locals.new ≡ after_inner locals.old (raw_block (out-RawPair raw.now).consumer.items)) }
+{
+    let count = locals.count();
+    locals.show_each(&raw.carried, first, true)?;
+    let inside = here.in_part();
+    let consumer = block(&inside, locals, &raw.consumer)?;
+    locals.close(count);
+    Ok(consumer)
+}
+
+/// A `spec`.
+#[cycle(block)]
+fn pair<'a>(
+    here: &Here<'_, 'a>,
+    locals: &mut LocalTable<'a>,
+    line: u32,
+    raw: &'a RawPair,
+) -> Result<StmtKind, TypeError>
+    ensures answers { Answers (statement_faults (setting here.now) (scope locals.old.locals) line
+        (raw_form.Pair (raw_pair_head raw.now) (raw_block (out-RawPair raw.now).producer.items)
+        (raw_block (out-RawPair raw.now).consumer.items))) seen_statement
+        (resolved_statement here.now.globals.now locals.old.locals (length locals.old.slots)
+        (raw_form.Pair (raw_pair_head raw.now) (raw_block (out-RawPair raw.now).producer.items)
+        (raw_block (out-RawPair raw.now).consumer.items))) result }
+    ensures after { IfOk result (λ _. locals.new ≡ after_statement locals.old
+        (raw_form.Pair (raw_pair_head raw.now) (raw_block (out-RawPair raw.now).producer.items)
+        (raw_block (out-RawPair raw.now).consumer.items))) }
+{
+    let first = locals.next_slot()?;
+    pair_names(here, locals, line, raw)?;
+    pair_widths(line, raw)?;
+    let carried = row_slots(here.alloc, first, &raw.carried)?;
+    let (producer, give) = rowed(here, locals, &raw.producer, raw.give_line, &raw.give)?;
+    let predict = predictors(here, locals, line, &raw.predict)?;
+    let consumer = consumed(here, locals, raw, first)?;
+    locals.show_each(&raw.carried, first, false)?;
+    let pair = pair_of(carried, producer, give, raw.give_line, predict, consumer);
+    Ok(StmtKind::Pair(Box::new(here.alloc, pair)?))
+}
+
+/// A fold of these parts.
+fn fold_of(header: Header, body: Vec<Stmt>, next: Vec<Expr>, next_line: u32) -> Fold
+    ensures head { fold_head result ≡ record {
+      carried = header.carried.items;
+      start = seen_arguments header.start.items;
+      block = header.block;
+      low = seen_expression header.low.value;
+      high = seen_expression header.high.value;
+      predict = map seen_predictor header.predict.items;
+      next = seen_arguments next.items;
+      next_line = next_line;
+    } }
+    ensures body { (out-Fold result).body ≡ body }
+{
+    Fold {
+        carried: header.carried,
+        start: header.start,
+        block: header.block,
+        low: Box::into_inner(header.low),
+        high: Box::into_inner(header.high),
+        predict: header.predict,
+        body,
+        next,
+        next_line,
+    }
+}
+
+/// A pair of these parts.
+fn pair_of(
+    carried: Vec<u32>,
+    producer: Vec<Stmt>,
+    give: Vec<Expr>,
+    give_line: u32,
+    predict: Vec<Predict>,
+    consumer: Vec<Stmt>,
+) -> Pair
+    ensures head { pair_head result
+        ≡ record {
+          carried = carried.items;
+          give = seen_arguments give.items;
+          give_line = give_line;
+          predict = map seen_predictor predict.items;
+        } }
+    ensures producer { (out-Pair result).producer ≡ producer }
+    ensures consumer { (out-Pair result).consumer ≡ consumer }
+{
+    Pair {
+        carried,
+        producer,
+        give,
+        give_line,
+        predict,
+        consumer,
+    }
+}

@@ -1,0 +1,8 @@
+//! What names stand for: the tables of arrays, functions and locals, and what is wrong with a name
+//! at a place.
+#![tactic(auto)]
+
+pub mod fault;
+pub mod globals;
+pub mod locals;
+pub mod names;
