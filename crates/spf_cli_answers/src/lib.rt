@@ -4,7 +4,6 @@
 
 mod answer;
 mod at_hand;
-mod context;
 mod decoding;
 pub mod laws;
 mod message;

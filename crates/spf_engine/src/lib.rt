@@ -5,5 +5,4 @@ mod account;
 mod construct;
 pub mod error;
 pub mod run;
-mod runner;
 mod step;
