@@ -6,7 +6,7 @@ use Rattle.spf_ast.specs.Interaction.{Interaction, State, Flow, Onward, Ending, 
 use Rattle.spf_ast.specs.Syntax.{Statement, Function}
 use Rattle.spf_ast.specs.Meaning.{Environment, Extent, environment_before, statement_means}
 use Rattle.spf_ast.specs.Plain.{plain_answer, plain_memory}
-use Rattle.spf_ast.specs.Construct.{Construct, construct_of, part_of, part_means, carried_of, Moment, moment_after, plainly, Header, header_means, blocks_from}
+use Rattle.spf_ast.specs.Construct.{Construct, construct_of, part_of, part_means, carried_of, Moment, moment_after, plainly, Header, header_means, RealValues, blocks_from}
 use Rattle.spf_ast.specs.Silence.{FunctionsAreSilent}
 use Rattle.spf_ast.specs.Lawful.{Names, Scope, IsLawfulStatement}
 use Rattle.spf_ast_laws.specs.Agreement.{LookAlike}
@@ -49,18 +49,23 @@ IsSettledAs visible entry carried (Ok value) (Value Onward after) =
 IsSettledAs visible entry carried (Err trap) (Trapped other output) = (other ≡ trap) × (output ≡ entry.output)
 IsSettledAs visible entry carried _ _ = ⊥
 
--- the plain meaning of a construct, and its real values, are what its blocks come to that are run from this entry
+-- the blocks of a construct whose header is done, run one after another from this entry on the memory that the header left
+abbrev pub chained_from : Environment → Construct → Moment → Header → State → Chained
+chained_from g construct m header entry =
+    chained g construct entry.slots 0 header.blocks header.low header.start (plain_memory (header_means g construct m.state) m.memory)
+
+-- the rows at which the blocks of its plain run begin
+abbrev pub real_rows : Environment → Construct → Moment → Header → State → RealValues
+real_rows g construct m header after =
+    blocks_from g construct 0 header.blocks header.low header.start (moment_after (header_means g construct) m after)
+
+-- the plain meaning of a construct, and its real rows, are what its blocks come to that are run from this entry
 pub record IsItsBlocks (g : Environment) (visible : List ℕ) (line : ℕ) (s : Statement) (construct : Construct)
     (m : Moment) (header : Header) (after entry : State) : Type 0 where
-  pub settled : IsSettledAs visible entry (carried_of construct)
-      (chained g construct entry.slots 0 header.blocks header.low header.start (plain_memory (header_means g construct m.state) m.memory)).result
-      (plainly (statement_means g line s) m)
-  pub memory : plain_memory (statement_means g line s m.state) m.memory
-      ≡ (chained g construct entry.slots 0 header.blocks header.low header.start (plain_memory (header_means g construct m.state) m.memory)).memory
-  pub values : (blocks_from g construct 0 header.blocks header.low header.start (moment_after (header_means g construct) m after)).values
-      ≡ (chained g construct entry.slots 0 header.blocks header.low header.start (plain_memory (header_means g construct m.state) m.memory)).values
-  pub trapped : (blocks_from g construct 0 header.blocks header.low header.start (moment_after (header_means g construct) m after)).trapped
-      ≡ is_trap (chained g construct entry.slots 0 header.blocks header.low header.start (plain_memory (header_means g construct m.state) m.memory)).result
+  pub settled : IsSettledAs visible entry (carried_of construct) (chained_from g construct m header entry).result (plainly (statement_means g line s) m)
+  pub memory : plain_memory (statement_means g line s m.state) m.memory ≡ (chained_from g construct m header entry).memory
+  pub values : (real_rows g construct m header after).values ≡ (chained_from g construct m header entry).values
+  pub trapped : (real_rows g construct m header after).trapped ≡ is_trap (chained_from g construct m header entry).result
 
 -- Each lawful construct of `main` whose blocks can be run on their own: where its header is done, its blocks may be
 -- run from any slots that agree with those at the entry on the visible ones.

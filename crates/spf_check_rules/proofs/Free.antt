@@ -171,13 +171,13 @@ same-slot {p} {c} k part s es r h slot outer =
 
 set-free : (p : Program) (c : Construct) → Known p c → IsRollbackFree p c
 set-free p c k = record {
-  stores_its_own = stores-its-own k;
-  loads_what_it_stored = loads-what-it-stored k;
-  producer_loads_apart = producer-loads-apart c k;
-  stores_all = stores-all k;
+  stores_its_own = λ part s es r h cell word i. stores-its-own k part s es r cell word h i;
+  loads_what_it_stored = λ s es r h before later cell word e w. loads-what-it-stored k s es before later r cell word h e w;
+  producer_loads_apart = λ s es r h block cell word i own. producer-loads-apart c k s es r block cell word h i own;
+  stores_all = λ s es row state h cell own. stores-all k s es row state cell h own;
   spans_are_disjoint = disjoint-spans c k;
-  predictor_stores_nothing = predictor-stores-nothing k;
-  predictor_loads_apart = predictor-loads-apart k;
+  predictor_stores_nothing = λ s es r h cell word i. predictor-stores-nothing k s es r cell word h i;
+  predictor_loads_apart = λ s es r h cell word i w. predictor-loads-apart k s es r cell word h i w;
   leaves_the_rest = λ part s es value state h. record {
     output = same-output k part s es (Ended (Value value state) []) h;
     slots = λ slot outer. same-slot k part s es (Ended (Value value state) []) h slot outer;

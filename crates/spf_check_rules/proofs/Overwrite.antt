@@ -78,7 +78,7 @@ overwrites law p construct s one other free setup agree = record {
   events = same;
   answer = answer;
   contents = λ value state cell is own.
-      let store = free.stores_all s es value state cell (record { setup = setup; stop = None; performed = run.ends ∙ ap (λ a. Ended a []) is; whole = refl }) own in
+      let store = free.stores_all s es value state (record { setup = setup; stop = None; performed = run.ends ∙ ap (λ a. Ended a []) is; whole = refl }) cell own in
       both.1 cell (inl (store-stored es [] cell store.word store.stored)) ∙ ap (λ l. word_at (after l other) cell) same;
 }
   where
@@ -96,7 +96,7 @@ overwrites law p construct s one other free setup agree = record {
 
     held : Covered written [] es
     held = covered written [] es (λ before later c w e writes.
-        let store = free.loads_what_it_stored s es before later (Ended (plain_answer tree one) []) c w (record { setup = setup; stop = None; performed = run.ends; whole = refl }) e writes in
+        let store = free.loads_what_it_stored s es (Ended (plain_answer tree one) []) (record { setup = setup; stop = None; performed = run.ends; whole = refl }) before later c w e writes in
         store-stored before [] c store.word store.stored)
 
     at-first : Agree written [] one other

@@ -40,37 +40,46 @@ pub record LeavesTheRest (construct : Construct) (part : Part) (s : Setup) (stat
   pub output : state.output ≡ s.output
   pub slots : (slot : ℕ) → part_declares construct part slot ≡ false → slice_index_or state.slots slot (pos 0) ≡ slice_index_or s.slots slot (pos 0)
 
--- A top construct is rollback free: in every performance of its parts, from every setup, whatever the loads answer and wherever it is stopped.
+-- this is so of each performance of a part, from every setup, whatever the loads answer and wherever it is stopped
+abbrev pub Always : Program → Construct → Part → (Setup → List Event → Type 0) → Type 0
+Always p construct part holds =
+    (s : Setup) (events : List Event) (result : Performed (Ending Carried)) → IsPerformance p construct part s events result → holds s events
+
+-- this is so of each that ends with a row, in this state
+abbrev pub WhereItGives : Program → Construct → Part → (Setup → List Event → State → Type 0) → Type 0
+WhereItGives p construct part holds =
+    (s : Setup) (events : List Event) (row : Carried) (state : State) → IsPerformance p construct part s events (Ended (Value row state) []) → holds s events state
+
+-- this is so of the output of each that traps
+abbrev pub WhereItTraps : Program → Construct → Part → (Setup → List ℕ → Type 0) → Type 0
+WhereItTraps p construct part holds =
+    (s : Setup) (events : List Event) (trap : Trap) (output : List ℕ) → IsPerformance p construct part s events (Ended (Trapped trap output) []) → holds s output
+
+-- a top construct is rollback free
 pub record IsRollbackFree (p : Program) (construct : Construct) : Type 0 where
   -- a part stores only cells of its block's spans
-  pub stores_its_own : (part : Part) (s : Setup) (events : List Event) (result : Performed (Ending Carried)) (cell : ℕ) (word : ℤ)
-      → IsPerformance p construct part s events result → Contains events (Store cell word)
-      → IsOwn p construct part (length s.input) s.number cell
+  pub stores_its_own : (part : Part) → Always p construct part (λ s events.
+      (cell : ℕ) (word : ℤ) → Contains events (Store cell word) → IsOwn p construct part (length s.input) s.number cell)
   -- the guessed part loads a cell of a written array only after it has stored the cell
-  pub loads_what_it_stored : (s : Setup) (events before later : List Event) (result : Performed (Ending Carried)) (cell : ℕ) (word : ℤ)
-      → IsPerformance p construct (guessed_part construct) s events result → events ≡ before ++ Load cell word ∷ later
-      → IsWrittenCell p construct (length s.input) cell → HasStore before cell
+  pub loads_what_it_stored : Always p construct (guessed_part construct) (λ s events.
+      (before later : List Event) (cell : ℕ) (word : ℤ) → events ≡ before ++ Load cell word ∷ later
+      → IsWrittenCell p construct (length s.input) cell → HasStore before cell)
   -- a producer never loads a cell of the consumer's spans
-  pub producer_loads_apart : (s : Setup) (events : List Event) (result : Performed (Ending Carried)) (block : ℤ) (cell : ℕ) (word : ℤ)
-      → IsPerformance p construct Producer s events result → Contains events (Load cell word)
-      → IsOwn p construct Consumer (length s.input) block cell → ⊥
-  -- a guessed part that ends with a value has stored every cell of its spans
-  pub stores_all : (s : Setup) (events : List Event) (value : Carried) (state : State) (cell : ℕ)
-      → IsPerformance p construct (guessed_part construct) s events (Ended (Value value state) [])
-      → IsOwn p construct (guessed_part construct) (length s.input) s.number cell → HasStore events cell
+  pub producer_loads_apart : Always p construct Producer (λ s events.
+      (block : ℤ) (cell : ℕ) (word : ℤ) → Contains events (Load cell word) → IsOwn p construct Consumer (length s.input) block cell → ⊥)
+  -- a guessed part that ends with a row has stored every cell of its spans
+  pub stores_all : WhereItGives p construct (guessed_part construct) (λ s events state.
+      (cell : ℕ) → IsOwn p construct (guessed_part construct) (length s.input) s.number cell → HasStore events cell)
   -- the spans of two blocks share no cell
   pub spans_are_disjoint : HaveDisjointSpans p construct
   -- a predictor stores nothing, and loads no cell of a written array
-  pub predictor_stores_nothing : (s : Setup) (events : List Event) (result : Performed (Ending Carried)) (cell : ℕ) (word : ℤ)
-      → IsPerformance p construct Predictor s events result → Contains events (Store cell word) → ⊥
-  pub predictor_loads_apart : (s : Setup) (events : List Event) (result : Performed (Ending Carried)) (cell : ℕ) (word : ℤ)
-      → IsPerformance p construct Predictor s events result → Contains events (Load cell word)
-      → IsWrittenCell p construct (length s.input) cell → ⊥
+  pub predictor_stores_nothing : Always p construct Predictor (λ s events.
+      (cell : ℕ) (word : ℤ) → Contains events (Store cell word) → ⊥)
+  pub predictor_loads_apart : Always p construct Predictor (λ s events.
+      (cell : ℕ) (word : ℤ) → Contains events (Load cell word) → IsWrittenCell p construct (length s.input) cell → ⊥)
   -- a part leaves the output and all slots declared outside of it as they were
-  pub leaves_the_rest : (part : Part) (s : Setup) (events : List Event) (value : Carried) (state : State)
-      → IsPerformance p construct part s events (Ended (Value value state) []) → LeavesTheRest construct part s state
-  pub leaves_the_output : (part : Part) (s : Setup) (events : List Event) (trap : Trap) (output : List ℕ)
-      → IsPerformance p construct part s events (Ended (Trapped trap output) []) → output ≡ s.output
+  pub leaves_the_rest : (part : Part) → WhereItGives p construct part (λ s events state. LeavesTheRest construct part s state)
+  pub leaves_the_output : (part : Part) → WhereItTraps p construct part (λ s output. output ≡ s.output)
 
 -- a top construct of a lawful program that keeps the rules is rollback free
 abbrev pub TheRulesSetFree : Type 0

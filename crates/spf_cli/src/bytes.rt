@@ -4,7 +4,7 @@ ghost use Rattle.std.specs.Prelude.{◌≡◌, ◌⊎◌, ◌≤◌, ◌<◌, []
 ghost use Rattle.spf_ast_lemmas.specs.Limits.{max_workers};
 ghost use Rattle.spf_ast.specs.Syntax.{Program};
 ghost use Rattle.spf_guess_statistics.specs.Statistics.{tally};
-ghost use Rattle.spf_guess.specs.Answers.{handed_in, WereTold};
+ghost use Rattle.spf_guess.specs.Answers.{WereTold, supplied};
 ghost use Rattle.spf_engine.specs.Runs.{WereToldFirst};
 ghost use Rattle.spf_edge.specs.Faults.{Rose};
 ghost use Rattle.spf_cli_answers.specs.Reading.{IsVerdict, Refusal, Refuses, Says};
@@ -54,21 +54,21 @@ pub fn run_file<R: Threads + Wait + Sync, S: Sink, G: Gate + Sync>(
     // The hosts were told the first of what they are told in the whole run of the program that the
     // text says.
     ensures told_first { (p : Program) → IsVerdict program.now (Says p)
-        → WereToldFirst (handed_in (map (λ h. answer h) hosts.old.items)) p input.now
-        (handed_in (map (λ h. answer h) hosts.new.items)) }
+        → WereToldFirst (supplied answer hosts.old.items) p input.now
+        (supplied answer hosts.new.items) }
     // All of it, where the program was run to its end or to its trap; nothing, where the text says
     // none.
     ensures told { (p : Program) → IsVerdict program.now (Says p) → (result ≡ 0) ⊎ (result ≡ 1)
-        → WereTold (handed_in (map (λ h. answer h) hosts.old.items))
-        (tally (handed_in (map (λ h. answer h) hosts.old.items)) p input.now).telling
-        (handed_in (map (λ h. answer h) hosts.new.items)) }
+        → WereTold (supplied answer hosts.old.items)
+        (tally (supplied answer hosts.old.items) p input.now).telling
+        (supplied answer hosts.new.items) }
     ensures untold { (refusal : Refusal) → IsVerdict program.now (Refuses refusal)
-        → WereTold (handed_in (map (λ h. answer h) hosts.old.items)) []
-        (handed_in (map (λ h. answer h) hosts.new.items)) }
+        → WereTold (supplied answer hosts.old.items) []
+        (supplied answer hosts.new.items) }
     // Nor were they told anything where the rules or a limit left the program unrun.
     ensures unrun { (result ≡ 4) ⊎ (result ≡ 7)
-        → WereTold (handed_in (map (λ h. answer h) hosts.old.items)) []
-        (handed_in (map (λ h. answer h) hosts.new.items)) }
+        → WereTold (supplied answer hosts.old.items) []
+        (supplied answer hosts.new.items) }
     ensures put_fault { result ≡ 6 → Rose (S.state out.old).faults (S.state out.new).faults
         ⊎ Rose (S.state err.old).faults (S.state err.new).faults }
 {

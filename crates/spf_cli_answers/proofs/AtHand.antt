@@ -3,7 +3,7 @@ use Rattle.std.proofs.Common.{◌≡◌, inl, inr, ◌∙◌, ℕ, List, [], ari
 use Rattle.std.specs.Prelude.{Result, Err}
 use Rattle.spf_ast.specs.Syntax.{Program}
 use Rattle.spf_cli_answers.specs.Answer.{Answer, ran}
-use Rattle.spf_cli_answers.specs.Answering.{seen_answer, IsReadExit, IsRuleExit, IsNotRun, AnswersWith, IsRunToItsEnd}
+use Rattle.spf_cli_answers.specs.Answering.{seen_answer, IsReadExit, IsRuleExit, IsNotRun, AnswersWith, IsRunToItsEnd, IsLeftUnrun, SaysWhy}
 use Rattle.spf_cli_answers.specs.Reading.{Verdict, Says, Refuses, Refusal, IsVerdict}
 use Rattle.spf_exec_instance.specs.declared.layout.RunError.{RunError}
 use Rattle.spf_exec_instance.specs.declared.layout.RunError.TheVariants as run_error
@@ -19,6 +19,9 @@ use Rattle.spf_cli_answers.specs.declared.answer.Exit.TheVariants.{Answered, NoM
 use Rattle.spf_guess_statistics.specs.Guess.{Hosts}
 use Rattle.spf_guess_statistics.specs.Statistics.{tally}
 use Rattle.spf_guess.specs.Answers.{WereTold}
+use Rattle.spf_engine.specs.declared.error.EngineError.{EngineError}
+use Rattle.spf_engine.specs.declared.error.EngineError.TheVariants as engine_error
+use Rattle.spf_engine.specs.Errors.{WereToldNothing}
 use Rattle.spf_engine.specs.Runs.{WereToldFirst}
 use Rattle.spf_ast.specs.Program.{Outcome, Done, Stopped}
 use Rattle.spf_guess_statistics.specs.declared.stats.Stats.{Stats}
@@ -122,3 +125,28 @@ unrun_told P p (TooManyCells count) (Answered a) h = λ ended. elim ended [
 ]
 unrun_told P p run_error.OutOfMemory (Answered a) h = absurd h
 unrun_told P p error NoMemory h = tt
+
+-- a run that didn't come to its end isn't answered as one that did
+pub unfinished_told : (P : Type 0) (p : Program) (error : EngineError) (r : Result made.Answer Exit) → AnswersWith (SaysWhy p error) r → AnswersWith (λ a. IsRunToItsEnd a → P) r
+unfinished_told P p error r h = answers_with (λ a. IsRunToItsEnd a → P) (SaysWhy p error) r h (λ a why. go error a why)
+  where
+    go : (error : EngineError) (a : Answer) → SaysWhy p error a → IsRunToItsEnd a → P
+    go (engine_error.TooManyCells count) a why ended = elim ended [
+      | inl e ↦ absurd (omega (arith, e, ap (λ (b : Answer). b.status) why))
+      | inr e ↦ absurd (omega (arith, e, ap (λ (b : Answer). b.status) why))
+    ]
+    go (engine_error.NoHost host) a why ended = elim ended [
+      | inl e ↦ absurd (omega (arith, e, ap (λ (b : Answer). b.status) why))
+      | inr e ↦ absurd (omega (arith, e, ap (λ (b : Answer). b.status) why))
+    ]
+    go engine_error.OutOfMemory a why ended = absurd why
+
+-- hosts were told nothing where a limit left the program unrun
+pub unfinished_untold : (before now : Hosts) (p : Program) (error : EngineError) (r : Result made.Answer Exit) → AnswersWith (SaysWhy p error) r → WereToldNothing error before now
+    → AnswersWith (λ a. IsLeftUnrun a → WereTold before [] now) r
+unfinished_untold before now p error r h untold = answers_with (λ a. IsLeftUnrun a → WereTold before [] now) (SaysWhy p error) r h (λ a why left. go error a why untold)
+  where
+    go : (error : EngineError) (a : Answer) → SaysWhy p error a → WereToldNothing error before now → WereTold before [] now
+    go (engine_error.TooManyCells count) a why untold = untold
+    go (engine_error.NoHost host) a why untold = untold
+    go engine_error.OutOfMemory a why untold = absurd why

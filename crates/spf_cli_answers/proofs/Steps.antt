@@ -1,5 +1,6 @@
 -- The steps to the one answer.
-use Rattle.std.proofs.Common.{◌≡◌, ◌<◌, ℕ, Bool, true, false, List, [], ◌∷◌, length, refl, sym, ap, ◌∙◌, arith, inl, inr, nat_le, subst}
+use Rattle.std.proofs.lemmas.Bool.{cases_lt}
+use Rattle.std.proofs.Common.{◌≡◌, ◌<◌, ◌≤◌, ℕ, Bool, true, false, List, [], ◌∷◌, length, refl, sym, ap, ◌∙◌, arith, inl, inr, nat_le, subst}
 use Rattle.std.specs.Prelude.{Option, Some, None, Result, Ok, Err, IfOk}
 use Rattle.spf_ast.specs.declared.syntax.Program as code_program
 use Rattle.spf_ast.specs.View.{program}
@@ -13,14 +14,18 @@ use Rattle.spf_check.specs.Accepting.{IsAccepted, IsFirstRefusal}
 use Rattle.spf_check.specs.Checking.{IsChecked}
 use Rattle.spf_check.specs.Explaining.{Explains}
 use Rattle.spf_guess_statistics.specs.declared.stats.Stats.{Stats}
+use Rattle.spf_engine.specs.declared.error.EngineError.{EngineError}
+use Rattle.spf_engine.specs.declared.error.EngineError.TheVariants as engine_error
+use Rattle.spf_engine.specs.Errors.{AreTooMany, IsMissing}
+use Rattle.spf_exec_instance.specs.RunErrors.{counted}
 use Rattle.spf_edge.specs.declared.files.FetchError.{FetchError}
 use Rattle.spf_edge.specs.declared.files.FetchError.TheVariants.{Missing, Failed, TooLong, OutOfMemory}
 use Rattle.spf_edge.specs.Fetches.{FilesState, Fetch, AreMade}
 use Rattle.spf_edge.proofs.Fetched.{made_none, made_both}
 use Rattle.spf_cli_words.specs.Command.{Command, Options, Asks}
 use Rattle.spf_cli_words.specs.Only.{IsOnly}
-use Rattle.spf_cli_answers.specs.Answer.{Answer, not_understood, text_refused, rule_refused, explained, file_failed, file_too_long, host_missing}
-use Rattle.spf_cli_answers.specs.Answering.{seen_answer, IsFetchExit, IsReadExit, IsRuleExit, IsNotAccepted, IsFollowed, AnswersWith}
+use Rattle.spf_cli_answers.specs.Answer.{Answer, not_understood, text_refused, rule_refused, explained, file_failed, file_too_long, host_missing, too_many_cells}
+use Rattle.spf_cli_answers.specs.Answering.{seen_answer, IsFetchExit, IsReadExit, IsRuleExit, IsNotAccepted, IsFollowed, AnswersWith, SaysWhy}
 use Rattle.spf_cli_answers.specs.Course.{Wanted, Is, Either, Course, Ends, Unfetched, Fetches}
 use Rattle.spf_cli_answers.specs.Reading.{Says, Refuses, IsVerdict, Refusal}
 use Rattle.spf_cli_answers.specs.Laws.{RuleLaws}
@@ -91,6 +96,50 @@ host_left said options given p input host a few some e =
     subst (IsOnly (RunsTo said options given p input)) (sym e)
     (either_first _ _ (nat_le (cell_count_of p (length input)) (max_cells p)) (host_missing host) (fits (cell_count_of p (length input)) (max_cells p) few)
     (without_hosts (host_wanted options given p) host _ some))
+
+-- ---- runs that didn't come to their end
+
+-- by a test that fails
+either_second : (A B : Wanted) (b : Bool) (a : Answer) → b ≡ false → IsOnly B a → IsOnly (Either b A B) a
+either_second A B true a e h = cc
+either_second A B false a e h = h
+
+exceeds : (cells limit : ℕ) → limit < cells → nat_le cells limit ≡ false
+exceeds cells limit over = go cells limit over
+  where
+    go : (a b : ℕ) → b < a → nat_le a b ≡ false
+    go a b over = grind (arith, over)
+
+-- a program has too many cells
+cells_left : (said : Outcome → Stats → Answer) (options : Options) (given : Handed) (p : Program) (input : List ℕ) (a : Answer) → max_cells p < cell_count_of p (length input)
+    → a ≡ too_many_cells (counted (cell_count_of p (length input))) (max_cells p) → IsOnly (RunsTo said options given p input) a
+cells_left said options given p input a over e =
+    let line = too_many_cells (counted (cell_count_of p (length input))) (max_cells p) in
+    subst (IsOnly (RunsTo said options given p input)) (sym e)
+    (either_second (WithHosts (host_wanted options given p) (Is (said (outcome p input) (stats_of options given p input)))) (Is line)
+    (nat_le (cell_count_of p (length input)) (max_cells p)) line (exceeds (cell_count_of p (length input)) (max_cells p) over) (only_this line))
+
+-- the one answer says why
+pub unfinished : (said : Outcome → Stats → Answer) (options : Options) (given : Handed) (p : Program) (input : List ℕ) (error : EngineError) (a : Answer)
+    → (max_cells p < cell_count_of p (length input) → AreTooMany (cell_count_of p (length input)) error)
+    → (cell_count_of p (length input) ≤ max_cells p → IsMissing (host_wanted options given p) error)
+    → SaysWhy p error a → IsOnly (RunsTo said options given p input) a
+unfinished said options given p input error a many missing why = elim (cases_lt (max_cells p) (cell_count_of p (length input))) [
+  | inl over ↦ too_large error over (many over) why
+  | inr fits ↦ without_host error fits (missing fits) why
+]
+  where
+    too_large : (error : EngineError) → max_cells p < cell_count_of p (length input) → AreTooMany (cell_count_of p (length input)) error → SaysWhy p error a
+        → IsOnly (RunsTo said options given p input) a
+    too_large (engine_error.TooManyCells count) over is why = cells_left said options given p input a over (why ∙ ap (λ n. too_many_cells n (max_cells p)) is)
+    too_large (engine_error.NoHost host) over is why = absurd is
+    too_large engine_error.OutOfMemory over is why = absurd why
+
+    without_host : (error : EngineError) → cell_count_of p (length input) ≤ max_cells p → IsMissing (host_wanted options given p) error → SaysWhy p error a
+        → IsOnly (RunsTo said options given p input) a
+    without_host (engine_error.TooManyCells count) fits is why = absurd is
+    without_host (engine_error.NoHost host) fits is why = host_left said options given p input host a (λ over. omega (arith, fits, over)) is why
+    without_host engine_error.OutOfMemory fits is why = absurd why
 
 -- ---- courses
 

@@ -11,11 +11,13 @@ use Rattle.spf_check.specs.declared.rule.CheckError.TheVariants as not_accepted
 use Rattle.spf_check.specs.Accepting.{IsFirstRefusal}
 use Rattle.spf_edge.specs.declared.files.FetchError.{FetchError}
 use Rattle.spf_edge.specs.Fetches.{FilesState, Fetch, AreMade}
+use Rattle.spf_engine.specs.declared.error.EngineError.{EngineError}
+use Rattle.spf_engine.specs.declared.error.EngineError.TheVariants as engine_error
 use Rattle.spf_exec_instance.specs.declared.layout.RunError.{RunError}
 use Rattle.spf_exec_instance.specs.declared.layout.RunError.TheVariants.{TooManyCells}
 use Rattle.spf_exec_instance.specs.declared.layout.RunError.TheVariants as run_error
 use Rattle.spf_cli_answers.specs.Answer as said
-use Rattle.spf_cli_answers.specs.Answer.{text_refused, rule_refused, too_many_cells}
+use Rattle.spf_cli_answers.specs.Answer.{text_refused, rule_refused, too_many_cells, host_missing}
 use Rattle.spf_cli_answers.specs.Course.{Course, Unfetched}
 use Rattle.spf_cli_answers.specs.Reading.{Refusal, Refuses, IsVerdict}
 use Rattle.spf_cli_answers.specs.Status.{status_number}
@@ -62,6 +64,12 @@ abbrev pub IsNotRun : Program → RunError → Exit → Type 0
 IsNotRun p (TooManyCells count) (Answered a) = seen_answer a ≡ too_many_cells count (max_cells p)
 IsNotRun p run_error.OutOfMemory (Answered a) = ⊥
 IsNotRun p error NoMemory = Unit {0}
+
+-- a run by blocks didn't come to its end, and its answer says why
+abbrev pub SaysWhy : Program → EngineError → said.Answer → Type 0
+SaysWhy p (engine_error.TooManyCells count) a = a ≡ too_many_cells count (max_cells p)
+SaysWhy p (engine_error.NoHost host) a = a ≡ host_missing host
+SaysWhy p engine_error.OutOfMemory a = ⊥
 
 -- the course was followed: these fetches were made, and this is the one answer to what they gave
 pub record IsFollowed (course : Course) (old new : FilesState) (answer : said.Answer) : Type 0 where

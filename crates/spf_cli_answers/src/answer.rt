@@ -8,7 +8,7 @@ ghost use Rattle.spf_ast.specs.Program.{extents_from, seen_outcome};
 ghost use Rattle.spf_ast.specs.Lawful.{IsLawful};
 ghost use Rattle.spf_exec_instance.specs.Instance.{program_of as instance_program};
 ghost use Rattle.spf_guess_statistics.specs.Statistics.{tally};
-ghost use Rattle.spf_guess.specs.Answers.{handed_in, WereTold};
+ghost use Rattle.spf_guess.specs.Answers.{WereTold, supplied};
 ghost use Rattle.spf_engine.specs.Runs.{WereToldFirst};
 ghost use Rattle.spf_edge.specs.Fetches.{AreMade};
 ghost use Rattle.spf_cli_answers.specs.Message.{array_lines};
@@ -27,10 +27,11 @@ ghost use Rattle.spf_cli_answers.specs.Status.{status_number};
 ghost use Rattle.spf_cli_words.specs.Only.{IsOnly};
 ghost use Rattle.spf_cli_answers.specs.Whole.{Handed, handed, Runs, RunsOn, Whole, WholeOf};
 ghost use Rattle.spf_cli_answers.specs.Answering.{lines_of, seen_answer, IsFetchExit, IsReadExit};
-ghost use Rattle.spf_cli_answers.specs.Answering.{IsRuleExit, IsNotAccepted, IsNotRun, IsFollowed};
+ghost use Rattle.spf_cli_answers.specs.Answering.{SaysWhy, IsRuleExit, IsNotAccepted, IsNotRun};
+ghost use Rattle.spf_cli_answers.specs.Answering.{IsFollowed};
 ghost use Rattle.spf_cli_answers.specs.Answering.{AnswersWith, IsRunToItsEnd, IsLeftUnrun};
 
-use crate::decoding::{demo, lex_files, unhuff_file, unpack_file};
+use crate::context::Context;
 use crate::message::{
     array_line, failed_line, host_line, long_line, rule_line, stats_line, too_many_line, trap_line,
 };
@@ -44,13 +45,13 @@ use spf_check::explain::explain;
 use spf_check::rule::{CheckError, Refusal};
 use spf_cli_words::{Command, Options, WordsError, read_words};
 use spf_edge::{FetchError, Files};
-use spf_engine::run::run_instance;
+use spf_engine::error::EngineError;
+use spf_engine::run::run_whole;
 use spf_exec::plain_run;
 use spf_exec_instance::arrays::max_cells_of;
 use spf_exec_instance::instance::Instance;
 use spf_exec_instance::layout::RunError;
 use spf_guess::Predictor;
-use spf_guess::missing::first_missing;
 use spf_guess_statistics::stats::Stats;
 use spf_print::print;
 use spf_ticket_gate::Gate;
@@ -301,7 +302,7 @@ fn ran(
 }
 
 /// The answer where the arrays of a program have too many cells, or memory runs out.
-pub(crate) fn not_run(alloc: Global, program: &Program, error: RunError) -> Exit
+fn not_run(alloc: Global, program: &Program, error: RunError) -> Exit
     ensures { IsNotRun (seen_program program.now) error result }
 {
     match error {
@@ -325,10 +326,27 @@ fn too_many(alloc: Global, count: u128, limit: u32) -> Result<Answer, AllocError
 }
 
 /// The answer where a host isn't handed in.
-pub(crate) fn without_host(alloc: Global, host: u64) -> Result<Answer, AllocError>
+fn without_host(alloc: Global, host: u64) -> Result<Answer, AllocError>
     ensures { IfOk result (λ a. seen_answer a ≡ host_missing host) }
 {
     refused(alloc, Status::OverLimit, host_line(alloc, host)?)
+}
+
+/// The answer where a run by blocks did not come to its end.
+pub(crate) fn unfinished(
+    alloc: Global,
+    program: &Program,
+    error: EngineError,
+) -> Result<Answer, Exit>
+    ensures { AnswersWith (SaysWhy (seen_program program.now) error) result }
+{
+    match error {
+        EngineError::TooManyCells { count } => {
+            Ok(too_many(alloc, count, max_cells_of(program))?)
+        }
+        EngineError::NoHost { number } => Ok(without_host(alloc, number)?),
+        EngineError::OutOfMemory => Err(Exit::NoMemory),
+    }
 }
 
 /// The answer of a run by the plain meaning.
@@ -362,46 +380,6 @@ fn worker_count(options: Options) -> u64
     options.workers.unwrap_or(DEFAULT_WORKERS)
 }
 
-/// The answer of a run by blocks from guesses.
-pub(crate) fn run_by_blocks<R: Threads + Wait + Sync, G: Gate + Sync>(
-    rt: &R,
-    alloc: Global,
-    options: Options,
-    checked: &Checked,
-    input: &[u8],
-    hosts: &mut Vec<Box<dyn Predictor>>,
-    gate: &G,
-) -> Result<Answer, Exit>
-    requires blocks { options.plain ≡ false }
-    requires workers { IsUpTo max_workers options.workers }
-    ensures answer { AnswersWith (IsOnly (Runs (seen_options options)
-        (handed (map (λ h. answer h) hosts.old.items)) (seen_program checked.now) input.now))
-        result }
-    ensures told_first { WereToldFirst (handed_in (map (λ h. answer h) hosts.old.items))
-        (seen_program checked.now) input.now (handed_in (map (λ h. answer h) hosts.new.items)) }
-    ensures told { AnswersWith (λ a. IsRunToItsEnd a
-        → WereTold (handed_in (map (λ h. answer h) hosts.old.items)) (tally
-        (handed_in (map (λ h. answer h) hosts.old.items)) (seen_program checked.now)
-        input.now).telling (handed_in (map (λ h. answer h) hosts.new.items))) result }
-    ensures unrun { AnswersWith (λ a. IsLeftUnrun a
-        → WereTold (handed_in (map (λ h. answer h) hosts.old.items)) []
-        (handed_in (map (λ h. answer h) hosts.new.items))) result }
-{
-    let program = checked.program();
-    // Law: no `break` of a lawful program leaves `main` or a part.
-    spf_ast::laws::breaks_stay_in_their_loops();
-    let instance = match Instance::make(alloc, program, input) {
-        Ok(instance) => instance,
-        Err(error) => return Err(not_run(alloc, program, error)),
-    };
-    if let Some(host) = first_missing(program, hosts.len() as u64) {
-        return Ok(without_host(alloc, host)?);
-    }
-    let workers = worker_count(options);
-    let report = run_instance(rt, alloc, checked, &instance, workers, hosts, gate)?;
-    Ok(ran(alloc, options, &instance, report.outcome, report.stats)?)
-}
-
 /// The answer of `run` with `--plain` over a program, on the file of an input.
 fn run_plainly_on<F: Files>(
     alloc: Global,
@@ -418,54 +396,6 @@ fn run_plainly_on<F: Files>(
 {
     let content = fetch(alloc, files, input, MAX_INPUT)?;
     run_plainly(alloc, options, program, &content)
-}
-
-/// The answer of `run` over an accepted program, on the file of an input.
-fn run_by_blocks_on<R: Threads + Wait + Sync, F: Files, G: Gate + Sync>(
-    rt: &R,
-    alloc: Global,
-    checked: &Checked,
-    input: &str,
-    options: Options,
-    files: &mut F,
-    hosts: &mut Vec<Box<dyn Predictor>>,
-    gate: &G,
-) -> Result<Answer, Exit>
-    requires blocks { options.plain ≡ false }
-    requires workers { IsUpTo max_workers options.workers }
-    ensures { AnswersWith (IsFollowed
-        (RunsOn (seen_options options) (handed (map (λ h. answer h) hosts.old.items)) input.now
-        (seen_program checked.now)) (F.state files.old) (F.state files.new)) result }
-{
-    let content = fetch(alloc, files, input, MAX_INPUT)?;
-    run_by_blocks(rt, alloc, options, checked, &content, hosts, gate)
-}
-
-/// The answer of `run` over two files.
-fn run_files<R: Threads + Wait + Sync, F: Files, G: Gate + Sync>(
-    rt: &R,
-    alloc: Global,
-    program: &str,
-    input: &str,
-    options: Options,
-    files: &mut F,
-    hosts: &mut Vec<Box<dyn Predictor>>,
-    gate: &G,
-) -> Result<Answer, Exit>
-    requires workers { IsUpTo max_workers options.workers }
-    ensures { AnswersWith (IsFollowed (WholeOf (handed (map (λ h. answer h) hosts.old.items))
-        (run_command program.now input.now (seen_options options)))
-        (F.state files.old) (F.state files.new)) result }
-{
-    // Law: a program has one verdict and one explanation.
-    crate::laws::rules_say_one_thing();
-    let text = fetch(alloc, files, program, MAX_PROGRAM)?;
-    let parsed = read(alloc, &text)?;
-    if options.plain {
-        return run_plainly_on(alloc, &parsed, input, options, files);
-    }
-    let checked = accept(alloc, parsed)?;
-    run_by_blocks_on(rt, alloc, &checked, input, options, files, hosts, gate)
 }
 
 /// The answer of `check` over a file.
@@ -515,45 +445,118 @@ fn print_file<F: Files>(alloc: Global, program: &str, files: &mut F) -> Result<A
     })
 }
 
-/// The answer of a command.
-fn answer_command<R: Threads + Wait + Sync, F: Files, G: Gate + Sync>(
-    rt: &R,
-    alloc: Global,
-    command: Command,
-    files: &mut F,
-    hosts: &mut Vec<Box<dyn Predictor>>,
-    gate: &G,
-) -> Result<Answer, Exit>
-    requires numbers { HasNumbers (seen_command command) }
-    ensures { AnswersWith (IsFollowed (WholeOf (handed (map (λ h. answer h) hosts.old.items))
-        (seen_command command.entry)) (F.state files.old) (F.state files.new)) result }
-{
-    match command {
-        Command::Run {
-            program,
-            input,
-            options,
-        } => run_files(rt, alloc, program, input, options, files, hosts, gate),
-        Command::Check { program } => check_file(alloc, program, files),
-        Command::Explain { program } => explain_file(alloc, program, files),
-        Command::Print { program } => print_file(alloc, program, files),
-        Command::Unpack { input, options } => {
-            unpack_file(rt, alloc, input, options, files, gate)
+impl<'a, R: Threads + Wait + Sync, G: Gate + Sync> Context<'a, R, G> {
+    /// The answer of a run by blocks from guesses.
+    pub(crate) fn run_by_blocks(
+        &self,
+        options: Options,
+        checked: &Checked,
+        input: &[u8],
+        hosts: &mut Vec<Box<dyn Predictor>>,
+    ) -> Result<Answer, Exit>
+        requires blocks { options.plain ≡ false }
+        requires workers { IsUpTo max_workers options.workers }
+        ensures answer { AnswersWith (IsOnly (Runs (seen_options options)
+            (handed (map (λ h. answer h) hosts.old.items)) (seen_program checked.now) input.now))
+            result }
+        ensures told_first { WereToldFirst (supplied answer hosts.old.items)
+            (seen_program checked.now) input.now (supplied answer hosts.new.items) }
+        ensures told { AnswersWith (λ a. IsRunToItsEnd a
+            → WereTold (supplied answer hosts.old.items) (tally
+            (supplied answer hosts.old.items) (seen_program checked.now)
+            input.now).telling (supplied answer hosts.new.items)) result }
+        ensures unrun { AnswersWith (λ a. IsLeftUnrun a
+            → WereTold (supplied answer hosts.old.items) []
+            (supplied answer hosts.new.items)) result }
+    {
+        let workers = worker_count(options);
+        let (instance, report) = match run_whole(
+            self.rt, self.alloc, checked, input, workers, hosts, self.gate,
+        ) {
+            Ok(run) => run,
+            Err(error) => return unfinished(self.alloc, checked.program(), error),
+        };
+        Ok(ran(self.alloc, options, &instance, report.outcome, report.stats)?)
+    }
+
+    /// The answer of `run` over an accepted program, on the file of an input.
+    fn run_by_blocks_on<F: Files>(
+        &self,
+        checked: &Checked,
+        input: &str,
+        options: Options,
+        files: &mut F,
+        hosts: &mut Vec<Box<dyn Predictor>>,
+    ) -> Result<Answer, Exit>
+        requires blocks { options.plain ≡ false }
+        requires workers { IsUpTo max_workers options.workers }
+        ensures { AnswersWith (IsFollowed
+            (RunsOn (seen_options options) (handed (map (λ h. answer h) hosts.old.items)) input.now
+            (seen_program checked.now)) (F.state files.old) (F.state files.new)) result }
+    {
+        let content = fetch(self.alloc, files, input, MAX_INPUT)?;
+        self.run_by_blocks(options, checked, &content, hosts)
+    }
+
+    /// The answer of `run` over two files.
+    fn run_files<F: Files>(
+        &self,
+        program: &str,
+        input: &str,
+        options: Options,
+        files: &mut F,
+        hosts: &mut Vec<Box<dyn Predictor>>,
+    ) -> Result<Answer, Exit>
+        requires workers { IsUpTo max_workers options.workers }
+        ensures { AnswersWith (IsFollowed (WholeOf (handed (map (λ h. answer h) hosts.old.items))
+            (run_command program.now input.now (seen_options options)))
+            (F.state files.old) (F.state files.new)) result }
+    {
+        // Law: a program has one verdict and one explanation.
+        crate::laws::rules_say_one_thing();
+        let text = fetch(self.alloc, files, program, MAX_PROGRAM)?;
+        let parsed = read(self.alloc, &text)?;
+        if options.plain {
+            return run_plainly_on(self.alloc, &parsed, input, options, files);
         }
-        Command::Unhuff { input, options } => {
-            unhuff_file(rt, alloc, input, options, files, gate)
+        let checked = accept(self.alloc, parsed)?;
+        self.run_by_blocks_on(&checked, input, options, files, hosts)
+    }
+
+    /// The answer of a command.
+    fn answer_command<F: Files>(
+        &self,
+        command: Command,
+        files: &mut F,
+        hosts: &mut Vec<Box<dyn Predictor>>,
+    ) -> Result<Answer, Exit>
+        requires numbers { HasNumbers (seen_command command) }
+        ensures { AnswersWith (IsFollowed (WholeOf (handed (map (λ h. answer h) hosts.old.items))
+            (seen_command command.entry)) (F.state files.old) (F.state files.new)) result }
+    {
+        match command {
+            Command::Run {
+                program,
+                input,
+                options,
+            } => self.run_files(program, input, options, files, hosts),
+            Command::Check { program } => check_file(self.alloc, program, files),
+            Command::Explain { program } => explain_file(self.alloc, program, files),
+            Command::Print { program } => print_file(self.alloc, program, files),
+            Command::Unpack { input, options } => { self.unpack_file(input, options, files) }
+            Command::Unhuff { input, options } => { self.unhuff_file(input, options, files) }
+            Command::Lex {
+                machine,
+                input,
+                options,
+            } => self.lex_files(machine, input, options, files),
+            Command::Demo {
+                kind,
+                seed,
+                size,
+                workers,
+            } => self.demo(kind, seed, size, workers),
         }
-        Command::Lex {
-            machine,
-            input,
-            options,
-        } => lex_files(rt, alloc, machine, input, options, files, gate),
-        Command::Demo {
-            kind,
-            seed,
-            size,
-            workers,
-        } => demo(rt, alloc, kind, seed, size, workers, gate),
     }
 }
 
@@ -584,7 +587,8 @@ pub fn answer_words<R: Threads + Wait + Sync, F: Files, G: Gate + Sync>(
         }
         Err(WordsError::OutOfMemory) => return Err(AllocError),
     };
-    match answer_command(rt, alloc, command, files, hosts, gate) {
+    let context = Context { rt, alloc, gate };
+    match context.answer_command(command, files, hosts) {
         Ok(given) => Ok(given),
         Err(Exit::Answered(given)) => Ok(given),
         Err(Exit::NoMemory) => Err(AllocError),

@@ -4,7 +4,7 @@ ghost use Rattle.std.specs.Prelude.{◌≤◌, ◌<◌, [], map, IfOk};
 ghost use Rattle.spf_ast_lemmas.specs.Limits.{max_workers};
 ghost use Rattle.spf_ast.specs.Syntax.{Program};
 ghost use Rattle.spf_guess_statistics.specs.Statistics.{tally};
-ghost use Rattle.spf_guess.specs.Answers.{handed_in, WereTold};
+ghost use Rattle.spf_guess.specs.Answers.{WereTold, supplied};
 ghost use Rattle.spf_engine.specs.Runs.{WereToldFirst};
 ghost use Rattle.spf_cli_answers.specs.Reading.{IsVerdict, Refusal, Refuses, Says};
 ghost use Rattle.spf_cli_words.specs.Only.{IsOnly};
@@ -12,7 +12,8 @@ ghost use Rattle.spf_cli_answers.specs.Whole.{handed, RunsText};
 ghost use Rattle.spf_cli_answers.specs.Answering.{AnswersWith, IsRunToItsEnd, IsLeftUnrun};
 ghost use Rattle.spf_cli_answers.specs.Answering.{seen_answer};
 
-use crate::answer::{Answer, Exit, accept, read, run_by_blocks};
+use crate::answer::{Answer, Exit, accept, read};
+use crate::context::Context;
 use spf_cli_words::Options;
 use spf_guess::Predictor;
 use spf_ticket_gate::Gate;
@@ -20,45 +21,46 @@ use std::alloc::{AllocError, Global};
 use std::sync::Wait;
 use std::thread::Threads;
 
-/// Runs a program's text on an input, and shows the statistics.
-fn run_text<R: Threads + Wait + Sync, G: Gate + Sync>(
-    rt: &R,
-    alloc: Global,
-    text: &[u8],
-    input: &[u8],
-    workers: u64,
-    hosts: &mut Vec<Box<dyn Predictor>>,
-    gate: &G,
-) -> Result<Answer, Exit>
-    requires workers { (0 < workers) × (workers ≤ max_workers) }
-    ensures answer { AnswersWith (IsOnly
-        (RunsText (handed (map (λ h. answer h) hosts.old.items)) workers text.now input.now))
-        result }
-    ensures told_first { (p : Program) → IsVerdict text.now (Says p)
-        → WereToldFirst (handed_in (map (λ h. answer h) hosts.old.items)) p input.now
-        (handed_in (map (λ h. answer h) hosts.new.items)) }
-    ensures told { AnswersWith (λ a. (p : Program) → IsVerdict text.now (Says p) → IsRunToItsEnd a
-        → WereTold (handed_in (map (λ h. answer h) hosts.old.items))
-        (tally (handed_in (map (λ h. answer h) hosts.old.items)) p input.now).telling
-        (handed_in (map (λ h. answer h) hosts.new.items))) result }
-    ensures untold { (refusal : Refusal) → IsVerdict text.now (Refuses refusal)
-        → WereTold (handed_in (map (λ h. answer h) hosts.old.items)) []
-        (handed_in (map (λ h. answer h) hosts.new.items)) }
-    ensures unrun { AnswersWith (λ a. IsLeftUnrun a
-        → WereTold (handed_in (map (λ h. answer h) hosts.old.items)) []
-        (handed_in (map (λ h. answer h) hosts.new.items))) result }
-{
-    // Law: a program has one verdict and one explanation.
-    crate::laws::rules_say_one_thing();
-    let program = read(alloc, text)?;
-    let checked = accept(alloc, program)?;
-    let options = Options {
-        workers: Some(workers),
-        stats: true,
-        cells: false,
-        plain: false,
-    };
-    run_by_blocks(rt, alloc, options, &checked, input, hosts, gate)
+impl<'a, R: Threads + Wait + Sync, G: Gate + Sync> Context<'a, R, G> {
+    /// Runs a program's text on an input, and shows the statistics.
+    fn run_text(
+        &self,
+        text: &[u8],
+        input: &[u8],
+        workers: u64,
+        hosts: &mut Vec<Box<dyn Predictor>>,
+    ) -> Result<Answer, Exit>
+        requires workers { (0 < workers) × (workers ≤ max_workers) }
+        ensures answer { AnswersWith (IsOnly
+            (RunsText (handed (map (λ h. answer h) hosts.old.items)) workers text.now input.now))
+            result }
+        ensures told_first { (p : Program) → IsVerdict text.now (Says p)
+            → WereToldFirst (supplied answer hosts.old.items) p input.now
+            (supplied answer hosts.new.items) }
+        ensures told { AnswersWith (λ a. (p : Program) → IsVerdict text.now (Says p)
+            → IsRunToItsEnd a
+            → WereTold (supplied answer hosts.old.items)
+            (tally (supplied answer hosts.old.items) p input.now).telling
+            (supplied answer hosts.new.items)) result }
+        ensures untold { (refusal : Refusal) → IsVerdict text.now (Refuses refusal)
+            → WereTold (supplied answer hosts.old.items) []
+            (supplied answer hosts.new.items) }
+        ensures unrun { AnswersWith (λ a. IsLeftUnrun a
+            → WereTold (supplied answer hosts.old.items) []
+            (supplied answer hosts.new.items)) result }
+    {
+        // Law: a program has one verdict and one explanation.
+        crate::laws::rules_say_one_thing();
+        let program = read(self.alloc, text)?;
+        let checked = accept(self.alloc, program)?;
+        let options = Options {
+            workers: Some(workers),
+            stats: true,
+            cells: false,
+            plain: false,
+        };
+        self.run_by_blocks(options, &checked, input, hosts)
+    }
 }
 
 /// The answer of a run with statistics over a program's text and an input, both at hand.
@@ -80,21 +82,22 @@ pub fn answer_text<R: Threads + Wait + Sync, G: Gate + Sync>(
         (RunsText (handed (map (λ h. answer h) hosts.old.items)) workers text.now input.now)
         (seen_answer a)) }
     ensures told_first { (p : Program) → IsVerdict text.now (Says p)
-        → WereToldFirst (handed_in (map (λ h. answer h) hosts.old.items)) p input.now
-        (handed_in (map (λ h. answer h) hosts.new.items)) }
+        → WereToldFirst (supplied answer hosts.old.items) p input.now
+        (supplied answer hosts.new.items) }
     ensures told { IfOk result (λ a. (p : Program) → IsVerdict text.now (Says p)
         → IsRunToItsEnd (seen_answer a)
-        → WereTold (handed_in (map (λ h. answer h) hosts.old.items))
-        (tally (handed_in (map (λ h. answer h) hosts.old.items)) p input.now).telling
-        (handed_in (map (λ h. answer h) hosts.new.items))) }
+        → WereTold (supplied answer hosts.old.items)
+        (tally (supplied answer hosts.old.items) p input.now).telling
+        (supplied answer hosts.new.items)) }
     ensures untold { (refusal : Refusal) → IsVerdict text.now (Refuses refusal)
-        → WereTold (handed_in (map (λ h. answer h) hosts.old.items)) []
-        (handed_in (map (λ h. answer h) hosts.new.items)) }
+        → WereTold (supplied answer hosts.old.items) []
+        (supplied answer hosts.new.items) }
     ensures unrun { IfOk result (λ a. IsLeftUnrun (seen_answer a)
-        → WereTold (handed_in (map (λ h. answer h) hosts.old.items)) []
-        (handed_in (map (λ h. answer h) hosts.new.items))) }
+        → WereTold (supplied answer hosts.old.items) []
+        (supplied answer hosts.new.items)) }
 {
-    match run_text(rt, alloc, text, input, workers, hosts, gate) {
+    let context = Context { rt, alloc, gate };
+    match context.run_text(text, input, workers, hosts) {
         Ok(given) => Ok(given),
         Err(Exit::Answered(given)) => Ok(given),
         Err(Exit::NoMemory) => Err(AllocError),

@@ -25,9 +25,8 @@ ghost use Rattle.spf_cli_answers.specs.Whole.{demo_input, by_blocks, handed, blo
 ghost use Rattle.spf_cli_answers.specs.Whole.{run_options as run_options_of, Lexing, WholeOf};
 ghost use Rattle.spf_cli_answers.specs.Answering.{seen_answer, IsFollowed, AnswersWith};
 
-use crate::answer::{
-    Answer, Exit, MAX_INPUT, fetch, not_run, refused, run_by_blocks, without_host,
-};
+use crate::answer::{Answer, Exit, MAX_INPUT, fetch, refused, unfinished};
+use crate::context::Context;
 use crate::message::{not_huf1_line, not_lex1_line, sum_line, trap_line};
 use crate::status::Status;
 use spf_apps::{huffman, lexer, packbits};
@@ -41,10 +40,8 @@ use spf_check::check::check;
 use spf_check::checked::Checked;
 use spf_cli_words::{DecodeOptions, Options};
 use spf_edge::Files;
-use spf_engine::run::run_instance;
-use spf_exec_instance::instance::Instance;
+use spf_engine::run::run_program;
 use spf_guess::Predictor;
-use spf_guess::missing::first_missing;
 use spf_guess_statistics::stats::Stats;
 use spf_ticket_gate::Gate;
 use std::alloc::{AllocError, Global};
@@ -93,48 +90,6 @@ fn accepted(alloc: Global, program: Program) -> Result<Checked, AllocError>
     }
 }
 
-/// The answer of a decoder's program over an input.
-fn decode<R: Threads + Wait + Sync, G: Gate + Sync>(
-    rt: &R,
-    alloc: Global,
-    options: DecodeOptions,
-    program: Program,
-    input: &[u8],
-    gate: &G,
-) -> Result<Answer, Exit>
-    requires lawful { IsLawful (seen_program program) }
-    requires accepted { IsAccepted (seen_program program) }
-    requires numbers { HasDecodeNumbers (seen_decode_options options) }
-    ensures { AnswersWith
-        (IsOnly (Decodes (seen_decode_options options) (seen_program program) input.now)) result }
-{
-    let checked = accepted(alloc, program)?;
-    let mut hosts: Vec<Box<dyn Predictor>> = Vec::new(alloc);
-    let options = run_options(options);
-    run_by_blocks(rt, alloc, options, &checked, input, &mut hosts, gate)
-}
-
-/// The answer of `unpack` over a file.
-pub(crate) fn unpack_file<R: Threads + Wait + Sync, F: Files, G: Gate + Sync>(
-    rt: &R,
-    alloc: Global,
-    input: &str,
-    options: DecodeOptions,
-    files: &mut F,
-    gate: &G,
-) -> Result<Answer, Exit>
-    requires numbers { HasDecodeNumbers (seen_decode_options options) }
-    ensures { (given : Handed) → AnswersWith (IsFollowed
-        (WholeOf given (unpack_command input.now (seen_decode_options options)))
-        (F.state files.old) (F.state files.new)) result }
-{
-    // Law: a decoder's run answers what its format says.
-    crate::laws::decoders_keep_their_formats();
-    let content = fetch(alloc, files, input, MAX_INPUT)?;
-    let program = packbits(alloc, block_size(options))?;
-    decode(rt, alloc, options, program, &content, gate)
-}
-
 /// The answer where an input isn't HUF1.
 fn not_huf1(alloc: Global, place: u64) -> Result<Answer, AllocError>
     ensures { IfOk result (λ a. seen_answer a ≡ not_huf1_answer place) }
@@ -142,89 +97,11 @@ fn not_huf1(alloc: Global, place: u64) -> Result<Answer, AllocError>
     refused(alloc, Status::WrongFormat, not_huf1_line(alloc, place)?)
 }
 
-/// The answer of `unhuff` over a file.
-pub(crate) fn unhuff_file<R: Threads + Wait + Sync, F: Files, G: Gate + Sync>(
-    rt: &R,
-    alloc: Global,
-    input: &str,
-    options: DecodeOptions,
-    files: &mut F,
-    gate: &G,
-) -> Result<Answer, Exit>
-    requires numbers { HasDecodeNumbers (seen_decode_options options) }
-    ensures { (given : Handed) → AnswersWith (IsFollowed
-        (WholeOf given (unhuff_command input.now (seen_decode_options options)))
-        (F.state files.old) (F.state files.new)) result }
-{
-    // Law: a file is of its format, or refused at one place.
-    spf_apps_formats::laws::files_have_one_verdict();
-    // Law: a decoder's run answers what its format says.
-    crate::laws::decoders_keep_their_formats();
-    let content = fetch(alloc, files, input, MAX_INPUT)?;
-    if let Err(place) = huf1_check(&content) {
-        return Ok(not_huf1(alloc, place)?);
-    }
-    let program = huffman(alloc, block_size(options))?;
-    decode(rt, alloc, options, program, &content, gate)
-}
-
 /// The answer where a machine isn't LEX1.
 fn not_lex1(alloc: Global, place: u64) -> Result<Answer, AllocError>
     ensures { IfOk result (λ a. seen_answer a ≡ not_lex1_answer place) }
 {
     refused(alloc, Status::WrongFormat, not_lex1_line(alloc, place)?)
-}
-
-/// The answer of `lex` with a machine, on the file of an input.
-fn lex_on<R: Threads + Wait + Sync, F: Files, G: Gate + Sync>(
-    rt: &R,
-    alloc: Global,
-    options: DecodeOptions,
-    machine: &[u8],
-    states: u64,
-    classes: u64,
-    input: &str,
-    files: &mut F,
-    gate: &G,
-) -> Result<Answer, Exit>
-    requires numbers { HasDecodeNumbers (seen_decode_options options) }
-    requires lex1 { IsLex1 machine.now states classes }
-    ensures { AnswersWith (IsFollowed (Fetches input.now max_input (λ content.
-        Ends (Lexing (seen_decode_options options) machine.now states classes content)))
-        (F.state files.old) (F.state files.new)) result }
-{
-    // Law: a decoder's run answers what its format says.
-    crate::laws::decoders_keep_their_formats();
-    let content = fetch(alloc, files, input, MAX_INPUT)?;
-    let program = lexer(alloc, block_size(options), states, classes)?;
-    let joined = lex_input(alloc, machine, &content)?;
-    decode(rt, alloc, options, program, &joined, gate)
-}
-
-/// The answer of `lex` over two files.
-pub(crate) fn lex_files<R: Threads + Wait + Sync, F: Files, G: Gate + Sync>(
-    rt: &R,
-    alloc: Global,
-    machine: &str,
-    input: &str,
-    options: DecodeOptions,
-    files: &mut F,
-    gate: &G,
-) -> Result<Answer, Exit>
-    requires numbers { HasDecodeNumbers (seen_decode_options options) }
-    ensures { (given : Handed) → AnswersWith (IsFollowed
-        (WholeOf given (lex_command machine.now input.now (seen_decode_options options)))
-        (F.state files.old) (F.state files.new)) result }
-{
-    // Law: a file is of its format, or refused at one place.
-    spf_apps_formats::laws::files_have_one_verdict();
-    let table = fetch(alloc, files, machine, MAX_MACHINE)?;
-    match lex1_check(&table) {
-        Ok((states, classes)) => lex_on(
-            rt, alloc, options, &table, states, classes, input, files, gate,
-        ),
-        Err(place) => Ok(not_lex1(alloc, place)?),
-    }
 }
 
 /// The sum of bytes.
@@ -255,35 +132,6 @@ fn shown(alloc: Global, outcome: Outcome, stats: Stats) -> Result<Answer, AllocE
     }
 }
 
-/// The answer of a demo's program over its input.
-fn demonstrate<R: Threads + Wait + Sync, G: Gate + Sync>(
-    rt: &R,
-    alloc: Global,
-    checked: &Checked,
-    input: &[u8],
-    workers: u64,
-    gate: &G,
-) -> Result<Answer, Exit>
-    requires workers { (1 ≤ workers) × (workers ≤ max_workers) }
-    ensures { AnswersWith
-        (IsOnly (RunsTo shown_answer by_blocks (handed []) (seen_program checked.now) input.now))
-        result }
-{
-    let program = checked.program();
-    // Law: no `break` of a lawful program leaves `main` or a part.
-    spf_ast::laws::breaks_stay_in_their_loops();
-    let instance = match Instance::make(alloc, program, input) {
-        Ok(instance) => instance,
-        Err(error) => return Err(not_run(alloc, program, error)),
-    };
-    if let Some(host) = first_missing(program, 0) {
-        return Ok(without_host(alloc, host)?);
-    }
-    let mut hosts: Vec<Box<dyn Predictor>> = Vec::new(alloc);
-    let report = run_instance(rt, alloc, checked, &instance, workers, &mut hosts, gate)?;
-    Ok(shown(alloc, report.outcome, report.stats)?)
-}
-
 /// The program of a demo.
 fn demo_decoder(alloc: Global, kind: Kind) -> Result<Program, AllocError>
     ensures program { IfOk result (λ p. seen_program p ≡ demo_program kind) }
@@ -308,24 +156,145 @@ fn whole_input(alloc: Global, kind: Kind, file: Vec<u8>) -> Result<Vec<u8>, Allo
     }
 }
 
-/// The answer of `demo`.
-pub(crate) fn demo<R: Threads + Wait + Sync, G: Gate + Sync>(
-    rt: &R,
-    alloc: Global,
-    kind: Kind,
-    seed: u64,
-    size: u64,
-    workers: u64,
-    gate: &G,
-) -> Result<Answer, Exit>
-    requires numbers { HasNumbers (demo_command kind seed size workers) }
-    ensures { AnswersWith (IsOnly (Demonstrates kind seed size)) result }
-{
-    // Law: a kind, a seed and a size have one input.
-    spf_apps_formats::laws::each_demo_input_is_generated_once();
-    let program = demo_decoder(alloc, kind)?;
-    let checked = accepted(alloc, program)?;
-    let file = generate(alloc, kind, seed, size)?;
-    let input = whole_input(alloc, kind, file)?;
-    demonstrate(rt, alloc, &checked, &input, workers, gate)
+impl<'a, R: Threads + Wait + Sync, G: Gate + Sync> Context<'a, R, G> {
+    /// The answer of a decoder's program over an input.
+    fn decode(&self, options: DecodeOptions, program: Program, input: &[u8]) -> Result<Answer, Exit>
+        requires lawful { IsLawful (seen_program program) }
+        requires accepted { IsAccepted (seen_program program) }
+        requires numbers { HasDecodeNumbers (seen_decode_options options) }
+        ensures { AnswersWith
+            (IsOnly (Decodes (seen_decode_options options) (seen_program program) input.now))
+            result }
+    {
+        let checked = accepted(self.alloc, program)?;
+        let mut hosts: Vec<Box<dyn Predictor>> = Vec::new(self.alloc);
+        let options = run_options(options);
+        self.run_by_blocks(options, &checked, input, &mut hosts)
+    }
+
+    /// The answer of `unpack` over a file.
+    pub(crate) fn unpack_file<F: Files>(
+        &self,
+        input: &str,
+        options: DecodeOptions,
+        files: &mut F,
+    ) -> Result<Answer, Exit>
+        requires numbers { HasDecodeNumbers (seen_decode_options options) }
+        ensures { (given : Handed) → AnswersWith (IsFollowed
+            (WholeOf given (unpack_command input.now (seen_decode_options options)))
+            (F.state files.old) (F.state files.new)) result }
+    {
+        // Law: a decoder's run answers what its format says.
+        crate::laws::decoders_keep_their_formats();
+        let content = fetch(self.alloc, files, input, MAX_INPUT)?;
+        let program = packbits(self.alloc, block_size(options))?;
+        self.decode(options, program, &content)
+    }
+
+    /// The answer of `unhuff` over a file.
+    pub(crate) fn unhuff_file<F: Files>(
+        &self,
+        input: &str,
+        options: DecodeOptions,
+        files: &mut F,
+    ) -> Result<Answer, Exit>
+        requires numbers { HasDecodeNumbers (seen_decode_options options) }
+        ensures { (given : Handed) → AnswersWith (IsFollowed
+            (WholeOf given (unhuff_command input.now (seen_decode_options options)))
+            (F.state files.old) (F.state files.new)) result }
+    {
+        // Law: a file is of its format, or refused at one place.
+        spf_apps_formats::laws::files_have_one_verdict();
+        // Law: a decoder's run answers what its format says.
+        crate::laws::decoders_keep_their_formats();
+        let content = fetch(self.alloc, files, input, MAX_INPUT)?;
+        if let Err(place) = huf1_check(&content) {
+            return Ok(not_huf1(self.alloc, place)?);
+        }
+        let program = huffman(self.alloc, block_size(options))?;
+        self.decode(options, program, &content)
+    }
+
+    /// The answer of `lex` with a machine, on the file of an input.
+    fn lex_on<F: Files>(
+        &self,
+        options: DecodeOptions,
+        machine: &[u8],
+        states: u64,
+        classes: u64,
+        input: &str,
+        files: &mut F,
+    ) -> Result<Answer, Exit>
+        requires numbers { HasDecodeNumbers (seen_decode_options options) }
+        requires lex1 { IsLex1 machine.now states classes }
+        ensures { AnswersWith (IsFollowed (Fetches input.now max_input (λ content.
+            Ends (Lexing (seen_decode_options options) machine.now states classes content)))
+            (F.state files.old) (F.state files.new)) result }
+    {
+        // Law: a decoder's run answers what its format says.
+        crate::laws::decoders_keep_their_formats();
+        let content = fetch(self.alloc, files, input, MAX_INPUT)?;
+        let program = lexer(self.alloc, block_size(options), states, classes)?;
+        let joined = lex_input(self.alloc, machine, &content)?;
+        self.decode(options, program, &joined)
+    }
+
+    /// The answer of `lex` over two files.
+    pub(crate) fn lex_files<F: Files>(
+        &self,
+        machine: &str,
+        input: &str,
+        options: DecodeOptions,
+        files: &mut F,
+    ) -> Result<Answer, Exit>
+        requires numbers { HasDecodeNumbers (seen_decode_options options) }
+        ensures { (given : Handed) → AnswersWith (IsFollowed
+            (WholeOf given (lex_command machine.now input.now (seen_decode_options options)))
+            (F.state files.old) (F.state files.new)) result }
+    {
+        // Law: a file is of its format, or refused at one place.
+        spf_apps_formats::laws::files_have_one_verdict();
+        let table = fetch(self.alloc, files, machine, MAX_MACHINE)?;
+        match lex1_check(&table) {
+            Ok((states, classes)) => self.lex_on(options, &table, states, classes, input, files),
+            Err(place) => Ok(not_lex1(self.alloc, place)?),
+        }
+    }
+
+    /// The answer of a demo's program over its input.
+    fn demonstrate(&self, checked: &Checked, input: &[u8], workers: u64) -> Result<Answer, Exit>
+        requires workers { (1 ≤ workers) × (workers ≤ max_workers) }
+        ensures { AnswersWith (IsOnly
+            (RunsTo shown_answer by_blocks (handed []) (seen_program checked.now) input.now))
+            result }
+    {
+        let mut hosts: Vec<Box<dyn Predictor>> = Vec::new(self.alloc);
+        let report = match run_program(
+            self.rt, self.alloc, checked, input, workers, &mut hosts, self.gate,
+        ) {
+            Ok(report) => report,
+            Err(error) => return unfinished(self.alloc, checked.program(), error),
+        };
+        Ok(shown(self.alloc, report.outcome, report.stats)?)
+    }
+
+    /// The answer of `demo`.
+    pub(crate) fn demo(
+        &self,
+        kind: Kind,
+        seed: u64,
+        size: u64,
+        workers: u64,
+    ) -> Result<Answer, Exit>
+        requires numbers { HasNumbers (demo_command kind seed size workers) }
+        ensures { AnswersWith (IsOnly (Demonstrates kind seed size)) result }
+    {
+        // Law: a kind, a seed and a size have one input.
+        spf_apps_formats::laws::each_demo_input_is_generated_once();
+        let program = demo_decoder(self.alloc, kind)?;
+        let checked = accepted(self.alloc, program)?;
+        let file = generate(self.alloc, kind, seed, size)?;
+        let input = whole_input(self.alloc, kind, file)?;
+        self.demonstrate(&checked, &input, workers)
+    }
 }

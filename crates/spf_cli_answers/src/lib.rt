@@ -4,6 +4,7 @@
 
 mod answer;
 mod at_hand;
+mod context;
 mod decoding;
 pub mod laws;
 mod message;

@@ -1,8 +1,7 @@
 //! Runs the mates of a crew, each in a thread of its own, until the chain has ended.
 #![tactic(auto)]
 
-ghost use Rattle.std.specs.Prelude.{◌≡◌, ◌<◌, ◌≤◌, length, IfOk};
-ghost use Rattle.spf_ast_lemmas.specs.Limits.{max_workers};
+ghost use Rattle.std.specs.Prelude.{◌≡◌, ◌<◌, length, IfOk};
 ghost use Rattle.std.specs.List.{All};
 ghost use Rattle.spf_chain.specs.Beginning.{IsStarted};
 ghost use Rattle.spf_chain.specs.Chains.{cells_of, HasEnded};
@@ -14,6 +13,9 @@ ghost use Rattle.spf_ticket.specs.Tickets.{IsJobOf};
 ghost use Rattle.spf_crew.specs.Mates.{IsMateOf};
 ghost use Rattle.spf_crew_threads.specs.Driving.{HasReadAt, HaveAllReadAt, MakesAttempts};
 
+pub mod workers;
+
+use crate::workers::Workers;
 use crossbeam_utils::Backoff;
 use spf_cells::cells::Cells;
 use spf_chain::chain::Chain;
@@ -24,7 +26,7 @@ use spf_crew::turn::Turn;
 use spf_ticket::run::Job;
 use spf_ticket::ticket::Ticket;
 use spf_ticket_gate::Gate;
-use std::alloc::{AllocError, Global};
+use std::alloc::AllocError;
 use std::sync::Wait;
 use std::thread::{Threads, for_each_mut};
 
@@ -77,34 +79,18 @@ fn drive_blocks<
     I: HasInstance + Sync,
     C: HasConstruct + Sync,
     G: Gate + Sync,
->(
-    rt: &R,
-    crew: &Crew,
-    instance: &I,
-    construct: &C,
-    index: u32,
-    entry: &[i64],
-    gate: &G,
-    mates: &mut [Mate],
-)
+>(rt: &R, crew: &Crew, attempter: &GatedJob<I, C, G>, mates: &mut [Mate])
     requires own { All (IsMateOf crew.now) mates.old }
     requires serves { MakesAttempts crew.now.setting (record {
-      instance = I.instance instance.now;
-      construct = C.construct construct.now;
-      index = index;
-      entry = entry;
+      instance = I.instance attempter.now.instance.now;
+      construct = C.construct attempter.now.construct.now;
+      index = attempter.now.index;
+      entry = attempter.now.entry;
     }) }
     ensures count { length mates.new ≡ length mates.old }
     ensures each { HaveAllReadAt crew.now mates.old mates.new }
 {
-    let attempter = GatedJob {
-        instance,
-        construct,
-        index,
-        entry,
-        gate,
-    };
-    in_threads(rt, crew, &attempter, mates);
+    in_threads(rt, crew, attempter, mates);
 }
 
 /// The same, where they are those of this job.
@@ -120,48 +106,48 @@ fn drive_all<R: Threads + Wait + Sync, G: Gate + Sync>(
     ensures count { length mates.new ≡ length mates.old }
     ensures each { HaveAllReadAt crew.now mates.old mates.new }
 {
-    drive_blocks(
-        rt,
-        crew,
-        &job.instance,
-        &job.construct,
-        job.index,
-        job.entry,
+    let attempter = GatedJob {
+        instance: &job.instance,
+        construct: &job.construct,
+        index: job.index,
+        entry: job.entry,
         gate,
-        mates,
-    );
+    };
+    drive_blocks(rt, crew, &attempter, mates);
 }
 
-/// Runs the blocks of a construct whose chain has just started, by 1 to 64 workers, each in a
-/// thread of its own. Where a thread can't be started, the calling thread does its work. Each block
-/// is attempted from its guess, and again from its real row where the guess was wrong; afterwards
-/// the chain has ended. `job` is the construct with the memory at its entry. The gate is called
-/// before and after each attempt. It waits until all workers have ended.
-///
-/// # Errors
-///
-/// `AllocError` where there is no memory for the crew.
-pub fn run_crew<R: Threads + Wait + Sync, G: Gate + Sync>(
-    rt: &R,
-    alloc: Global,
-    chain: Chain,
-    cells: Cells,
-    tickets: Vec<Ticket>,
-    workers: u64,
-    job: Job,
-    gate: &G,
-) -> Result<(Chain, Cells), AllocError>
-    requires workers { (0 < workers) × (workers ≤ max_workers) }
-    requires started { IsStarted chain.site chain cells tickets.items }
-    requires job { CanRun job }
-    requires entry { IsJobOf (entry_at chain.site) job }
-    ensures ended { IfOk result (λ r. HasEnded r.0) }
-    ensures site { IfOk result (λ r. r.0.site ≡ chain.site) }
-    ensures own { IfOk result (λ r. r.1 ≡ cells_of r.0) }
-    ensures cells { IfOk result (λ r. r.1 ≡ cells) }
-    ensures merging { IfOk result (λ r. EveryMergingRuns r.0 (log_in r.0.homes)) }
-{
-    let (crew, mut mates) = Crew::make(alloc, chain, cells, tickets, workers)?;
-    drive_all(rt, &crew, job, gate, mates.as_mut_slice());
-    Ok(crew.close(mates))
+impl<'a, R: Threads + Wait + Sync, G: Gate + Sync> Workers<'a, R, G> {
+    /// Runs the blocks of a construct whose chain has just started, each worker in a thread of its
+    /// own. Where a thread can't be started, the calling thread does its work. Each block is
+    /// attempted from its guess, and again from its real row where the guess was wrong; afterwards
+    /// the chain has ended. `job` is the construct with the memory at its entry. The gate is called
+    /// before and after each attempt. It waits until all workers have ended. No more than `most` of
+    /// the workers are used.
+    ///
+    /// # Errors
+    ///
+    /// `AllocError` where there is no memory for the crew.
+    pub fn run_crew(
+        &self,
+        chain: Chain,
+        cells: Cells,
+        tickets: Vec<Ticket>,
+        most: u64,
+        job: Job,
+    ) -> Result<(Chain, Cells), AllocError>
+        requires some { 0 < most }
+        requires started { IsStarted chain.site chain cells tickets.items }
+        requires job { CanRun job }
+        requires entry { IsJobOf (entry_at chain.site) job }
+        ensures ended { IfOk result (λ r. HasEnded r.0) }
+        ensures site { IfOk result (λ r. r.0.site ≡ chain.site) }
+        ensures own { IfOk result (λ r. r.1 ≡ cells_of r.0) }
+        ensures cells { IfOk result (λ r. r.1 ≡ cells) }
+        ensures merging { IfOk result (λ r. EveryMergingRuns r.0 (log_in r.0.homes)) }
+    {
+        let mates = self.count.min(most);
+        let (crew, mut mates) = Crew::make(self.alloc, chain, cells, tickets, mates)?;
+        drive_all(self.rt, &crew, job, self.gate, mates.as_mut_slice());
+        Ok(crew.close(mates))
+    }
 }

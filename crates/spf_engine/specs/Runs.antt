@@ -1,20 +1,24 @@
 -- Whole runs by blocks.
-use Rattle.std.specs.Prelude.{◌≡◌, ◌<◌, ℕ, ◌*◌, ◌-◌, List, ◌++◌, length}
+use Rattle.std.specs.Prelude.{◌≡◌, ◌<◌, ℕ, ◌*◌, ◌-◌, List, ◌++◌, length, ℤ}
 use Rattle.spf_ast.specs.Meaning.{max_blocks}
 use Rattle.std.specs.Option.{option_to_list}
 use Rattle.spf_ast.specs.Syntax.{Program}
 use Rattle.spf_ast.specs.Program.{Done, Stopped}
-use Rattle.spf_ast.specs.Construct.{Construct, constructs_in}
+use Rattle.spf_ast.specs.Construct.{Construct, Header, constructs_in}
 use Rattle.spf_ast.specs.Pieces.{statement_count}
 use Rattle.spf_exec.specs.Pieces.{Stand, IsSettled, ahead}
+use Rattle.spf_exec_instance.specs.Instance.{InstanceValue, program_of}
 use Rattle.spf_chain.specs.declared.validated.Settled.{Settled}
 use Rattle.spf_chain.specs.declared.validated.Settled.TheVariants.{Carried, Trapped}
 use Rattle.spf_guess_statistics.specs.declared.stats.Stats.{Stats}
-use Rattle.spf_guess_statistics.specs.Guess.{Hosts, Telling}
+use Rattle.spf_guess_statistics.specs.Guess.{Hosts, Telling, tells}
 use Rattle.spf_guess_statistics.specs.Statistics.{plus, tally}
 use Rattle.spf_guess.specs.Answers.{WereTold}
+use Rattle.spf_engine_construct.specs.declared.construct.ConstructReport.{ConstructReport}
+use Rattle.spf_engine_construct.specs.Coming.{ComesTo}
 use Rattle.spf_engine_construct.specs.Guesses.{AreAtMost}
-use Rattle.spf_engine_laws.specs.Progress.{Progress, GoesOn, HasCome}
+use Rattle.spf_speculation_entry.specs.Entry.{plain_blocks}
+use Rattle.spf_engine_laws.specs.Progress.{Progress, GoesOn, HasCome, entry_there, guess_there}
 use Rattle.spf_engine.specs.declared.account.Account.{Account}
 use Rattle.spf_engine.specs.declared.construct.Passed.{Passed}
 use Rattle.spf_engine.specs.declared.step.Step.{Step}
@@ -76,3 +80,35 @@ pub record WereToldFirst (hosts : Hosts) (p : Program) (input : List ℕ) (now :
   pub more : List Telling
   pub all : telling ++ more ≡ (tally hosts p input).telling
   pub told : WereTold hosts telling now
+
+-- ---- what the calls of a run promise, whatever hosts were told by then
+
+-- a run that has this account took a step from where it stands
+abbrev pub Steps : InstanceValue → Stand → Account → Hosts → Step → Stand → Account → Hosts → Type 0
+Steps i s account then taken after counted now =
+    (before : Hosts) (progress : Progress) → AgreesWith progress account → WereTold before progress.telling then
+    → GoesOn before (program_of i) i.input s progress → StepsTo before (program_of i) i.input taken after counted now
+
+-- a run found no memory, and hosts were told the first of what they are told in the whole run
+abbrev pub BreaksOff : InstanceValue → Stand → Hosts → Hosts → Type 0
+BreaksOff i s then now =
+    (before : Hosts) (progress : Progress) → WereTold before progress.telling then
+    → GoesOn before (program_of i) i.input s progress → WereToldFirst before (program_of i) i.input now
+
+-- a run passed the construct that stands next, and stands before it yet
+abbrev pub Passes : InstanceValue → Stand → Hosts → Construct → Passed → Stand → Hosts → Type 0
+Passes i s then construct passed after now =
+    (before : Hosts) (progress : Progress) → WereTold before progress.telling then
+    → GoesOn before (program_of i) i.input s progress → LeadsTo before (program_of i) i.input progress after construct passed now
+
+-- the blocks of a construct with this header came to this, and left this memory
+abbrev pub BlocksCome : InstanceValue → Stand → Hosts → Construct → Header → ConstructReport → List ℤ → Type 0
+BlocksCome i s then construct header report memory =
+    (before : Hosts) (telling : List Telling) → WereTold before telling then
+    → ComesTo (entry_there (program_of i) i.input construct header s) (guess_there before telling (program_of i) i.input construct header s) report memory
+
+-- and hosts were told their real rows
+abbrev pub RowsWereTold : InstanceValue → Stand → Hosts → Construct → Header → Hosts → Type 0
+RowsWereTold i s then construct header now =
+    (before : Hosts) (telling : List Telling) → WereTold before telling then
+    → WereTold before (telling ++ tells construct header (plain_blocks (entry_there (program_of i) i.input construct header s)).values) now

@@ -5,4 +5,5 @@ mod account;
 mod construct;
 pub mod error;
 pub mod run;
+mod runner;
 mod step;

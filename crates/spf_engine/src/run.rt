@@ -8,7 +8,7 @@ ghost use Rattle.spf_ast.specs.Program.{outcome as outcome_of, seen_outcome, Don
 ghost use Rattle.spf_ast.specs.Program.{cell_count_of, max_cells};
 ghost use Rattle.spf_exec_instance.specs.Instance.{program_of};
 ghost use Rattle.spf_guess_statistics.specs.Statistics.{tally};
-ghost use Rattle.spf_guess.specs.Answers.{handed_in, WereTold};
+ghost use Rattle.spf_guess.specs.Answers.{supplied, WereTold};
 ghost use Rattle.spf_guess.specs.Missing.{missing_host};
 ghost use Rattle.spf_engine_laws.specs.Traces.{AreTraces};
 ghost use Rattle.spf_engine.specs.Runs.{WereToldFirst};
@@ -16,10 +16,12 @@ ghost use Rattle.spf_engine.specs.Errors.{AreTooMany, IsMissing, WereToldNothing
 
 use crate::account::Account;
 use crate::error::EngineError;
-use crate::step::{Step, take_step};
+use crate::runner::Runner;
+use crate::step::Step;
 use spf_ast::outcome::{Outcome, Trap};
 use spf_cells::finish::Trace;
 use spf_check::checked::Checked;
+use spf_crew_threads::workers::Workers;
 use spf_exec::pieces::Run;
 use spf_exec_instance::instance::Instance;
 use spf_exec_instance::layout::RunError;
@@ -93,35 +95,30 @@ pub fn run_instance<R: Threads + Wait + Sync, G: Gate + Sync>(
     ensures outcome { IfOk result
         (λ r. seen_outcome r.outcome ≡ outcome_of (program_of instance.now) instance.now.input) }
     ensures statistics { IfOk result (λ r. r.stats
-        ≡ (tally (handed_in (map (λ h. answer h) hosts.old.items)) (program_of instance.now)
+        ≡ (tally (supplied answer hosts.old.items) (program_of instance.now)
         instance.now.input).stats) }
-    ensures traces { IfOk result (λ r. AreTraces (handed_in (map (λ h. answer h) hosts.old.items))
+    ensures traces { IfOk result (λ r. AreTraces (supplied answer hosts.old.items)
         (program_of instance.now) instance.now.input (constructs_in (program_of instance.now).main)
         (reals (program_of instance.now) instance.now.input) [] r.traces.items) }
-    ensures told { IfOk result (λ r. WereTold (handed_in (map (λ h. answer h) hosts.old.items))
-        (tally (handed_in (map (λ h. answer h) hosts.old.items)) (program_of instance.now)
-        instance.now.input).telling (handed_in (map (λ h. answer h) hosts.new.items))) }
+    ensures told { IfOk result (λ r. WereTold (supplied answer hosts.old.items)
+        (tally (supplied answer hosts.old.items) (program_of instance.now)
+        instance.now.input).telling (supplied answer hosts.new.items)) }
     ensures told_first { IfErr result (λ why. WereToldFirst
-        (handed_in (map (λ h. answer h) hosts.old.items)) (program_of instance.now)
-        instance.now.input (handed_in (map (λ h. answer h) hosts.new.items))) }
+        (supplied answer hosts.old.items) (program_of instance.now)
+        instance.now.input (supplied answer hosts.new.items)) }
 {
     // Law: a run in pieces goes on as the plain run does.
     spf_engine_laws::runs_in_pieces_go_on();
     let _program = checked.program();
+    let runner = Runner {
+        workers: Workers::new(rt, alloc, workers, gate),
+        checked,
+        instance,
+    };
     let mut run = Run::start(alloc, instance)?;
     let mut account = Account::new(alloc);
     loop {
-        match take_step(
-            rt,
-            alloc,
-            checked,
-            instance,
-            &mut run,
-            &mut account,
-            workers,
-            hosts,
-            gate,
-        )? {
+        match runner.take_step(&mut run, &mut account, hosts)? {
             Step::Next => {}
             Step::Finished => return Ok(finished(run, account)),
             Step::Trapped(trap) => return Ok(trapped(run, trap, account)),
@@ -164,13 +161,68 @@ fn lay_out<'a>(
 /// `hosts` are the predictors that the program names by number. Each is asked once for each part
 /// that names it of each block but the first, in the order of blocks and then of parts, before the
 /// first attempt, and told these parts of the real rows, in that order, after the construct. `gate`
-/// watches the attempts.
+/// watches the attempts. The instance that was run comes back with the report: it says where the
+/// arrays lie.
 ///
 /// # Errors
 ///
 /// `TooManyCells` where the arrays have more cells than a run of the program's version may have;
 /// `NoHost` where the program names a host that isn't handed in; and `OutOfMemory`. The hosts were
 /// told the first of what they are told in the whole run; after the first two errors nothing.
+pub fn run_whole<'a, R: Threads + Wait + Sync, G: Gate + Sync>(
+    rt: &R,
+    alloc: Global,
+    checked: &'a Checked,
+    input: &'a [u8],
+    workers: u64,
+    hosts: &mut Vec<Box<dyn Predictor>>,
+    gate: &G,
+) -> Result<(Instance<'a>, RunReport), EngineError>
+    requires workers { (0 < workers) × (workers ≤ max_workers) }
+    ensures program { IfOk result (λ r. program_of r.0 ≡ seen_program checked.now) }
+    ensures input { IfOk result (λ r. r.0.input ≡ input.now) }
+    ensures outcome { IfOk result
+        (λ r. seen_outcome r.1.outcome ≡ outcome_of (seen_program checked.now) input.now) }
+    ensures statistics { IfOk result (λ r. r.1.stats
+        ≡ (tally (supplied answer hosts.old.items) (seen_program checked.now)
+        input.now).stats) }
+    ensures traces { IfOk result (λ r. AreTraces (supplied answer hosts.old.items)
+        (seen_program checked.now) input.now (constructs_in (seen_program checked.now).main)
+        (reals (seen_program checked.now) input.now) [] r.1.traces.items) }
+    ensures told { IfOk result (λ r. WereTold (supplied answer hosts.old.items)
+        (tally (supplied answer hosts.old.items) (seen_program checked.now)
+        input.now).telling (supplied answer hosts.new.items)) }
+    ensures told_first { IfErr result (λ why. WereToldFirst
+        (supplied answer hosts.old.items) (seen_program checked.now) input.now
+        (supplied answer hosts.new.items)) }
+    ensures too_many { max_cells (seen_program checked.now)
+        < cell_count_of (seen_program checked.now) (length input.now)
+        → IsErrAnd result
+        (AreTooMany (cell_count_of (seen_program checked.now) (length input.now))) }
+    ensures few { cell_count_of (seen_program checked.now) (length input.now)
+        ≤ max_cells (seen_program checked.now)
+        → IfErr result (IsMissing
+        (missing_host (length hosts.old.items) (constructs_in (seen_program checked.now).main))) }
+    ensures complete { IfOk result (λ r.
+        missing_host (length hosts.old.items) (constructs_in (seen_program checked.now).main)
+        ≡ None) }
+    ensures untold { IfErr result (λ why. WereToldNothing why
+        (supplied answer hosts.old.items)
+        (supplied answer hosts.new.items)) }
+{
+    let instance = lay_out(alloc, checked, input)?;
+    if let Some(number) = first_missing(checked.program(), hosts.len() as u64) {
+        return Err(EngineError::NoHost { number });
+    }
+    let report = run_instance(rt, alloc, checked, &instance, workers, hosts, gate)?;
+    Ok((instance, report))
+}
+
+/// The same, where the instance is of no further use.
+///
+/// # Errors
+///
+/// Those of [`run_whole`].
 pub fn run_program<R: Threads + Wait + Sync, G: Gate + Sync>(
     rt: &R,
     alloc: Global,
@@ -184,17 +236,17 @@ pub fn run_program<R: Threads + Wait + Sync, G: Gate + Sync>(
     ensures outcome { IfOk result
         (λ r. seen_outcome r.outcome ≡ outcome_of (seen_program checked.now) input.now) }
     ensures statistics { IfOk result (λ r. r.stats
-        ≡ (tally (handed_in (map (λ h. answer h) hosts.old.items)) (seen_program checked.now)
+        ≡ (tally (supplied answer hosts.old.items) (seen_program checked.now)
         input.now).stats) }
-    ensures traces { IfOk result (λ r. AreTraces (handed_in (map (λ h. answer h) hosts.old.items))
+    ensures traces { IfOk result (λ r. AreTraces (supplied answer hosts.old.items)
         (seen_program checked.now) input.now (constructs_in (seen_program checked.now).main)
         (reals (seen_program checked.now) input.now) [] r.traces.items) }
-    ensures told { IfOk result (λ r. WereTold (handed_in (map (λ h. answer h) hosts.old.items))
-        (tally (handed_in (map (λ h. answer h) hosts.old.items)) (seen_program checked.now)
-        input.now).telling (handed_in (map (λ h. answer h) hosts.new.items))) }
+    ensures told { IfOk result (λ r. WereTold (supplied answer hosts.old.items)
+        (tally (supplied answer hosts.old.items) (seen_program checked.now)
+        input.now).telling (supplied answer hosts.new.items)) }
     ensures told_first { IfErr result (λ why. WereToldFirst
-        (handed_in (map (λ h. answer h) hosts.old.items)) (seen_program checked.now) input.now
-        (handed_in (map (λ h. answer h) hosts.new.items))) }
+        (supplied answer hosts.old.items) (seen_program checked.now) input.now
+        (supplied answer hosts.new.items)) }
     ensures too_many { max_cells (seen_program checked.now)
         < cell_count_of (seen_program checked.now) (length input.now)
         → IsErrAnd result
@@ -207,13 +259,9 @@ pub fn run_program<R: Threads + Wait + Sync, G: Gate + Sync>(
         missing_host (length hosts.old.items) (constructs_in (seen_program checked.now).main)
         ≡ None) }
     ensures untold { IfErr result (λ why. WereToldNothing why
-        (handed_in (map (λ h. answer h) hosts.old.items))
-        (handed_in (map (λ h. answer h) hosts.new.items))) }
+        (supplied answer hosts.old.items)
+        (supplied answer hosts.new.items)) }
 {
-    let instance = lay_out(alloc, checked, input)?;
-    if let Some(number) = first_missing(checked.program(), hosts.len() as u64) {
-        return Err(EngineError::NoHost { number });
-    }
-    let report = run_instance(rt, alloc, checked, &instance, workers, hosts, gate)?;
+    let (_, report) = run_whole(rt, alloc, checked, input, workers, hosts, gate)?;
     Ok(report)
 }

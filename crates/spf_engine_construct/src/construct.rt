@@ -2,7 +2,6 @@
 ghost use Rattle.std.specs.Prelude.{◌≡◌, ◌<◌, ◌≤◌, ◌+◌, ◌++◌, ◌+ℤ◌, ◌≤ℤ◌, List, length, map, pos};
 ghost use Rattle.std.specs.Prelude.{IfOk, IfErr};
 ghost use Rattle.spf_ast.specs.Meaning.{max_blocks};
-ghost use Rattle.spf_ast_lemmas.specs.Limits.{max_workers};
 ghost use Rattle.spf_ast.specs.View.{program as seen_program};
 ghost use Rattle.spf_chain.specs.Beginning.{site_of};
 ghost use Rattle.spf_chain.specs.Chains.{cells_of, HasEnded};
@@ -10,7 +9,7 @@ ghost use Rattle.spf_ast.specs.ConstructView.{construct as seen_construct};
 ghost use Rattle.spf_speculation_entry.specs.Entry.{plain_blocks};
 ghost use Rattle.spf_exec.specs.Pieces.{seen_header};
 ghost use Rattle.spf_guess_statistics.specs.Guess.{Hosts, Telling, tells};
-ghost use Rattle.spf_guess.specs.Answers.{handed_in, WereTold};
+ghost use Rattle.spf_guess.specs.Answers.{WereTold, supplied, WereToldNoMore};
 ghost use Rattle.spf_engine_construct.specs.Guesses.{block_guess, AreAtMost, IsHandedIn};
 ghost use Rattle.spf_chain.specs.Finishing.{IsFinished};
 ghost use Rattle.spf_engine_construct.specs.Coming.{IsAtConstruct, IsReady, entry_of, ComeTo};
@@ -23,7 +22,7 @@ use spf_cells::finish::Trace;
 use spf_chain::chain::Chain;
 use spf_chain::validated::Settled;
 use spf_check::checked::Checked;
-use spf_crew_threads::run_crew;
+use spf_crew_threads::workers::Workers;
 use spf_exec::frame::Frame;
 use spf_exec::pieces::Header;
 use spf_guess::Predictor;
@@ -31,7 +30,7 @@ use spf_guess_statistics::guess::Guess;
 use spf_guess_statistics::stats::Stats;
 use spf_ticket::run::Job;
 use spf_ticket_gate::Gate;
-use std::alloc::{AllocError, Global};
+use std::alloc::AllocError;
 use std::sync::Wait;
 use std::thread::Threads;
 
@@ -57,19 +56,15 @@ pub struct Blocks {
     pub stats: Stats,
 }
 
-/// Runs the blocks on so many workers, each block from its guess, and again from its real row where
+/// Runs the blocks, each from its guess, and again from its real row where
 /// the guess was wrong, until all are validated or one has trapped.
 fn run_from<R: Threads + Wait + Sync, G: Gate + Sync>(
-    rt: &R,
-    alloc: Global,
+    workers: &Workers<R, G>,
     checked: &Checked,
     at: Stand,
     header: &Header,
     guesses: &[Guess],
-    workers: u64,
-    gate: &G,
 ) -> Result<(Chain, Cells), AllocError>
-    requires workers { (0 < workers) × (workers ≤ max_workers) }
     requires there { IsAtConstruct (seen_program checked.now) at header.now }
     requires fits { (header.now.low +ℤ pos header.now.blocks) ≤ℤ i64.MAX }
     requires guesses { length guesses.now + 1 ≡ header.now.blocks }
@@ -83,7 +78,7 @@ fn run_from<R: Threads + Wait + Sync, G: Gate + Sync>(
     spf_chain::laws::accepted_constructs_can_run();
     let _program = checked.program();
     let (chain, cells, tickets) = Chain::start(
-        alloc,
+        workers.alloc,
         checked,
         at.instance,
         at.index,
@@ -98,12 +93,11 @@ fn run_from<R: Threads + Wait + Sync, G: Gate + Sync>(
         index: at.index,
         entry: at.cells,
     };
-    let mates = workers.min(header.blocks);
-    run_crew(rt, alloc, chain, cells, tickets, mates, job, gate)
+    workers.run_crew(chain, cells, tickets, header.blocks, job)
 }
 
-/// Runs the blocks of a top construct whose header is done. `at` is where the run stands. There are
-/// 1 to 64 workers, each in a thread of its own, but not more than blocks. Before the first attempt
+/// Runs the blocks of a top construct whose header is done. `at` is where the run stands. Each of
+/// the workers has a thread of its own; no more of them are used than there are blocks. Before the first attempt
 /// the workers compute what expressions guess, and a host is asked once for each part that names it
 /// of each block but the first, in the order of blocks and then of parts. A host is told these
 /// parts of the real rows, in that order, when all is run.
@@ -112,34 +106,29 @@ fn run_from<R: Threads + Wait + Sync, G: Gate + Sync>(
 ///
 /// `AllocError` where there is no memory for the blocks; nothing was told then.
 pub fn run_blocks<R: Threads + Wait + Sync, G: Gate + Sync>(
-    rt: &R,
-    alloc: Global,
+    workers: &Workers<R, G>,
     checked: &Checked,
     at: Stand,
     header: &Header,
-    workers: u64,
     hosts: &mut Vec<Box<dyn Predictor>>,
-    gate: &G,
 ) -> Result<Blocks, AllocError>
-    requires workers { (0 < workers) × (workers ≤ max_workers) }
     requires there { IsAtConstruct (seen_program checked.now) at header.now }
     requires fits { (header.now.low +ℤ pos header.now.blocks) ≤ℤ i64.MAX }
     requires host { IsHandedIn (length hosts.old.items) (seen_construct at.construct) }
     ensures ready { IfOk result IsReady }
     ensures size { IfOk result (λ b. length b.chain.site.memory ≡ length at.entry.cells.now) }
     ensures came { IfOk result (λ b. (before : Hosts) (telling : List Telling)
-        → WereTold before telling (handed_in (map (λ h. answer h) hosts.old.items))
+        → WereTold before telling (supplied answer hosts.old.items)
         → ComeTo (entry_of at.entry header.now) (block_guess before telling at.entry header.now)
         b) }
     ensures told { IfOk result (λ b. (before : Hosts) (telling : List Telling)
-        → WereTold before telling (handed_in (map (λ h. answer h) hosts.old.items))
+        → WereTold before telling (supplied answer hosts.old.items)
         → WereTold before (telling
         ++ tells (seen_construct at.entry.construct) (seen_header header.now)
         (plain_blocks (entry_of at.entry header.now)).values)
-        (handed_in (map (λ h. answer h) hosts.new.items))) }
-    ensures nothing_told { IfErr result (λ why. (before : Hosts) (telling : List Telling)
-        → WereTold before telling (handed_in (map (λ h. answer h) hosts.old.items))
-        → WereTold before telling (handed_in (map (λ h. answer h) hosts.new.items))) }
+        (supplied answer hosts.new.items)) }
+    ensures nothing_told { IfErr result (λ why.
+        WereToldNoMore (supplied answer hosts.old.items) (supplied answer hosts.new.items)) }
     ensures count { length hosts.new.items ≡ length hosts.old.items }
     ensures few { IfOk result (λ b. AreAtMost b.stats max_blocks) }
 {
@@ -150,8 +139,8 @@ pub fn run_blocks<R: Threads + Wait + Sync, G: Gate + Sync>(
     // Law: no `break` of a lawful program leaves `main` or a part.
     spf_ast::laws::breaks_stay_in_their_loops();
     let _program = checked.program();
-    let guesses = take_guesses(rt, alloc, at, header, workers, hosts)?;
-    let (chain, cells) = run_from(rt, alloc, checked, at, header, &guesses, workers, gate)?;
+    let guesses = take_guesses(workers.rt, workers.alloc, at, header, workers.count, hosts)?;
+    let (chain, cells) = run_from(workers, checked, at, header, &guesses)?;
     chain.merged_logs_are_speculative_runs();
     let history = chain.history();
     let stats = count_blocks(history, &guesses);

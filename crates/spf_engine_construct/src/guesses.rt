@@ -12,7 +12,7 @@ ghost use Rattle.spf_exec_instance.specs.Frame.{frame_size};
 ghost use Rattle.spf_exec_instance.specs.Instance.{program_of};
 ghost use Rattle.spf_guess_statistics.specs.Guess.{Hosts, no_hosts, Telling, part_by, parts_from};
 ghost use Rattle.spf_guess_statistics.specs.Guess.{guess_of};
-ghost use Rattle.spf_guess.specs.Answers.{handed_in, WereTold};
+ghost use Rattle.spf_guess.specs.Answers.{supplied, WereTold, WereToldNoMore};
 ghost use Rattle.spf_guess.specs.Missing.{AreAllHandedIn};
 ghost use Rattle.spf_engine_construct.specs.Guesses.{seen_guess, predicted, predicted_at, answered};
 ghost use Rattle.spf_engine_construct.specs.Guesses.{Results, block_guess, guesses_from};
@@ -90,12 +90,11 @@ fn ask_part(predictor: &Predict, word: i64, number: i64, hosts: &mut Vec<Box<dyn
     requires handed_in { AreAllHandedIn (length hosts.old.items)
         (seen_predictor predictor.now ∷ []) }
     ensures word { (before : Hosts) (telling : List Telling)
-        → WereTold before telling (handed_in (map (λ h. answer h) hosts.old.items))
+        → WereTold before telling (supplied answer hosts.old.items)
         → result
         ≡ (part_by (answered before telling number) (Ok word) (seen_predictor predictor.now)).word }
-    ensures told { (before : Hosts) (telling : List Telling)
-        → WereTold before telling (handed_in (map (λ h. answer h) hosts.old.items))
-        → WereTold before telling (handed_in (map (λ h. answer h) hosts.new.items)) }
+    ensures told { WereToldNoMore (supplied answer hosts.old.items)
+        (supplied answer hosts.new.items) }
     ensures count { length hosts.new.items ≡ length hosts.old.items }
 {
     match predictor {
@@ -117,16 +116,15 @@ fn ask_row(
     requires handed_in { AreAllHandedIn (length hosts.old.items)
         (map seen_predictor predictors.now) }
     ensures guess { (before : Hosts) (telling : List Telling) (results : Results)
-        → WereTold before telling (handed_in (map (λ h. answer h) hosts.old.items))
+        → WereTold before telling (supplied answer hosts.old.items)
         → seen_guess predicted.now
         ≡ guess_of
         (parts_from (answered no_hosts [] number) results 0 (map seen_predictor predictors.now))
         → seen_guess result
         ≡ guess_of (parts_from (answered before telling number) results 0
         (map seen_predictor predictors.now)) }
-    ensures told { (before : Hosts) (telling : List Telling)
-        → WereTold before telling (handed_in (map (λ h. answer h) hosts.old.items))
-        → WereTold before telling (handed_in (map (λ h. answer h) hosts.new.items)) }
+    ensures told { WereToldNoMore (supplied answer hosts.old.items)
+        (supplied answer hosts.new.items) }
     ensures count { length hosts.new.items ≡ length hosts.old.items }
 {
     let mut words = [0; 4];
@@ -166,12 +164,11 @@ fn ask_all(
     requires few { header.now.blocks ≤ max_blocks }
     requires fits { (header.now.low +ℤ pos header.now.blocks) ≤ℤ i64.MAX }
     ensures guesses { IfOk result (λ r. (before : Hosts) (telling : List Telling)
-        → WereTold before telling (handed_in (map (λ h. answer h) hosts.old.items))
+        → WereTold before telling (supplied answer hosts.old.items)
         → map seen_guess r.items
         ≡ guesses_from (block_guess before telling at.entry header.now) 1 (header.now.blocks - 1)) }
-    ensures told { (before : Hosts) (telling : List Telling)
-        → WereTold before telling (handed_in (map (λ h. answer h) hosts.old.items))
-        → WereTold before telling (handed_in (map (λ h. answer h) hosts.new.items)) }
+    ensures told { WereToldNoMore (supplied answer hosts.old.items)
+        (supplied answer hosts.new.items) }
     ensures count { length hosts.new.items ≡ length hosts.old.items }
     ensures size { IfOk result (λ r. length r.items + 1 ≡ header.now.blocks) }
 {
@@ -227,12 +224,11 @@ pub(crate) fn take_guesses<R: Threads + Sync>(
     requires few { header.now.blocks ≤ max_blocks }
     requires fits { (header.now.low +ℤ pos header.now.blocks) ≤ℤ i64.MAX }
     ensures guesses { IfOk result (λ r. (before : Hosts) (telling : List Telling)
-        → WereTold before telling (handed_in (map (λ h. answer h) hosts.old.items))
+        → WereTold before telling (supplied answer hosts.old.items)
         → map seen_guess r.items
         ≡ guesses_from (block_guess before telling at.entry header.now) 1 (header.now.blocks - 1)) }
-    ensures told { (before : Hosts) (telling : List Telling)
-        → WereTold before telling (handed_in (map (λ h. answer h) hosts.old.items))
-        → WereTold before telling (handed_in (map (λ h. answer h) hosts.new.items)) }
+    ensures told { WereToldNoMore (supplied answer hosts.old.items)
+        (supplied answer hosts.new.items) }
     ensures count { length hosts.new.items ≡ length hosts.old.items }
     ensures size { IfOk result (λ r. length r.items + 1 ≡ header.now.blocks) }
 {

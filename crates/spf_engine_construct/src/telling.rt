@@ -7,7 +7,7 @@ ghost use Rattle.spf_ast.specs.View.{predictor as seen_predictor};
 ghost use Rattle.spf_exec.specs.Pieces.{seen_header};
 ghost use Rattle.spf_guess_statistics.specs.Guess.{Hosts, Telling, tells, tells_from, tells_part};
 ghost use Rattle.spf_guess_statistics.specs.Guess.{tells_row};
-ghost use Rattle.spf_guess.specs.Answers.{handed_in, WereTold};
+ghost use Rattle.spf_guess.specs.Answers.{supplied, WereTold};
 ghost use Rattle.spf_guess.specs.Missing.{AreAllHandedIn};
 ghost use Rattle.spf_engine_construct.specs.Guesses.{real_values, IsHandedIn};
 
@@ -25,9 +25,9 @@ fn tell_part(predictor: &Predict, number: i64, word: i64, hosts: &mut Vec<Box<dy
     requires handed_in { AreAllHandedIn (length hosts.old.items)
         (seen_predictor predictor.now ∷ []) }
     ensures told { (before : Hosts) (telling : List Telling)
-        → WereTold before telling (handed_in (map (λ h. answer h) hosts.old.items))
+        → WereTold before telling (supplied answer hosts.old.items)
         → WereTold before (telling ++ tells_part (seen_predictor predictor.now) number word)
-        (handed_in (map (λ h. answer h) hosts.new.items)) }
+        (supplied answer hosts.new.items) }
     ensures count { length hosts.new.items ≡ length hosts.old.items }
 {
     if let Predict::Host(host) = predictor {
@@ -40,9 +40,9 @@ fn tell_row(predictors: &[Predict], number: i64, row: &Row, hosts: &mut Vec<Box<
     requires handed_in { AreAllHandedIn (length hosts.old.items)
         (map seen_predictor predictors.now) }
     ensures told { (before : Hosts) (telling : List Telling)
-        → WereTold before telling (handed_in (map (λ h. answer h) hosts.old.items))
+        → WereTold before telling (supplied answer hosts.old.items)
         → WereTold before (telling ++ tells_row (map seen_predictor predictors.now) number row.now)
-        (handed_in (map (λ h. answer h) hosts.new.items)) }
+        (supplied answer hosts.new.items) }
     ensures count { length hosts.new.items ≡ length hosts.old.items }
 {
     let words = row.words();
@@ -64,10 +64,10 @@ fn tell_from_one(
     requires few { length others.now < max_blocks }
     requires fits { (header.now.low +ℤ pos (length others.now + 1)) ≤ℤ i64.MAX }
     ensures told { (before : Hosts) (telling : List Telling)
-        → WereTold before telling (handed_in (map (λ h. answer h) hosts.old.items))
+        → WereTold before telling (supplied answer hosts.old.items)
         → WereTold before (telling
         ++ tells_from (map seen_predictor predictors.now) (header.now.low +ℤ pos 1)
-        (real_values others.now)) (handed_in (map (λ h. answer h) hosts.new.items)) }
+        (real_values others.now)) (supplied answer hosts.new.items) }
     ensures count { length hosts.new.items ≡ length hosts.old.items }
 {
     for index in 0..others.len() {
@@ -89,10 +89,10 @@ pub(crate) fn tell_history(
     requires few_blocks { header.now.blocks ≤ max_blocks }
     requires fits { (header.now.low +ℤ pos header.now.blocks) ≤ℤ i64.MAX }
     ensures told { (before : Hosts) (telling : List Telling)
-        → WereTold before telling (handed_in (map (λ h. answer h) hosts.old.items))
+        → WereTold before telling (supplied answer hosts.old.items)
         → WereTold before (telling
         ++ tells (seen_construct construct.entry) (seen_header header.now)
-        (real_values history.now)) (handed_in (map (λ h. answer h) hosts.new.items)) }
+        (real_values history.now)) (supplied answer hosts.new.items) }
     ensures count { length hosts.new.items ≡ length hosts.old.items }
 {
     if let Some((_, others)) = history.split_first() {

@@ -1,5 +1,5 @@
 -- What predictors that are handed in answer, and what they were told.
-use Rattle.std.specs.Prelude.{◌≡◌, ℕ, List, ◌∷◌, ◌++◌, ℤ, pos, slice_get, unwrap_or}
+use Rattle.std.specs.Prelude.{◌≡◌, ℕ, List, ◌∷◌, ◌++◌, map, ℤ, pos, slice_get, unwrap_or}
 use Rattle.spf_guess_statistics.specs.Guess.{Told, Hosts, Telling, told_to}
 
 -- what a predictor answers for a block number, after it was told these pairs besides, the oldest first
@@ -21,3 +21,11 @@ handed_in predictors host = unwrap_or (slice_get predictors host) (λ pairs bloc
 -- the hosts were told so: each answers what it answered before after the pairs that it was told
 abbrev pub WereTold : Hosts → List Telling → Hosts → Type 0
 WereTold before telling now = (host : ℕ) (pairs : List Told) (block : ℤ) → now host pairs block ≡ before host (told_to host telling ++ pairs) block
+
+-- the hosts that boxed predictors are, where this is what each box answers
+abbrev pub supplied : {Box : Type 0} → (Box → Answers) → List Box → Hosts
+supplied answer boxes = handed_in (map answer boxes)
+
+-- whatever hosts were told by then, they were told no more since
+abbrev pub WereToldNoMore : Hosts → Hosts → Type 0
+WereToldNoMore then now = (before : Hosts) (telling : List Telling) → WereTold before telling then → WereTold before telling now

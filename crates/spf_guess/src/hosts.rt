@@ -1,7 +1,8 @@
 //! The predictors that the caller hands in, as a list; the first of them is host 0.
 ghost use Rattle.std.specs.Prelude.{◌≡◌, ◌<◌, ◌++◌, ◌∷◌, [], List, map, length};
 ghost use Rattle.spf_guess_statistics.specs.Guess.{Hosts, Telling, told_to};
-ghost use Rattle.spf_guess.specs.Answers.{AnswersAlike, WasTold, handed_in, WereTold};
+ghost use Rattle.spf_guess.specs.Answers.{AnswersAlike, WasTold, WereTold, supplied};
+ghost use Rattle.spf_guess.specs.Answers.{WereToldNoMore};
 
 use crate::Predictor;
 
@@ -26,11 +27,10 @@ fn tell_one(host: &mut Box<dyn Predictor>, block: i64, real: i64)
 pub fn ask(hosts: &mut Vec<Box<dyn Predictor>>, host: u64, block: i64) -> i64
     requires { host < length hosts.old.items }
     ensures guess { (before : Hosts) (telling : List Telling)
-        → WereTold before telling (handed_in (map (λ h. answer h) hosts.old.items))
+        → WereTold before telling (supplied answer hosts.old.items)
         → result ≡ before host (told_to host telling) block }
-    ensures told { (before : Hosts) (telling : List Telling)
-        → WereTold before telling (handed_in (map (λ h. answer h) hosts.old.items))
-        → WereTold before telling (handed_in (map (λ h. answer h) hosts.new.items)) }
+    ensures told { WereToldNoMore (supplied answer hosts.old.items)
+        (supplied answer hosts.new.items) }
     ensures count { length hosts.new.items ≡ length hosts.old.items }
 {
     ask_one(&mut hosts[host as usize], block)
@@ -40,10 +40,10 @@ pub fn ask(hosts: &mut Vec<Box<dyn Predictor>>, host: u64, block: i64) -> i64
 pub fn tell(hosts: &mut Vec<Box<dyn Predictor>>, host: u64, block: i64, real: i64)
     requires { host < length hosts.old.items }
     ensures told { (before : Hosts) (telling : List Telling)
-        → WereTold before telling (handed_in (map (λ h. answer h) hosts.old.items))
+        → WereTold before telling (supplied answer hosts.old.items)
         → WereTold before
         (telling ++ record { host = host; told = record { block = block; real = real } } ∷ [])
-        (handed_in (map (λ h. answer h) hosts.new.items)) }
+        (supplied answer hosts.new.items) }
     ensures count { length hosts.new.items ≡ length hosts.old.items }
 {
     tell_one(&mut hosts[host as usize], block, real)

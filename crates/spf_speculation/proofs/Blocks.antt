@@ -48,8 +48,8 @@ pub attempt-within : (e : Entry) → IsEntry e → (n : ℕ) (v : Carried) (a : 
 attempt-within e h n v a log is =
     let r : Performed (Ending Carried) = attempted e n v a log in
     let f : Filled (own e n) (Some a) (asks_at e n v) log r = fill (own e n) e.memory (Some a) (asks_at e n v) log r refl is in
-    f.within (λ c w i. h.free.stores_its_own (part_of e.construct n) (setup_at e n v) f.full r c w
-    (record { setup = is-setup e h n v; stop = Some a; performed = f.performed; whole = is }) i)
+    f.within (λ c w i. h.free.stores_its_own (part_of e.construct n) (setup_at e n v) f.full r
+    (record { setup = is-setup e h n v; stop = Some a; performed = f.performed; whole = is }) c w i)
 
 pub real-within : (e : Entry) → IsEntry e → (guess : ℕ → Carried) (n : ℕ) (v : Carried) (log : List Event) (answer : Ending Carried) → IsRealLog e guess n v log answer → AreWithin (own e n) log
 real-within e h guess n v log answer (at_once same w) = attempt-within e h n v 1 log (whole-attempt e n v 1 log answer w)
@@ -94,9 +94,9 @@ not-own e n c out = cases (true-or-false (own e n c)) (λ mine. absurd (out (own
 -- the plain run of a block stores only its own cells
 pub stores-own : BlockLaws → (e : Entry) → IsEntry e → (n : ℕ) (v : Carried) (m : List ℤ) (d : ℕ) (w : ℤ) → Contains (plain_events (asks_at e n v) m) (Store d w) → own e n d ≡ true
 stores-own laws e h n v m d w i =
-    h.free.stores_its_own (part_of e.construct n) (setup_at e n v) (plain_events (asks_at e n v) m) (Ended (plain_answer (asks_at e n v) m) []) d w
+    h.free.stores_its_own (part_of e.construct n) (setup_at e n v) (plain_events (asks_at e n v) m) (Ended (plain_answer (asks_at e n v) m) [])
     (record { setup = is-setup e h n v; stop = None; performed = (laws.runs e.program e.construct (part_of e.construct n) (setup_at e n v) m).is.ends; whole = refl })
-    i
+    d w i
 
 -- and leaves all others
 pub plain-outside : BlockLaws → (e : Entry) → IsEntry e → (n : ℕ) (v : Carried) (m : List ℤ) (c : ℕ) → own e n c ≡ false → word_at (plain_memory (asks_at e n v) m) c ≡ word_at m c

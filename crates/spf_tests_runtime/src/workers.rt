@@ -21,7 +21,7 @@ use spf_cells::cells::Cells;
 use spf_chain::chain::Chain;
 use spf_chain::validated::Settled;
 use spf_check::checked::Checked;
-use spf_crew_threads::run_crew;
+use spf_crew_threads::workers::Workers;
 use spf_exec_instance::instance::Instance;
 use spf_ticket::run::Job;
 use spf_ticket_gate::Open;
@@ -120,7 +120,10 @@ fn attempt_all<R: Threads + Wait + Sync>(
 {
     let (chain, cells, tickets) = started;
     match by {
-        By::Driver => run_crew(rt, alloc, chain, cells, tickets, workers, job, &Open),
+        By::Driver => {
+            let driven = Workers::new(rt, alloc, workers, &Open);
+            driven.run_crew(chain, cells, tickets, workers, job)
+        }
         By::OwnThreads => run_on_threads(rt, alloc, chain, cells, tickets, workers, job),
     }
 }

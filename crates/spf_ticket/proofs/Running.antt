@@ -113,7 +113,7 @@ made-attempt law e n v a s old to es h mine ends led =
     let performance : IsPerformance e.program e.construct (part_of e.construct n) (block_setup e.input e.slots (number_of e n) v) es (perform every_cell [] (Some a) (asks_at e n v) es)
     = record { setup = record { bytes = h.bytes; slots = h.slots }; stop = Some a; performed = refl; whole = all } in
     let stored : (cell : ℕ) (word : ℤ) → Contains es (Store cell word) → own e n cell ≡ true
-    = λ cell word i. h.free.stores_its_own (part_of e.construct n) (block_setup e.input e.slots (number_of e n) v) es (perform every_cell [] (Some a) (asks_at e n v) es) cell word performance i in
+    = λ cell word i. h.free.stores_its_own (part_of e.construct n) (block_setup e.input e.slots (number_of e n) v) es (perform every_cell [] (Some a) (asks_at e n v) es) performance cell word i in
     record {
       log = on_cells (own e n) es;
       grown = led.logged ∙ ap (λ l. events old.log ++ l) (ap (λ f. own_events f es) mine ∙ own-is-on (own e n) es stored);

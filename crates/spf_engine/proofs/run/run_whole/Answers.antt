@@ -1,0 +1,29 @@
+use Rattle.std.proofs.Common.{◌∙◌, map}
+use Rattle.spf_ast.specs.Program.{outcome}
+use Rattle.spf_ast.specs.View.{program as seen_program}
+use Rattle.spf_guess_statistics.specs.Statistics.{tally}
+use Rattle.spf_guess.specs.Answers.{handed_in}
+use Rattle.spf_engine.proofs.Stepping.{if-err, told-nothing, retold-as, traces-as}
+use Rattle.spf_engine.proofs.run.run_whole.Goals as goal
+
+pub returns-in_err-instance-clause-told_first : goal.returns-in_err-instance-clause-told_first
+returns-in_err-instance-clause-told_first g c = if-err _ (told-nothing _ (seen_program c.args.checked.now) c.args.input.now)
+
+pub returns-in-Some-clause-told_first : goal.returns-in-Some-clause-told_first
+returns-in-Some-clause-told_first g c = told-nothing _ (seen_program c.args.checked.now) c.args.input.now
+
+pub returns-clause-told : goal.returns-clause-told
+returns-clause-told g c =
+    retold-as (handed_in (map (λ h. (goal.Predictor-dyn g (h.vtable, h.value)).answer h.value) c.args.hosts.now.items)) _ _ _ _ _ c.in_ok-instance.ensures.program c.in_ok-instance.ensures.input c.in_ok-report.ensures.told
+
+pub returns-clause-outcome : goal.returns-clause-outcome
+returns-clause-outcome g c = c.in_ok-report.ensures.outcome ∙ (λ i. outcome (c.in_ok-instance.ensures.program i) (c.in_ok-instance.ensures.input i))
+
+pub returns-clause-statistics : goal.returns-clause-statistics
+returns-clause-statistics g c =
+    c.in_ok-report.ensures.statistics
+    ∙ (λ i. (tally (handed_in (map (λ h. (goal.Predictor-dyn g (h.vtable, h.value)).answer h.value) c.args.hosts.now.items)) (c.in_ok-instance.ensures.program i) (c.in_ok-instance.ensures.input i)).stats)
+
+pub returns-clause-traces : goal.returns-clause-traces
+returns-clause-traces g c =
+    traces-as (handed_in (map (λ h. (goal.Predictor-dyn g (h.vtable, h.value)).answer h.value) c.args.hosts.now.items)) _ _ _ _ _ c.in_ok-instance.ensures.program c.in_ok-instance.ensures.input c.in_ok-report.ensures.traces
