@@ -1,0 +1,11 @@
+use Rattle.spf_replay_log.proofs.Once.{one-log, none-breaks, log-once}
+use Rattle.spf_replay_log.proofs.laws.bytes_have_one_reading.Goals as goal
+
+pub returns-clause-one : goal.returns-clause-one
+returns-clause-one c bytes one other p q = one-log bytes one other p q
+
+pub returns-clause-none : goal.returns-clause-none
+returns-clause-none c bytes log place p b = none-breaks bytes log place p b
+
+pub returns-clause-place : goal.returns-clause-place
+returns-clause-place c bytes one other p q = log-once bytes one other p q

@@ -1,0 +1,17 @@
+-- Laws of the format: bytes are at most one log, and those that break are none.
+use Rattle.std.specs.Prelude.{◌≡◌, ℕ, List}
+use Rattle.spf_replay_log.specs.declared.log.Step.{Step}
+use Rattle.spf_replay_log.specs.Log.{IsLog}
+use Rattle.spf_replay_log.specs.Refusals.{LogBreaksAt}
+
+-- no bytes are two logs
+abbrev pub BytesAreOneLog : Type 0
+BytesAreOneLog = (bytes : List ℕ) (one other : List (List Step)) → IsLog one bytes → IsLog other bytes → one ≡ other
+
+-- no bytes are a log and break somewhere
+abbrev pub LogsDoNotBreak : Type 0
+LogsDoNotBreak = (bytes : List ℕ) (log : List (List Step)) (place : ℕ) → IsLog log bytes → LogBreaksAt bytes place → ⊥
+
+-- bytes break at one place at most
+abbrev pub LogsBreakOnce : Type 0
+LogsBreakOnce = (bytes : List ℕ) (one other : ℕ) → LogBreaksAt bytes one → LogBreaksAt bytes other → one ≡ other
