@@ -1,36 +1,11 @@
 //! Logs are read.
-ghost use Rattle.std.specs.Prelude.{
-  ◌≡◌,
-  ◌≤◌,
-  ◌<◌,
-  ◌+◌,
-  ◌*◌,
-  ◌++◌,
-  ◌↔◌,
-  IsTrue,
-  length,
-  take,
-  drop,
-  MatchResult,
-  IfOk,
-  IfErr,
-  OnOk,
-  [],
-  ◌∷◌,
-};
+ghost use Rattle.std.specs.Prelude.{◌≡◌, ◌≤◌, ◌<◌, ◌+◌, ◌*◌, ◌++◌, ◌↔◌, IsTrue, length};
+ghost use Rattle.std.specs.Prelude.{take, drop, MatchResult, IfOk, IfErr, OnOk, [], ◌∷◌};
 ghost use Rattle.std.specs.Int.{cast_signed, w64};
-ghost use Rattle.spf_replay_log.specs.Log.{
-  event_with,
-  step_bytes,
-  section_bytes,
-  sections_of,
-  signature,
-  IsKind,
-  IsStep,
-  IsSection,
-  IsLog,
-};
-ghost use Rattle.spf_replay_log.specs.Refusals.{count_size, step_size, StepBreaksAt, IsNoSection, IsNoLog};
+ghost use Rattle.spf_replay_log.specs.Log.{event_with, step_bytes, section_bytes, sections_of};
+ghost use Rattle.spf_replay_log.specs.Log.{signature, IsKind, IsStep, IsSection, IsLog};
+ghost use Rattle.spf_replay_log.specs.Refusals.{count_size, step_size, StepBreaksAt};
+ghost use Rattle.spf_replay_log.specs.Refusals.{IsNoSection, IsNoLog};
 
 use crate::log::{Event, LogError, MAX_BLOCKS, Step};
 use crate::number::{eight_at, two_at};

@@ -1,18 +1,10 @@
 //! Logs are written.
 ghost use Rattle.std.specs.Prelude.{◌≡◌, ◌<◌, ◌++◌, OnOk, IfOk};
 ghost use Rattle.std.specs.List.{All};
-ghost use Rattle.spf_replay_log.specs.Log.{
-  max_blocks,
-  kind_of as kind_field,
-  cell_of as cell_field,
-  content_of as content_field,
-  step_bytes,
-  section_bytes,
-  sections_of,
-  IsStep,
-  IsSection,
-  IsLog,
-};
+ghost use Rattle.spf_replay_log.specs.Log.{max_blocks, kind_of as kind_field};
+ghost use Rattle.spf_replay_log.specs.Log.{cell_of as cell_field, content_of as content_field};
+ghost use Rattle.spf_replay_log.specs.Log.{step_bytes, section_bytes, sections_of};
+ghost use Rattle.spf_replay_log.specs.Log.{IsStep, IsSection, IsLog};
 
 use crate::log::{Event, Step};
 use std::alloc::{AllocError, Global};
