@@ -64,7 +64,7 @@ file_too_long name limit = refused 7 (long_line name limit)
 abbrev pub too_many_cells : (count limit : ℕ) → Answer
 too_many_cells count limit = refused 7 (too_many_line count limit)
 
--- a host that the program names isn't handed in
+-- a host that the program names isn't supplied
 abbrev pub host_missing : ℕ → Answer
 host_missing host = refused 7 (host_line host)
 

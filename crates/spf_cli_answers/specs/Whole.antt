@@ -77,7 +77,7 @@ Allowed false p next = CheckedBy p next
 abbrev pub Explained : Program → Wanted
 Explained p answer = (text : List ℕ) × Explains p text × (answer ≡ explained text)
 
--- the predictors that are handed in: what each answers, and how many they are
+-- the predictors that are supplied: what each answers, and how many they are
 pub record Handed : Type 0 where
   pub hosts : Hosts
   pub count : ℕ
@@ -90,7 +90,7 @@ handed predictors = record { hosts = handed_in predictors; count = length predic
 abbrev pub stats_of : Options → Handed → Program → List ℕ → Stats
 stats_of options given p input = if options.plain then none else (tally given.hosts p input).stats
 
--- the first host that a run would ask and that isn't handed in; by the plain meaning none is asked
+-- the first host that a run would ask and that isn't supplied; by the plain meaning none is asked
 abbrev pub host_wanted : Options → Handed → Program → Option ℕ
 host_wanted options given p = if options.plain then None else missing_host given.count (constructs_in p.main)
 
@@ -206,7 +206,7 @@ WholeOf given (Demo decoder seed size workers) = Ends (Demonstrates decoder seed
 abbrev pub AskForNothing : List (List ℕ) → Type 0
 AskForNothing words = (command : Command) → Asks words command → ⊥
 
--- the course of these words, where these predictors are handed in
+-- the course of these words, where these predictors are supplied
 abbrev pub Whole : Handed → List (List ℕ) → Course
 Whole given words fetches answer =
     ((command : Command) × Asks words command × WholeOf given command fetches answer)

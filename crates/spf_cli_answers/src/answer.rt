@@ -325,7 +325,7 @@ fn too_many(alloc: Global, count: u128, limit: u32) -> Result<Answer, AllocError
     )
 }
 
-/// The answer where a host isn't handed in.
+/// The answer where a host isn't supplied.
 fn without_host(alloc: Global, host: u64) -> Result<Answer, AllocError>
     ensures { IfOk result (λ a. seen_answer a ≡ host_missing host) }
 {

@@ -1,4 +1,4 @@
--- The words that ask for hosts: predictors that are handed in.
+-- The words that ask for hosts: predictors that are supplied.
 use Rattle.std.specs.Prelude.{◌≡◌, ◌≢◌, ◌⊎◌, ℕ, ◌*◌, List, [], ◌∷◌, ◌++◌, length, drop, codes, ℤ, pos, neg_ℤ, ◌≤ℤ◌, ◌<ℤ◌, ◌^◌, ⊤}
 use Rattle.std.specs.Str.Parse.{IsNumeral, digits_value}
 

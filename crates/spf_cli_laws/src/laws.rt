@@ -24,7 +24,7 @@ pub fn each_text_has_one_verdict()
     each_raw_program_resolves_or_is_refused();
 }
 
-/// A list of words has at most one answer, with what is handed in and over any files, and none is
+/// A list of words has at most one answer, with what is supplied and over any files, and none is
 /// left without an answer.
 pub fn each_list_of_words_has_one_answer()
     ensures one { NoneHasTwoAnswers }

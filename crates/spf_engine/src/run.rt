@@ -73,7 +73,7 @@ fn trapped(run: Run, trap: Trap, account: Account) -> RunReport
 }
 
 /// Runs an instance of an accepted program on 1 to 64 workers. All hosts that its constructs name
-/// are handed in.
+/// are supplied.
 ///
 /// # Errors
 ///
@@ -167,7 +167,7 @@ fn lay_out<'a>(
 /// # Errors
 ///
 /// `TooManyCells` where the arrays have more cells than a run of the program's version may have;
-/// `NoHost` where the program names a host that isn't handed in; and `OutOfMemory`. The hosts were
+/// `NoHost` where the program names a host that isn't supplied; and `OutOfMemory`. The hosts were
 /// told the first of what they are told in the whole run; after the first two errors nothing.
 pub fn run_whole<'a, R: Threads + Wait + Sync, G: Gate + Sync>(
     rt: &R,

@@ -9,8 +9,7 @@ use Rattle.spf_ast.proofs.syntax.Expr.TheLaws.TheKnot as expression
 use Rattle.spf_ast.proofs.syntax.StmtKind.TheLaws.TheKnot as statement
 use Rattle.spf_ast.specs.contracts.construct.TopConstruct
 use Rattle.spf_ast.specs.contracts.syntax.Program
-use Rattle.spf_code.proofs.node.Node.TheLaws.TheKnot as node
-use Rattle.spf_code.specs.contracts.node.Node
+use Rattle.spf_code.specs.contracts.instruction.Instruction
 use Rattle.spf_code.specs.contracts.program.ProgramCode
 use Rattle.spf_exec_instance.specs.contracts.instance.Instance
 
@@ -22,11 +21,11 @@ program_sync = search syntax depth 60 fits 20000
 pub top_construct_field_sync : (κ : NamedLft) → IsSync (as_row (TopConstruct.the_field κ))
 top_construct_field_sync κ = search syntax depth 60 fits 20000
 
-pub node_sync : IsSync Node.the_row
-node_sync = search (crosses, node.crosses, sendable) depth 60
+pub instruction_sync : IsSync Instruction.the_row
+instruction_sync = search (crosses, sendable) depth 60
 
 pub code_sync : IsSync ProgramCode.the_row
-code_sync = search (node_sync, crosses, declared_sync, sendable) depth 20
+code_sync = search (instruction_sync, crosses, declared_sync, sendable) depth 20
 
 pub instance_sync : (κ : NamedLft) → IsSync (as_row (Instance.the_field κ))
 instance_sync κ = search (program_sync, code_sync, crosses, view_sync, declared_sync, sendable) depth 20
