@@ -105,7 +105,7 @@ out-out (Some w) a b v left rest = refl
 same-self : (v : Carried) → same_carried v v ≡ true
 same-self v = (Decides-same_carried v v).1 refl
 
--- a block that goes out again is at its real value then
+-- a block that runs again is at its real row then
 again-off : (e : Entry) (n : ℕ) (steps : List Step) (r : Option Carried) (status : Status)
     → (schedule.rerun e steps n r status ≡ status) ⊎ (off r (schedule.rerun e steps n r status) < off r status)
 again-off e n steps None status = inl refl

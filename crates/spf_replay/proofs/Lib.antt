@@ -18,3 +18,5 @@ mod Recorded
 mod Prefixes
 mod Picking
 mod Restored
+mod Apart
+mod Pieces

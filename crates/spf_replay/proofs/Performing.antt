@@ -183,7 +183,7 @@ left-fits log b same fits = λ i. left_at (same i) b.at (fits i)
 left-unfit : (b : InLog) → b.fits ≡ false → left_of b ≡ None
 left-unfit b unfit = λ i. left_at b.log b.at (unfit i)
 
--- an attempt that was read from a place of a log to the state b, where it fits
+-- an attempt that was read from an index of a log to the state b, where it fits
 pub read-so : (spans : List Span) (entry : List ℤ) (a : ℕ) (log : List logged.Event) (at : ℕ) (t : Interaction (Ending Carried)) (s : Stop) (es : List Event) (slots : List ℤ) (b : InLog)
     → (IsDecided (stop_result s) → (rest : List Event) → perform every_cell [] (Some a) t (es ++ rest) ≡ performed_as (stop_result s) (state slots []) rest)
     → LeadsInLog es (in_log spans entry a log at true) b → b.fits ≡ true → b.at ≤ length b.log

@@ -60,7 +60,7 @@ below-steps : (count n : ℕ) (log : List Event) → n < count → AreBelow coun
 below-steps count n [] h = tt
 below-steps count n (e ∷ log) h = (h, below-steps count n log h)
 
--- ---- one value replace_at into a function
+-- ---- a function with another value for one number
 
 pub replace_at-here : {A : Type 0} (n : ℕ) (x : A) (f : ℕ → A) → replace_at n x f n ≡ x
 replace_at-here n x f = chose-true (n == n) x (f n) ((Decides-eqb n n).1 refl)
@@ -125,7 +125,7 @@ some-same v w e = cc
 none-some : {B : Type 0} (v : Carried) → None ≡ Some v → B
 none-some v e = cc
 
--- behind a status where a list has nothing it has nothing
+-- behind an index where a list has nothing it has nothing
 past : (e : Entry) (f n : ℕ) → real e f ≡ None → f ≤ n → real e n ≡ None
 past e f n none from = slice_get_past (plain_blocks e).values n (cases (inside-or-past f (length (plain_blocks e).values))
     (λ inside. absurd (not-none (slice_get (plain_blocks e).values f) (get_or (plain_blocks e).values f []) (slice_get-get_or (plain_blocks e).values f [] inside) none))
@@ -139,15 +139,15 @@ past e f n none from = slice_get_past (plain_blocks e).values n (cases (inside-o
 
 -- ---- where a block stands
 
--- its first attempt is out
-record FirstOut (e : Entry) (guess : ℕ → Carried) (n : ℕ) (v : Carried) (log left : List Event) : Type 0 where
+-- its first attempt runs
+record FirstRuns (e : Entry) (guess : ℕ → Carried) (n : ℕ) (v : Carried) (log left : List Event) : Type 0 where
   value : v ≡ begins_at e guess n
   done : List Event
   split : attempt_events e n v [] ≡ done ++ left
   follows : Follows 1 done log
 
--- its second attempt is out
-record SecondOut (e : Entry) (guess : ℕ → Carried) (n : ℕ) (v : Carried) (log left : List Event) : Type 0 where
+-- its second attempt runs
+record SecondRuns (e : Entry) (guess : ℕ → Carried) (n : ℕ) (v : Carried) (log left : List Event) : Type 0 where
   first : List Event
   second : List Event
   parts : log ≡ first ++ second
@@ -159,37 +159,37 @@ record SecondOut (e : Entry) (guess : ℕ → Carried) (n : ℕ) (v : Carried) (
   split : attempt_events e n v first ≡ done ++ left
   follows : Follows 2 done second
 
--- it is home after a first attempt, which ended
-record HomeFirst (e : Entry) (guess : ℕ → Carried) (n : ℕ) (v : Carried) (log : List Event) : Type 0 where
+-- its first attempt is filed, which ended
+record FirstEnded (e : Entry) (guess : ℕ → Carried) (n : ℕ) (v : Carried) (log : List Event) : Type 0 where
   value : v ≡ begins_at e guess n
   answer : Ending Carried
   whole : IsWhole e n v 1 log answer
   is : IsConsistent log e.memory
 
--- it is home after a second one
-record HomeSecond (e : Entry) (guess : ℕ → Carried) (n : ℕ) (v : Carried) (log : List Event) : Type 0 where
+-- its second attempt is filed
+record SecondEnded (e : Entry) (guess : ℕ → Carried) (n : ℕ) (v : Carried) (log : List Event) : Type 0 where
   real_value : real e n ≡ Some v
   answer : Ending Carried
   real_log : IsRealLog e guess n v log answer
   is : IsConsistent log e.memory
 
--- it is home after a first attempt that was stopped, which was in vain
-record HomeStopped (e : Entry) (guess : ℕ → Carried) (n : ℕ) (v : Carried) (log : List Event) : Type 0 where
+-- its first attempt is filed, which was useless and stopped
+record FirstStopped (e : Entry) (guess : ℕ → Carried) (n : ℕ) (v : Carried) (log : List Event) : Type 0 where
   value : v ≡ begins_at e guess n
   attempt : IsAttempt e n v 1 log
   is : IsConsistent log e.memory
   vain : real e n ≢ Some v
 
 abbrev Stands : Entry → (ℕ → Carried) → ℕ → Status → List Event → Type 0
-Stands e guess n (Running attempt v left) log = ((attempt ≡ 1) × FirstOut e guess n v log left) ⊎ ((attempt ≡ 2) × SecondOut e guess n v log left)
-Stands e guess n (Filed v true) log = HomeFirst e guess n v log ⊎ HomeSecond e guess n v log
-Stands e guess n (Filed v false) log = HomeStopped e guess n v log
+Stands e guess n (Running attempt v left) log = ((attempt ≡ 1) × FirstRuns e guess n v log left) ⊎ ((attempt ≡ 2) × SecondRuns e guess n v log left)
+Stands e guess n (Filed v true) log = FirstEnded e guess n v log ⊎ SecondEnded e guess n v log
+Stands e guess n (Filed v false) log = FirstStopped e guess n v log
 
--- a flag is down, or is flag_after of a block whose first attempt is in vain
+-- a flag is down, or is raised for a useless first attempt
 abbrev IsFlag : Entry → (ℕ → Carried) → ℕ → ℕ → Type 0
 IsFlag e guess n flag = (flag ≡ 0) ⊎ ((flag ≡ 1) × (real e n ≢ Some (begins_at e guess n)))
 
--- the front block, where it has a real value, isn't home at another one
+-- the front block's attempt isn't filed at another row than the real one
 abbrev IsSettledAt : Option Carried → Status → Type 0
 IsSettledAt None status = Unit {0}
 IsSettledAt (Some v) (Running attempt w left) = Unit {0}
@@ -212,7 +212,7 @@ same-or-not v w = cases (true-or-false (same_carried v w)) (λ t. inl ((Decides-
     wrong : (b : Bool) → b ≡ true → b ≡ false → ⊥
     wrong b h k = cc
 
--- a block that is home at another value than its real one can go out again
+-- a block whose attempt is filed at another row than its real one can run again
 goes-again : (e : Entry) (guess : ℕ → Carried) (n : ℕ) (v w : Carried) (ended : Bool) (log : List Event) → real e n ≡ Some v → w ≢ v
     → Stands e guess n (Filed w ended) log → Stands e guess n (Running 2 v (attempt_events e n v log)) log
 goes-again e guess n v w true log is ne (inl h) = inr (
@@ -247,7 +247,7 @@ goes-again e guess n v w false log is ne h = inr (
   },
 )
 
--- what is status_after again
+-- what runs again
 again-stands : (e : Entry) (guess : ℕ → Carried) (n : ℕ) (steps : List Step) (r : Option Carried) (status : Status) → real e n ≡ r
     → Stands e guess n status (log_of n steps) → Stands e guess n (schedule.rerun e steps n r status) (log_of n steps)
 again-stands e guess n steps None status is h = h
@@ -321,7 +321,7 @@ front-before e status n invalid = cases (inside-or-past n (front e status))
     inside-or-past : (c l : ℕ) → (c < l) ⊎ (l ≤ c)
     inside-or-past c l = grind arith
 
--- a flag is flag_after of a first attempt that is in vain
+-- a flag is raised for a useless first attempt
 flag_after-vain : (e : Entry) (guess : ℕ → Carried) (f n : ℕ) (r : Option Carried) (status : Status) (log : List Event) → real e f ≡ r → (is_running status ≡ true → f ≤ n)
     → Stands e guess n status log → is_to_raise f n r status ≡ true → real e n ≢ Some (begins_at e guess n)
 flag_after-vain e guess f n r (Filed w ended) log is from h t same = cc
@@ -338,7 +338,7 @@ is-out-invalid : (r : Option Carried) (status : Status) → is_running status �
 is-out-invalid r (Running attempt v left) h = out-invalid r attempt v left
 is-out-invalid r (Filed w ended) h = cc
 
--- the places after filing
+-- the statuses after filing
 pub status_after-front : (e : Entry) (s : Situation) → status_after e s (front e s.status) ≡ schedule.rerun e s.steps (front e s.status) (real e (front e s.status)) (s.status (front e s.status))
 status_after-front e s = chose-true (front e s.status == front e s.status) _ (s.status (front e s.status)) ((Decides-eqb (front e s.status) (front e s.status)).1 refl)
 
@@ -479,7 +479,7 @@ placed laws e guess s n status es low h here = record {
   flags = h.flags;
 }
 
--- the front stays where a block that is out stays out
+-- the front stays where a block that runs runs on
 front-goes-on : (e : Entry) (s : Situation) (n a b : ℕ) (v w : Carried) (left rest : List Event) → s.status n ≡ Running a v left → front e (replace_at n (Running b w rest) s.status) ≡ front e s.status
 front-goes-on e s n a b v w left rest is =
     leading-same (is_valid_in e (replace_at n (Running b w rest) s.status)) (is_valid_in e s.status) 0 e.header.blocks (λ k from low. cases (alike k n)
@@ -561,7 +561,7 @@ guessed-log e guess n (Filed v true) log home none (inl h) = subst (λ x. IsAtte
 guessed-log e guess n (Filed v true) log home none (inr h) = none-some v (sym none ∙ h.real_value)
 guessed-log e guess n (Filed v false) log home none h = subst (λ x. IsAttempt e n x 1 log) h.value h.attempt
 
--- the front has no real value when all are home
+-- the front has no real row when all are filed
 front-unreal : (e : Entry) (guess : ℕ → Carried) (f : ℕ) (r : Option Carried) (status : Status) (log : List Event) → real e f ≡ r → is_running status ≡ false → is_valid r status ≡ false → IsSettledAt r status
     → Stands e guess f status log → real e f ≡ None
 front-unreal e guess f None status log is home invalid settled h = is

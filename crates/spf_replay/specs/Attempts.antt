@@ -14,7 +14,7 @@ EndsBefore came (stop.Ended value) rest = (state : State) × (came ≡ Ended (Va
 EndsBefore came (stop.Trapped trap) rest = (output : List ℕ) × (came ≡ Ended (Trapped trap output) rest)
 EndsBefore came (stop.Cancelled seen) rest = came ≡ Stopped seen rest
 
--- a performance of a log came to this: the log doesn't fit, or it ended so, before what stands from this place on
+-- a performance of a log came to this: the log doesn't fit, or it ended so, before what stands from this index on
 abbrev pub ComesTo : Performed (Ending Carried) → List logged.Event → Option (Stop × ℕ) → Type 0
 ComesTo came log None = came ≡ Misfit
 ComesTo came log (Some end) = (end.1 ≤ length log) × EndsBefore came end.0 (map event_of (drop end.1 log))

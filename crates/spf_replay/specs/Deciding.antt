@@ -12,18 +12,18 @@ use Rattle.spf_speculation_entry.specs.Entry.{Entry, IsEntry, plain_blocks}
 use Rattle.spf_speculation.specs.Steps.{Step, events_of, log_of, AreBelow}
 use Rattle.spf_speculation.specs.Runs.{IsRealLog, IsGuessedLog, IsSpeculativeRun}
 
--- the steps are a speculative run, with some real values and some result
+-- the steps are a speculative run, with some real rows and some result
 pub record IsRun (e : Entry) (guess : ℕ → Carried) (steps : List Step) : Type 0 where
   pub values : List Carried
   pub result : Result Carried Trap
   pub run : IsSpeculativeRun e guess steps values result
 
--- the log of block n, whose real value is this, where it has one
+-- the log of block n, whose real row is this, where it has one
 abbrev pub IsLogAt : Entry → (ℕ → Carried) → Option Carried → ℕ → List Event → Type 0
 IsLogAt e guess (Some v) n log = (answer : Ending Carried) × IsRealLog e guess n v log answer
 IsLogAt e guess None n log = IsGuessedLog e guess n log
 
--- the steps are of the entry's blocks and share its memory, and each block's log is one at the block's real value in the plain run
+-- the steps are of the entry's blocks and share its memory, and each block's log is one at the block's real row in the plain run
 pub record HasItsLogs (e : Entry) (guess : ℕ → Carried) (steps : List Step) : Type 0 where
   pub below : AreBelow e.header.blocks steps
   pub consistent : IsConsistent (events_of steps) e.memory
@@ -35,7 +35,7 @@ RunsHaveTheirLogs = (e : Entry) (guess : ℕ → Carried) (steps : List Step) �
 
 -- ---- ends of attempts
 
--- an attempt ended with a value or a trap, at the end of a log of this size
+-- an attempt ended with a row or a trap, at the end of a log of this size
 abbrev pub IsWholeEnd : Option (Stop × ℕ) → ℕ → Type 0
 IsWholeEnd None size = ⊥
 IsWholeEnd (Some (stop.Ended value, at)) size = at ≡ size

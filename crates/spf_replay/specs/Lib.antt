@@ -12,3 +12,4 @@ pub mod Laws
 pub mod Recording
 pub mod RecordingLaws
 pub mod Expecting
+pub mod Runners

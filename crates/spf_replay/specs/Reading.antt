@@ -60,11 +60,11 @@ ReadsOn shared memory events (Some left) now = Reads shared memory events left n
 
 -- ---- states
 
--- what is left of a log from a place on, as long as it fits
+-- what is left of a log from an index on, as long as it fits
 abbrev pub left_at : List logged.Event → ℕ → Bool → Option (List Event)
 left_at log at fits = if fits then Some (map event_of (drop at log)) else None
 
--- the cells that are read from the log, the words of all others, the number of the attempt, the log, the place of its
+-- the cells that are read from the log, the words of all others, the number of the attempt, the log, the index of its
 -- next event, and whether it has fitted so far
 pub record InLog : Type 0 where
   pub spans : List Span

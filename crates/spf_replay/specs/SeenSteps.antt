@@ -13,7 +13,7 @@ seen_step s = record { block = s.block; event = event_of s.event }
 abbrev pub seen_steps : List logged.Step → List Step
 seen_steps steps = map seen_step steps
 
--- the log at a place of a list of logs, as plain data; an empty one beyond its end
+-- the log at an index of a list of logs, as plain data; an empty one beyond its end
 abbrev pub log_at : List (Vec logged_event.Event) → ℕ → List Event
 log_at [] n = []
 log_at (log ∷ logs) zero = map event_of log.items

@@ -1,14 +1,16 @@
 // Attempts that are recorded.
-ghost use Rattle.std.specs.Prelude.{◌≡◌, ◌≤◌, map, take, length};
+ghost use Rattle.std.specs.Prelude.{◌≡◌, ◌≤◌, ℕ, false, map, take, length};
 ghost use Rattle.spf_ast.specs.BlockRun.{block_setup, part_asks};
 ghost use Rattle.spf_ast.specs.ConstructView.{construct as seen_construct};
+ghost use Rattle.spf_ast.specs.Event.{word_at};
 ghost use Rattle.spf_ast.specs.Plain.{plain_events};
 ghost use Rattle.spf_ast.specs.Program.{cell_count_of};
 ghost use Rattle.spf_speculation_entry.specs.Attempts.{on_cells};
+ghost use Rattle.spf_speculation_entry.specs.Entry.{Entry, IsEntry, own};
 ghost use Rattle.spf_exec_instance.specs.Frame.{main_slots};
 ghost use Rattle.spf_exec_instance.specs.Instance.{program_of};
 ghost use Rattle.spf_region.specs.Cells.{in_spans};
-ghost use Rattle.spf_replay.specs.Contexts.{CanRun};
+ghost use Rattle.spf_replay.specs.Contexts.{CanRun, IsContextOf};
 ghost use Rattle.spf_replay.specs.Reading.{event_of};
 ghost use Rattle.spf_replay.specs.Recording.{IsRecordOf};
 
@@ -31,8 +33,8 @@ pub(crate) struct Record {
     pub(crate) full: bool,
 }
 
-/// Runs an attempt of a block over these cells, and records its events in a room. What the working
-/// frame holds makes no difference.
+/// Runs an attempt of a block over these cells, and records its events in a room. It changes only
+/// cells of the block. What the working frame holds makes no difference.
 pub(crate) fn record_attempt(
     context: BlockContext,
     block: &Block,
@@ -51,6 +53,9 @@ pub(crate) fn record_attempt(
         (main_slots (program_of context.entry.instance.now) context.entry.frame.now)
         block.now.number block.now.value)) cells.items))
         (length room.items) result.full (map event_of (take result.count result.room.items)) }
+    ensures outside { (e : Entry) (n : ℕ) → IsEntry e → IsContextOf e n context.entry block.now
+        → (cell : ℕ) → own e n cell ≡ false
+        → word_at result.cells.items cell ≡ word_at cells.items cell }
     ensures room { length result.room.items ≡ length room.items }
     ensures inside { result.count ≤ length result.room.items }
     ensures cells { length result.cells.items ≡ length cells.items }
