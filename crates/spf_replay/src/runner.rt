@@ -92,7 +92,8 @@ fn has_piece(runner: &Runner) -> bool
     requires taken { runner.now.taken ≤ runner.now.count }
     ensures whole { IsTrue result → HasPiece runner.now }
     ensures cut { result ≡ false
-        → (runner.now.full ≡ true) × (after_piece (drop runner.now.taken (seen_by runner.now)) ≡ None) }
+        → (runner.now.full ≡ true)
+        × (after_piece (drop runner.now.taken (seen_by runner.now)) ≡ None) }
 {
     if !runner.full {
         return true;
