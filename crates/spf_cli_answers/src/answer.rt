@@ -37,6 +37,7 @@ use crate::message::{
 };
 use crate::reading::{Unread, read_program, refusal_line};
 use crate::status::Status;
+use crate::texts::{build_file, show_file};
 use spf_ast::outcome::Outcome;
 use spf_ast::syntax::{Array, Program};
 use spf_check::check::check;
@@ -550,6 +551,8 @@ impl<'a, R: Threads + Wait + Sync, G: Gate + Sync> Context<'a, R, G> {
                 input,
                 options,
             } => self.lex_files(machine, input, options, files),
+            Command::Show { machine } => show_file(self.alloc, machine, files),
+            Command::Build { text } => build_file(self.alloc, text, files),
             Command::Demo {
                 kind,
                 seed,

@@ -28,6 +28,8 @@ pub data Command : Type 0 where
   Unhuff : List ℕ → DecodeOptions → Command
   -- the machine's file stands before the input's
   Lex : List ℕ → List ℕ → DecodeOptions → Command
+  Show : List ℕ → Command
+  Build : List ℕ → Command
   -- the seed, the size and the number of workers
   Demo : Kind → ℕ → ℕ → ℕ → Command
 
@@ -65,6 +67,8 @@ words_of (Print program) = codes "print" ∷ program ∷ []
 words_of (Unpack input options) = codes "unpack" ∷ input ∷ decode_words options
 words_of (Unhuff input options) = codes "unhuff" ∷ input ∷ decode_words options
 words_of (Lex machine input options) = codes "lex" ∷ machine ∷ input ∷ decode_words options
+words_of (Show machine) = codes "show" ∷ machine ∷ []
+words_of (Build text) = codes "build" ∷ text ∷ []
 words_of (Demo decoder seed size workers) = codes "demo" ∷ kind_word decoder ∷ decimal seed ∷ decimal size ∷ decimal workers ∷ []
 
 -- a file's name isn't empty and doesn't begin with `-`
@@ -81,6 +85,8 @@ HasFileNames (Print program) = IsFileName program
 HasFileNames (Unpack input options) = IsFileName input
 HasFileNames (Unhuff input options) = IsFileName input
 HasFileNames (Lex machine input options) = IsFileName machine × IsFileName input
+HasFileNames (Show machine) = IsFileName machine
+HasFileNames (Build text) = IsFileName text
 HasFileNames (Demo decoder seed size workers) = Unit {0}
 
 -- a number stands from 1 to `most`, where it is said

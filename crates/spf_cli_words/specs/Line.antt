@@ -44,6 +44,10 @@ decoder_app name = with_decode_options (with_rule (new_app name) (positional (co
 abbrev pub lex_app : App
 lex_app = with_decode_options (with_rule (with_rule (new_app (codes "lex")) (positional (codes "machine"))) (positional (codes "input")))
 
+-- `NAME FILE`, where the file has this name as an argument
+abbrev pub file_app : Text → Text → App
+file_app name argument = with_rule (new_app name) (positional argument)
+
 -- `demo KIND SEED SIZE WORKERS`
 abbrev pub demo_app : App
 demo_app =
@@ -62,13 +66,19 @@ programs =
     let explain = with_subcommand check (program_app (codes "explain")).top in
     with_subcommand explain (program_app (codes "print")).top
 
--- the whole command line: those, and the commands on decoders
-abbrev pub line : App
-line =
+-- those, and the commands on decoders
+abbrev pub decoders : App
+decoders =
     let unpack = with_subcommand programs (decoder_app (codes "unpack")).top in
     let unhuff = with_subcommand unpack (decoder_app (codes "unhuff")).top in
     let lex = with_subcommand unhuff lex_app.top in
     with_subcommand lex demo_app.top
+
+-- the whole command line: those, and the commands on machines' texts
+abbrev pub line : App
+line =
+    let show = with_subcommand decoders (file_app (codes "show") (codes "machine")).top in
+    with_subcommand show (file_app (codes "build") (codes "text")).top
 
 -- an argument of `clap` has this rule, and is one of its own command alone
 abbrev pub IsRule : Rule → Arg → Type 0

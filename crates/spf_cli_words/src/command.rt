@@ -78,6 +78,14 @@ pub enum Command<'a> {
         input: &'a str,
         options: DecodeOptions,
     },
+    /// The text of a machine is shown.
+    Show {
+        machine: &'a str,
+    },
+    /// The machine of a text is built.
+    Build {
+        text: &'a str,
+    },
     /// A decoder runs on an input that is generated from a seed.
     Demo {
         kind: Kind,
@@ -139,6 +147,7 @@ impl From<clap::Error> for WordsError {
 /// - `unpack INPUT [--block B] [--workers N] [--stats]` or
 ///   `unhuff INPUT [--block B] [--workers N] [--stats]`,
 /// - `lex MACHINE INPUT [--block B] [--workers N] [--stats]`,
+/// - `show MACHINE` or `build TEXT`,
 /// - `demo KIND SEED SIZE WORKERS`, where KIND is `unpack`, `unhuff` or `lex`.
 ///
 /// The name of a file isn't empty and doesn't begin with `-`. Numbers are decimal, without a sign

@@ -198,6 +198,8 @@ pub(crate) fn write_words(alloc: Global, command: Command) -> Result<Vec<String>
             input,
             options,
         } => write_lex(alloc, machine, input, options),
+        Command::Show { machine } => write_program(alloc, "show", machine),
+        Command::Build { text } => write_program(alloc, "build", text),
         Command::Demo {
             kind,
             seed,
