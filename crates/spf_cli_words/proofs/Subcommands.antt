@@ -7,7 +7,7 @@ use Rattle.clap.specs.Walk.{nothing_held, walk_from}
 use Rattle.clap.specs.Simple.{built_leaf, inherited}
 use Rattle.clap.proofs.OnLiterals.{clap_on_literals}
 use Rattle.spf_cli_words.specs.Command.{Options, DecodeOptions, option, number_words, kind_word}
-use Rattle.spf_cli_words.specs.Line.{bare_line, run_app, program_app, decoder_app, lex_app, demo_app, file_app}
+use Rattle.spf_cli_words.specs.Line.{bare_line, run_app, program_app, decoder_app, lex_app, demo_app, file_app, batch_app}
 use Rattle.spf_cli_words.specs.Matched.{flag_of}
 use Rattle.spf_cli_words.proofs.Walk.{IsPlain, Gives, by, on, over}
 use Rattle.spf_apps_formats.specs.declared.generate.Kind.{Kind}
@@ -58,6 +58,11 @@ HasDemo decoder seed size workers rows =
 -- the matches of a command on one file
 abbrev pub HasFile : Text → Text → List Row → Type 0
 HasFile argument file rows = first_of argument rows ≡ Some file
+
+-- the matches of a batch
+abbrev pub HasBatch : Text → Text → Option ℕ → List Row → Type 0
+HasBatch program list workers rows =
+    (first_of (codes "program") rows ≡ Some program) × (first_of (codes "list") rows ≡ Some list) × (first_of (codes "workers") rows ≡ option_map decimal workers)
 
 -- ---- runs
 
@@ -118,6 +123,16 @@ pub build-reads : (text : Text) → IsPlain text → Reads (file_app (codes "bui
 unfolding clap_on_literals
 build-reads text p =
     by p refl refl refl refl (over refl refl refl)
+
+-- ---- batches
+
+pub batch-reads : (program list : Text) → IsPlain program → IsPlain list → (workers : Option ℕ) → IsPlainNumber workers
+    → Reads batch_app (program ∷ list ∷ number_words (codes "--workers") workers) (HasBatch program list workers)
+unfolding clap_on_literals
+batch-reads program list p l (Some n) w =
+    by p refl refl refl refl (by l refl refl refl refl (on refl (by w refl refl refl refl (over refl refl (refl, refl, refl)))))
+batch-reads program list p l None w =
+    by p refl refl refl refl (by l refl refl refl refl (over refl refl (refl, refl, refl)))
 
 -- ---- decoders
 

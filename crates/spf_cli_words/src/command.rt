@@ -86,6 +86,12 @@ pub enum Command<'a> {
     Build {
         text: &'a str,
     },
+    /// A program is run on each file of a list.
+    Batch {
+        program: &'a str,
+        list: &'a str,
+        workers: Option<u64>,
+    },
     /// A decoder runs on an input that is generated from a seed.
     Demo {
         kind: Kind,
@@ -148,6 +154,7 @@ impl From<clap::Error> for WordsError {
 ///   `unhuff INPUT [--block B] [--workers N] [--stats]`,
 /// - `lex MACHINE INPUT [--block B] [--workers N] [--stats]`,
 /// - `show MACHINE` or `build TEXT`,
+/// - `batch PROGRAM LIST [--workers N]`,
 /// - `demo KIND SEED SIZE WORKERS`, where KIND is `unpack`, `unhuff` or `lex`.
 ///
 /// The name of a file isn't empty and doesn't begin with `-`. Numbers are decimal, without a sign
