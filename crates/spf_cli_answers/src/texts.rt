@@ -57,11 +57,7 @@ pub(crate) fn show_file<F: Files>(
 }
 
 /// The answer of `build` over a file.
-pub(crate) fn build_file<F: Files>(
-    alloc: Global,
-    text: &str,
-    files: &mut F,
-) -> Result<Answer, Exit>
+pub(crate) fn build_file<F: Files>(alloc: Global, text: &str, files: &mut F) -> Result<Answer, Exit>
     ensures { (given : Handed) → AnswersWith (IsFollowed
         (WholeOf given (build_command text.now)) (F.state files.old) (F.state files.new))
         result }
