@@ -1,4 +1,4 @@
-//! The program: all that it does, over files and sinks that are supplied.
+//! The program: all that it does, over files and sinks that are handed in.
 #![tactic(auto)]
 
 mod bytes;

@@ -1,5 +1,4 @@
 pub mod Decoders
-mod Machines
 pub mod Meanings
 pub mod Lines
 pub mod Steps

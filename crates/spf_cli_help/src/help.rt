@@ -25,10 +25,6 @@ pub enum Page {
     Unhuff,
     /// The help of `lex`.
     Lex,
-    /// The help of `show`.
-    Show,
-    /// The help of `build`.
-    Build,
     /// The help of `demo`.
     Demo,
 }
@@ -48,8 +44,6 @@ impl Page {
             Page::Unpack => texts::UNPACK,
             Page::Unhuff => texts::UNHUFF,
             Page::Lex => texts::LEX,
-            Page::Show => texts::SHOW,
-            Page::Build => texts::BUILD,
             Page::Demo => texts::DEMO,
         }
     }
@@ -85,8 +79,6 @@ fn command_page(name: &str, word: &str) -> Option<Page>
         "unpack" => Some(Page::Unpack),
         "unhuff" => Some(Page::Unhuff),
         "lex" => Some(Page::Lex),
-        "show" => Some(Page::Show),
-        "build" => Some(Page::Build),
         "demo" => Some(Page::Demo),
         _ => None,
     }

@@ -5,4 +5,3 @@ mod Kept
 pub mod Named
 mod Stores
 mod Tables
-pub mod Votes

@@ -1,3 +1,0 @@
-pub mod Ones
-pub mod Runs
-pub mod Saids
