@@ -59,7 +59,7 @@ statements_of (pair line head producer consumer) Producer = producer
 statements_of (pair line head producer consumer) Consumer = consumer
 statements_of _ _ = end
 
--- a predictor's guess of one part of a row; one that is handed in gives none here
+-- a predictor's guess of one part of a row; one that is supplied gives none here
 abbrev pub guess_means : Environment → ℕ → syntax.Predictor → Meaning ℤ
 guess_means g line (By guess) = expression_means g line guess
 guess_means g line (Host number) = gives (pos 0)

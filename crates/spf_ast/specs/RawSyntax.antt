@@ -25,7 +25,7 @@ mutual
     no_more : RawArguments
     argument : RawExpression → RawArguments → RawArguments
 
--- how a part of a carried row is guessed: by an expression, or by a predictor that is handed in
+-- how a part of a carried row is guessed: by an expression, or by a predictor that is supplied
 pub data RawPredictor : Type 0 where
   By : RawExpression → RawPredictor
   Host : ℕ → RawPredictor

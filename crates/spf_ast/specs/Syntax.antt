@@ -27,7 +27,7 @@ pub data Condition : Type 0 where
   Either : Condition → Condition → Condition
   Not : Condition → Condition
 
--- how a part of a carried row is guessed: by an expression, or by a predictor that is handed in
+-- how a part of a carried row is guessed: by an expression, or by a predictor that is supplied
 pub data Predictor : Type 0 where
   By : Expression → Predictor
   Host : ℕ → Predictor

@@ -71,6 +71,17 @@ fn push_block(words: &mut Vec<u64>, entry: &[i64], spans: &[Span]) -> Result<(),
     Ok(())
 }
 
+/// How many cells the spans of a plan have, if the number fits.
+fn cell_count(plan: &Plan) -> usize {
+    let mut count: usize = 0;
+    for spans in &plan.blocks {
+        for span in spans.as_slice() {
+            count = count.saturating_add(span.to.saturating_sub(span.from) as usize);
+        }
+    }
+    count
+}
+
 /// The words of the table at the start: a flag of 0 for each block, and then each cell's word in
 /// the entry.
 fn words_of(alloc: Global, entry: &[i64], plan: &Plan) -> Result<Vec<u64>, AllocError>
@@ -79,6 +90,7 @@ fn words_of(alloc: Global, entry: &[i64], plan: &Plan) -> Result<Vec<u64>, Alloc
     ensures { IfOk result (λ v. v.items ≡ first_words (spans_in plan.now) entry.now) }
 {
     let mut words = Vec::from_elem(alloc, 0u64, plan.blocks.len())?;
+    words.reserve(cell_count(plan))?;
     for spans in &plan.blocks {
         push_block(&mut words, entry, spans.as_slice())?;
     }

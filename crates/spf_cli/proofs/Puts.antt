@@ -14,7 +14,8 @@ use Rattle.spf_cli_answers.specs.Course.{Wanted, Course}
 use Rattle.spf_cli_answers.specs.Laws.{HasFailed, StatusesHaveCauses}
 use Rattle.spf_cli_answers.specs.Whole.{Handed, AskForNothing, Whole}
 use Rattle.spf_cli.specs.Answered.{Sinks, IsGiven as IsAnswerGiven, IsGivenInPart, IsBroken, IsUntouched, IsPut, IsAnswered}
-use Rattle.spf_cli.specs.Putting.{put_status, IsPutFault}
+use Rattle.spf_edge_pieces.specs.Pieces.{IsPutFault}
+use Rattle.spf_cli.specs.Putting.{put_status}
 
 -- an answer was given, with its status by another name
 pub was_given : (answer : Answer) (status given : ℕ) (s : Sinks) → given ≡ status → IsAnswerGiven answer status s → IsAnswerGiven answer given s

@@ -6,7 +6,7 @@ use Rattle.spf_edge.specs.Puts.{SinkState}
 use Rattle.spf_cli_words.specs.Only.{IsOnly}
 use Rattle.spf_cli_answers.specs.Answer.{Answer}
 use Rattle.spf_cli_answers.specs.Course.{Wanted, Course}
-use Rattle.spf_cli.specs.Putting.{AreCut, AreTaken, AreTakenInPart}
+use Rattle.spf_edge_pieces.specs.Pieces.{AreCut, AreTaken, AreTakenInPart}
 
 -- the sinks for the output and for the lines, before and after
 pub record Sinks : Type 0 where

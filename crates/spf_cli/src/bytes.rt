@@ -30,7 +30,7 @@ use std::thread::Threads;
 ///
 /// The statuses are those of [`spf_main`](crate::spf_main): 0 where the run is done, 1 where the
 /// program trapped, 3 where the text has no lawful program, 4 where the rules refuse it, 6 where a
-/// sink failed, 7 where it has too many cells or names a host that isn't handed in, and 8 where
+/// sink failed, 7 where it has too many cells or names a host that isn't supplied, and 8 where
 /// memory ran out.
 pub fn run_file<R: Threads + Wait + Sync, S: Sink, G: Gate + Sync>(
     rt: &R,

@@ -1,4 +1,4 @@
-//! The program: all that it does, over files and sinks that are handed in.
+//! The program: all that it does, over files and sinks that are supplied.
 #![tactic(auto)]
 
 mod bytes;

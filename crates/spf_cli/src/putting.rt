@@ -5,30 +5,12 @@ ghost use Rattle.spf_edge.specs.Faults.{Rose};
 ghost use Rattle.spf_cli_answers.specs.Answering.{lines_of, seen_answer};
 ghost use Rattle.spf_cli_answers.specs.Status.{status_number};
 ghost use Rattle.spf_cli.specs.Answered.{sinks, IsGiven, IsGivenInPart};
-ghost use Rattle.spf_cli.specs.Putting.{put_status as put_status_of, AreTaken, AreTakenInPart};
-ghost use Rattle.spf_cli.specs.Putting.{IsPutInPieces, IsPutFault};
+ghost use Rattle.spf_cli.specs.Putting.{put_status as put_status_of};
+ghost use Rattle.spf_edge_pieces.specs.Pieces.{AreTaken, AreTakenInPart, IsPutFault};
 
 use spf_cli_answers::{Answer, Status};
 use spf_edge::{PutError, Sink};
-
-/// How many bytes of output are put at once.
-const PIECE: usize = 4096;
-
-/// Puts bytes in pieces, of which only the last may be shorter, and none is empty.
-fn put_pieces<S: Sink>(sink: &mut S, bytes: &[u8]) -> Result<(), PutError>
-    ensures put { IsPutInPieces bytes.now result (S.state sink.old) (S.state sink.new) }
-    ensures failed { IfErr result
-        (IsPutFault (Rose (S.state sink.old).faults (S.state sink.new).faults)) }
-    ensures later { (S.state sink.old).faults ≤ (S.state sink.new).faults }
-{
-    let mut rest = bytes;
-    'pieces: while !rest.is_empty() {
-        let (piece, others) = rest.split_at(rest.len().min(PIECE));
-        sink.put(piece)?;
-        rest = others;
-    }
-    Ok(())
-}
+use spf_edge_pieces::put_pieces;
 
 /// Puts lines, each by a put of its own.
 fn put_lines<S: Sink>(sink: &mut S, lines: &[Vec<u8>]) -> Result<(), PutError>

@@ -33,7 +33,7 @@ use std::thread::Threads;
 /// | 4 | the rules refuse the program |
 /// | 5 | a file could not be read |
 /// | 6 | a sink failed |
-/// | 7 | a limit was passed, or a host isn't handed in |
+/// | 7 | a limit was passed, or a host isn't supplied |
 /// | 8 | memory ran out |
 /// | 9 | the input isn't HUF1, or the machine isn't LEX1 |
 pub fn spf_main<R: Threads + Wait + Sync, F: Files, S: Sink, G: Gate + Sync>(

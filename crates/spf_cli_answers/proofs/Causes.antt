@@ -8,14 +8,15 @@ use Rattle.spf_edge.specs.declared.files.FetchError.{FetchError}
 use Rattle.spf_edge.specs.declared.files.FetchError.TheVariants.{Missing, Failed, TooLong, OutOfMemory}
 use Rattle.spf_edge.specs.Fetches.{Fetch}
 use Rattle.spf_guess_statistics.specs.declared.stats.Stats.{Stats}
-use Rattle.spf_cli_words.specs.Command.{Command, Run, Check, Explain, Print, Unpack, Unhuff, Lex, Demo, Options, DecodeOptions}
+use Rattle.spf_cli_words.specs.Command.{Command, Run, Check, Explain, Print, Unpack, Unhuff, Lex, Show, Build, Demo, Options, DecodeOptions}
+use Rattle.spf_apps_machine_text.specs.MachineText.{machine_text}
 use Rattle.spf_apps_programs.specs.PackBits.{packbits_program}
 use Rattle.spf_apps_programs.specs.Huffman.{huffman_program}
 use Rattle.spf_apps_programs.specs.Lexer.{lexer_program}
-use Rattle.spf_cli_answers.specs.Answer.{Answer, not_understood, text_refused, accepted, rule_refused, explained, printed, file_failed, file_too_long, too_many_cells, host_missing, not_huf1, not_lex1, ran, shown}
+use Rattle.spf_cli_answers.specs.Answer.{Answer, not_understood, text_refused, accepted, rule_refused, explained, printed, file_failed, file_too_long, too_many_cells, host_missing, not_huf1, not_lex1, not_a_machine, written, ran, shown}
 use Rattle.spf_cli_answers.specs.Reading.{Verdict, Says, Refuses}
 use Rattle.spf_cli_answers.specs.Course.{Wanted, Is, Either, Course, Ends, After, Fetches}
-use Rattle.spf_cli_answers.specs.Whole.{Handed, handed, Judged, Read, CheckedBy, Allowed, Explained, WithHosts, host_wanted, RunsTo, stats_of, Runs, RunsOn, Decodes, Unpacking, Unhuffing, Lexing, WithHuf1, WithLex1, Demonstrates, WholeOf, AskForNothing, Whole, block_of, run_options, by_blocks, with_stats, RunsText, demo_program, demo_input, max_program, max_machine, max_input}
+use Rattle.spf_cli_answers.specs.Whole.{Handed, handed, Judged, Read, CheckedBy, Allowed, Explained, WithHosts, host_wanted, RunsTo, stats_of, Runs, RunsOn, Decodes, Unpacking, Unhuffing, Lexing, WithHuf1, WithLex1, WithMachine, Demonstrates, WholeOf, AskForNothing, Whole, block_of, run_options, by_blocks, with_stats, RunsText, demo_program, demo_input, max_program, max_machine, max_text, max_input}
 use Rattle.spf_cli_answers.specs.Laws.{HasFailed, StatusesHaveCauses}
 
 -- the status is none of those for words, for a file, for a put and for want of memory
@@ -162,6 +163,18 @@ caused_command given (Lex machine input options) =
       | inl x ↦ caused_fetches input max_input (λ content. Ends (Lexing options table x.0 x.1 content)) (λ content.
           caused_ends (Lexing options table x.0 x.1 content) (λ b y. decoded_common options (lexer_program (block_of options) x.0 x.1) (table ++ content) b y.0)) fetches a x.3
       | inr x ↦ caused_ends (Is (not_lex1 x.0)) (λ b e. wrong_format b (not_lex1 x.0) e refl) fetches a x.2
+    ])
+caused_command given (Show machine) =
+    caused_fetches machine max_machine (λ table. WithLex1 table (λ states classes. Ends (Is (written (machine_text table))))) (λ table fetches a h.
+    elim h [
+      | inl x ↦ caused_ends (Is (written (machine_text table))) (λ b e. done b (written (machine_text table)) e refl) fetches a x.3
+      | inr x ↦ caused_ends (Is (not_lex1 x.0)) (λ b e. wrong_format b (not_lex1 x.0) e refl) fetches a x.2
+    ])
+caused_command given (Build text) =
+    caused_fetches text max_text (λ bytes. WithMachine bytes (λ file. Ends (Is (written file)))) (λ bytes fetches a h.
+    elim h [
+      | inl x ↦ caused_ends (Is (written x.0)) (λ b e. done b (written x.0) e refl) fetches a x.2
+      | inr x ↦ caused_ends (Is not_a_machine) (λ b e. wrong_format b not_a_machine e refl) fetches a x.1
     ])
 caused_command given (Demo decoder seed size workers) =
     caused_ends (Demonstrates decoder seed size) (λ a h. runs_common shown shown_common by_blocks (handed []) (demo_program decoder) (demo_input decoder h.0) a h.3)

@@ -1,4 +1,5 @@
 pub mod Decoders
+mod Machines
 pub mod Meanings
 pub mod Lines
 pub mod Steps

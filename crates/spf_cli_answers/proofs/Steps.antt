@@ -80,7 +80,7 @@ with_hosts wanted next a none h = subst (λ w. IsOnly (WithHosts w next) a) (sym
 without_hosts : (wanted : Option ℕ) (host : ℕ) (next : Wanted) → wanted ≡ Some host → IsOnly (WithHosts wanted next) (host_missing host)
 without_hosts wanted host next some = subst (λ w. IsOnly (WithHosts w next) (host_missing host)) (sym some) (only_this (host_missing host))
 
--- a program was run, whose cells aren't too many and whose hosts are handed in
+-- a program was run, whose cells aren't too many and whose hosts are supplied
 pub run_done : (said : Outcome → Stats → Answer) (options : Options) (given : Handed) (p : Program) (input : List ℕ) (a : Answer) → (max_cells p < cell_count_of p (length input) → ⊥) → host_wanted options given p ≡ None
     → a ≡ said (outcome p input) (stats_of options given p input) → IsOnly (RunsTo said options given p input) a
 run_done said options given p input a few none e =

@@ -17,6 +17,7 @@ use Rattle.spf_cli_answers.specs.Message.{
   host_line,
   not_huf1_line,
   not_lex1_line,
+  not_machine_line,
   sum_line,
   accepted_line,
   rule_line,
@@ -64,7 +65,7 @@ file_too_long name limit = refused 7 (long_line name limit)
 abbrev pub too_many_cells : (count limit : ℕ) → Answer
 too_many_cells count limit = refused 7 (too_many_line count limit)
 
--- a host that the program names isn't handed in
+-- a host that the program names isn't supplied
 abbrev pub host_missing : ℕ → Answer
 host_missing host = refused 7 (host_line host)
 
@@ -75,6 +76,14 @@ not_huf1 place = refused 9 (not_huf1_line place)
 -- the machine is no LEX1 file, for what stands, or is missing, at this place
 abbrev pub not_lex1 : ℕ → Answer
 not_lex1 place = refused 9 (not_lex1_line place)
+
+-- the text is that of no machine
+abbrev pub not_a_machine : Answer
+not_a_machine = refused 9 not_machine_line
+
+-- a machine's text, or its file, was written
+abbrev pub written : List ℕ → Answer
+written bytes = record { status = 0; out = bytes; err = [] }
 
 -- a program was printed
 abbrev pub printed : Program → Answer

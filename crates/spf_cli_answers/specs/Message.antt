@@ -61,6 +61,10 @@ not_huf1_line place = line (codes "input byte " ∷ decimal place ∷ codes ": n
 abbrev pub not_lex1_line : ℕ → List ℕ
 not_lex1_line place = line (codes "machine byte " ∷ decimal place ∷ codes ": not LEX1" ∷ [])
 
+-- `not a machine`
+abbrev pub not_machine_line : List ℕ
+not_machine_line = line (codes "not a machine" ∷ [])
+
 -- `sum S blocks B hits H misses M`
 abbrev pub sum_line : ℕ → ℕ → ℕ → ℕ → List ℕ
 sum_line sum blocks hits misses =

@@ -14,12 +14,14 @@ use Rattle.spf_cli_answers.specs.Answer.{
   host_missing,
   not_huf1,
   not_lex1,
+  not_a_machine,
+  written,
   printed,
   ran,
   shown,
 }
 use Rattle.spf_cli_answers.specs.Course.{Wanted, Is, Both, Either, Course, Ends, Fetches}
-use Rattle.spf_cli_words.specs.Command.{Command, Run, Check, Explain, Print, Unpack, Unhuff, Lex, Demo, Options, DecodeOptions, Asks}
+use Rattle.spf_cli_words.specs.Command.{Command, Run, Check, Explain, Print, Unpack, Unhuff, Lex, Show, Build, Demo, Options, DecodeOptions, Asks}
 use Rattle.spf_region.specs.declared.range.Range.{Range}
 use Rattle.spf_check.specs.declared.rule.Rule.{Rule}
 use Rattle.spf_check.specs.Accepting.{IsAccepted, IsFirstRefusal}
@@ -37,18 +39,23 @@ use Rattle.spf_apps_formats.specs.Toy.{machine as toy_machine}
 use Rattle.spf_apps_formats.specs.Laws.{AreBytes}
 use Rattle.spf_apps_formats.specs.Huf1.{IsHuf1, IsNoHuf1At}
 use Rattle.spf_apps_formats.specs.Lex1.{IsLex1, IsNoLex1At}
+use Rattle.spf_apps_machine_text.specs.MachineText.{IsTextOf, machine_text}
+use Rattle.spf_apps_machine_text.specs.Building.{BelongsToNoMachine}
 use Rattle.spf_apps_programs.specs.PackBits.{packbits_program}
 use Rattle.spf_apps_programs.specs.Huffman.{huffman_program}
 use Rattle.spf_apps_programs.specs.Lexer.{lexer_program}
 use Rattle.spf_cli_answers.specs.Reading.{Verdict, Says, Refuses, IsVerdict}
 use Rattle.spf_cli_answers.specs.Decoded.{Unpacked, Unhuffed, Tokenized}
 
--- how many bytes the file of a program, that of a machine, and that of an input may have
+-- how many bytes the file of a program, that of a machine, that of a machine's text, and that of an input may have
 abbrev pub max_program : ℕ
 max_program = 1048576
 
 abbrev pub max_machine : ℕ
 max_machine = 16384
+
+abbrev pub max_text : ℕ
+max_text = 32768
 
 abbrev pub max_input : ℕ
 max_input = 4194304
@@ -77,7 +84,7 @@ Allowed false p next = CheckedBy p next
 abbrev pub Explained : Program → Wanted
 Explained p answer = (text : List ℕ) × Explains p text × (answer ≡ explained text)
 
--- the predictors that are handed in: what each answers, and how many they are
+-- the predictors that are supplied: what each answers, and how many they are
 pub record Handed : Type 0 where
   pub hosts : Hosts
   pub count : ℕ
@@ -90,7 +97,7 @@ handed predictors = record { hosts = handed_in predictors; count = length predic
 abbrev pub stats_of : Options → Handed → Program → List ℕ → Stats
 stats_of options given p input = if options.plain then none else (tally given.hosts p input).stats
 
--- the first host that a run would ask and that isn't handed in; by the plain meaning none is asked
+-- the first host that a run would ask and that isn't supplied; by the plain meaning none is asked
 abbrev pub host_wanted : Options → Handed → Program → Option ℕ
 host_wanted options given p = if options.plain then None else missing_host given.count (constructs_in p.main)
 
@@ -162,6 +169,14 @@ Lexing options machine states classes content =
     Both (Decodes options (lexer_program (block_of options) states classes) (machine ++ content))
     (Tokenized (block_of options) machine content)
 
+-- ---- machines' texts
+
+-- with the file of a text, or where no machine has this text
+abbrev pub WithMachine : List ℕ → (List ℕ → Course) → Course
+WithMachine text next fetches answer =
+    ((file : List ℕ) × IsTextOf text file × next file fetches answer)
+    ⊎ (BelongsToNoMachine text × Ends (Is not_a_machine) fetches answer)
+
 -- ---- demos
 
 -- a demo's program, for blocks of 1,024 bytes
@@ -200,13 +215,16 @@ WholeOf given (Unhuff input options) = Fetches input max_input (λ content. With
 WholeOf given (Lex machine input options) =
     Fetches machine max_machine (λ table. WithLex1 table (λ states classes.
     Fetches input max_input (λ content. Ends (Lexing options table states classes content))))
+WholeOf given (Show machine) =
+    Fetches machine max_machine (λ table. WithLex1 table (λ states classes. Ends (Is (written (machine_text table)))))
+WholeOf given (Build text) = Fetches text max_text (λ bytes. WithMachine bytes (λ file. Ends (Is (written file))))
 WholeOf given (Demo decoder seed size workers) = Ends (Demonstrates decoder seed size)
 
 -- the words ask for no command
 abbrev pub AskForNothing : List (List ℕ) → Type 0
 AskForNothing words = (command : Command) → Asks words command → ⊥
 
--- the course of these words, where these predictors are handed in
+-- the course of these words, where these predictors are supplied
 abbrev pub Whole : Handed → List (List ℕ) → Course
 Whole given words fetches answer =
     ((command : Command) × Asks words command × WholeOf given command fetches answer)

@@ -49,7 +49,7 @@ use std::sync::Wait;
 use std::thread::Threads;
 
 /// How many bytes the file of a machine may have.
-const MAX_MACHINE: u64 = 16_384;
+pub(crate) const MAX_MACHINE: u64 = 16_384;
 
 /// How many input bytes a block has where the words don't say it.
 const DEFAULT_BLOCK: u64 = 1024;
@@ -98,7 +98,7 @@ fn not_huf1(alloc: Global, place: u64) -> Result<Answer, AllocError>
 }
 
 /// The answer where a machine isn't LEX1.
-fn not_lex1(alloc: Global, place: u64) -> Result<Answer, AllocError>
+pub(crate) fn not_lex1(alloc: Global, place: u64) -> Result<Answer, AllocError>
     ensures { IfOk result (λ a. seen_answer a ≡ not_lex1_answer place) }
 {
     refused(alloc, Status::WrongFormat, not_lex1_line(alloc, place)?)

@@ -10,6 +10,7 @@ pub mod laws;
 mod message;
 mod reading;
 mod status;
+mod texts;
 
 pub use answer::{Answer, answer_words};
 pub use at_hand::answer_text;

@@ -11,6 +11,7 @@ ghost use Rattle.spf_cli_answers.specs.Message.{too_many_line as too_many_line_o
 ghost use Rattle.spf_cli_answers.specs.Message.{host_line as host_line_of};
 ghost use Rattle.spf_cli_answers.specs.Message.{not_huf1_line as not_huf1_line_of};
 ghost use Rattle.spf_cli_answers.specs.Message.{not_lex1_line as not_lex1_line_of};
+ghost use Rattle.spf_cli_answers.specs.Message.{not_machine_line as not_machine_line_of};
 ghost use Rattle.spf_cli_answers.specs.Message.{sum_line as sum_line_of, byte_line as byte_line_of};
 ghost use Rattle.spf_cli_answers.specs.Message.{fault_line as fault_line_of};
 ghost use Rattle.spf_cli_answers.specs.Message.{fault_name as fault_name_of};
@@ -84,6 +85,13 @@ pub(crate) fn not_lex1_line(alloc: Global, place: u64) -> Result<String, AllocEr
     ensures { IfOk result (λ text. string_bytes text ≡ not_lex1_line_of place) }
 {
     format!(in alloc; "machine byte {place}: not LEX1\n")
+}
+
+/// `not a machine`.
+pub(crate) fn not_machine_line(alloc: Global) -> Result<String, AllocError>
+    ensures { IfOk result (λ text. string_bytes text ≡ not_machine_line_of) }
+{
+    String::from_str(alloc, "not a machine\n")
 }
 
 /// `sum S blocks B hits H misses M`.

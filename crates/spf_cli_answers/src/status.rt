@@ -20,7 +20,7 @@ pub enum Status {
     FileFailed = 5,
     /// A sink failed.
     PutFailed = 6,
-    /// A limit was passed, or a host isn't handed in.
+    /// A limit was passed, or a host isn't supplied.
     OverLimit = 7,
     /// Memory ran out.
     NoMemory = 8,

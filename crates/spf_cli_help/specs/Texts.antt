@@ -22,6 +22,8 @@ help_text = lines (
     ∷ codes "  unpack INPUT                 Unpack a PackBits file"
     ∷ codes "  unhuff INPUT                 Decode a HUF1 file"
     ∷ codes "  lex MACHINE INPUT            Split a text into tokens by a LEX1 machine"
+    ∷ codes "  show MACHINE                 Show a LEX1 machine as a text"
+    ∷ codes "  build TEXT                   Build the LEX1 machine of a text"
     ∷ codes "  demo KIND SEED SIZE WORKERS  Run a decoder on a generated input"
     ∷ []
     ∷ codes "Options after the words of run, unpack, unhuff and lex, in this order:"
@@ -32,7 +34,7 @@ help_text = lines (
     ∷ codes "  --plain        Run without guesses (only for run)"
     ∷ []
     ∷ codes "Options that stand alone or before a command:"
-    ∷ codes "  --host KIND    Add a predictor: fixed:V, last, most or table"
+    ∷ codes "  --host KIND    Add a predictor: fixed:V, last, most, table or vote"
     ∷ codes "  --help         Show this help; after the name of a command, the help of that command"
     ∷ codes "  --version      Show the version"
     ∷ []
@@ -46,7 +48,7 @@ help_text = lines (
     ∷ codes "  6  The output could not be written"
     ∷ codes "  7  A file or the arrays are too large, or a host is missing"
     ∷ codes "  8  Memory ran out"
-    ∷ codes "  9  The input is not HUF1, or the machine is not LEX1"
+    ∷ codes "  9  The input is not HUF1, or the machine is not LEX1, or the text is not a machine's"
     ∷ []
     ∷ codes "Example:"
     ∷ codes "  spf run examples/doubling.spf examples/empty --stats"
@@ -157,6 +159,35 @@ lex_text = lines (
     ∷ []
     ∷ codes "Example:"
     ∷ codes "  spf lex examples/tokens.lex examples/count.c --stats > tokens"
+    ∷ [])
+
+-- the help of `show`
+unfoldable pub show_text : List ℕ
+show_text = lines (
+    codes "Usage: spf show MACHINE"
+    ∷ []
+    ∷ codes "Show the LEX1 machine in the file MACHINE as a text, which goes to standard output."
+    ∷ codes "The command build gives the machine back."
+    ∷ []
+    ∷ codes "Lines:"
+    ∷ codes "  states S classes C   The numbers of states and classes"
+    ∷ codes "  class N BYTE...      The bytes of a class in hexadecimal; all other bytes are of class 0"
+    ∷ codes "  state N NEXT/MARK... For each class the next state, and the kind of token that begins, or 0"
+    ∷ []
+    ∷ codes "Example:"
+    ∷ codes "  spf show examples/tokens.lex > tokens.txt"
+    ∷ [])
+
+-- the help of `build`
+unfoldable pub build_text : List ℕ
+build_text = lines (
+    codes "Usage: spf build TEXT"
+    ∷ []
+    ∷ codes "Build the LEX1 machine whose text is in the file TEXT; the machine goes to standard output."
+    ∷ codes "The text has to be just as the command show writes it."
+    ∷ []
+    ∷ codes "Example:"
+    ∷ codes "  spf build tokens.txt > tokens.lex"
     ∷ [])
 
 -- the help of `demo`

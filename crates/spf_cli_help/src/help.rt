@@ -25,6 +25,10 @@ pub enum Page {
     Unhuff,
     /// The help of `lex`.
     Lex,
+    /// The help of `show`.
+    Show,
+    /// The help of `build`.
+    Build,
     /// The help of `demo`.
     Demo,
 }
@@ -44,6 +48,8 @@ impl Page {
             Page::Unpack => texts::UNPACK,
             Page::Unhuff => texts::UNHUFF,
             Page::Lex => texts::LEX,
+            Page::Show => texts::SHOW,
+            Page::Build => texts::BUILD,
             Page::Demo => texts::DEMO,
         }
     }
@@ -79,6 +85,8 @@ fn command_page(name: &str, word: &str) -> Option<Page>
         "unpack" => Some(Page::Unpack),
         "unhuff" => Some(Page::Unhuff),
         "lex" => Some(Page::Lex),
+        "show" => Some(Page::Show),
+        "build" => Some(Page::Build),
         "demo" => Some(Page::Demo),
         _ => None,
     }

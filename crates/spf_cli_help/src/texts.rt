@@ -15,6 +15,8 @@ Commands:
   unpack INPUT                 Unpack a PackBits file
   unhuff INPUT                 Decode a HUF1 file
   lex MACHINE INPUT            Split a text into tokens by a LEX1 machine
+  show MACHINE                 Show a LEX1 machine as a text
+  build TEXT                   Build the LEX1 machine of a text
   demo KIND SEED SIZE WORKERS  Run a decoder on a generated input
 
 Options after the words of run, unpack, unhuff and lex, in this order:
@@ -25,7 +27,7 @@ Options after the words of run, unpack, unhuff and lex, in this order:
   --plain        Run without guesses (only for run)
 
 Options that stand alone or before a command:
-  --host KIND    Add a predictor: fixed:V, last, most or table
+  --host KIND    Add a predictor: fixed:V, last, most, table or vote
   --help         Show this help; after the name of a command, the help of that command
   --version      Show the version
 
@@ -39,7 +41,7 @@ Exit status:
   6  The output could not be written
   7  A file or the arrays are too large, or a host is missing
   8  Memory ran out
-  9  The input is not HUF1, or the machine is not LEX1
+  9  The input is not HUF1, or the machine is not LEX1, or the text is not a machine's
 
 Example:
   spf run examples/doubling.spf examples/empty --stats
@@ -142,6 +144,33 @@ Options:
 
 Example:
   spf lex examples/tokens.lex examples/count.c --stats > tokens
+";
+
+/// The help of `show`.
+pub(crate) const SHOW: &str = "\
+Usage: spf show MACHINE
+
+Show the LEX1 machine in the file MACHINE as a text, which goes to standard output.
+The command build gives the machine back.
+
+Lines:
+  states S classes C   The numbers of states and classes
+  class N BYTE...      The bytes of a class in hexadecimal; all other bytes are of class 0
+  state N NEXT/MARK... For each class the next state, and the kind of token that begins, or 0
+
+Example:
+  spf show examples/tokens.lex > tokens.txt
+";
+
+/// The help of `build`.
+pub(crate) const BUILD: &str = "\
+Usage: spf build TEXT
+
+Build the LEX1 machine whose text is in the file TEXT; the machine goes to standard output.
+The text has to be just as the command show writes it.
+
+Example:
+  spf build tokens.txt > tokens.lex
 ";
 
 /// The help of `demo`.

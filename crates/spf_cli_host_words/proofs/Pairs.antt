@@ -2,7 +2,7 @@
 use Rattle.std.proofs.Common.{◌≡◌, inl, inr, ℕ, zero, suc, ◌+◌, ◌*◌, ◌≤◌, List, [], ◌∷◌, ◌++◌, length, drop, map, codes, ℤ, pos, refl, sym, ap, subst, ◌∙◌, arith, length-append}
 use Rattle.std.specs.Prelude.{neg_ℤ}
 use Rattle.std.specs.Str.Parse.{IsNumeral, digits_value}
-use Rattle.spf_cli_host_words.specs.HostWords.{Kind, Fixed, Last, Most, Table, IsNumber, Names, AskFor, EndPairs, IsBroken, SayOnly, SayNothing, NextPair}
+use Rattle.spf_cli_host_words.specs.HostWords.{Kind, Fixed, Last, Most, Table, Vote, IsNumber, Names, AskFor, EndPairs, IsBroken, SayOnly, SayNothing, NextPair}
 
 -- ---- one pair more
 
@@ -38,18 +38,27 @@ names-one text (Fixed n) (Fixed m) (number, is, a, fits) (others, same, b, also)
 names-one text (Fixed n) Last (number, is, a, fits) b = absurd (apart 102 108 _ _ (sym is ∙ b) (omega arith))
 names-one text (Fixed n) Most (number, is, a, fits) b = absurd (apart 102 109 _ _ (sym is ∙ b) (omega arith))
 names-one text (Fixed n) Table (number, is, a, fits) b = absurd (apart 102 116 _ _ (sym is ∙ b) (omega arith))
+names-one text (Fixed n) Vote (number, is, a, fits) b = absurd (apart 102 118 _ _ (sym is ∙ b) (omega arith))
 names-one text Last (Fixed m) a (number, is, b, fits) = absurd (apart 108 102 _ _ (sym a ∙ is) (omega arith))
 names-one text Last Last a b = refl
 names-one text Last Most a b = absurd (apart 108 109 _ _ (sym a ∙ b) (omega arith))
 names-one text Last Table a b = absurd (apart 108 116 _ _ (sym a ∙ b) (omega arith))
+names-one text Last Vote a b = absurd (apart 108 118 _ _ (sym a ∙ b) (omega arith))
 names-one text Most (Fixed m) a (number, is, b, fits) = absurd (apart 109 102 _ _ (sym a ∙ is) (omega arith))
 names-one text Most Last a b = absurd (apart 109 108 _ _ (sym a ∙ b) (omega arith))
 names-one text Most Most a b = refl
 names-one text Most Table a b = absurd (apart 109 116 _ _ (sym a ∙ b) (omega arith))
+names-one text Most Vote a b = absurd (apart 109 118 _ _ (sym a ∙ b) (omega arith))
 names-one text Table (Fixed m) a (number, is, b, fits) = absurd (apart 116 102 _ _ (sym a ∙ is) (omega arith))
 names-one text Table Last a b = absurd (apart 116 108 _ _ (sym a ∙ b) (omega arith))
 names-one text Table Most a b = absurd (apart 116 109 _ _ (sym a ∙ b) (omega arith))
 names-one text Table Table a b = refl
+names-one text Table Vote a b = absurd (apart 116 118 _ _ (sym a ∙ b) (omega arith))
+names-one text Vote (Fixed m) a (number, is, b, fits) = absurd (apart 118 102 _ _ (sym a ∙ is) (omega arith))
+names-one text Vote Last a b = absurd (apart 118 108 _ _ (sym a ∙ b) (omega arith))
+names-one text Vote Most a b = absurd (apart 118 109 _ _ (sym a ∙ b) (omega arith))
+names-one text Vote Table a b = absurd (apart 118 116 _ _ (sym a ∙ b) (omega arith))
+names-one text Vote Vote a b = refl
 
 -- words that begin with a pair don't end the pairs
 goes_on : (words : List (List ℕ)) (text : List ℕ) (others : List (List ℕ)) → words ≡ codes "--host" ∷ text ∷ others → EndPairs words → ⊥

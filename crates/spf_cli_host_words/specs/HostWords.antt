@@ -1,13 +1,14 @@
--- The words that ask for hosts: predictors that are handed in.
+-- The words that ask for hosts: predictors that are supplied.
 use Rattle.std.specs.Prelude.{◌≡◌, ◌≢◌, ◌⊎◌, ℕ, ◌*◌, List, [], ◌∷◌, ◌++◌, length, drop, codes, ℤ, pos, neg_ℤ, ◌≤ℤ◌, ◌<ℤ◌, ◌^◌, ⊤}
 use Rattle.std.specs.Str.Parse.{IsNumeral, digits_value}
 
--- a kind of predictor: one that guesses a number, the last value, the value told most often, or a table
+-- a kind of predictor: one that guesses a number, the last value, the value told most often, a table, or votes by blocks
 pub data Kind : Type 0 where
   Fixed : ℤ → Kind
   Last : Kind
   Most : Kind
   Table : Kind
+  Vote : Kind
 
 -- a text is this number: decimal digits, one or more, maybe after a minus
 abbrev pub IsNumber : List ℕ → ℤ → Type 0
@@ -25,6 +26,7 @@ Names text (Fixed n) = (number : List ℕ) × (text ≡ codes "fixed:" ++ number
 Names text Last = text ≡ codes "last"
 Names text Most = text ≡ codes "most"
 Names text Table = text ≡ codes "table"
+Names text Vote = text ≡ codes "vote"
 
 -- words begin with pairs that ask for these kinds, and these words are left
 abbrev pub AskFor : List (List ℕ) → List Kind → List (List ℕ) → Type 0

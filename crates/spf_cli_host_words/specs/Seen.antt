@@ -11,6 +11,7 @@ seen_kind (kind.Fixed value) = asked.Fixed value
 seen_kind kind.Last = asked.Last
 seen_kind kind.Most = asked.Most
 seen_kind kind.Table = asked.Table
+seen_kind kind.Vote = asked.Vote
 
 -- what contracts see of what was read
 abbrev pub seen : HostWords → asked.Reading

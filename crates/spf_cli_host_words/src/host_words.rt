@@ -20,6 +20,8 @@ pub enum HostKind {
     Most,
     /// It guesses for each block the value that it was told last for a block of this number.
     Table,
+    /// It guesses for each block the value that it was told most often for a block of this number.
+    Vote,
 }
 
 /// The predictors that words ask for; host 0 is the first.
@@ -62,6 +64,7 @@ fn read_kind(text: &str) -> Option<HostKind>
         "last" => return Some(HostKind::Last),
         "most" => return Some(HostKind::Most),
         "table" => return Some(HostKind::Table),
+        "vote" => return Some(HostKind::Vote),
         _ => {}
     }
     let value = read_number(after_fixed(text)?)?;
@@ -99,7 +102,7 @@ fn words_from(words: &[String], index: usize) -> &[String]
 }
 
 /// Reads the pairs `--host KIND` with which the words begin, where KIND is `fixed:V` with a decimal
-/// number of 64 bits, `last`, `most` or `table`.
+/// number of 64 bits, `last`, `most`, `table` or `vote`.
 ///
 /// # Errors
 ///

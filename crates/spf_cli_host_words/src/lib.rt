@@ -1,4 +1,4 @@
-//! The words of the command line that ask for predictors to be handed in.
+//! The words of the command line that ask for predictors to be supplied.
 #![tactic(auto)]
 
 pub mod host_words;

@@ -6,7 +6,7 @@ ghost use Rattle.spf_cli_hosts.specs.Hosts.{answers_of};
 ghost use Rattle.spf_cli_hosts.specs.Seen.{answer_by};
 
 use spf_cli_host_words::HostKind;
-use spf_guess::{Fixed, Last, Most, Predictor, Table};
+use spf_guess::{Fixed, Last, Most, Predictor, Table, Vote};
 use std::alloc::{AllocError, Global};
 
 /// How many different values a host counts that guesses the one it was told most often.
@@ -14,6 +14,12 @@ const MOST_ROOM: u64 = 256;
 
 /// For how many blocks a host keeps a value that guesses by block numbers.
 const TABLE_ROOM: u64 = 4096;
+
+/// For how many blocks a host counts votes.
+const VOTE_ROOM: u64 = 4096;
+
+/// How many different values of a block it counts.
+const VOTE_EACH: u64 = 8;
 
 /// A predictor that words ask for.
 #[derive(Drop)]
@@ -26,6 +32,8 @@ pub enum Host {
     Most(Most),
     /// It guesses for each block the value that it was told last for a block of this number.
     Table(Table),
+    /// It guesses for each block the value that it was told most often for a block of this number.
+    Vote(Vote),
 }
 
 impl Host {
@@ -44,13 +52,15 @@ impl Host {
             HostKind::Last => Ok(Host::Last(Last::make())),
             HostKind::Most => Ok(Host::Most(Most::make(alloc, MOST_ROOM)?)),
             HostKind::Table => Ok(Host::Table(Table::make(alloc, TABLE_ROOM)?)),
+            HostKind::Vote => Ok(Host::Vote(Vote::make(alloc, VOTE_ROOM, VOTE_EACH)?)),
         }
     }
 }
 
 impl Predictor for Host {
     ghost answer = { answer_by ⟦<Fixed as Predictor>⟧.answer ⟦<Last as Predictor>⟧.answer
-        ⟦<Most as Predictor>⟧.answer ⟦<Table as Predictor>⟧.answer };
+        ⟦<Most as Predictor>⟧.answer ⟦<Table as Predictor>⟧.answer
+        ⟦<Vote as Predictor>⟧.answer };
 
     fn guess(&mut self, block: i64) -> i64 {
         match self {
@@ -58,6 +68,7 @@ impl Predictor for Host {
             Host::Last(last) => last.guess(block),
             Host::Most(most) => most.guess(block),
             Host::Table(table) => table.guess(block),
+            Host::Vote(vote) => vote.guess(block),
         }
     }
 
@@ -67,6 +78,7 @@ impl Predictor for Host {
             Host::Last(last) => last.tell(block, real),
             Host::Most(most) => most.tell(block, real),
             Host::Table(table) => table.tell(block, real),
+            Host::Vote(vote) => vote.tell(block, real),
         }
     }
 }

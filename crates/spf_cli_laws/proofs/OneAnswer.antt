@@ -8,7 +8,7 @@ use Rattle.spf_edge.specs.declared.files.FetchError.{FetchError}
 use Rattle.spf_edge.specs.declared.files.FetchError.TheVariants.{Missing, Failed, TooLong, OutOfMemory}
 use Rattle.spf_edge.specs.Entries.{Entry, lookup}
 use Rattle.spf_edge.specs.Fetches.{Fetch, Gives, IsGiven}
-use Rattle.spf_cli_answers.specs.Answer.{Answer, not_understood, accepted, printed, text_refused, rule_refused, explained, file_failed, file_too_long, host_missing, not_huf1, not_lex1, ran, shown}
+use Rattle.spf_cli_answers.specs.Answer.{Answer, not_understood, accepted, printed, text_refused, rule_refused, explained, file_failed, file_too_long, host_missing, not_huf1, not_lex1, not_a_machine, written, ran, shown}
 use Rattle.spf_apps_formats.specs.declared.generate.Kind.{Kind}
 use Rattle.spf_apps_programs.specs.PackBits.{packbits_program}
 use Rattle.spf_apps_programs.specs.Huffman.{huffman_program}
@@ -16,14 +16,16 @@ use Rattle.spf_apps_programs.specs.Lexer.{lexer_program}
 use Rattle.spf_apps_formats.specs.Huf1.{IsHuf1}
 use Rattle.spf_apps_formats.specs.Lex1.{IsLex1}
 use Rattle.spf_apps_formats.specs.Laws.{Huf1HasOneVerdict, Lex1HasOneVerdict, EachInputIsGeneratedOnce}
+use Rattle.spf_apps_machine_text.specs.MachineText.{machine_text}
+use Rattle.spf_apps_machine_text.specs.Laws.{MachinesHaveOneText}
 use Rattle.spf_guess_statistics.specs.declared.stats.Stats.{Stats}
-use Rattle.spf_cli_words.specs.Command.{Command, Run, Check, Explain, Print, Unpack, Unhuff, Lex, Demo, Options, DecodeOptions, Asks}
+use Rattle.spf_cli_words.specs.Command.{Command, Run, Check, Explain, Print, Unpack, Unhuff, Lex, Show, Build, Demo, Options, DecodeOptions, Asks}
 use Rattle.spf_cli_words.specs.Only.{IsOnly}
 use Rattle.spf_cli_words.specs.Laws.{EachAsksForOneOrNone}
 use Rattle.spf_cli_answers.specs.Reading.{Verdict, Says, Refuses, IsVerdict}
 use Rattle.spf_cli_answers.specs.Decoded.{Unpacked, Unhuffed, Tokenized}
 use Rattle.spf_cli_answers.specs.Course.{Wanted, Is, Both, Either, Course, Ends, Unfetched, After, Fetches}
-use Rattle.spf_cli_answers.specs.Whole.{Handed, handed, Judged, Read, CheckedBy, Allowed, Explained, WithHosts, host_wanted, RunsTo, Runs, RunsOn, Decodes, Unpacking, Unhuffing, Lexing, WithHuf1, WithLex1, Demonstrates, WholeOf, Whole, block_of, run_options, by_blocks, demo_program, demo_input, max_program, max_machine, max_input}
+use Rattle.spf_cli_answers.specs.Whole.{Handed, handed, Judged, Read, CheckedBy, Allowed, Explained, WithHosts, host_wanted, RunsTo, Runs, RunsOn, Decodes, Unpacking, Unhuffing, Lexing, WithHuf1, WithLex1, WithMachine, Demonstrates, WholeOf, Whole, block_of, run_options, by_blocks, demo_program, demo_input, max_program, max_machine, max_text, max_input}
 use Rattle.spf_cli_answers.specs.Laws.{RuleLaws, DecoderLaws}
 use Rattle.spf_cli_laws.specs.Laws.{VerdictsAreTheSame, NoTextIsLeftUnjudged, Over}
 
@@ -33,6 +35,7 @@ use Rattle.spf_cli_laws.specs.Laws.{VerdictsAreTheSame, NoTextIsLeftUnjudged, Ov
 pub record FormatLaws : Type 0 where
   pub huf1 : Huf1HasOneVerdict
   pub lex1 : Lex1HasOneVerdict
+  pub machines : MachinesHaveOneText
   pub generated : EachInputIsGeneratedOnce
   pub decoders : DecoderLaws
 
@@ -179,6 +182,15 @@ same_lex1 laws files file next f a b x y = by x.2 y.2
     by (inr u) (inl v) = absurd (laws.apart file u.0 v.0 v.1 v.2 u.1)
     by (inr u) (inr v) = ends_said files (not_lex1 u.0) x.0 a u.2 ∙ ap not_lex1 (laws.one file u.0 v.0 u.1 v.1) ∙ sym (ends_said files (not_lex1 v.0) y.0 b v.2)
 
+same_machine : MachinesHaveOneText → (files : List Entry) (text : List ℕ) (next : List ℕ → Course) → ((file : List ℕ) → AtMostOne (Over files (next file))) → AtMostOne (Over files (WithMachine text next))
+same_machine laws files text next f a b x y = by x.2 y.2
+  where
+    by : WithMachine text next x.0 a → WithMachine text next y.0 b → a ≡ b
+    by (inl u) (inl v) = f u.0 a b (x.0, x.1, u.2) (y.0, y.1, subst (λ file. next file y.0 b) (laws.file text v.0 u.0 v.1 u.1) v.2)
+    by (inl u) (inr v) = absurd (v.0 u.0 u.1)
+    by (inr u) (inl v) = absurd (u.0 v.0 v.1)
+    by (inr u) (inr v) = ends_said files not_a_machine x.0 a u.1 ∙ sym (ends_said files not_a_machine y.0 b v.1)
+
 same_demo : EachInputIsGeneratedOnce → (decoder : Kind) (seed size : ℕ) → AtMostOne (Demonstrates decoder seed size)
 same_demo laws decoder seed size a b x y =
     let same = laws.one decoder seed size y.0 x.0 y.1 x.1 y.2 x.2 in
@@ -211,6 +223,13 @@ command_same laws one formats given (Lex machine input options) files =
     same_fetches files input max_input (λ content. Ends (Lexing options table states classes content)) (λ content.
     same_ends files (Lexing options table states classes content)
     (same_both (Decodes options p (table ++ content)) (Tokenized (block_of options) table content) (same_decodes options p (table ++ content))))))
+command_same laws one formats given (Show machine) files =
+    same_fetches files machine max_machine _ (λ table.
+    same_lex1 formats.lex1 files table (λ states classes. Ends (Is (written (machine_text table)))) (λ states classes.
+    same_ends files (Is (written (machine_text table))) (same_said (written (machine_text table)))))
+command_same laws one formats given (Build text) files =
+    same_fetches files text max_text _ (λ bytes.
+    same_machine formats.machines files bytes (λ file. Ends (Is (written file))) (λ file. same_ends files (Is (written file)) (same_said (written file))))
 command_same laws one formats given (Demo decoder seed size workers) files =
     same_ends files (Demonstrates decoder seed size) (same_demo formats.generated decoder seed size)
 
@@ -315,6 +334,13 @@ some_lex1 laws files file next some =
       | inr r ↦ (not_lex1 r.0, ([], tt, inr (r.0, r.1, refl)))
     ]
 
+some_machine : MachinesHaveOneText → (files : List Entry) (text : List ℕ) (next : List ℕ → Course) → ((file : List ℕ) → HasOne (Over files (next file))) → HasOne (Over files (WithMachine text next))
+some_machine laws files text next some =
+    elim (laws.verdict text) [
+      | inl h ↦ let one = some h.0 in (one.0, (one.1.0, one.1.1, inl (h.0, h.1, one.1.2)))
+      | inr none ↦ (not_a_machine, ([], tt, inr (none, refl)))
+    ]
+
 some_demo : EachInputIsGeneratedOnce → (decoder : Kind) (seed size : ℕ) → HasOne (Demonstrates decoder seed size)
 some_demo laws decoder seed size =
     let file = laws.some decoder seed size in
@@ -359,6 +385,13 @@ some_command laws formats given (Lex machine input options) files judged =
     some_ends files (Lexing options table states classes content)
     (some_both (Decodes options p (table ++ content)) (Tokenized (block_of options) table content)
     (λ a. formats.decoders.tokenized options states classes table content a lex1) (some_decoded options p (table ++ content))))))
+some_command laws formats given (Show machine) files judged =
+    some_fetches files machine max_machine _ (λ table e.
+    some_lex1 formats.lex1 files table (λ states classes. Ends (Is (written (machine_text table)))) (λ states classes lex1.
+    some_ends files (Is (written (machine_text table))) (written (machine_text table), refl)))
+some_command laws formats given (Build text) files judged =
+    some_fetches files text max_text _ (λ bytes e.
+    some_machine formats.machines files bytes (λ file. Ends (Is (written file))) (λ file. some_ends files (Is (written file)) (written file, refl)))
 some_command laws formats given (Demo decoder seed size workers) files judged =
     some_ends files (Demonstrates decoder seed size) (some_demo formats.generated decoder seed size)
 

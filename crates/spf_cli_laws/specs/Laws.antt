@@ -24,11 +24,11 @@ NoTextIsLeftUnjudged = (text : List ℕ) → ((verdict : Verdict) → IsVerdict 
 abbrev pub Over : List Entry → Course → Wanted
 Over files course answer = (fetches : List Fetch) × AllByRecursion (IsGiven (Some files) ⊥) fetches × course fetches answer
 
--- a list of words has at most one answer, with what is handed in and over files
+-- a list of words has at most one answer, with what is supplied and over files
 abbrev pub NoneHasTwoAnswers : Type 0
 NoneHasTwoAnswers = (handed : Handed) (words : List (List ℕ)) (files : List Entry) (one other : Answer)
     → Over files (Whole handed words) one → Over files (Whole handed words) other → one ≡ other
 
--- no list of words is left without an answer: there is none, whatever is handed in and whatever the files are, to which no answer is the whole one
+-- no list of words is left without an answer: there is none, whatever is supplied and whatever the files are, to which no answer is the whole one
 abbrev pub NoneIsLeftUnanswered : Type 0
 NoneIsLeftUnanswered = (handed : Handed) (words : List (List ℕ)) (files : List Entry) → ((answer : Answer) → Over files (Whole handed words) answer → ⊥) → ⊥

@@ -3,6 +3,7 @@ ghost use Rattle.spf_cli_laws.specs.Laws.{VerdictsAreTheSame, NoTextIsLeftUnjudg
 ghost use Rattle.spf_cli_laws.specs.Laws.{NoneHasTwoAnswers, NoneIsLeftUnanswered};
 
 use spf_apps_formats::laws::{each_demo_input_is_generated_once, files_have_one_verdict};
+use spf_apps_machine_text::laws::machines_have_one_text;
 use spf_cli_answers::laws::{decoders_keep_their_formats, rules_say_one_thing};
 use spf_cli_words::laws::each_list_of_words_asks_for_one_command_or_none;
 use spf_parse::laws::{texts_say_writable_programs, tokens_go_wrong_once};
@@ -24,7 +25,7 @@ pub fn each_text_has_one_verdict()
     each_raw_program_resolves_or_is_refused();
 }
 
-/// A list of words has at most one answer, with what is handed in and over any files, and none is
+/// A list of words has at most one answer, with what is supplied and over any files, and none is
 /// left without an answer.
 pub fn each_list_of_words_has_one_answer()
     ensures one { NoneHasTwoAnswers }
@@ -33,6 +34,7 @@ pub fn each_list_of_words_has_one_answer()
     rules_say_one_thing();
     each_text_has_one_verdict();
     files_have_one_verdict();
+    machines_have_one_text();
     each_demo_input_is_generated_once();
     decoders_keep_their_formats();
     each_list_of_words_asks_for_one_command_or_none();

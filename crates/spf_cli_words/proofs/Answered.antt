@@ -6,11 +6,11 @@ use Rattle.std.proofs.Common.{◌≡◌, ◌⊎◌, inl, inr, ◌≤◌, subst, 
 use Rattle.clap.specs.Words.{App, HasMatchesOf, Row, Text, app_of, first_of, is_simple, subcommand_of, subcommand_rows_of, takes}
 use Rattle.clap.specs.declared.builder.command.Command.{Command as ClapCommand}
 use Rattle.clap.specs.declared.parser.matches.ArgMatches.{ArgMatches}
-use Rattle.spf_cli_words.specs.Command.{DecodeOptions, words_of, IsUpTo, HasDecodeNumbers, HasNumbers, IsFileName, HasFileNames, Command, Run, Check, Explain, Print, Unpack, Unhuff, Lex, Demo, Asks}
+use Rattle.spf_cli_words.specs.Command.{DecodeOptions, words_of, IsUpTo, HasDecodeNumbers, HasNumbers, IsFileName, HasFileNames, Command, Run, Check, Explain, Print, Unpack, Unhuff, Lex, Show, Build, Batch, Demo, Asks}
 use Rattle.spf_apps_formats.specs.declared.generate.Kind.{Kind}
 use Rattle.spf_cli_words.specs.Only.{IsOnly}
 use Rattle.spf_cli_words.specs.Line.{IsLine, line}
-use Rattle.spf_cli_words.specs.Matched.{is_name, name_in, number_in, kind_in, name_of, number_of, given_number, option_of, options_with, options_of, decode_options_with, block_with, decode_options_of, run_with, run_on, run_from, run_of, program_with, program_of, decoding_with, decoding_on, decoding_of, lex_from, lex_of, demo_with, demo_sized, demo_seeded, demo_from, demo_of, named, command_in}
+use Rattle.spf_cli_words.specs.Matched.{is_name, name_in, number_in, kind_in, name_of, number_of, given_number, option_of, options_with, options_of, decode_options_with, block_with, decode_options_of, run_with, run_on, run_from, run_of, program_with, program_of, decoding_with, decoding_on, decoding_of, lex_from, lex_of, demo_with, demo_sized, demo_seeded, demo_from, demo_of, named, command_in, file_of, batch_with, batch_on, batch_from, batch_of}
 use Rattle.spf_cli_words.proofs.Numbers.{number-is}
 use Rattle.spf_cli_words.proofs.Names.{name-is}
 use Rattle.spf_cli_words.proofs.Canonical.{is-read}
@@ -78,6 +78,23 @@ program-fits command fits rows d e =
     let p = came (program_with command) (name_of (codes "program") rows) d e in
     subst Fits (some-same (command p.from) d p.gave) (fits p.from (name-fits (codes "program") rows p.from p.was))
 
+-- a command on one file
+file-fits : (argument : Text) (command : Text → Command) → ((file : Text) → IsFileName file → Fits (command file))
+    → (rows : List Row) (d : Command) → file_of argument command rows ≡ Some d → Fits d
+file-fits argument command fits rows d e =
+    let f = came (program_with command) (name_of argument rows) d e in
+    subst Fits (some-same (command f.from) d f.gave) (fits f.from (name-fits argument rows f.from f.was))
+
+batch-fits : (rows : List Row) (d : Command) → batch_of rows ≡ Some d → Fits d
+batch-fits rows d e =
+    let p = came (batch_from rows) (name_of (codes "program") rows) d e in
+    let l = came (batch_on rows p.from) (name_of (codes "list") rows) d p.gave in
+    let w = came (batch_with p.from l.from) (option_of (codes "workers") 64 rows) d l.gave in
+    subst Fits (some-same (Batch p.from l.from w.from) d w.gave) (
+      (name-fits (codes "program") rows p.from p.was, name-fits (codes "list") rows l.from l.was),
+      option-fits 64 (first_of (codes "workers") rows) w.from w.was,
+    )
+
 decode_options-fit : (rows : List Row) (o : DecodeOptions) → decode_options_of rows ≡ Some o → HasDecodeNumbers o
 decode_options-fit rows o e =
     let b = came (block_with rows) (option_of (codes "block") 65536 rows) o e in
@@ -132,7 +149,10 @@ named-fits name rows d =
     (either (bytes_eq name (codes "unpack")) (decoding_of Unpack rows) _ d (decoding-fits Unpack (λ input o i n. (i, n)) rows d)
     (either (bytes_eq name (codes "unhuff")) (decoding_of Unhuff rows) _ d (decoding-fits Unhuff (λ input o i n. (i, n)) rows d)
     (either (bytes_eq name (codes "lex")) (lex_of rows) _ d (lex-fits rows d)
-    (either (bytes_eq name (codes "demo")) (demo_of rows) None d (demo-fits rows d) (λ e. absurd (none-some d e)))))))))
+    (either (bytes_eq name (codes "demo")) (demo_of rows) _ d (demo-fits rows d)
+    (either (bytes_eq name (codes "show")) (file_of (codes "machine") Show rows) _ d (file-fits (codes "machine") Show (λ file f. (f, tt)) rows d)
+    (either (bytes_eq name (codes "build")) (file_of (codes "text") Build rows) _ d (file-fits (codes "text") Build (λ file f. (f, tt)) rows d)
+    (either (bytes_eq name (codes "batch")) (batch_of rows) None d (batch-fits rows d) (λ e. absurd (none-some d e))))))))))))
 
 command-fits : (subcommand : Option (Text × List Row)) (d : Command) → command_in subcommand ≡ Some d → Fits d
 command-fits None d e = absurd (none-some d e)

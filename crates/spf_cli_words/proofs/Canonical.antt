@@ -7,13 +7,13 @@ use Rattle.clap.specs.Walk.{nothing_held, rows_after, walk_from}
 use Rattle.clap.specs.Simple.{names_of}
 use Rattle.clap.specs.Takes.{level_passes}
 use Rattle.clap.proofs.OnLiterals.{clap_on_literals}
-use Rattle.spf_cli_words.specs.Command.{Options, DecodeOptions, option_words, decode_words, kind_word, words_of, IsFileName, HasFileNames, IsUpTo, HasDecodeNumbers, HasNumbers, Command, Run, Check, Explain, Print, Unpack, Unhuff, Lex, Demo}
-use Rattle.spf_cli_words.specs.Line.{line, run_app, program_app, decoder_app, lex_app, demo_app}
-use Rattle.spf_cli_words.specs.Matched.{number_in, kind_in, number_of, given_number, option_of, options_with, decode_options_with, block_with, run_with, run_on, run_from, run_of, program_with, program_of, decoding_with, decoding_on, decoding_of, lex_from, lex_of, demo_with, demo_sized, demo_seeded, demo_from, demo_of, command_in}
+use Rattle.spf_cli_words.specs.Command.{Options, DecodeOptions, option_words, decode_words, kind_word, number_words, words_of, IsFileName, HasFileNames, IsUpTo, HasDecodeNumbers, HasNumbers, Command, Run, Check, Explain, Print, Unpack, Unhuff, Lex, Show, Build, Batch, Demo}
+use Rattle.spf_cli_words.specs.Line.{line, run_app, program_app, decoder_app, lex_app, demo_app, file_app, batch_app}
+use Rattle.spf_cli_words.specs.Matched.{number_in, kind_in, number_of, given_number, option_of, options_with, decode_options_with, block_with, run_with, run_on, run_from, run_of, program_with, program_of, decoding_with, decoding_on, decoding_of, lex_from, lex_of, demo_with, demo_sized, demo_seeded, demo_from, demo_of, file_of, batch_with, batch_on, batch_from, batch_of, command_in}
 use Rattle.spf_cli_words.proofs.Numbers.{number-of, decimal-begins}
 use Rattle.spf_cli_words.proofs.Matching.{name-given}
 use Rattle.spf_cli_words.proofs.Walk.{IsPlain, plain, kept, kept-passes, whole}
-use Rattle.spf_cli_words.proofs.Subcommands.{leaf, IsPlainNumber, HasRun, HasProgram, HasDecoding, HasLex, HasDemo, run-reads, program-reads, decoder-reads, lex-reads, demo-reads}
+use Rattle.spf_cli_words.proofs.Subcommands.{leaf, IsPlainNumber, HasRun, HasProgram, HasDecoding, HasLex, HasDemo, HasFile, HasBatch, show-reads, build-reads, batch-reads, run-reads, program-reads, decoder-reads, lex-reads, demo-reads}
 use Rattle.spf_apps_formats.specs.declared.generate.Kind.{Kind}
 use Rattle.spf_apps_formats.specs.declared.generate.Kind.TheVariants as kind
 
@@ -62,6 +62,18 @@ lex-given : (rows : List Row) (machine input : Text) (o : DecodeOptions) → Has
     → lex_of rows ≡ Some (Lex machine input o)
 lex-given rows machine input o has m i within =
     ap (option_and_then (lex_from rows)) (name-given (codes "machine") rows machine has.0 m) ∙ decoding-given (Lex machine) rows input o has.1 i within
+
+file-given : (argument : Text) (command : Text → Command) (rows : List Row) (file : Text) → HasFile argument file rows → IsFileName file
+    → file_of argument command rows ≡ Some (command file)
+file-given argument command rows file has f = ap (option_and_then (program_with command)) (name-given argument rows file has f)
+
+batch-given : (rows : List Row) (program list : Text) (workers : Option ℕ) → HasBatch program list workers rows → IsFileName program → IsFileName list
+    → IsUpTo 64 workers
+    → batch_of rows ≡ Some (Batch program list workers)
+batch-given rows program list workers has p l within =
+    ap (option_and_then (batch_from rows)) (name-given (codes "program") rows program has.0 p)
+    ∙ ap (option_and_then (batch_on rows program)) (name-given (codes "list") rows list has.1 l)
+    ∙ ap (option_and_then (batch_with program list)) (option-given (codes "workers") 64 rows workers (omega arith) has.2 within)
 
 kind-given : (decoder : Kind) → kind_in (kind_word decoder) ≡ Some decoder
 kind-given kind.Unpack = refl
@@ -149,6 +161,27 @@ demo-enters words passes =
     let past = kept-passes (built line).top (names_of (built line)) (walk_from nothing_held) (codes "demo") [] words in
     record { taken = rw (after, past, passes) refl; given = rw after refl }
 
+show-enters : (words : List Text) → level_passes (leaf (file_app (codes "show") (codes "machine"))) [] nothing_held words false ≡ true → Enters (codes "show") (leaf (file_app (codes "show") (codes "machine"))) words
+unfolding clap_on_literals
+show-enters words passes =
+    let after = kept (built line).top.rules (names_of (built line)) (walk_from nothing_held) (codes "show") [] words in
+    let past = kept-passes (built line).top (names_of (built line)) (walk_from nothing_held) (codes "show") [] words in
+    record { taken = rw (after, past, passes) refl; given = rw after refl }
+
+build-enters : (words : List Text) → level_passes (leaf (file_app (codes "build") (codes "text"))) [] nothing_held words false ≡ true → Enters (codes "build") (leaf (file_app (codes "build") (codes "text"))) words
+unfolding clap_on_literals
+build-enters words passes =
+    let after = kept (built line).top.rules (names_of (built line)) (walk_from nothing_held) (codes "build") [] words in
+    let past = kept-passes (built line).top (names_of (built line)) (walk_from nothing_held) (codes "build") [] words in
+    record { taken = rw (after, past, passes) refl; given = rw after refl }
+
+batch-enters : (words : List Text) → level_passes (leaf batch_app) [] nothing_held words false ≡ true → Enters (codes "batch") (leaf batch_app) words
+unfolding clap_on_literals
+batch-enters words passes =
+    let after = kept (built line).top.rules (names_of (built line)) (walk_from nothing_held) (codes "batch") [] words in
+    let past = kept-passes (built line).top (names_of (built line)) (walk_from nothing_held) (codes "batch") [] words in
+    record { taken = rw (after, past, passes) refl; given = rw after refl }
+
 -- ---- the words of a command
 
 -- the text of a number is no flag
@@ -215,6 +248,24 @@ is-read (Lex machine input o) files numbers =
     let enters = lex-enters words (whole (leaf lex_app) words (HasLex machine input o) reads) in
     let rows = rows_after (leaf lex_app).rules [] words in
     record { taken = enters.taken; given = ap command_in enters.given ∙ lex-given rows machine input o reads.has files.0 files.1 numbers }
+is-read (Show machine) files numbers =
+    let words = machine ∷ [] in
+    let reads = show-reads machine (plain machine files) in
+    let enters = show-enters words (whole (leaf (file_app (codes "show") (codes "machine"))) words (HasFile (codes "machine") machine) reads) in
+    let rows = rows_after (leaf (file_app (codes "show") (codes "machine"))).rules [] words in
+    record { taken = enters.taken; given = ap command_in enters.given ∙ file-given (codes "machine") Show rows machine reads.has files }
+is-read (Build text) files numbers =
+    let words = text ∷ [] in
+    let reads = build-reads text (plain text files) in
+    let enters = build-enters words (whole (leaf (file_app (codes "build") (codes "text"))) words (HasFile (codes "text") text) reads) in
+    let rows = rows_after (leaf (file_app (codes "build") (codes "text"))).rules [] words in
+    record { taken = enters.taken; given = ap command_in enters.given ∙ file-given (codes "text") Build rows text reads.has files }
+is-read (Batch program list workers) files numbers =
+    let words = program ∷ list ∷ number_words (codes "--workers") workers in
+    let reads = batch-reads program list (plain program files.0) (plain list files.1) workers (number-up_to 64 workers (omega arith) numbers) in
+    let enters = batch-enters words (whole (leaf batch_app) words (HasBatch program list workers) reads) in
+    let rows = rows_after (leaf batch_app).rules [] words in
+    record { taken = enters.taken; given = ap command_in enters.given ∙ batch-given rows program list workers reads.has files.0 files.1 numbers }
 is-read (Demo decoder seed size workers) files numbers =
     let size_high = numbers.1.1 in
     let workers_high = numbers.2.1 in

@@ -7,7 +7,7 @@ use Rattle.clap.specs.Walk.{nothing_held, walk_from}
 use Rattle.clap.specs.Simple.{built_leaf, inherited}
 use Rattle.clap.proofs.OnLiterals.{clap_on_literals}
 use Rattle.spf_cli_words.specs.Command.{Options, DecodeOptions, option, number_words, kind_word}
-use Rattle.spf_cli_words.specs.Line.{bare_line, run_app, program_app, decoder_app, lex_app, demo_app}
+use Rattle.spf_cli_words.specs.Line.{bare_line, run_app, program_app, decoder_app, lex_app, demo_app, file_app, batch_app}
 use Rattle.spf_cli_words.specs.Matched.{flag_of}
 use Rattle.spf_cli_words.proofs.Walk.{IsPlain, Gives, by, on, over}
 use Rattle.spf_apps_formats.specs.declared.generate.Kind.{Kind}
@@ -54,6 +54,15 @@ abbrev pub HasDemo : Kind → ℕ → ℕ → ℕ → List Row → Type 0
 HasDemo decoder seed size workers rows =
     (first_of (codes "kind") rows ≡ Some (kind_word decoder)) × (first_of (codes "seed") rows ≡ Some (decimal seed))
     × (first_of (codes "size") rows ≡ Some (decimal size)) × (first_of (codes "workers") rows ≡ Some (decimal workers))
+
+-- the matches of a command on one file
+abbrev pub HasFile : Text → Text → List Row → Type 0
+HasFile argument file rows = first_of argument rows ≡ Some file
+
+-- the matches of a batch
+abbrev pub HasBatch : Text → Text → Option ℕ → List Row → Type 0
+HasBatch program list workers rows =
+    (first_of (codes "program") rows ≡ Some program) × (first_of (codes "list") rows ≡ Some list) × (first_of (codes "workers") rows ≡ option_map decimal workers)
 
 -- ---- runs
 
@@ -104,6 +113,26 @@ pub program-reads : (subcommand program : Text) → IsPlain program → Reads (p
 unfolding clap_on_literals
 program-reads subcommand program p =
     by p refl refl refl refl (over refl refl refl)
+
+pub show-reads : (machine : Text) → IsPlain machine → Reads (file_app (codes "show") (codes "machine")) (machine ∷ []) (HasFile (codes "machine") machine)
+unfolding clap_on_literals
+show-reads machine p =
+    by p refl refl refl refl (over refl refl refl)
+
+pub build-reads : (text : Text) → IsPlain text → Reads (file_app (codes "build") (codes "text")) (text ∷ []) (HasFile (codes "text") text)
+unfolding clap_on_literals
+build-reads text p =
+    by p refl refl refl refl (over refl refl refl)
+
+-- ---- batches
+
+pub batch-reads : (program list : Text) → IsPlain program → IsPlain list → (workers : Option ℕ) → IsPlainNumber workers
+    → Reads batch_app (program ∷ list ∷ number_words (codes "--workers") workers) (HasBatch program list workers)
+unfolding clap_on_literals
+batch-reads program list p l (Some n) w =
+    by p refl refl refl refl (by l refl refl refl refl (on refl (by w refl refl refl refl (over refl refl (refl, refl, refl)))))
+batch-reads program list p l None w =
+    by p refl refl refl refl (by l refl refl refl refl (over refl refl (refl, refl, refl)))
 
 -- ---- decoders
 

@@ -22,4 +22,7 @@ seen_command (command.Print program) = asked.Print program.now
 seen_command (command.Unpack input options) = asked.Unpack input.now (seen_decode_options options)
 seen_command (command.Unhuff input options) = asked.Unhuff input.now (seen_decode_options options)
 seen_command (command.Lex machine input options) = asked.Lex machine.now input.now (seen_decode_options options)
+seen_command (command.Show machine) = asked.Show machine.now
+seen_command (command.Build text) = asked.Build text.now
+seen_command (command.Batch program list workers) = asked.Batch program.now list.now workers
 seen_command (command.Demo kind seed size workers) = asked.Demo kind seed size workers

@@ -28,6 +28,10 @@ pub data Command : Type 0 where
   Unhuff : List ℕ → DecodeOptions → Command
   -- the machine's file stands before the input's
   Lex : List ℕ → List ℕ → DecodeOptions → Command
+  Show : List ℕ → Command
+  Build : List ℕ → Command
+  -- the program's file stands before the list's; how many workers, where that is said
+  Batch : List ℕ → List ℕ → Option ℕ → Command
   -- the seed, the size and the number of workers
   Demo : Kind → ℕ → ℕ → ℕ → Command
 
@@ -65,6 +69,9 @@ words_of (Print program) = codes "print" ∷ program ∷ []
 words_of (Unpack input options) = codes "unpack" ∷ input ∷ decode_words options
 words_of (Unhuff input options) = codes "unhuff" ∷ input ∷ decode_words options
 words_of (Lex machine input options) = codes "lex" ∷ machine ∷ input ∷ decode_words options
+words_of (Show machine) = codes "show" ∷ machine ∷ []
+words_of (Build text) = codes "build" ∷ text ∷ []
+words_of (Batch program list workers) = codes "batch" ∷ program ∷ list ∷ number_words (codes "--workers") workers
 words_of (Demo decoder seed size workers) = codes "demo" ∷ kind_word decoder ∷ decimal seed ∷ decimal size ∷ decimal workers ∷ []
 
 -- a file's name isn't empty and doesn't begin with `-`
@@ -81,6 +88,9 @@ HasFileNames (Print program) = IsFileName program
 HasFileNames (Unpack input options) = IsFileName input
 HasFileNames (Unhuff input options) = IsFileName input
 HasFileNames (Lex machine input options) = IsFileName machine × IsFileName input
+HasFileNames (Show machine) = IsFileName machine
+HasFileNames (Build text) = IsFileName text
+HasFileNames (Batch program list workers) = IsFileName program × IsFileName list
 HasFileNames (Demo decoder seed size workers) = Unit {0}
 
 -- a number stands from 1 to `most`, where it is said
@@ -98,6 +108,7 @@ HasNumbers (Run program input options) = IsUpTo max_workers options.workers
 HasNumbers (Unpack input options) = HasDecodeNumbers options
 HasNumbers (Unhuff input options) = HasDecodeNumbers options
 HasNumbers (Lex machine input options) = HasDecodeNumbers options
+HasNumbers (Batch program list workers) = IsUpTo max_workers workers
 HasNumbers (Demo decoder seed size workers) = (seed < 2 ^ 64) × IsUpTo 1000000 (Some size) × IsUpTo max_workers (Some workers)
 HasNumbers _ = Unit {0}
 

@@ -4,7 +4,7 @@ use Rattle.std.specs.Option.{option_map_or}
 use Rattle.std.specs.Str.Parse.{digits_value}
 use Rattle.std.specs.Fmt.{decimal}
 use Rattle.clap.specs.Words.{Row, first_of, one_of}
-use Rattle.spf_cli_words.specs.Command.{Options, DecodeOptions, Command, Run, Check, Explain, Print, Unpack, Unhuff, Lex, Demo}
+use Rattle.spf_cli_words.specs.Command.{Options, DecodeOptions, Command, Run, Check, Explain, Print, Unpack, Unhuff, Lex, Show, Build, Batch, Demo}
 use Rattle.spf_apps_formats.specs.declared.generate.Kind.{Kind}
 use Rattle.spf_apps_formats.specs.declared.generate.Kind.TheVariants as kind
 
@@ -96,6 +96,23 @@ program_with command program = Some (command program)
 abbrev pub program_of : (List ℕ → Command) → List Row → Option Command
 program_of command rows = option_and_then (program_with command) (name_of (codes "program") rows)
 
+-- a command on one file, which is this argument
+abbrev pub file_of : List ℕ → (List ℕ → Command) → List Row → Option Command
+file_of argument command rows = option_and_then (program_with command) (name_of argument rows)
+
+-- a batch
+abbrev pub batch_with : List ℕ → List ℕ → Option ℕ → Option Command
+batch_with program list workers = Some (Batch program list workers)
+
+abbrev pub batch_on : List Row → List ℕ → List ℕ → Option Command
+batch_on rows program list = option_and_then (batch_with program list) (option_of (codes "workers") 64 rows)
+
+abbrev pub batch_from : List Row → List ℕ → Option Command
+batch_from rows program = option_and_then (batch_on rows program) (name_of (codes "list") rows)
+
+abbrev pub batch_of : List Row → Option Command
+batch_of rows = option_and_then (batch_from rows) (name_of (codes "program") rows)
+
 -- a decoder's command on one input
 abbrev pub decoding_with : (List ℕ → DecodeOptions → Command) → List ℕ → DecodeOptions → Option Command
 decoding_with command input options = Some (command input options)
@@ -140,7 +157,10 @@ named name rows =
     else (if bytes_eq name (codes "unhuff") then decoding_of Unhuff rows
     else (if bytes_eq name (codes "lex") then lex_of rows
     else (if bytes_eq name (codes "demo") then demo_of rows
-    else None)))))))
+    else (if bytes_eq name (codes "show") then file_of (codes "machine") Show rows
+    else (if bytes_eq name (codes "build") then file_of (codes "text") Build rows
+    else (if bytes_eq name (codes "batch") then batch_of rows
+    else None))))))))))
 
 abbrev pub named_by : List ℕ × List Row → Option Command
 named_by subcommand = named subcommand.0 subcommand.1

@@ -78,6 +78,20 @@ pub enum Command<'a> {
         input: &'a str,
         options: DecodeOptions,
     },
+    /// The text of a machine is shown.
+    Show {
+        machine: &'a str,
+    },
+    /// The machine of a text is built.
+    Build {
+        text: &'a str,
+    },
+    /// A program is run on each file of a list.
+    Batch {
+        program: &'a str,
+        list: &'a str,
+        workers: Option<u64>,
+    },
     /// A decoder runs on an input that is generated from a seed.
     Demo {
         kind: Kind,
@@ -139,6 +153,8 @@ impl From<clap::Error> for WordsError {
 /// - `unpack INPUT [--block B] [--workers N] [--stats]` or
 ///   `unhuff INPUT [--block B] [--workers N] [--stats]`,
 /// - `lex MACHINE INPUT [--block B] [--workers N] [--stats]`,
+/// - `show MACHINE` or `build TEXT`,
+/// - `batch PROGRAM LIST [--workers N]`,
 /// - `demo KIND SEED SIZE WORKERS`, where KIND is `unpack`, `unhuff` or `lex`.
 ///
 /// The name of a file isn't empty and doesn't begin with `-`. Numbers are decimal, without a sign

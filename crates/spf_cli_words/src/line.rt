@@ -7,7 +7,7 @@ ghost use Rattle.spf_cli_words.specs.Line.{with_run_options as with_run_rules};
 ghost use Rattle.spf_cli_words.specs.Line.{with_decode_options as with_decode_rules, run_app};
 ghost use Rattle.spf_cli_words.specs.Line.{program_app, decoder_app, lex_app, demo_app};
 ghost use Rattle.spf_cli_words.specs.Line.{bare_line as bare_app, programs as programs_app};
-ghost use Rattle.spf_cli_words.specs.Line.{line as whole_line};
+ghost use Rattle.spf_cli_words.specs.Line.{file_app, batch_app, decoders as decoders_app, line as whole_line};
 
 use clap::{Arg, ArgAction, Command};
 use std::alloc::{AllocError, Global};
@@ -118,6 +118,22 @@ fn lex_line<'a>(alloc: Global) -> Result<Command<'a>, AllocError>
     with_decode_options(alloc, command)
 }
 
+/// `NAME FILE`, where the file has this name as an argument.
+fn file_line<'a>(alloc: Global, name: &'a str, argument: &'a str) -> Result<Command<'a>, AllocError>
+    ensures { IfOk result (IsLine (file_app name.now argument.now)) }
+{
+    Command::new(alloc, name).arg(positional(alloc, argument))
+}
+
+/// `batch PROGRAM LIST [--workers N]`.
+fn batch_line<'a>(alloc: Global) -> Result<Command<'a>, AllocError>
+    ensures { IfOk result (IsLine batch_app) }
+{
+    let command = Command::new(alloc, "batch").arg(positional(alloc, "program"));
+    let command = add_argument(command, positional(alloc, "list"));
+    add_argument(command, valued(alloc, "workers"))
+}
+
 /// `demo KIND SEED SIZE WORKERS`.
 fn demo_line<'a>(alloc: Global) -> Result<Command<'a>, AllocError>
     ensures { IfOk result (IsLine demo_app) }
@@ -149,12 +165,21 @@ fn program_lines<'a>(alloc: Global) -> Result<Command<'a>, AllocError>
     add_command(line, program_line(alloc, "print"))
 }
 
-/// The whole command line: those, and the commands on decoders.
-pub(crate) fn command_line<'a>(alloc: Global) -> Result<Command<'a>, AllocError>
-    ensures { IfOk result (IsLine whole_line) }
+/// The line with those, and the commands on decoders.
+fn decoder_lines<'a>(alloc: Global) -> Result<Command<'a>, AllocError>
+    ensures { IfOk result (IsLine decoders_app) }
 {
     let line = add_command(program_lines(alloc), decoder_line(alloc, "unpack"));
     let line = add_command(line, decoder_line(alloc, "unhuff"));
     let line = add_command(line, lex_line(alloc));
     add_command(line, demo_line(alloc))
+}
+
+/// The whole command line: those, and the commands on machines' texts and on lists.
+pub(crate) fn command_line<'a>(alloc: Global) -> Result<Command<'a>, AllocError>
+    ensures { IfOk result (IsLine whole_line) }
+{
+    let line = add_command(decoder_lines(alloc), file_line(alloc, "show", "machine"));
+    let line = add_command(line, file_line(alloc, "build", "text"));
+    add_command(line, batch_line(alloc))
 }

@@ -9,7 +9,7 @@ ghost use Rattle.spf_cli_words.specs.Matched.{number_of as number_from, option_o
 ghost use Rattle.spf_cli_words.specs.Matched.{flag_of as flag_from, options_of as options_from};
 ghost use Rattle.spf_cli_words.specs.Matched.{decode_options_of as decode_options_from, run_of};
 ghost use Rattle.spf_cli_words.specs.Matched.{program_of, decoding_of, lex_of, demo_of, named};
-ghost use Rattle.spf_cli_words.specs.Matched.{command_in};
+ghost use Rattle.spf_cli_words.specs.Matched.{command_in, file_of, batch_of};
 
 use crate::command::{Command, DecodeOptions, Options};
 use clap::ArgMatches;
@@ -191,6 +191,22 @@ fn read_demo<'a>(matches: &ArgMatches<'a>) -> Option<Command<'a>>
     })
 }
 
+/// A batch.
+fn read_batch<'a>(matches: &ArgMatches<'a>) -> Option<Command<'a>>
+    ensures { MatchOption result
+        (batch_of (rows_of (found_of matches.now)) ≡ None)
+        (λ command. batch_of (rows_of (found_of matches.now)) ≡ Some (seen_command command)) }
+{
+    let program = name_of(matches, "program")?;
+    let list = name_of(matches, "list")?;
+    let workers = option_of(matches, "workers", MOST_WORKERS)?;
+    Some(Command::Batch {
+        program,
+        list,
+        workers,
+    })
+}
+
 /// The command of this name, with the matches of its arguments.
 fn read_named<'a>(name: &str, matches: &ArgMatches<'a>) -> Option<Command<'a>>
     ensures { MatchOption result
@@ -223,6 +239,15 @@ fn read_named<'a>(name: &str, matches: &ArgMatches<'a>) -> Option<Command<'a>>
         }
         "lex" => read_lex(matches),
         "demo" => read_demo(matches),
+        "show" => {
+            let machine = name_of(matches, "machine")?;
+            Some(Command::Show { machine })
+        }
+        "build" => {
+            let text = name_of(matches, "text")?;
+            Some(Command::Build { text })
+        }
+        "batch" => read_batch(matches),
         _ => None,
     }
 }

@@ -2,7 +2,7 @@
 ghost use Rattle.std.specs.Prelude.{◌≡◌, ◌++◌, ◌∷◌, [], codes, map, string_bytes, IfOk, OnOk};
 ghost use Rattle.std.specs.Fmt.{decimal};
 ghost use Rattle.spf_cli_words.specs.Command.{option, number_words, option_words, decode_words};
-ghost use Rattle.spf_cli_words.specs.Command.{kind_word, words_of, Run, Lex, Demo};
+ghost use Rattle.spf_cli_words.specs.Command.{kind_word, words_of, Run, Lex, Batch, Demo};
 ghost use Rattle.spf_cli_words.specs.Asked.{seen_command, seen_options, seen_decode_options};
 
 use crate::command::{Command, DecodeOptions, Options};
@@ -111,6 +111,21 @@ fn write_run(
     Ok(words)
 }
 
+/// A batch.
+fn write_batch(
+    alloc: Global,
+    program: &str,
+    list: &str,
+    workers: Option<u64>,
+) -> Result<Vec<String>, AllocError>
+    ensures { IfOk result (λ words. map string_bytes words.items ≡ words_of (Batch program.now list.now workers)) }
+{
+    let mut words = write_program(alloc, "batch", program)?;
+    push_word(alloc, &mut words, list)?;
+    push_option(alloc, &mut words, "--workers", workers)?;
+    Ok(words)
+}
+
 /// A decoder's command on one input.
 fn write_decoding(
     alloc: Global,
@@ -198,6 +213,13 @@ pub(crate) fn write_words(alloc: Global, command: Command) -> Result<Vec<String>
             input,
             options,
         } => write_lex(alloc, machine, input, options),
+        Command::Show { machine } => write_program(alloc, "show", machine),
+        Command::Build { text } => write_program(alloc, "build", text),
+        Command::Batch {
+            program,
+            list,
+            workers,
+        } => write_batch(alloc, program, list, workers),
         Command::Demo {
             kind,
             seed,

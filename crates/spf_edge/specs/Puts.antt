@@ -3,7 +3,7 @@ use Rattle.std.specs.Prelude.{◌≡◌, ℕ, ◌≤◌, Bool, true, false, List
 use Rattle.spf_edge.specs.declared.sink.PutError.{PutError}
 use Rattle.spf_edge.specs.declared.sink.PutError.TheVariants.{Failed, OutOfMemory}
 
--- a put: the piece that was handed in, and whether it was taken whole
+-- a put: the piece that was supplied, and whether it was taken whole
 pub record Put : Type 0 where
   pub piece : List ℕ
   pub whole : Bool

@@ -146,7 +146,7 @@ impl Files for MemFiles {
 /// A put that a sink in memory was given.
 #[derive(Drop)]
 pub struct PutMade {
-    /// What was handed in.
+    /// What was supplied.
     pub piece: Vec<u8>,
     /// Whether all of it was taken.
     pub whole: bool,

@@ -177,7 +177,7 @@ fn predictor_effects(
     gathered(alloc, found, &[])
 }
 
-/// Examines the guess of one part of a row. A predictor that is handed in does nothing here.
+/// Examines the guess of one part of a row. A predictor that is supplied does nothing here.
 fn guess(
     alloc: Global,
     context: &Context,

@@ -77,7 +77,7 @@ outside p = replicate (length p.slots) Unknown
 abbrev pub within_fold : Program → FoldHead → List Bound
 within_fold p head = declared (main_setting p) head.block (Known (pos 1) (pos 0) (pos 0)) (outside p)
 
--- what is found in the guess of one part of a row; a predictor that is handed in does nothing here
+-- what is found in the guess of one part of a row; a predictor that is supplied does nothing here
 abbrev pub guess_finds : Setting → List Bound → syntax.Predictor → Finds
 guess_finds g slots (By guess) = expression_finds g slots guess
 guess_finds g slots (Host number) = finds_nothing

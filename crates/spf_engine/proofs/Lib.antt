@@ -3,3 +3,4 @@ pub mod Places
 pub mod Missing
 pub mod Passing
 pub mod Stepping
+pub mod Causes

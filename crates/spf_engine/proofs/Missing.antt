@@ -1,4 +1,4 @@
--- Where no host is missing, each that a construct names is handed in.
+-- Where no host is missing, each that a construct names is supplied.
 use Rattle.std.proofs.Common.{◌≡◌, ℕ, List, Some, None}
 use Rattle.std.specs.Prelude.{slice_get}
 use Rattle.spf_ast.specs.Construct.{Construct}

@@ -1,5 +1,5 @@
 -- Why a run doesn't come to its end.
-use Rattle.std.specs.Prelude.{◌≡◌, ℕ, [], Option, Some}
+use Rattle.std.specs.Prelude.{◌≡◌, ◌<◌, ◌≤◌, ℕ, [], Option, Some}
 use Rattle.spf_exec_instance.specs.RunErrors.{counted}
 use Rattle.spf_guess_statistics.specs.Guess.{Hosts}
 use Rattle.spf_guess.specs.Answers.{WereTold}
@@ -23,3 +23,9 @@ abbrev pub WereToldNothing : EngineError → Hosts → Hosts → Type 0
 WereToldNothing (TooManyCells count) before now = WereTold before [] now
 WereToldNothing (NoHost number) before now = WereTold before [] now
 WereToldNothing OutOfMemory before now = Unit {0}
+
+-- the cause of each error of a run with so many cells, and this limit, and this host missing; after the first two, hosts were told nothing
+abbrev pub IsNotRun : (cells limit : ℕ) → Option ℕ → (before now : Hosts) → EngineError → Type 0
+IsNotRun cells limit missing before now (TooManyCells count) = (limit < cells) × (count ≡ counted cells) × WereTold before [] now
+IsNotRun cells limit missing before now (NoHost number) = (cells ≤ limit) × (missing ≡ Some number) × WereTold before [] now
+IsNotRun cells limit missing before now OutOfMemory = Unit {0}

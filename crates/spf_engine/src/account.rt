@@ -1,8 +1,9 @@
 //! What a run has counted and recorded so far.
-ghost use Rattle.std.specs.Prelude.{◌≡◌, ◌<◌, ◌++◌, ◌^◌, [], IfOk};
+ghost use Rattle.std.specs.Prelude.{◌≡◌, ◌<◌, ◌++◌, [], IfOk};
 ghost use Rattle.std.specs.Option.{option_to_list};
 ghost use Rattle.spf_guess_statistics.specs.Statistics.{none as no_blocks, plus as both};
 ghost use Rattle.spf_engine_construct.specs.Guesses.{AreAtMost};
+ghost use Rattle.spf_engine.specs.Counts.{most_counted};
 
 use spf_cells::finish::Trace;
 use spf_guess_statistics::stats::Stats;
@@ -13,6 +14,7 @@ use std::alloc::{AllocError, Global};
 pub(crate) struct Account {
     pub stats: Stats,
     pub traces: Vec<Trace>,
+    ghost bounded: { AreAtMost stats most_counted },
 }
 
 impl Account {
@@ -29,7 +31,7 @@ impl Account {
 
     /// Adds what a construct counted, and its trace where it has one.
     pub(crate) fn add(&mut self, stats: Stats, trace: Option<Trace>) -> Result<(), AllocError>
-        requires few { AreAtMost (both self.old.stats stats) (2 ^ 45) }
+        requires few { AreAtMost (both self.old.stats stats) most_counted }
         ensures stats { IfOk result (λ u. self.new.stats ≡ both self.old.stats stats) }
         ensures traces { IfOk result
             (λ u. self.new.traces.items ≡ self.old.traces.items ++ option_to_list trace) }

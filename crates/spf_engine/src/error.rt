@@ -13,7 +13,7 @@ pub enum EngineError {
     /// their number, or 2^128 - 1 where it is greater than that.
     #[error("too many cells: {count}")]
     TooManyCells { count: u128 },
-    /// A construct names this host, and fewer are handed in.
+    /// A construct names this host, and fewer are supplied.
     #[error("host {number} not handed in")]
     NoHost { number: u64 },
     /// There was no memory for the run.

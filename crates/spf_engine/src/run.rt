@@ -11,8 +11,10 @@ ghost use Rattle.spf_guess_statistics.specs.Statistics.{tally};
 ghost use Rattle.spf_guess.specs.Answers.{supplied, WereTold};
 ghost use Rattle.spf_guess.specs.Missing.{missing_host};
 ghost use Rattle.spf_engine_laws.specs.Traces.{AreTraces};
+ghost use Rattle.spf_engine_construct.specs.Guesses.{AreAtMost};
+ghost use Rattle.spf_engine.specs.Counts.{most_counted};
 ghost use Rattle.spf_engine.specs.Runs.{WereToldFirst};
-ghost use Rattle.spf_engine.specs.Errors.{AreTooMany, IsMissing, WereToldNothing};
+ghost use Rattle.spf_engine.specs.Errors.{AreTooMany, IsMissing, WereToldNothing, IsNotRun};
 
 use crate::account::Account;
 use crate::error::EngineError;
@@ -48,6 +50,7 @@ pub struct RunReport {
 fn finished(run: Run, account: Account) -> RunReport
     ensures outcome { seen_outcome result.outcome ≡ Done run.cells run.output }
     ensures stats { result.stats ≡ account.stats }
+    ensures bounded { AreAtMost result.stats most_counted }
     ensures traces { result.traces.items ≡ account.traces.items }
 {
     let (cells, output) = run.finish();
@@ -62,6 +65,7 @@ fn finished(run: Run, account: Account) -> RunReport
 fn trapped(run: Run, trap: Trap, account: Account) -> RunReport
     ensures outcome { seen_outcome result.outcome ≡ Stopped trap run.output }
     ensures stats { result.stats ≡ account.stats }
+    ensures bounded { AreAtMost result.stats most_counted }
     ensures traces { result.traces.items ≡ account.traces.items }
 {
     let (_, output) = run.finish();
@@ -73,7 +77,7 @@ fn trapped(run: Run, trap: Trap, account: Account) -> RunReport
 }
 
 /// Runs an instance of an accepted program on 1 to 64 workers. All hosts that its constructs name
-/// are handed in.
+/// are supplied.
 ///
 /// # Errors
 ///
@@ -106,6 +110,8 @@ pub fn run_instance<R: Threads + Wait + Sync, G: Gate + Sync>(
     ensures told_first { IfErr result (λ why. WereToldFirst
         (supplied answer hosts.old.items) (program_of instance.now)
         instance.now.input (supplied answer hosts.new.items)) }
+    ensures bounded { IfOk result (λ r. AreAtMost r.stats most_counted) }
+    ensures count { length hosts.new.items ≡ length hosts.old.items }
 {
     // Law: a run in pieces goes on as the plain run does.
     spf_engine_laws::runs_in_pieces_go_on();
@@ -167,7 +173,7 @@ fn lay_out<'a>(
 /// # Errors
 ///
 /// `TooManyCells` where the arrays have more cells than a run of the program's version may have;
-/// `NoHost` where the program names a host that isn't handed in; and `OutOfMemory`. The hosts were
+/// `NoHost` where the program names a host that isn't supplied; and `OutOfMemory`. The hosts were
 /// told the first of what they are told in the whole run; after the first two errors nothing.
 pub fn run_whole<'a, R: Threads + Wait + Sync, G: Gate + Sync>(
     rt: &R,
@@ -209,6 +215,13 @@ pub fn run_whole<'a, R: Threads + Wait + Sync, G: Gate + Sync>(
     ensures untold { IfErr result (λ why. WereToldNothing why
         (supplied answer hosts.old.items)
         (supplied answer hosts.new.items)) }
+    ensures not_run { IfErr result (IsNotRun
+        (cell_count_of (seen_program checked.now) (length input.now))
+        (max_cells (seen_program checked.now))
+        (missing_host (length hosts.old.items) (constructs_in (seen_program checked.now).main))
+        (supplied answer hosts.old.items) (supplied answer hosts.new.items)) }
+    ensures bounded { IfOk result (λ r. AreAtMost r.1.stats most_counted) }
+    ensures count { length hosts.new.items ≡ length hosts.old.items }
 {
     let instance = lay_out(alloc, checked, input)?;
     if let Some(number) = first_missing(checked.program(), hosts.len() as u64) {
@@ -261,6 +274,13 @@ pub fn run_program<R: Threads + Wait + Sync, G: Gate + Sync>(
     ensures untold { IfErr result (λ why. WereToldNothing why
         (supplied answer hosts.old.items)
         (supplied answer hosts.new.items)) }
+    ensures not_run { IfErr result (IsNotRun
+        (cell_count_of (seen_program checked.now) (length input.now))
+        (max_cells (seen_program checked.now))
+        (missing_host (length hosts.old.items) (constructs_in (seen_program checked.now).main))
+        (supplied answer hosts.old.items) (supplied answer hosts.new.items)) }
+    ensures bounded { IfOk result (λ r. AreAtMost r.stats most_counted) }
+    ensures count { length hosts.new.items ≡ length hosts.old.items }
 {
     let (_, report) = run_whole(rt, alloc, checked, input, workers, hosts, gate)?;
     Ok(report)

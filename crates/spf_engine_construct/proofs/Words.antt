@@ -183,7 +183,7 @@ get-mapped f [] n x h read = absurd (omega (arith, h))
 get-mapped f (y ∷ ys) zero x h read = ap (λ z. Some (f z)) (sym read)
 get-mapped f (y ∷ ys) (suc n) x h read = get-mapped f ys n x (omega (arith, h)) read
 
--- where all hosts that predictors name are handed in, that of one predictor is
+-- where all hosts that predictors name are supplied, that of one predictor is
 pub one-handed-in : {A : Type 0} (f : A → Predictor) (count : ℕ) (xs : List A) (n : ℕ) (x : A) → n < length xs → x ≡ slice_index_or xs n x
     → AreAllHandedIn count (map f xs) → AreAllHandedIn count (f x ∷ [])
 one-handed-in f count xs n x h read all zero host at = all n host (get-mapped f xs n x h read ∙ at)

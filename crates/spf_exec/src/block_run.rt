@@ -18,7 +18,7 @@ ghost use Rattle.spf_ast.specs.Silence.{FunctionsAreSilent, PartIsSilent};
 ghost use Rattle.spf_ast.specs.Slots.{LeavesOtherSlots};
 ghost use Rattle.spf_code_registers.specs.Registers.{rooms, predictor_needs, predictors_need};
 ghost use Rattle.spf_code_registers.specs.Registers.{statement_needs};
-ghost use Rattle.spf_code.specs.NodeView.{code as seen_code};
+ghost use Rattle.spf_code.specs.InstructionView.{code as seen_code};
 ghost use Rattle.spf_code_lowering.specs.Lowering.{IsGuessCode, AreGuessCodes, SetsNoSlot};
 ghost use Rattle.spf_code_lowering.specs.Lowering.{IsFoldCode, IsPairCode, IsConstructCode};
 ghost use Rattle.spf_exec_instance.specs.Frame.{frame_size, main_slots};
@@ -52,7 +52,7 @@ pub struct Block<'a> {
     pub value: Row,
 }
 
-/// Performs a guess. One that is handed in gives no value here.
+/// Performs a guess. One that is supplied gives no value here.
 fn perform_guess<M: Memory>(
     instance: &Instance,
     code: &ValueCode,
@@ -515,7 +515,7 @@ fn perform_guess_at<M: Memory>(
 
 /// Performs the guess of one part of a top construct's row, for a block number, over cells that are
 /// only read: a function that stores doesn't change them, and a load gives the word that is there.
-/// A guess that is handed in gives no value here. A slot of `main` that isn't the block name is as
+/// A guess that is supplied gives no value here. A slot of `main` that isn't the block name is as
 /// before.
 ///
 /// # Errors

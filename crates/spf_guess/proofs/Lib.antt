@@ -5,3 +5,4 @@ mod Kept
 pub mod Named
 mod Stores
 mod Tables
+pub mod Votes

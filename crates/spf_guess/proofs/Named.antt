@@ -62,7 +62,7 @@ one_handed_in count host none = go (nat_le count host) refl
     go true d = absurd (apart host (sym (first_here count host [] d) ∙ none))
     go false d = grind (arith, d)
 
--- where no host is missing, each that a predictor names is handed in
+-- where no host is missing, each that a predictor names is supplied
 handed_in_all : (count : ℕ) (predictors : List Predictor) → missing_among count (hosts_among predictors) ≡ None → AreAllHandedIn count predictors
 handed_in_all count [] none place host at = absurd (apart (Host host) (sym at))
 handed_in_all count (x ∷ xs) none zero host at =
@@ -70,7 +70,7 @@ handed_in_all count (x ∷ xs) none zero host at =
     one_handed_in count host (ap (λ predictor. missing_among count (host_named_by predictor)) (sym same) ∙ none_in_first count (host_named_by x) (hosts_among xs) none)
 handed_in_all count (x ∷ xs) none (suc place) host at = handed_in_all count xs (none_later count (host_named_by x) (hosts_among xs) none) place host at
 
--- where no host is missing, each that a construct names is handed in
+-- where no host is missing, each that a construct names is supplied
 pub all_handed_in : (count : ℕ) (constructs : List Construct) → missing_host count constructs ≡ None → AreHandedIn count constructs
 all_handed_in count [] none number construct at = absurd (apart construct (sym at))
 all_handed_in count (c ∷ cs) none zero construct at =

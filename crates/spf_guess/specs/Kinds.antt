@@ -64,3 +64,9 @@ of_block block pairs = filter (λ told. int_eq block told.block) pairs
 -- the real value that was told last for this block, where it is kept, or 0
 abbrev pub table_answer : ℕ → List Told → ℤ → ℤ
 table_answer room pairs block = if is_kept room (blocks_told pairs) block then last_of (reals_told (of_block block pairs)) else pos 0
+
+-- ---- votes by block numbers
+
+-- of the real values that were told for this block the kept one that was told most often, where the block is kept, or 0
+abbrev pub vote_answer : (room each : ℕ) → List Told → ℤ → ℤ
+vote_answer room each pairs block = if is_kept room (blocks_told pairs) block then most_answer each (of_block block pairs) else pos 0

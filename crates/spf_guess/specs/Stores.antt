@@ -1,10 +1,11 @@
 -- How what a predictor keeps changes when it is told a pair.
-use Rattle.std.specs.Prelude.{◌≡◌, ℕ, Bool, ◌+◌, ◌-◌, ◌^◌, ◌||◌, min, nat_lt, if◌then◌else◌, Option, Some, None, is_some, unwrap_or, ℤ}
+use Rattle.std.specs.Prelude.{◌≡◌, ℕ, Bool, ◌+◌, ◌-◌, ◌^◌, ◌||◌, min, nat_lt, if◌then◌else◌, Option, Some, None, is_some, unwrap_or, ◌∷◌, ℤ}
 use Rattle.std.specs.Ordering.{int_eq}
 use Rattle.std.specs.Map.{update}
 use Rattle.std.specs.HashMap.{get, hash_map_len}
 use Rattle.spf_guess_statistics.specs.Guess.{Told}
-use Rattle.spf_guess.specs.Kinds.{is_preferred}
+use Rattle.spf_guess.specs.Answers.{Answers}
+use Rattle.spf_guess.specs.Kinds.{is_preferred, most_answer}
 use Rattle.spf_guess.specs.declared.store.Store.{Store}
 
 -- a store: its room, how many keys it has, and the value under each
@@ -71,3 +72,17 @@ count_as counts value count =
 -- the counts after this pair was told
 abbrev pub most_step : Counts → Told → Counts
 most_step counts told = count_as counts told.real (one_more counts.stored told.real)
+
+-- ---- votes by block numbers: for each block a predictor of its own
+
+-- what the predictor of a block answers before it was told anything
+abbrev pub untold : ℕ → Answers
+untold each pairs block = most_answer each pairs
+
+-- what a predictor answers after it was told this pair
+abbrev pub once_told : Answers → Told → Answers
+once_told answers told pairs block = answers (told ∷ pairs) block
+
+-- what the predictors of the blocks answer after this pair was told
+abbrev pub vote_step : ℕ → Stored Answers → Told → Stored Answers
+vote_step each store told = put_into store told.block (once_told (unwrap_or (store.value told.block) (untold each)) told)

@@ -26,7 +26,7 @@ part_of_result (Err trap) = record { word = pos 0; traps = true }
 abbrev pub guess_of : List PartGuess → Guess
 guess_of parts = record { value = map (λ part. part.word) parts; blind = list_any (λ part. part.traps) parts }
 
--- ---- hosts: predictors that are handed in
+-- ---- hosts: predictors that are supplied
 
 -- what a host was told: that a part of the row of the block of this number was this word
 pub record Told : Type 0 where
@@ -37,7 +37,7 @@ pub record Told : Type 0 where
 abbrev pub Hosts : Type 0
 Hosts = ℕ → List Told → ℤ → ℤ
 
--- no host is handed in: each answers 0
+-- no host is supplied: each answers 0
 abbrev pub no_hosts : Hosts
 no_hosts host told block = pos 0
 

@@ -76,6 +76,6 @@ tally_from hosts p input _ _ telling = record { stats = none; telling = telling 
 abbrev pub tally : Hosts → Program → List ℕ → Tally
 tally hosts p input = tally_from hosts p input (constructs_in p.main) (reals p input) []
 
--- the statistics of a run to which no host is handed in
+-- the statistics of a run to which no host is supplied
 abbrev pub statistics : Program → List ℕ → Stats
 statistics p input = (tally no_hosts p input).stats

@@ -141,7 +141,7 @@ pub(crate) fn row_up_to<'b, 'a>(
     followed(row(alloc, tokens, nesting), end)
 }
 
-/// A predictor: the number of one that is handed in, or an expression.
+/// A predictor: the number of one that is supplied, or an expression.
 fn predictor<'b, 'a>(
     alloc: Global,
     tokens: &'b [Lexeme<'a>],

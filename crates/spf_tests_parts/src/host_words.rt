@@ -53,6 +53,7 @@ fn each_text_names_its_kind(rt: HostRuntime) {
         ("last", Some(HostKind::Last)),
         ("most", Some(HostKind::Most)),
         ("table", Some(HostKind::Table)),
+        ("vote", Some(HostKind::Vote)),
         ("fixed:0", Some(HostKind::Fixed(0))),
         ("fixed:-0", Some(HostKind::Fixed(0))),
         ("fixed:007", Some(HostKind::Fixed(7))),

@@ -3,6 +3,9 @@ use Rattle.spf_apps_machine_text.specs.MachineText.{class_line, classes_of}
 use Rattle.spf_apps_machine_text.proofs.Steps.{one_more}
 use Rattle.spf_apps_machine_text.proofs.show.push_classes.Goals as goal
 
+pub loop-class-init : goal.loop-class-init
+loop-class-init c = refl
+
 pub loop-class-preserved : goal.loop-class-preserved
 loop-class-preserved c =
     let file = c.args.file.now in

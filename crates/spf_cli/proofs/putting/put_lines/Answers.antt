@@ -3,7 +3,8 @@ use Rattle.spf_edge.specs.Puts.{HasPut, put_of}
 use Rattle.std.proofs.Common.{arith, ◌≡◌, ◌+◌, drop, [], ap, subst}
 use Rattle.std.proofs.Math.ListN.{drop_of_length-le}
 use Rattle.spf_cli_answers.specs.Answering.{lines_of}
-use Rattle.spf_cli.proofs.Pieces.{AreLinesPutUpTo, from-line, lines-more, lines-broken, lines-all, part-of-whole}
+use Rattle.spf_edge_pieces.proofs.Parts.{part-of-whole}
+use Rattle.spf_cli.proofs.Lines.{AreLinesPutUpTo, from-line, lines-more, lines-broken, lines-all}
 use Rattle.spf_cli.proofs.putting.put_lines.Goals as goal
 
 pub loop-line-preserved : goal.loop-line-preserved

@@ -1,6 +1,6 @@
 use Rattle.std.proofs.Common.{drop}
 use Rattle.spf_cli_answers.specs.Answering.{lines_of}
-use Rattle.spf_cli.proofs.Pieces.{AreLinesPutUpTo}
+use Rattle.spf_cli.proofs.Lines.{AreLinesPutUpTo}
 use Rattle.spf_cli.proofs.putting.put_lines.Given as goal
 
 -- the lines before this one were put

@@ -9,6 +9,7 @@ returns c =
     let formats : FormatLaws = record {
       huf1 = c.files_have_one_verdict.ensures.huf1;
       lex1 = c.files_have_one_verdict.ensures.lex1;
+      machines = c.machines_have_one_text.ensures;
       generated = c.each_demo_input_is_generated_once.ensures;
       decoders = c.decoders_keep_their_formats.ensures;
     } in

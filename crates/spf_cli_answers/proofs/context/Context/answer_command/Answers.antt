@@ -30,6 +30,14 @@ pub returns-in-Lex : goal.returns-in-Lex
 returns-in-Lex g c =
     rw c.in-Lex.is (c.lex_files.ensures (handed (map (λ h. (goal.Predictor-dyn g (h.vtable, h.value)).answer h.value) c.args.hosts.now.items)))
 
+pub returns-in-Show : goal.returns-in-Show
+returns-in-Show g c =
+    rw c.in-Show.is (c.show_file.ensures (handed (map (λ h. (goal.Predictor-dyn g (h.vtable, h.value)).answer h.value) c.args.hosts.now.items)))
+
+pub returns-in-Build : goal.returns-in-Build
+returns-in-Build g c =
+    rw c.in-Build.is (c.build_file.ensures (handed (map (λ h. (goal.Predictor-dyn g (h.vtable, h.value)).answer h.value) c.args.hosts.now.items)))
+
 pub returns-in-Demo : goal.returns-in-Demo
 returns-in-Demo g c =
     rw c.in-Demo.is (answers_end (Demonstrates c.in-Demo.kind c.in-Demo.seed c.in-Demo.size) (g.F.Files.state c.args.files.now) c.demo.result c.demo.ensures)

@@ -1,6 +1,6 @@
 use Rattle.std.proofs.Common.{sym, ap}
 use Rattle.spf_cli_help.specs.Pages.{text_of}
-use Rattle.spf_cli_help.specs.Texts.{help_text, version_text, run_text, check_text, explain_text, print_text, unpack_text, unhuff_text, lex_text, demo_text}
+use Rattle.spf_cli_help.specs.Texts.{help_text, version_text, run_text, check_text, explain_text, print_text, unpack_text, unhuff_text, lex_text, show_text, build_text, demo_text}
 use Rattle.spf_cli_help.proofs.help.Page.text.Goals as goal
 
 pub returns-in-Help : goal.returns-in-Help
@@ -38,6 +38,14 @@ returns-in-Unhuff c = sym (ap text_of c.in-Unhuff.is)
 pub returns-in-Lex : goal.returns-in-Lex
 unfolding lex_text
 returns-in-Lex c = sym (ap text_of c.in-Lex.is)
+
+pub returns-in-Show : goal.returns-in-Show
+unfolding show_text
+returns-in-Show c = sym (ap text_of c.in-Show.is)
+
+pub returns-in-Build : goal.returns-in-Build
+unfolding build_text
+returns-in-Build c = sym (ap text_of c.in-Build.is)
 
 pub returns-in-Demo : goal.returns-in-Demo
 unfolding demo_text

@@ -1,0 +1,3 @@
+pub mod Ones
+pub mod Runs
+pub mod Saids

@@ -1,0 +1,15 @@
+pub mod Reading
+pub mod ReadingLaws
+pub mod Attempts
+pub mod Contexts
+pub mod Deciding
+pub mod SeenSteps
+pub mod Entered
+pub mod Plainly
+pub mod Verdicts
+pub mod Schedule
+pub mod Laws
+pub mod Recording
+pub mod RecordingLaws
+pub mod Expecting
+pub mod Runners

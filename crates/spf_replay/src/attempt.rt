@@ -1,0 +1,57 @@
+// Attempts that are read from a log.
+ghost use Rattle.std.specs.Prelude.{◌≡◌, ◌≤◌, Some, map, drop, length};
+ghost use Rattle.spf_ast.specs.BlockRun.{block_setup, part_asks};
+ghost use Rattle.spf_ast.specs.ConstructView.{construct as seen_construct};
+ghost use Rattle.spf_ast.specs.Interaction.{perform};
+ghost use Rattle.spf_exec_instance.specs.Frame.{main_slots};
+ghost use Rattle.spf_exec_instance.specs.Instance.{program_of};
+ghost use Rattle.spf_region.specs.Cells.{in_spans};
+ghost use Rattle.spf_replay.specs.Reading.{event_of};
+ghost use Rattle.spf_replay.specs.Attempts.{ComesTo};
+ghost use Rattle.spf_replay.specs.Contexts.{CanRun};
+
+use crate::context::BlockContext;
+use crate::memory::LogMemory;
+use spf_exec::block_run::{Block, exec_block};
+use spf_exec::frame::Frame;
+use spf_exec::stop::Stop;
+use spf_replay_log::log::Event;
+
+/// Reads an attempt of a block from its log, from an index on. Gives how it ended and the index
+/// after its last event, or nothing where the log doesn't fit. What the working frame holds makes
+/// no difference.
+pub(crate) fn read_attempt(
+    context: BlockContext,
+    block: &Block,
+    attempt: u64,
+    log: &[Event],
+    at: usize,
+    work: &mut Frame,
+) -> Option<(Stop, usize)>
+    requires can { CanRun context block.now }
+    requires work { length work.old ≡ length context.frame.now }
+    requires at { at ≤ length log.now }
+    ensures came { ComesTo
+        (perform (in_spans context.entry.spans.now) context.entry.entry.now (Some attempt)
+        (part_asks (program_of context.entry.instance.now) (seen_construct block.now.construct)
+        block.now.part (block_setup context.entry.instance.now.input
+        (main_slots (program_of context.entry.instance.now) context.entry.frame.now)
+        block.now.number block.now.value)) (map event_of (drop at log.now))) log.now result }
+    ensures work { length work.new ≡ length work.old }
+{
+    work.restore(context.frame);
+    let mut memory = LogMemory {
+        spans: context.spans,
+        entry: context.entry,
+        log,
+        at,
+        attempt,
+        fits: true,
+    };
+    let stop = exec_block(context.instance, block, work, &mut memory);
+    if memory.fits {
+        Some((stop, memory.at))
+    } else {
+        None
+    }
+}

@@ -1,0 +1,30 @@
+//! Logs of speculative runs are checked, and schedules of such runs are defined.
+//!
+//! A log has a section for each construct with blocks that a run reaches. A section is right where
+//! its steps are a speculative run of the construct's blocks, from the guesses for them. Whether
+//! they are is decided by the log and the program alone: what a block polled, and where it was
+//! stopped, is in its log.
+#![tactic(auto)]
+
+mod attempt;
+mod block;
+mod context;
+pub mod entered;
+pub mod laws;
+mod logs;
+mod memory;
+mod pick;
+mod piece;
+pub mod plain;
+mod reader;
+mod record;
+mod recording;
+mod runner;
+pub mod section;
+mod steps;
+mod undo;
+pub mod verdict;
+
+pub use spf_replay_log::log::{Event, LogError, Step};
+pub use spf_replay_log::reader::read_log;
+pub use spf_replay_log::writer::write_log;

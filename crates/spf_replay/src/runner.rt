@@ -1,0 +1,150 @@
+// Blocks of a schedule: an attempt's events are recorded, and taken piece by piece.
+ghost use Rattle.std.specs.Prelude.{◌≡◌, ◌≢◌, ◌≤◌, ◌<◌, ◌+◌, ◌++◌, ℕ, IsTrue, [], true, false};
+ghost use Rattle.std.specs.Prelude.{length, map, take, drop, None, IfOk, OnOk};
+ghost use Rattle.spf_speculation_entry.specs.Entry.{Entry};
+ghost use Rattle.spf_speculation.specs.Steps.{steps_of};
+ghost use Rattle.spf_replay.specs.Entered.{entry_of, IsEntered};
+ghost use Rattle.spf_replay.specs.Reading.{event_of};
+ghost use Rattle.spf_replay.specs.Recording.{IsRecordOf};
+ghost use Rattle.spf_replay.specs.Runners.{status_of, seen_by, next_status, IsRunner, HasPiece};
+ghost use Rattle.spf_replay.specs.Schedule.{attempt_events, piece, after_piece};
+ghost use Rattle.spf_replay.specs.SeenSteps.{seen_steps};
+
+use crate::entered::{EnteredConstruct, context_of, number_at};
+use crate::piece::{piece_end, push_piece};
+use crate::recording::{Record, record_attempt};
+use crate::undo::undo;
+use spf_ast::row::Row;
+use spf_exec::block_run::Block;
+use spf_exec::frame::Frame;
+use spf_replay_log::log::{Event, Step};
+use std::alloc::{AllocError, Global};
+
+/// A block of a schedule.
+#[derive(Drop)]
+pub(crate) struct Runner {
+    /// The number of its attempt: 1 or 2.
+    pub(crate) attempt: u64,
+    /// The row at which the attempt began.
+    pub(crate) row: Row,
+    /// Whether the attempt still runs.
+    pub(crate) running: bool,
+    /// Whether the attempt came to its end, where it doesn't run.
+    pub(crate) ended: bool,
+    /// What its turns poll.
+    pub(crate) flag: u64,
+    /// The attempt's first events.
+    pub(crate) room: Vec<Event>,
+    /// How many events are recorded.
+    pub(crate) count: usize,
+    /// Whether there may be events that had no room.
+    pub(crate) full: bool,
+    /// How many of the events became steps.
+    pub(crate) taken: usize,
+}
+
+/// Records a block's attempt at a row in a room, over cells that have the words of the entry, and
+/// have them again after it.
+pub(crate) fn record_block(
+    entered: &EnteredConstruct,
+    n: u64,
+    row: Row,
+    cells: Vec<i64>,
+    room: Vec<Event>,
+    work: &mut Frame,
+) -> Record
+    requires is { IsEntered entered.now }
+    requires block { n < entered.now.header.blocks }
+    requires cells { cells.items ≡ entered.now.cells.now }
+    requires work { length work.old ≡ length entered.now.frame.now }
+    ensures record { IsRecordOf (attempt_events (entry_of entered.now) n row []) (length room.items)
+        result.full (map event_of (take result.count result.room.items)) }
+    ensures room { length result.room.items ≡ length room.items }
+    ensures inside { result.count ≤ length result.room.items }
+    ensures cells { result.cells.items ≡ entered.now.cells.now }
+    ensures work { length work.new ≡ length work.old }
+{
+    let context = context_of(entered, n);
+    let block = Block {
+        construct: entered.construct,
+        index: entered.index,
+        part: entered.construct.part_of(n),
+        number: number_at(entered.header.low, n),
+        value: row,
+    };
+    let mut record = record_attempt(context, &block, cells, room, work);
+    undo(&mut record.cells, entered.cells, context.spans);
+    record
+}
+
+/// A room for so many events.
+fn room_of(alloc: Global, size: usize) -> Result<Vec<Event>, AllocError>
+    ensures { IfOk result (λ room. length room.items ≡ size) }
+{
+    let mut room = Vec::with_capacity(alloc, size)?;
+    room.resize(size, Event::Turn { number: 0 })?;
+    Ok(room)
+}
+
+/// Whether a block's record has the next piece whole.
+fn has_piece(runner: &Runner) -> bool
+    requires inside { runner.now.count ≤ length runner.now.room.items }
+    requires taken { runner.now.taken ≤ runner.now.count }
+    ensures whole { IsTrue result → HasPiece runner.now }
+    ensures cut { result ≡ false
+        → (runner.now.full ≡ true)
+        × (after_piece (drop runner.now.taken (seen_by runner.now)) ≡ None) }
+{
+    if !runner.full {
+        return true;
+    }
+    match piece_end(&runner.room[..runner.count], runner.taken) {
+        Some(_) => true,
+        None => false,
+    }
+}
+
+/// Takes the next piece of a block that runs: its events become steps, and the turn that ends it
+/// polls the block's flag. The block's attempt ends, or is stopped there, or runs on.
+pub(crate) fn take_piece(
+    steps: &mut Vec<Step>,
+    n: u64,
+    runner: &mut Runner,
+) -> Result<(), AllocError>
+    requires running { runner.old.running ≡ true }
+    requires inside { runner.old.count ≤ length runner.old.room.items }
+    requires taken { runner.old.taken ≤ runner.old.count }
+    requires piece { HasPiece runner.old }
+    ensures steps { (e : Entry) → IsRunner e n runner.old
+        → OnOk result (seen_steps steps.new.items ≡ seen_steps steps.old.items
+        ++ steps_of n (piece runner.old.flag
+        (drop runner.old.taken (attempt_events e n runner.old.row [])))) }
+    ensures status { (e : Entry) → IsRunner e n runner.old
+        → OnOk result (status_of e n runner.new
+        ≡ next_status runner.old.flag runner.old.attempt runner.old.row
+        (after_piece (drop runner.old.taken (attempt_events e n runner.old.row [])))) }
+    ensures runner { (e : Entry) → IsRunner e n runner.old → OnOk result (IsRunner e n runner.new) }
+    ensures attempt { runner.new.attempt ≡ runner.old.attempt }
+    ensures row { runner.new.row ≡ runner.old.row }
+    ensures flag { runner.new.flag ≡ runner.old.flag }
+{
+    let record = &runner.room[..runner.count];
+    let end = piece_end(record, runner.taken);
+    push_piece(steps, n, &record[runner.taken..], runner.flag)?;
+    match end {
+        Some(end) => {
+            if runner.flag < runner.attempt {
+                runner.taken = end;
+                return Ok(());
+            }
+            runner.running = false;
+            runner.ended = false;
+            return Ok(());
+        }
+        None => {
+            runner.running = false;
+            runner.ended = true;
+            return Ok(());
+        }
+    }
+}

@@ -1,0 +1,75 @@
+//! Sections: whether the steps of a construct's blocks are a speculative run.
+ghost use Rattle.std.specs.Prelude.{◌≡◌, ◌<◌, ◌↔◌, ℕ, IsTrue, map, length, slice_get, IfOk};
+ghost use Rattle.spf_ast.specs.Carried.{Carried};
+ghost use Rattle.spf_replay.specs.Reading.{event_of};
+ghost use Rattle.spf_replay.specs.Deciding.{IsLogAt, IsRun};
+ghost use Rattle.spf_replay.specs.SeenSteps.{seen_steps};
+ghost use Rattle.spf_replay.specs.Entered.{entry_of, IsEntered, HasGuesses};
+
+use crate::block::{is_guessed_log, is_real_log};
+use crate::entered::{EnteredConstruct, context_of, first_row, number_at, real_row};
+use crate::laws::runs_have_their_logs;
+use crate::logs::{log_in, logs_of};
+use crate::steps::{are_below, are_consistent};
+use spf_exec::block_run::Block;
+use spf_exec::frame::Frame;
+use spf_replay_log::log::{Event, Step};
+use std::alloc::{AllocError, Global};
+
+/// Whether a log is that of block n.
+fn is_log(entered: &EnteredConstruct, n: u64, log: &[Event], work: &mut Frame) -> bool
+    requires is { IsEntered entered.now }
+    requires block { n < entered.now.header.blocks }
+    requires work { length work.old ≡ length entered.now.frame.now }
+    ensures log { (guess : ℕ → Carried) → HasGuesses entered.now guess → IsTrue result
+        ↔ IsLogAt (entry_of entered.now) guess (slice_get entered.now.reals.now n) n
+        (map event_of log.now) }
+    ensures work { length work.new ≡ length work.old }
+{
+    let context = context_of(entered, n);
+    let block = Block {
+        construct: entered.construct,
+        index: entered.index,
+        part: entered.construct.part_of(n),
+        number: number_at(entered.header.low, n),
+        value: first_row(entered, n),
+    };
+    match real_row(entered, n) {
+        Some(real) => is_real_log(context, &block, &real, log, work),
+        None => is_guessed_log(context, &block, log, work),
+    }
+}
+
+/// Whether the steps are a speculative run of the construct's blocks from their guesses.
+///
+/// # Errors
+///
+/// Fails where memory runs out.
+pub fn is_speculative_run(
+    alloc: Global,
+    entered: &EnteredConstruct,
+    steps: &[Step],
+) -> Result<bool, AllocError>
+    requires is { IsEntered entered.now }
+    ensures { (guess : ℕ → Carried) → HasGuesses entered.now guess
+        → IfOk result
+        (λ is. IsTrue is ↔ IsRun (entry_of entered.now) guess (seen_steps steps.now)) }
+{
+    runs_have_their_logs();
+    if !are_below(steps, entered.header.blocks) {
+        return Ok(false);
+    }
+    let mut memory = Vec::with_capacity(alloc, entered.cells.len())?;
+    memory.extend_from_slice(entered.cells)?;
+    if !are_consistent(&mut memory, steps) {
+        return Ok(false);
+    }
+    let mut work = entered.frame.copy(alloc)?;
+    let logs = logs_of(alloc, steps, entered.header.blocks)?;
+    for n in 0..entered.header.blocks {
+        if !is_log(entered, n, log_in(&logs, n), &mut work) {
+            return Ok(false);
+        }
+    }
+    Ok(true)
+}
