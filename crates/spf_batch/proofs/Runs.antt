@@ -19,9 +19,10 @@ use Rattle.spf_edge.specs.Fetches.{AreMade}
 use Rattle.spf_edge.specs.Puts.{SinkState}
 use Rattle.spf_edge.proofs.Fetched.{made_none, made_both}
 use Rattle.spf_edge.proofs.Taking.{joined-nil, adds_both, adds_none, puts_none}
-use Rattle.spf_edge_pieces.proofs.Parts.{taken-both}
+use Rattle.spf_edge_pieces.specs.Pieces.{AreCutEach}
+use Rattle.spf_edge_pieces.proofs.Parts.{taken-both, cut-both}
 use Rattle.spf_batch.specs.Batch.{after, file_step, batch_tally, file_answer, answers}
-use Rattle.spf_batch.specs.World.{World, fetch_of_file, HasFewCells, AreCutEach, ArePut}
+use Rattle.spf_batch.specs.World.{World, fetch_of_file, HasFewCells, ArePut}
 use Rattle.spf_batch.specs.One.{HasRun, IsRun, IsStoppedBy}
 use Rattle.spf_batch.specs.Many.{names_of, HaveRun, IsStoppedAt, IsStopped}
 use Rattle.spf_batch.specs.declared.error.BatchError.{BatchError}
@@ -36,11 +37,6 @@ put-none state = record {
   taken = record { took = adds_none state.taken state.taken refl; put = puts_none state.puts state.puts refl };
   later = omega arith;
 }
-
-cut-both : (first second pieces others : List (List ℕ)) → AreCutEach first pieces → AreCutEach second others → AreCutEach (first ++ second) (pieces ++ others)
-cut-both [] second pieces others none two = subst (λ p. AreCutEach second (p ++ others)) (sym none) two
-cut-both (answer ∷ first) second pieces others (own, rest, split, cut, each) two =
-    (own, rest ++ others, ap (λ p. p ++ others) split ∙ append_assoc own rest others, cut, cut-both first second rest others each two)
 
 -- answers that were put after others were put with them
 put-both : (first second : List (List ℕ)) (before between now : SinkState) → ArePut first before between → ArePut second between now → ArePut (first ++ second) before now

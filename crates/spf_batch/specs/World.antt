@@ -1,5 +1,5 @@
 -- What a batch finds, and what it leaves.
-use Rattle.std.specs.Prelude.{◌≡◌, ◌≤◌, ℕ, List, [], ◌∷◌, ◌++◌, length, Result, Ok}
+use Rattle.std.specs.Prelude.{◌≡◌, ◌≤◌, ℕ, List, [], ◌∷◌, length, Result, Ok}
 use Rattle.spf_ast.specs.Syntax.{Program}
 use Rattle.spf_ast.specs.Program.{cell_count_of, max_cells}
 use Rattle.spf_guess_statistics.specs.Guess.{Hosts}
@@ -8,7 +8,7 @@ use Rattle.spf_edge.specs.declared.files.FetchError.{FetchError}
 use Rattle.spf_edge.specs.Entries.{Entry}
 use Rattle.spf_edge.specs.Fetches.{FilesState, Fetch, AreMade}
 use Rattle.spf_edge.specs.Puts.{SinkState}
-use Rattle.spf_edge_pieces.specs.Pieces.{AreCut, AreTaken, AreTakenInPart}
+use Rattle.spf_edge_pieces.specs.Pieces.{AreCut, AreCutEach, AreTaken, AreTakenInPart}
 use Rattle.spf_batch.specs.Batch.{max_input}
 
 -- the files, the output, and the hosts
@@ -40,12 +40,6 @@ IsFetched name gave before now = AreMade before.files now.files (fetch_giving na
 -- a run on a file has no more cells than the program's version allows
 abbrev pub HasFewCells : Program → Entry → Type 0
 HasFewCells p file = cell_count_of p (length file.content) ≤ max_cells p
-
--- answers are cut in these pieces, each in pieces of its own
-abbrev pub AreCutEach : List (List ℕ) → List (List ℕ) → Type 0
-AreCutEach [] pieces = pieces ≡ []
-AreCutEach (answer ∷ answers) pieces =
-    (own : List (List ℕ)) × (others : List (List ℕ)) × (pieces ≡ own ++ others) × AreCut answer own × AreCutEach answers others
 
 -- answers were put, one after another
 pub record ArePut (answers : List (List ℕ)) (before now : SinkState) : Type 0 where

@@ -1,7 +1,7 @@
 -- What was answered, from what was put.
 use Rattle.std.specs.Prelude.{Option, Some, None}
 use Rattle.std.specs.List.{AllByRecursion}
-use Rattle.std.proofs.Common.{◌≡◌, ◌⊎◌, ℕ, List, [], ◌∷◌, refl, sym, ◌∙◌, arith, inl, inr, subst}
+use Rattle.std.proofs.Common.{◌≡◌, ◌⊎◌, ℕ, List, [], ◌∷◌, refl, sym, ◌∙◌, ◌++◌, append_assoc, arith, inl, inr, subst}
 use Rattle.spf_edge.specs.declared.sink.PutError.{PutError}
 use Rattle.spf_edge.specs.declared.sink.PutError.TheVariants as put_error
 use Rattle.spf_edge.specs.Entries.{Entry, IsMissing}
@@ -11,6 +11,8 @@ use Rattle.spf_cli_words.specs.Only.{IsOnly}
 use Rattle.spf_cli_answers.specs.Answer.{Answer}
 use Rattle.spf_cli_answers.specs.Answering.{IsFollowed}
 use Rattle.spf_cli_answers.specs.Course.{Wanted, Course}
+use Rattle.spf_cli_answers.specs.Replying.{LeadsTo}
+use Rattle.spf_edge.proofs.Fetched.{made_both}
 use Rattle.spf_cli_answers.specs.Laws.{HasFailed, StatusesHaveCauses}
 use Rattle.spf_cli_answers.specs.Whole.{Handed, AskForNothing, Whole}
 use Rattle.spf_cli.specs.Answered.{Sinks, IsGiven as IsAnswerGiven, IsGivenInPart, IsBroken, IsUntouched, IsPut, IsAnswered}
@@ -53,7 +55,13 @@ by_status given words old new status s h put memory whole =
           | inr six ↦ put six.0
         ]
       ]
-      | inr u ↦ memory u.0
+      | inr r ↦ elim r [
+        | inl u ↦ memory u.0
+        | inr b ↦ elim b.broken [
+          | inl eight ↦ memory eight
+          | inr six ↦ put six.0
+        ]
+      ]
     ]
 
 pub words_cause : StatusesHaveCauses → (given : Handed) (words : List (List ℕ)) (old new : FilesState) (status : ℕ) (s : Sinks) → IsAnswered (Whole given words) old new status s → status ≡ 2 → AskForNothing words
@@ -94,7 +102,42 @@ sink_cause laws given words old new status s h six =
           | inr fault ↦ fault.1
         ]
       ]
-      | inr u ↦ let eight = u.0 in absurd (omega (arith, six, eight))
+      | inr r ↦ elim r [
+        | inl u ↦ let eight = u.0 in absurd (omega (arith, six, eight))
+        | inr b ↦ elim b.broken [
+          | inl eight ↦ absurd (omega (arith, six, eight))
+          | inr fault ↦ fault.1
+        ]
+      ]
+    ]
+
+-- what is left of a course after some fetches was answered, and so the course was
+pub answered_rest : (course rest : Course) (old mid new : FilesState) (status : ℕ) (s : Sinks) → LeadsTo course rest old mid → IsAnswered rest mid new status s → IsAnswered course old new status s
+answered_rest course rest old mid new status s l h =
+    elim h [
+      | inl x ↦ inl (
+        l.fetches ++ x.0,
+        made_both old mid new l.fetches x.0 l.made x.1,
+        x.2.0,
+        record { is = l.on x.0 x.2.0 x.2.1.is; only = λ b y. x.2.1.only b (l.back x.0 b y) },
+        x.2.2,
+      )
+      | inr r ↦ elim r [
+        | inl u ↦ inr (inl u)
+        | inr b ↦ inr (inr (record {
+          fetches = l.fetches ++ b.fetches;
+          last = b.last;
+          made = subst (λ fs. AreMade old new fs) (sym (append_assoc l.fetches b.fetches b.last)) (made_both old mid new l.fetches (b.fetches ++ b.last) l.made b.made);
+          short = b.short;
+          goes_on = (
+            b.goes_on.0,
+            b.goes_on.1,
+            subst (λ fs. course fs b.goes_on.1) (sym (append_assoc l.fetches b.fetches b.goes_on.0)) (l.on (b.fetches ++ b.goes_on.0) b.goes_on.1 b.goes_on.2),
+          );
+          part = λ more a y. b.part more a (l.back (b.fetches ++ more) a (subst (λ fs. course fs a) (append_assoc l.fetches b.fetches more) y));
+          broken = b.broken;
+        }))
+      ]
     ]
 
 -- the same of a run over bytes at hand, whose answer has never that status

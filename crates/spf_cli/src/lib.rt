@@ -1,6 +1,7 @@
 //! The program: all that it does, over files and sinks that are supplied.
 #![tactic(auto)]
 
+mod batch;
 mod bytes;
 mod putting;
 mod top;

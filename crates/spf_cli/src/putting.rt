@@ -13,7 +13,7 @@ use spf_edge::{PutError, Sink};
 use spf_edge_pieces::put_pieces;
 
 /// Puts lines, each by a put of its own.
-fn put_lines<S: Sink>(sink: &mut S, lines: &[Vec<u8>]) -> Result<(), PutError>
+pub(crate) fn put_lines<S: Sink>(sink: &mut S, lines: &[Vec<u8>]) -> Result<(), PutError>
     ensures whole { OnOk result
         (AreTaken (lines_of lines.now) (S.state sink.old) (S.state sink.new)) }
     ensures part { AreTakenInPart (lines_of lines.now) (S.state sink.old) (S.state sink.new) }

@@ -6,19 +6,21 @@ ghost use Rattle.spf_edge.specs.Faults.{Rose};
 ghost use Rattle.spf_cli_answers.specs.Whole.{handed, AskForNothing, Whole};
 ghost use Rattle.spf_cli.specs.Answered.{sinks, IsAnswered};
 
+use crate::batch::put_batch;
 use crate::putting::{put, put_status};
-use spf_cli_answers::{Status, answer_words, number};
+use spf_cli_answers::{Context, Reply, Status, answer_words, number};
 use spf_edge::{Files, Sink};
 use spf_guess::Predictor;
 use spf_ticket_gate::Gate;
-use std::alloc::Global;
+use std::alloc::{AllocError, Global};
 use std::sync::Wait;
 use std::thread::Threads;
 
 /// Does all that the program does: reads the words of its command line, fetches the files that they
 /// name, and puts the answer. The output is put in pieces of 4,096 bytes, of which only the last
 /// may be shorter, and then each line on the error stream. After a put that failed, nothing more is
-/// put.
+/// put. A batch puts the answer of each file before it fetches the next one, each in pieces of its
+/// own.
 ///
 /// `words` are the words after the program's name and after those that ask for hosts. `hosts` are
 /// the predictors that a program names by number; they are asked, told and dropped here. `gate`
@@ -35,7 +37,7 @@ use std::thread::Threads;
 /// | 6 | a sink failed |
 /// | 7 | a limit was passed, or a host isn't supplied |
 /// | 8 | memory ran out |
-/// | 9 | the input isn't HUF1, or the machine isn't LEX1 |
+/// | 9 | a file isn't of its format: HUF1, LEX1, a machine's text, or a list of names |
 pub fn spf_main<R: Threads + Wait + Sync, F: Files, S: Sink, G: Gate + Sync>(
     rt: &R,
     alloc: Global,
@@ -47,7 +49,8 @@ pub fn spf_main<R: Threads + Wait + Sync, F: Files, S: Sink, G: Gate + Sync>(
     gate: &G,
 ) -> u8
     // The files of the command are fetched, each once and in order, and the one answer to what they
-    // give is put whole; or its first pieces are, until a sink failed or memory ran out.
+    // give is put whole; or its first pieces are, until a sink failed or memory ran out. A batch may
+    // be broken off between its files, too.
     ensures answered { IsAnswered
         (Whole (handed (map (λ h. answer h) hosts.items)) (map string_bytes words.now))
         (F.state files.old) (F.state files.new) result
@@ -63,11 +66,15 @@ pub fn spf_main<R: Threads + Wait + Sync, F: Files, S: Sink, G: Gate + Sync>(
     // Law: statuses 2 and 5 come from their causes alone, and 6 and 8 never from the program.
     spf_cli_answers::laws::each_status_has_its_cause();
     let mut hosts = hosts;
-    let Ok(given) = answer_words(rt, alloc, words, files, &mut hosts, gate) else {
-        return number(Status::NoMemory);
-    };
-    match put(&given, out, err) {
-        Ok(()) => number(given.status),
-        Err(error) => number(put_status(error)),
+    match answer_words(rt, alloc, words, files, &mut hosts, gate) {
+        Ok(Reply::Answer(given)) => match put(&given, out, err) {
+            Ok(()) => number(given.status),
+            Err(error) => number(put_status(error)),
+        },
+        Ok(Reply::Batch(batch)) => {
+            let context = Context { rt, alloc, gate };
+            put_batch(&context, &batch, files, &mut hosts, out, err)
+        }
+        Err(AllocError) => number(Status::NoMemory),
     }
 }

@@ -6,17 +6,24 @@ use Rattle.spf_ast.specs.Program.{Outcome, Done, Stopped, outcome, cell_count_of
 use Rattle.spf_exec_instance.specs.RunErrors.{counted}
 use Rattle.spf_edge.specs.declared.files.FetchError.{FetchError}
 use Rattle.spf_edge.specs.declared.files.FetchError.TheVariants.{Missing, Failed, TooLong, OutOfMemory}
+use Rattle.spf_edge.specs.Entries.{Entry}
 use Rattle.spf_edge.specs.Fetches.{Fetch}
+use Rattle.spf_ast.specs.Construct.{constructs_in}
+use Rattle.spf_guess_statistics.specs.Guess.{Hosts}
+use Rattle.spf_guess.specs.Missing.{missing_host}
 use Rattle.spf_guess_statistics.specs.declared.stats.Stats.{Stats}
-use Rattle.spf_cli_words.specs.Command.{Command, Run, Check, Explain, Print, Unpack, Unhuff, Lex, Show, Build, Demo, Options, DecodeOptions}
+use Rattle.spf_cli_words.specs.Command.{Command, Run, Check, Explain, Print, Unpack, Unhuff, Lex, Show, Build, Batch, Demo, Options, DecodeOptions}
 use Rattle.spf_apps_machine_text.specs.MachineText.{machine_text}
 use Rattle.spf_apps_programs.specs.PackBits.{packbits_program}
 use Rattle.spf_apps_programs.specs.Huffman.{huffman_program}
 use Rattle.spf_apps_programs.specs.Lexer.{lexer_program}
-use Rattle.spf_cli_answers.specs.Answer.{Answer, not_understood, text_refused, accepted, rule_refused, explained, printed, file_failed, file_too_long, too_many_cells, host_missing, not_huf1, not_lex1, not_a_machine, written, ran, shown}
+use Rattle.spf_cli_answers.specs.Answer.{Answer, not_understood, text_refused, accepted, rule_refused, explained, printed, file_failed, file_too_long, too_many_cells, host_missing, not_huf1, not_lex1, not_a_machine, not_a_name, written, ran, shown}
 use Rattle.spf_cli_answers.specs.Reading.{Verdict, Says, Refuses}
-use Rattle.spf_cli_answers.specs.Course.{Wanted, Is, Either, Course, Ends, After, Fetches}
-use Rattle.spf_cli_answers.specs.Whole.{Handed, handed, Judged, Read, CheckedBy, Allowed, Explained, WithHosts, host_wanted, RunsTo, stats_of, Runs, RunsOn, Decodes, Unpacking, Unhuffing, Lexing, WithHuf1, WithLex1, WithMachine, Demonstrates, WholeOf, AskForNothing, Whole, block_of, run_options, by_blocks, with_stats, RunsText, demo_program, demo_input, max_program, max_machine, max_text, max_input}
+use Rattle.spf_cli_answers.specs.Course.{Wanted, Is, Either, Course, Ends, Chosen, Unfetched, After, FetchesOr, Fetches}
+use Rattle.spf_cli_answers.specs.Message.{failed_line, long_line, too_many_line}
+use Rattle.spf_cli_answers.specs.Batched.{batch_answer, batch_done, FileUnfetched, RunsFiles}
+use Rattle.spf_batch.specs.Batch.{max_input as file_limit}
+use Rattle.spf_cli_answers.specs.Whole.{Handed, handed, Judged, Read, CheckedBy, Allowed, Explained, WithHosts, host_wanted, RunsTo, stats_of, Runs, RunsOn, Decodes, Unpacking, Unhuffing, Lexing, WithHuf1, WithLex1, WithMachine, Batches, BatchesOn, Demonstrates, WholeOf, AskForNothing, Whole, block_of, run_options, by_blocks, with_stats, RunsText, demo_program, demo_input, max_program, max_machine, max_text, max_list, max_input}
 use Rattle.spf_cli_answers.specs.Laws.{HasFailed, StatusesHaveCauses}
 
 -- the status is none of those for words, for a file, for a put and for want of memory
@@ -93,22 +100,37 @@ caused_ends : (wanted : Wanted) → ((a : Answer) → wanted a → IsCommon a) �
 caused_ends wanted f [] a h = inl (f a h)
 caused_ends wanted f (fetch ∷ fetches) a h = absurd h
 
-caused_after : (name : List ℕ) (limit : ℕ) (next : List ℕ → Course) → ((content : List ℕ) → AreCaused (next content)) → (fetch : Fetch) (fetches : List Fetch) (a : Answer)
-    → (r : Result (List ℕ) FetchError) → fetch.gave ≡ r → After name limit r next fetches a → IsCaused (fetch ∷ fetches) a
-caused_after name limit next f fetch fetches a (Ok content) is h =
+-- where a fetch gives no content, the status is that of a file, or a common one
+record HasCause (left : FetchError → Wanted) : Type 0 where
+  missing : (a : Answer) → left Missing a → a.status ≡ 5
+  failed : (a : Answer) → left Failed a → a.status ≡ 5
+  long : (a : Answer) → left TooLong a → IsCommon a
+  memory : (a : Answer) → left OutOfMemory a → ⊥
+
+caused_after : (left : FetchError → Wanted) (next : List ℕ → Course) → HasCause left → ((content : List ℕ) → AreCaused (next content)) → (fetch : Fetch) (fetches : List Fetch) (a : Answer)
+    → (r : Result (List ℕ) FetchError) → fetch.gave ≡ r → After left r next fetches a → IsCaused (fetch ∷ fetches) a
+caused_after left next so f fetch fetches a (Ok content) is h =
     elim (f content fetches a h) [
       | inl common ↦ inl common
       | inr file ↦ inr (file.0, inr (inr file.1))
     ]
-caused_after name limit next f fetch [] a (Err Missing) is h = inr (status_as a (file_failed name) 5 h refl, inl is)
-caused_after name limit next f fetch [] a (Err Failed) is h = inr (status_as a (file_failed name) 5 h refl, inr (inl is))
-caused_after name limit next f fetch [] a (Err TooLong) is h = inl (over_limit a (file_too_long name limit) h refl)
-caused_after name limit next f fetch [] a (Err OutOfMemory) is h = absurd h
-caused_after name limit next f fetch (other ∷ fetches) a (Err error) is h = absurd h
+caused_after left next so f fetch [] a (Err Missing) is h = inr (so.missing a h, inl is)
+caused_after left next so f fetch [] a (Err Failed) is h = inr (so.failed a h, inr (inl is))
+caused_after left next so f fetch [] a (Err TooLong) is h = inl (so.long a h)
+caused_after left next so f fetch [] a (Err OutOfMemory) is h = absurd (so.memory a h)
+caused_after left next so f fetch (other ∷ fetches) a (Err error) is h = absurd h
+
+caused_fetches_or : (left : FetchError → Wanted) (name : List ℕ) (limit : ℕ) (next : List ℕ → Course) → HasCause left → ((content : List ℕ) → AreCaused (next content)) → AreCaused (FetchesOr left name limit next)
+caused_fetches_or left name limit next so f [] a h = absurd h
+caused_fetches_or left name limit next so f (fetch ∷ fetches) a h = caused_after left next so f fetch fetches a fetch.gave refl h.2
 
 caused_fetches : (name : List ℕ) (limit : ℕ) (next : List ℕ → Course) → ((content : List ℕ) → AreCaused (next content)) → AreCaused (Fetches name limit next)
-caused_fetches name limit next f [] a h = absurd h
-caused_fetches name limit next f (fetch ∷ fetches) a h = caused_after name limit next f fetch fetches a fetch.gave refl h.2
+caused_fetches name limit next f = caused_fetches_or (Unfetched name limit) name limit next (record {
+  missing = λ a e. status_as a (file_failed name) 5 e refl;
+  failed = λ a e. status_as a (file_failed name) 5 e refl;
+  long = λ a e. over_limit a (file_too_long name limit) e refl;
+  memory = λ a none. none;
+}) f
 
 caused_read : (text : List ℕ) (next : Program → Course) → ((p : Program) → AreCaused (next p)) → AreCaused (Read text next)
 caused_read text next f fetches a h = by h.0 h.2
@@ -131,6 +153,35 @@ caused_allowed false p next f = caused_checked p next f
 caused_runs : (options : Options) (given : Handed) (input : List ℕ) (p : Program) → AreCaused (RunsOn options given input p)
 caused_runs options given input p =
     caused_fetches input max_input (λ content. Ends (Runs options given p content)) (λ content. caused_ends (Runs options given p content) (run_common options given p content))
+
+caused_chosen : (b : Bool) (first second : Course) → AreCaused first → AreCaused second → AreCaused (Chosen b first second)
+caused_chosen true first second f g = f
+caused_chosen false first second f g = g
+
+caused_files : (hosts : Hosts) (p : Program) (files : List Entry) (names : List (List ℕ)) → AreCaused (RunsFiles hosts p files names)
+caused_files hosts p files [] = caused_ends (Is (batch_done hosts p files)) (λ a e. done a (batch_done hosts p files) e refl)
+caused_files hosts p files (name ∷ names) =
+    caused_fetches_or (FileUnfetched p files name) name file_limit _ (record {
+      missing = λ a e. status_as a (batch_answer p files 5 (failed_line name)) 5 e refl;
+      failed = λ a e. status_as a (batch_answer p files 5 (failed_line name)) 5 e refl;
+      long = λ a e. over_limit a (batch_answer p files 7 (long_line name file_limit)) e refl;
+      memory = λ a none. none;
+    }) (λ content. caused_chosen (nat_le (cell_count_of p (length content)) (max_cells p)) _ _
+    (caused_files hosts p (files ++ record { name = name; content = content } ∷ []) names)
+    (caused_ends (Is (batch_answer p files 7 (too_many_line (counted (cell_count_of p (length content))) (max_cells p))))
+    (λ a e. over_limit a (batch_answer p files 7 (too_many_line (counted (cell_count_of p (length content))) (max_cells p))) e refl)))
+
+caused_batches : (given : Handed) (p : Program) (names : List (List ℕ)) (missing : Option ℕ) → AreCaused (Batches given p names missing)
+caused_batches given p names None = caused_files given.hosts p [] names
+caused_batches given p names (Some host) = caused_ends (Is (host_missing host)) (λ a e. over_limit a (host_missing host) e refl)
+
+caused_list : (given : Handed) (list : List ℕ) (p : Program) → AreCaused (BatchesOn given list p)
+caused_list given list p =
+    caused_fetches list max_list _ (λ bytes fetches a h.
+    elim h [
+      | inl x ↦ caused_batches given p x.0 (missing_host given.count (constructs_in p.main)) fetches a x.2
+      | inr x ↦ caused_ends (Is (not_a_name x.0)) (λ b e. wrong_format b (not_a_name x.0) e refl) fetches a x.2
+    ])
 
 decoded_common : (options : DecodeOptions) (p : Program) (input : List ℕ) (a : Answer) → Decodes options p input a → IsCommon a
 decoded_common options p input a h = run_common (run_options options) (handed []) p input a h
@@ -176,6 +227,9 @@ caused_command given (Build text) =
       | inl x ↦ caused_ends (Is (written x.0)) (λ b e. done b (written x.0) e refl) fetches a x.2
       | inr x ↦ caused_ends (Is not_a_machine) (λ b e. wrong_format b not_a_machine e refl) fetches a x.1
     ])
+caused_command given (Batch program list workers) =
+    caused_fetches program max_program (λ text. Read text (λ p. CheckedBy p (BatchesOn given list p))) (λ text.
+    caused_read text (λ p. CheckedBy p (BatchesOn given list p)) (λ p. caused_checked p (BatchesOn given list p) (caused_list given list p)))
 caused_command given (Demo decoder seed size workers) =
     caused_ends (Demonstrates decoder seed size) (λ a h. runs_common shown shown_common by_blocks (handed []) (demo_program decoder) (demo_input decoder h.0) a h.3)
 

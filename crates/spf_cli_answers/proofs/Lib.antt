@@ -6,3 +6,4 @@ pub mod Steps
 pub mod Verdicts
 pub mod AtHand
 mod Causes
+pub mod Batches

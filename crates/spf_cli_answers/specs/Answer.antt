@@ -18,6 +18,7 @@ use Rattle.spf_cli_answers.specs.Message.{
   not_huf1_line,
   not_lex1_line,
   not_machine_line,
+  not_name_line,
   sum_line,
   accepted_line,
   rule_line,
@@ -27,15 +28,15 @@ use Rattle.spf_cli_answers.specs.Message.{
 use Rattle.spf_cli_words.specs.Command.{Options}
 use Rattle.spf_cli_answers.specs.Reading.{Refusal, refusal_line}
 
--- a status, with the bytes on the output and the lines on the error stream
+-- a status, with the texts on the output, each in pieces of its own, and the lines on the error stream
 pub record Answer : Type 0 where
   pub status : ℕ
-  pub out : List ℕ
+  pub out : List (List ℕ)
   pub err : List (List ℕ)
 
 -- nothing was run: there is a line on the error stream alone
 abbrev pub refused : ℕ → List ℕ → Answer
-refused status said = record { status = status; out = []; err = said ∷ [] }
+refused status said = record { status = status; out = [] ∷ []; err = said ∷ [] }
 
 -- the words aren't those of a command
 abbrev pub not_understood : Answer
@@ -47,7 +48,7 @@ text_refused refusal = refused 3 (refusal_line refusal)
 
 -- the program keeps the rules
 abbrev pub accepted : Answer
-accepted = record { status = 0; out = []; err = accepted_line ∷ [] }
+accepted = record { status = 0; out = [] ∷ []; err = accepted_line ∷ [] }
 
 -- a top construct of the program breaks a rule
 abbrev pub rule_refused : Program → Rule → ℕ → Option Range → Answer
@@ -81,17 +82,21 @@ not_lex1 place = refused 9 (not_lex1_line place)
 abbrev pub not_a_machine : Answer
 not_a_machine = refused 9 not_machine_line
 
+-- this line of a list, counted from 1, isn't a file's name
+abbrev pub not_a_name : ℕ → Answer
+not_a_name number = refused 9 (not_name_line number)
+
 -- a machine's text, or its file, was written
 abbrev pub written : List ℕ → Answer
-written bytes = record { status = 0; out = bytes; err = [] }
+written bytes = record { status = 0; out = bytes ∷ []; err = [] }
 
 -- a program was printed
 abbrev pub printed : Program → Answer
-printed p = record { status = 0; out = canonical_text (spelled 0 p); err = [] }
+printed p = record { status = 0; out = canonical_text (spelled 0 p) ∷ []; err = [] }
 
 -- a program was explained, by this text
 abbrev pub explained : List ℕ → Answer
-explained text = record { status = 0; out = text; err = [] }
+explained text = record { status = 0; out = text ∷ []; err = [] }
 
 -- lines that stand only where they are asked for
 abbrev pub asked : Bool → List (List ℕ) → List (List ℕ)
@@ -105,10 +110,10 @@ stats_lines options stats = asked options.stats (stats_line stats.blocks stats.h
 -- a program was run, on an input of this length, to its end or to a trap, with guesses that were so good
 abbrev pub ran : Options → Program → ℕ → Outcome → Stats → Answer
 ran options p len (Done cells output) stats =
-    record { status = 0; out = output; err = stats_lines options stats ++ asked options.cells (array_lines len p.arrays cells) }
-ran options p len (Stopped trap output) stats = record { status = 1; out = output; err = trap_line trap ∷ stats_lines options stats }
+    record { status = 0; out = output ∷ []; err = stats_lines options stats ++ asked options.cells (array_lines len p.arrays cells) }
+ran options p len (Stopped trap output) stats = record { status = 1; out = output ∷ []; err = trap_line trap ∷ stats_lines options stats }
 
 -- a decoder was run on a generated input: shown are the sum of the output's bytes and how good the guesses were, or the trap
 abbrev pub shown : Outcome → Stats → Answer
-shown (Done cells output) stats = record { status = 0; out = sum_line (sum_by (λ byte. byte) output) stats.blocks stats.hits stats.misses; err = [] }
-shown (Stopped trap output) stats = record { status = 1; out = []; err = trap_line trap ∷ [] }
+shown (Done cells output) stats = record { status = 0; out = sum_line (sum_by (λ byte. byte) output) stats.blocks stats.hits stats.misses ∷ []; err = [] }
+shown (Stopped trap output) stats = record { status = 1; out = [] ∷ []; err = trap_line trap ∷ [] }

@@ -33,7 +33,7 @@ lines_of (message ∷ messages) = message.items ∷ lines_of messages
 
 -- what contracts see of an answer
 abbrev pub seen_answer : Answer → said.Answer
-seen_answer a = record { status = status_number a.status; out = a.output.items; err = lines_of a.messages.items }
+seen_answer a = record { status = status_number a.status; out = a.output.items ∷ []; err = lines_of a.messages.items }
 
 -- a fetch gave no content, and there is the answer to that, or memory ran out
 abbrev pub IsFetchExit : FilesState → FilesState → List ℕ → ℕ → Exit → Type 0

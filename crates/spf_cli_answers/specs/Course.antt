@@ -38,13 +38,22 @@ Unfetched name limit Failed answer = answer ≡ file_failed name
 Unfetched name limit TooLong answer = answer ≡ file_too_long name limit
 Unfetched name limit OutOfMemory answer = ⊥
 
--- what follows a fetch that gave this
-abbrev pub After : List ℕ → ℕ → Result (List ℕ) FetchError → (List ℕ → Course) → Course
-After name limit (Ok content) next = next content
-After name limit (Err error) next = Ends (Unfetched name limit error)
+-- one course or the other, by a test
+abbrev pub Chosen : Bool → Course → Course → Course
+Chosen true first second = first
+Chosen false first second = second
+
+-- what follows a fetch that gave this; without a content, this is wanted of the answer
+abbrev pub After : (FetchError → Wanted) → Result (List ℕ) FetchError → (List ℕ → Course) → Course
+After left (Ok content) next = next content
+After left (Err error) next = Ends (left error)
 
 -- the file of this name is fetched, within this limit, and this is done with its content
+abbrev pub FetchesOr : (FetchError → Wanted) → List ℕ → ℕ → (List ℕ → Course) → Course
+FetchesOr left name limit next [] answer = ⊥
+FetchesOr left name limit next (fetch ∷ fetches) answer =
+    (fetch.name ≡ name) × (fetch.limit ≡ limit) × After left fetch.gave next fetches answer
+
+-- the same, for a command that has nothing to say without the file
 abbrev pub Fetches : List ℕ → ℕ → (List ℕ → Course) → Course
-Fetches name limit next [] answer = ⊥
-Fetches name limit next (fetch ∷ fetches) answer =
-    (fetch.name ≡ name) × (fetch.limit ≡ limit) × After name limit fetch.gave next fetches answer
+Fetches name limit = FetchesOr (Unfetched name limit) name limit

@@ -13,12 +13,12 @@ use Rattle.spf_cli_answers.specs.Answer.{Answer}
 -- the command is done, and this is its output
 pub record IsDoneWith (output : List ℕ) (answer : Answer) : Type 0 where
   pub done : answer.status ≡ 0
-  pub written : answer.out ≡ output
+  pub written : answer.out ≡ output ∷ []
 
 -- the run ended with a trap, after this output
 pub record IsTrappedAfter (output : List ℕ) (trap : Trap) (answer : Answer) : Type 0 where
   pub trapped : answer.status ≡ 1
-  pub written : answer.out ≡ output
+  pub written : answer.out ≡ output ∷ []
   pub later : List (List ℕ)
   pub said : answer.err ≡ trap_line trap ∷ later
 

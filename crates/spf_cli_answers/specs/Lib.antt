@@ -4,7 +4,10 @@ pub mod Answer
 pub mod Status
 pub mod Decoded
 pub mod Course
+pub mod Batched
 pub mod Whole
 pub mod Unread
 pub mod Answering
+pub mod Replying
+pub mod Ending
 pub mod Laws

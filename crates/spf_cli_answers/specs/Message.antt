@@ -2,8 +2,6 @@
 use Rattle.std.specs.Prelude.{ℕ, List, [], ◌∷◌, ◌++◌, take, drop, codes, ℤ, Option}
 use Rattle.std.specs.Fmt.{decimal, signed_decimal}
 use Rattle.spf_ast.specs.declared.outcome.Trap.{Trap}
-use Rattle.spf_ast.specs.declared.outcome.TrapKind.{TrapKind}
-use Rattle.spf_ast.specs.declared.outcome.TrapKind.TheVariants as trap
 use Rattle.spf_types_names.specs.declared.fault.TypeFault.{TypeFault}
 use Rattle.spf_types_names.specs.declared.fault.TypeFault.TheVariants as fault
 use Rattle.spf_ast.specs.Syntax.{Array}
@@ -11,23 +9,8 @@ use Rattle.spf_region.specs.declared.range.Range.{Range}
 use Rattle.spf_check.specs.declared.rule.Rule.{Rule}
 use Rattle.spf_check.specs.Text.{rule_name, perhaps_range}
 use Rattle.spf_ast.specs.Program.{size_of}
-
--- a line of these pieces, with its end
-abbrev pub line : List (List ℕ) → List ℕ
-line [] = 10 ∷ []
-line (piece ∷ pieces) = piece ++ line pieces
-
--- how a kind of trap is called
-abbrev pub kind_name : TrapKind → List ℕ
-kind_name trap.Overflow = codes "overflow"
-kind_name trap.DivZero = codes "divide-by-zero"
-kind_name trap.Index = codes "index"
-kind_name trap.Shift = codes "shift"
-kind_name trap.Range = codes "range"
-kind_name trap.Turns = codes "turns"
-kind_name trap.Emit = codes "emit"
-kind_name trap.Blocks = codes "blocks"
-kind_name (trap.Fail number) = codes "fail " ++ decimal number
+use Rattle.spf_guess_statistics.specs.declared.stats.Stats.{Stats}
+use Rattle.spf_batch.specs.Text.{line, kind_name}
 
 -- `trap KIND line N`
 abbrev pub trap_line : Trap → List ℕ
@@ -64,6 +47,10 @@ not_lex1_line place = line (codes "machine byte " ∷ decimal place ∷ codes ":
 -- `not a machine`
 abbrev pub not_machine_line : List ℕ
 not_machine_line = line (codes "not a machine" ∷ [])
+
+-- `list line N: not a name`
+abbrev pub not_name_line : ℕ → List ℕ
+not_name_line number = line (codes "list line " ∷ decimal number ∷ codes ": not a name" ∷ [])
 
 -- `sum S blocks B hits H misses M`
 abbrev pub sum_line : ℕ → ℕ → ℕ → ℕ → List ℕ
@@ -102,6 +89,12 @@ fault_line what at = line (codes "line " ∷ decimal at ∷ codes ": " ∷ fault
 abbrev pub stats_line : ℕ → ℕ → ℕ → ℕ → List ℕ
 stats_line blocks hits misses blind =
     line (codes "blocks " ∷ decimal blocks ∷ codes " hits " ∷ decimal hits ∷ codes " misses " ∷ decimal misses ∷ codes " blind " ∷ decimal blind ∷ [])
+
+-- `files F blocks B hits H misses M blind D`
+abbrev pub files_line : ℕ → Stats → List ℕ
+files_line count stats =
+    line (codes "files " ∷ decimal count ∷ codes " blocks " ∷ decimal stats.blocks ∷ codes " hits " ∷ decimal stats.hits
+    ∷ codes " misses " ∷ decimal stats.misses ∷ codes " blind " ∷ decimal stats.blind ∷ [])
 
 -- numbers, each after a space
 abbrev pub numbers : List ℤ → List ℕ

@@ -15,13 +15,14 @@ use Rattle.spf_cli_answers.specs.Answer.{
   not_huf1,
   not_lex1,
   not_a_machine,
+  not_a_name,
   written,
   printed,
   ran,
   shown,
 }
 use Rattle.spf_cli_answers.specs.Course.{Wanted, Is, Both, Either, Course, Ends, Fetches}
-use Rattle.spf_cli_words.specs.Command.{Command, Run, Check, Explain, Print, Unpack, Unhuff, Lex, Show, Build, Demo, Options, DecodeOptions, Asks}
+use Rattle.spf_cli_words.specs.Command.{Command, Run, Check, Explain, Print, Unpack, Unhuff, Lex, Show, Build, Batch, Demo, Options, DecodeOptions, Asks}
 use Rattle.spf_region.specs.declared.range.Range.{Range}
 use Rattle.spf_check.specs.declared.rule.Rule.{Rule}
 use Rattle.spf_check.specs.Accepting.{IsAccepted, IsFirstRefusal}
@@ -45,9 +46,11 @@ use Rattle.spf_apps_programs.specs.PackBits.{packbits_program}
 use Rattle.spf_apps_programs.specs.Huffman.{huffman_program}
 use Rattle.spf_apps_programs.specs.Lexer.{lexer_program}
 use Rattle.spf_cli_answers.specs.Reading.{Verdict, Says, Refuses, IsVerdict}
+use Rattle.spf_batch_lists.specs.Lists.{AreNames, IsBadAt}
+use Rattle.spf_cli_answers.specs.Batched.{RunsFiles}
 use Rattle.spf_cli_answers.specs.Decoded.{Unpacked, Unhuffed, Tokenized}
 
--- how many bytes the file of a program, that of a machine, that of a machine's text, and that of an input may have
+-- how many bytes the file of a program, that of a machine, that of a machine's text, that of a list, and that of an input may have
 abbrev pub max_program : ℕ
 max_program = 1048576
 
@@ -56,6 +59,9 @@ max_machine = 16384
 
 abbrev pub max_text : ℕ
 max_text = 32768
+
+abbrev pub max_list : ℕ
+max_list = 1048576
 
 abbrev pub max_input : ℕ
 max_input = 4194304
@@ -177,6 +183,24 @@ WithMachine text next fetches answer =
     ((file : List ℕ) × IsTextOf text file × next file fetches answer)
     ⊎ (BelongsToNoMachine text × Ends (Is not_a_machine) fetches answer)
 
+-- ---- batches
+
+-- with the names of a list, or by its first line that isn't one
+abbrev pub WithNames : List ℕ → (List (List ℕ) → Course) → Course
+WithNames list next fetches answer =
+    ((names : List (List ℕ)) × AreNames list names × next names fetches answer)
+    ⊎ ((number : ℕ) × IsBadAt list number × Ends (Is (not_a_name number)) fetches answer)
+
+-- where no host is missing, the files of these names are run
+abbrev pub Batches : Handed → Program → List (List ℕ) → Option ℕ → Course
+Batches given p names None = RunsFiles given.hosts p [] names
+Batches given p names (Some host) = Ends (Is (host_missing host))
+
+-- a program is run on the files that a list names
+abbrev pub BatchesOn : Handed → List ℕ → Program → Course
+BatchesOn given list p =
+    Fetches list max_list (λ bytes. WithNames bytes (λ names. Batches given p names (missing_host given.count (constructs_in p.main))))
+
 -- ---- demos
 
 -- a demo's program, for blocks of 1,024 bytes
@@ -218,6 +242,8 @@ WholeOf given (Lex machine input options) =
 WholeOf given (Show machine) =
     Fetches machine max_machine (λ table. WithLex1 table (λ states classes. Ends (Is (written (machine_text table)))))
 WholeOf given (Build text) = Fetches text max_text (λ bytes. WithMachine bytes (λ file. Ends (Is (written file))))
+WholeOf given (Batch program list workers) =
+    Fetches program max_program (λ text. Read text (λ p. CheckedBy p (BatchesOn given list p)))
 WholeOf given (Demo decoder seed size workers) = Ends (Demonstrates decoder seed size)
 
 -- the words ask for no command

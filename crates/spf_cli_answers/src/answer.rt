@@ -29,6 +29,7 @@ ghost use Rattle.spf_cli_answers.specs.Whole.{Handed, handed, Runs, RunsOn, Whol
 ghost use Rattle.spf_cli_answers.specs.Answering.{lines_of, seen_answer, IsFetchExit, IsReadExit};
 ghost use Rattle.spf_cli_answers.specs.Answering.{SaysWhy, IsRuleExit, IsNotAccepted, IsNotRun};
 ghost use Rattle.spf_cli_answers.specs.Answering.{IsFollowed};
+ghost use Rattle.spf_cli_answers.specs.Replying.{IsReply, RepliesWith, IsBatch};
 ghost use Rattle.spf_cli_answers.specs.Answering.{AnswersWith, IsRunToItsEnd, IsLeftUnrun};
 
 use crate::context::Context;
@@ -36,6 +37,7 @@ use crate::message::{
     array_line, failed_line, host_line, long_line, rule_line, stats_line, too_many_line, trap_line,
 };
 use crate::reading::{Unread, read_program, refusal_line};
+use crate::reply::{Reply, replied};
 use crate::status::Status;
 use crate::texts::{build_file, show_file};
 use spf_ast::outcome::Outcome;
@@ -61,7 +63,7 @@ use std::sync::Wait;
 use std::thread::Threads;
 
 /// How many bytes the file of a program may have.
-const MAX_PROGRAM: u64 = 1_048_576;
+pub(crate) const MAX_PROGRAM: u64 = 1_048_576;
 
 /// How many bytes the file of an input may have.
 pub(crate) const MAX_INPUT: u64 = 4_194_304;
@@ -327,7 +329,7 @@ fn too_many(alloc: Global, count: u128, limit: u32) -> Result<Answer, AllocError
 }
 
 /// The answer where a host isn't supplied.
-fn without_host(alloc: Global, host: u64) -> Result<Answer, AllocError>
+pub(crate) fn without_host(alloc: Global, host: u64) -> Result<Answer, AllocError>
     ensures { IfOk result (λ a. seen_answer a ≡ host_missing host) }
 {
     refused(alloc, Status::OverLimit, host_line(alloc, host)?)
@@ -373,12 +375,12 @@ fn run_plainly(
     Ok(ran(alloc, options, &instance, outcome, Stats::none())?)
 }
 
-/// How many workers run the blocks: as many as the options say, else 4.
-fn worker_count(options: Options) -> u64
-    requires workers { IsUpTo max_workers options.workers }
+/// How many workers run the blocks: as many as the words say, else 4.
+pub(crate) fn worker_count(said: Option<u64>) -> u64
+    requires workers { IsUpTo max_workers said }
     ensures { (0 < result) × (result ≤ max_workers) }
 {
-    options.workers.unwrap_or(DEFAULT_WORKERS)
+    said.unwrap_or(DEFAULT_WORKERS)
 }
 
 /// The answer of `run` with `--plain` over a program, on the file of an input.
@@ -470,7 +472,7 @@ impl<'a, R: Threads + Wait + Sync, G: Gate + Sync> Context<'a, R, G> {
             → WereTold (supplied answer hosts.old.items) []
             (supplied answer hosts.new.items)) result }
     {
-        let workers = worker_count(options);
+        let workers = worker_count(options.workers);
         let (instance, report) = match run_whole(
             self.rt, self.alloc, checked, input, workers, hosts, self.gate,
         ) {
@@ -524,18 +526,20 @@ impl<'a, R: Threads + Wait + Sync, G: Gate + Sync> Context<'a, R, G> {
         self.run_by_blocks_on(&checked, input, options, files, hosts)
     }
 
-    /// The answer of a command.
+    /// The reply to a command.
     fn answer_command<F: Files>(
         &self,
         command: Command,
         files: &mut F,
         hosts: &mut Vec<Box<dyn Predictor>>,
-    ) -> Result<Answer, Exit>
+    ) -> Result<Reply, Exit>
         requires numbers { HasNumbers (seen_command command) }
-        ensures { AnswersWith (IsFollowed (WholeOf (handed (map (λ h. answer h) hosts.old.items))
-            (seen_command command.entry)) (F.state files.old) (F.state files.new)) result }
+        ensures reply { RepliesWith (handed (map (λ h. answer h) hosts.old.items))
+            (WholeOf (handed (map (λ h. answer h) hosts.old.items)) (seen_command command.entry))
+            (F.state files.old) (F.state files.new) result }
+        ensures idle { IfOk result (λ reply. IsBatch reply → hosts.new ≡ hosts.old) }
     {
-        match command {
+        let answer = match command {
             Command::Run {
                 program,
                 input,
@@ -544,8 +548,8 @@ impl<'a, R: Threads + Wait + Sync, G: Gate + Sync> Context<'a, R, G> {
             Command::Check { program } => check_file(self.alloc, program, files),
             Command::Explain { program } => explain_file(self.alloc, program, files),
             Command::Print { program } => print_file(self.alloc, program, files),
-            Command::Unpack { input, options } => { self.unpack_file(input, options, files) }
-            Command::Unhuff { input, options } => { self.unhuff_file(input, options, files) }
+            Command::Unpack { input, options } => self.unpack_file(input, options, files),
+            Command::Unhuff { input, options } => self.unhuff_file(input, options, files),
             Command::Lex {
                 machine,
                 input,
@@ -553,22 +557,32 @@ impl<'a, R: Threads + Wait + Sync, G: Gate + Sync> Context<'a, R, G> {
             } => self.lex_files(machine, input, options, files),
             Command::Show { machine } => show_file(self.alloc, machine, files),
             Command::Build { text } => build_file(self.alloc, text, files),
+            Command::Batch {
+                program,
+                list,
+                workers,
+            } => {
+                let count = hosts.len() as u64;
+                let batch = self.read_batch(program, list, workers, count, files)?;
+                return Ok(Reply::Batch(batch));
+            }
             Command::Demo {
                 kind,
                 seed,
                 size,
                 workers,
             } => self.demo(kind, seed, size, workers),
-        }
+        };
+        replied(answer)
     }
 }
 
-/// The answer to the words of a command line.
+/// The reply to the words of a command line: the whole answer, or a batch that can begin.
 ///
 /// `words` are the words after the program's name and after those that ask for hosts. `files` are
 /// those that the words name. `hosts` are the predictors that a program names by number; they are
-/// asked and told here. `gate` watches the attempts. Blocks run in threads, and the call waits for
-/// them.
+/// asked and told here, but not by a batch, which is still to be run. `gate` watches the attempts.
+/// Blocks run in threads, and the call waits for them.
 pub fn answer_words<R: Threads + Wait + Sync, F: Files, G: Gate + Sync>(
     rt: &R,
     alloc: Global,
@@ -576,24 +590,26 @@ pub fn answer_words<R: Threads + Wait + Sync, F: Files, G: Gate + Sync>(
     files: &mut F,
     hosts: &mut Vec<Box<dyn Predictor>>,
     gate: &G,
-) -> Result<Answer, AllocError>
+) -> Result<Reply, AllocError>
     // The files that the command needs are fetched, each once and in order, and what they give
-    // decides the answer.
-    ensures { IfOk result (λ a. IsFollowed (Whole (handed (map (λ h. answer h) hosts.old.items))
-        (map string_bytes words.now)) (F.state files.old) (F.state files.new) (seen_answer a)) }
+    // decides the answer. Of a batch those before its first file are fetched.
+    ensures reply { IfOk result (IsReply (handed (map (λ h. answer h) hosts.old.items))
+        (Whole (handed (map (λ h. answer h) hosts.old.items)) (map string_bytes words.now))
+        (F.state files.old) (F.state files.new)) }
+    ensures idle { IfOk result (λ reply. IsBatch reply → hosts.new ≡ hosts.old) }
 {
     let command = match read_words(alloc, words) {
         Ok(command) => command,
         Err(WordsError::NotUnderstood) => {
             let line = String::from_str(alloc, "words not understood\n")?;
-            return refused(alloc, Status::NotUnderstood, line);
+            return Ok(Reply::Answer(refused(alloc, Status::NotUnderstood, line)?));
         }
         Err(WordsError::OutOfMemory) => return Err(AllocError),
     };
     let context = Context { rt, alloc, gate };
     match context.answer_command(command, files, hosts) {
-        Ok(given) => Ok(given),
-        Err(Exit::Answered(given)) => Ok(given),
+        Ok(reply) => Ok(reply),
+        Err(Exit::Answered(given)) => Ok(Reply::Answer(given)),
         Err(Exit::NoMemory) => Err(AllocError),
     }
 }

@@ -7,7 +7,7 @@ use std::thread::Threads;
 
 /// What commands run with.
 #[derive(Drop)]
-pub(crate) struct Context<'a, R: Threads + Wait + Sync, G: Gate + Sync> {
+pub struct Context<'a, R: Threads + Wait + Sync, G: Gate + Sync> {
     /// What starts threads.
     pub rt: &'a R,
     /// Where memory is taken from.

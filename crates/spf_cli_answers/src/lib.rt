@@ -4,14 +4,19 @@
 
 mod answer;
 mod at_hand;
+mod batch;
 mod context;
 mod decoding;
 pub mod laws;
 mod message;
 mod reading;
+mod reply;
 mod status;
 mod texts;
 
 pub use answer::{Answer, answer_words};
 pub use at_hand::answer_text;
+pub use batch::{Batch, Ending};
+pub use context::Context;
+pub use reply::Reply;
 pub use status::{Status, number};

@@ -12,6 +12,8 @@ ghost use Rattle.spf_cli_answers.specs.Message.{host_line as host_line_of};
 ghost use Rattle.spf_cli_answers.specs.Message.{not_huf1_line as not_huf1_line_of};
 ghost use Rattle.spf_cli_answers.specs.Message.{not_lex1_line as not_lex1_line_of};
 ghost use Rattle.spf_cli_answers.specs.Message.{not_machine_line as not_machine_line_of};
+ghost use Rattle.spf_cli_answers.specs.Message.{not_name_line as not_name_line_of};
+ghost use Rattle.spf_cli_answers.specs.Message.{files_line as files_line_of};
 ghost use Rattle.spf_cli_answers.specs.Message.{sum_line as sum_line_of, byte_line as byte_line_of};
 ghost use Rattle.spf_cli_answers.specs.Message.{fault_line as fault_line_of};
 ghost use Rattle.spf_cli_answers.specs.Message.{fault_name as fault_name_of};
@@ -23,6 +25,7 @@ use spf_ast::outcome::{Trap, TrapKind};
 use spf_ast::syntax::{Array, Name};
 use spf_check::rule::Refusal;
 use spf_check::text::{push_range, rule_name};
+use spf_guess_statistics::stats::Stats;
 use spf_region::range::Range;
 use spf_types::TypeFault;
 use std::alloc::{AllocError, Global};
@@ -92,6 +95,13 @@ pub(crate) fn not_machine_line(alloc: Global) -> Result<String, AllocError>
     ensures { IfOk result (λ text. string_bytes text ≡ not_machine_line_of) }
 {
     String::from_str(alloc, "not a machine\n")
+}
+
+/// `list line N: not a name`.
+pub(crate) fn not_name_line(alloc: Global, number: u64) -> Result<String, AllocError>
+    ensures { IfOk result (λ text. string_bytes text ≡ not_name_line_of number) }
+{
+    format!(in alloc; "list line {number}: not a name\n")
 }
 
 /// `sum S blocks B hits H misses M`.
@@ -182,6 +192,14 @@ pub(crate) fn stats_line(
     ensures { IfOk result (λ text. string_bytes text ≡ stats_line_of blocks hits misses blind) }
 {
     format!(in alloc; "blocks {blocks} hits {hits} misses {misses} blind {blind}\n")
+}
+
+/// `files F blocks B hits H misses M blind D`.
+pub(crate) fn files_line(alloc: Global, files: u64, stats: Stats) -> Result<String, AllocError>
+    ensures { IfOk result (λ text. string_bytes text ≡ files_line_of files stats) }
+{
+    let (blocks, hits, misses, blind) = (stats.blocks, stats.hits, stats.misses, stats.blind);
+    format!(in alloc; "files {files} blocks {blocks} hits {hits} misses {misses} blind {blind}\n")
 }
 
 /// Adds a number to a line, after a space.

@@ -3,6 +3,8 @@
 ghost use Rattle.std.specs.Prelude.{◌≡◌};
 ghost use Rattle.spf_cli_answers.specs.Status.{status_number};
 
+use std::alloc::AllocError;
+
 /// How the program ended.
 #[derive(Clone, Copy, PartialEq, Eq, Debug)]
 pub enum Status {
@@ -24,8 +26,19 @@ pub enum Status {
     OverLimit = 7,
     /// Memory ran out.
     NoMemory = 8,
-    /// The input isn't HUF1, or the machine isn't LEX1.
+    /// A file isn't of its format: HUF1, LEX1, a machine's text, or a list of names.
     WrongFormat = 9,
+}
+
+impl From<AllocError> for Status {
+    ghost use Rattle.std.specs.Prelude.{◌≡◌};
+    ghost use Rattle.spf_cli_answers.specs.declared.status.Status.TheVariants.{NoMemory};
+
+    ghost from_gives = { λ _ status. status ≡ NoMemory };
+
+    fn from(_: AllocError) -> Self {
+        Status::NoMemory
+    }
 }
 
 /// The number of a status.

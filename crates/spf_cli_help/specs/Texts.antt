@@ -24,12 +24,13 @@ help_text = lines (
     ∷ codes "  lex MACHINE INPUT            Split a text into tokens by a LEX1 machine"
     ∷ codes "  show MACHINE                 Show a LEX1 machine as a text"
     ∷ codes "  build TEXT                   Build the LEX1 machine of a text"
+    ∷ codes "  batch PROGRAM LIST           Run a program on each file of a list"
     ∷ codes "  demo KIND SEED SIZE WORKERS  Run a decoder on a generated input"
     ∷ []
-    ∷ codes "Options after the words of run, unpack, unhuff and lex, in this order:"
-    ∷ codes "  --block B      Split the input into blocks of B bytes (not for run; default: 1024)"
+    ∷ codes "Options after the words of run, unpack, unhuff, lex and batch, in this order:"
+    ∷ codes "  --block B      Split the input into blocks of B bytes (not for run and batch; default: 1024)"
     ∷ codes "  --workers N    Run the blocks with N workers (default: 4)"
-    ∷ codes "  --stats        Show how many guesses were right"
+    ∷ codes "  --stats        Show how many guesses were right (not for batch)"
     ∷ codes "  --cells        Show the cells of the arrays (only for run)"
     ∷ codes "  --plain        Run without guesses (only for run)"
     ∷ []
@@ -48,7 +49,7 @@ help_text = lines (
     ∷ codes "  6  The output could not be written"
     ∷ codes "  7  A file or the arrays are too large, or a host is missing"
     ∷ codes "  8  Memory ran out"
-    ∷ codes "  9  The input is not HUF1, or the machine is not LEX1, or the text is not a machine's"
+    ∷ codes "  9  A file is not of its format: HUF1, LEX1, the text of a machine, or a list of names"
     ∷ []
     ∷ codes "Example:"
     ∷ codes "  spf run examples/doubling.spf examples/empty --stats"
@@ -188,6 +189,25 @@ build_text = lines (
     ∷ []
     ∷ codes "Example:"
     ∷ codes "  spf build tokens.txt > tokens.lex"
+    ∷ [])
+
+-- the help of `batch`
+unfoldable pub batch_text : List ℕ
+batch_text = lines (
+    codes "Usage: spf batch PROGRAM LIST [--workers N]"
+    ∷ []
+    ∷ codes "Run the program in the file PROGRAM on one file after another."
+    ∷ codes "LIST is a file with one name on each line, at most 1,000. Hosts learn from file to file."
+    ∷ codes "The answers go to standard output. Each is a line, the output of the program, and a line end:"
+    ∷ codes "  NAME done length L              The program ended, after L bytes"
+    ∷ codes "  NAME trap KIND line N length L  The program trapped, after L bytes"
+    ∷ codes "A file that cannot be read or is too large ends the batch."
+    ∷ []
+    ∷ codes "Options:"
+    ∷ codes "  --workers N  Run the blocks with N workers, 1 to 64 (default: 4)"
+    ∷ []
+    ∷ codes "Example:"
+    ∷ codes "  spf --host vote batch examples/hosted.spf names.txt > answers"
     ∷ [])
 
 -- the help of `demo`

@@ -29,6 +29,8 @@ pub enum Page {
     Show,
     /// The help of `build`.
     Build,
+    /// The help of `batch`.
+    Batch,
     /// The help of `demo`.
     Demo,
 }
@@ -50,6 +52,7 @@ impl Page {
             Page::Lex => texts::LEX,
             Page::Show => texts::SHOW,
             Page::Build => texts::BUILD,
+            Page::Batch => texts::BATCH,
             Page::Demo => texts::DEMO,
         }
     }
@@ -87,6 +90,7 @@ fn command_page(name: &str, word: &str) -> Option<Page>
         "lex" => Some(Page::Lex),
         "show" => Some(Page::Show),
         "build" => Some(Page::Build),
+        "batch" => Some(Page::Batch),
         "demo" => Some(Page::Demo),
         _ => None,
     }

@@ -17,12 +17,13 @@ Commands:
   lex MACHINE INPUT            Split a text into tokens by a LEX1 machine
   show MACHINE                 Show a LEX1 machine as a text
   build TEXT                   Build the LEX1 machine of a text
+  batch PROGRAM LIST           Run a program on each file of a list
   demo KIND SEED SIZE WORKERS  Run a decoder on a generated input
 
-Options after the words of run, unpack, unhuff and lex, in this order:
-  --block B      Split the input into blocks of B bytes (not for run; default: 1024)
+Options after the words of run, unpack, unhuff, lex and batch, in this order:
+  --block B      Split the input into blocks of B bytes (not for run and batch; default: 1024)
   --workers N    Run the blocks with N workers (default: 4)
-  --stats        Show how many guesses were right
+  --stats        Show how many guesses were right (not for batch)
   --cells        Show the cells of the arrays (only for run)
   --plain        Run without guesses (only for run)
 
@@ -41,7 +42,7 @@ Exit status:
   6  The output could not be written
   7  A file or the arrays are too large, or a host is missing
   8  Memory ran out
-  9  The input is not HUF1, or the machine is not LEX1, or the text is not a machine's
+  9  A file is not of its format: HUF1, LEX1, the text of a machine, or a list of names
 
 Example:
   spf run examples/doubling.spf examples/empty --stats
@@ -171,6 +172,24 @@ The text has to be just as the command show writes it.
 
 Example:
   spf build tokens.txt > tokens.lex
+";
+
+/// The help of `batch`.
+pub(crate) const BATCH: &str = "\
+Usage: spf batch PROGRAM LIST [--workers N]
+
+Run the program in the file PROGRAM on one file after another.
+LIST is a file with one name on each line, at most 1,000. Hosts learn from file to file.
+The answers go to standard output. Each is a line, the output of the program, and a line end:
+  NAME done length L              The program ended, after L bytes
+  NAME trap KIND line N length L  The program trapped, after L bytes
+A file that cannot be read or is too large ends the batch.
+
+Options:
+  --workers N  Run the blocks with N workers, 1 to 64 (default: 4)
+
+Example:
+  spf --host vote batch examples/hosted.spf names.txt > answers
 ";
 
 /// The help of `demo`.

@@ -8,7 +8,7 @@ use Rattle.spf_edge.specs.declared.files.FetchError.{FetchError}
 use Rattle.spf_edge.specs.declared.files.FetchError.TheVariants.{Missing, Failed, TooLong, OutOfMemory}
 use Rattle.spf_edge.specs.Entries.{Entry, lookup}
 use Rattle.spf_edge.specs.Fetches.{Fetch, Gives, IsGiven}
-use Rattle.spf_cli_answers.specs.Answer.{Answer, not_understood, accepted, printed, text_refused, rule_refused, explained, file_failed, file_too_long, host_missing, not_huf1, not_lex1, not_a_machine, written, ran, shown}
+use Rattle.spf_cli_answers.specs.Answer.{Answer, not_understood, accepted, printed, text_refused, rule_refused, explained, file_failed, file_too_long, host_missing, not_huf1, not_lex1, not_a_machine, not_a_name, written, ran, shown}
 use Rattle.spf_apps_formats.specs.declared.generate.Kind.{Kind}
 use Rattle.spf_apps_programs.specs.PackBits.{packbits_program}
 use Rattle.spf_apps_programs.specs.Huffman.{huffman_program}
@@ -19,13 +19,20 @@ use Rattle.spf_apps_formats.specs.Laws.{Huf1HasOneVerdict, Lex1HasOneVerdict, Ea
 use Rattle.spf_apps_machine_text.specs.MachineText.{machine_text}
 use Rattle.spf_apps_machine_text.specs.Laws.{MachinesHaveOneText}
 use Rattle.spf_guess_statistics.specs.declared.stats.Stats.{Stats}
-use Rattle.spf_cli_words.specs.Command.{Command, Run, Check, Explain, Print, Unpack, Unhuff, Lex, Show, Build, Demo, Options, DecodeOptions, Asks}
+use Rattle.spf_guess_statistics.specs.Guess.{Hosts}
+use Rattle.spf_guess.specs.Missing.{missing_host}
+use Rattle.spf_ast.specs.Construct.{constructs_in}
+use Rattle.spf_batch.specs.Batch.{max_input as file_limit}
+use Rattle.spf_batch_lists.specs.Lists.{AreNames, IsBadAt}
+use Rattle.spf_batch_lists.specs.Laws.{ListsHaveOneVerdict}
+use Rattle.spf_cli_words.specs.Command.{Command, Run, Check, Explain, Print, Unpack, Unhuff, Lex, Show, Build, Batch, Demo, Options, DecodeOptions, Asks}
 use Rattle.spf_cli_words.specs.Only.{IsOnly}
 use Rattle.spf_cli_words.specs.Laws.{EachAsksForOneOrNone}
 use Rattle.spf_cli_answers.specs.Reading.{Verdict, Says, Refuses, IsVerdict}
 use Rattle.spf_cli_answers.specs.Decoded.{Unpacked, Unhuffed, Tokenized}
-use Rattle.spf_cli_answers.specs.Course.{Wanted, Is, Both, Either, Course, Ends, Unfetched, After, Fetches}
-use Rattle.spf_cli_answers.specs.Whole.{Handed, handed, Judged, Read, CheckedBy, Allowed, Explained, WithHosts, host_wanted, RunsTo, Runs, RunsOn, Decodes, Unpacking, Unhuffing, Lexing, WithHuf1, WithLex1, WithMachine, Demonstrates, WholeOf, Whole, block_of, run_options, by_blocks, demo_program, demo_input, max_program, max_machine, max_text, max_input}
+use Rattle.spf_cli_answers.specs.Course.{Wanted, Is, Both, Either, Course, Ends, Chosen, Unfetched, After, FetchesOr, Fetches}
+use Rattle.spf_cli_answers.specs.Batched.{batch_done, FileUnfetched, RunsFiles}
+use Rattle.spf_cli_answers.specs.Whole.{Handed, handed, Judged, Read, CheckedBy, Allowed, Explained, WithHosts, host_wanted, RunsTo, Runs, RunsOn, Decodes, Unpacking, Unhuffing, Lexing, WithHuf1, WithLex1, WithMachine, WithNames, Batches, BatchesOn, Demonstrates, WholeOf, Whole, block_of, run_options, by_blocks, demo_program, demo_input, max_program, max_machine, max_text, max_list, max_input}
 use Rattle.spf_cli_answers.specs.Laws.{RuleLaws, DecoderLaws}
 use Rattle.spf_cli_laws.specs.Laws.{VerdictsAreTheSame, NoTextIsLeftUnjudged, Over}
 
@@ -36,6 +43,7 @@ pub record FormatLaws : Type 0 where
   pub huf1 : Huf1HasOneVerdict
   pub lex1 : Lex1HasOneVerdict
   pub machines : MachinesHaveOneText
+  pub lists : ListsHaveOneVerdict
   pub generated : EachInputIsGeneratedOnce
   pub decoders : DecoderLaws
 
@@ -53,17 +61,17 @@ beyond : (a b : ℕ) → b < a → nat_le a b ≡ false
 beyond a b l = grind arith
 
 -- a fetch that goes on gave just that
-sure : (files : List Entry) (name : List ℕ) (limit : ℕ) (r : Result (List ℕ) FetchError) (next : List ℕ → Course) (fetches : List Fetch) (a : Answer)
-    → Gives (Some files) ⊥ name limit r → After name limit r next fetches a → r ≡ found (lookup files name) limit
+sure : (files : List Entry) (left : FetchError → Wanted) (name : List ℕ) (limit : ℕ) (r : Result (List ℕ) FetchError) (next : List ℕ → Course) (fetches : List Fetch) (a : Answer)
+    → (left OutOfMemory a → ⊥) → Gives (Some files) ⊥ name limit r → After left r next fetches a → r ≡ found (lookup files name) limit
 unfolding found
-sure files name limit (Ok content) next fetches a given after =
+sure files left name limit (Ok content) next fetches a none given after =
     sym (ap (λ o. found o limit) given.0 ∙ ap (λ b. if b then Ok content else Err TooLong) (within (length content) limit given.1))
-sure files name limit (Err Missing) next fetches a given after = sym (ap (λ o. found o limit) given)
-sure files name limit (Err Failed) next fetches a given after = absurd given
-sure files name limit (Err TooLong) next fetches a given after =
+sure files left name limit (Err Missing) next fetches a none given after = sym (ap (λ o. found o limit) given)
+sure files left name limit (Err Failed) next fetches a none given after = absurd given
+sure files left name limit (Err TooLong) next fetches a none given after =
     sym (ap (λ o. found o limit) given.1 ∙ ap (λ b. if b then Ok given.0 else Err TooLong) (beyond (length given.0) limit given.2))
-sure files name limit (Err OutOfMemory) next [] a given after = absurd after
-sure files name limit (Err OutOfMemory) next (fetch ∷ fetches) a given after = absurd after
+sure files left name limit (Err OutOfMemory) next [] a none given after = absurd (none after)
+sure files left name limit (Err OutOfMemory) next (fetch ∷ fetches) a none given after = absurd after
 
 -- ---- at most one answer
 
@@ -92,25 +100,33 @@ same_unfetched name limit Failed a b e f = e ∙ sym f
 same_unfetched name limit TooLong a b e f = e ∙ sym f
 same_unfetched name limit OutOfMemory a b e f = absurd e
 
-same_after : (files : List Entry) (name : List ℕ) (limit : ℕ) (r : Result (List ℕ) FetchError) (next : List ℕ → Course) → ((content : List ℕ) → AtMostOne (Over files (next content))) → AtMostOne (Over files (After name limit r next))
-same_after files name limit (Ok content) next f = f content
-same_after files name limit (Err error) next f = same_ends files (Unfetched name limit error) (same_unfetched name limit error)
+-- without a content there is one answer, and without memory none
+record IsOneEach (left : FetchError → Wanted) : Type 0 where
+  same : (error : FetchError) → AtMostOne (left error)
+  none : (a : Answer) → left OutOfMemory a → ⊥
 
-same_fetches : (files : List Entry) (name : List ℕ) (limit : ℕ) (next : List ℕ → Course) → ((content : List ℕ) → AtMostOne (Over files (next content))) → AtMostOne (Over files (Fetches name limit next))
-same_fetches files name limit next f a b x y = by x.0 y.0 x.1 y.1 x.2 y.2
+same_after : (files : List Entry) (left : FetchError → Wanted) (r : Result (List ℕ) FetchError) (next : List ℕ → Course) → IsOneEach left → ((content : List ℕ) → AtMostOne (Over files (next content))) → AtMostOne (Over files (After left r next))
+same_after files left (Ok content) next each f = f content
+same_after files left (Err error) next each f = same_ends files (left error) (each.same error)
+
+same_fetches_or : (files : List Entry) (left : FetchError → Wanted) (name : List ℕ) (limit : ℕ) (next : List ℕ → Course) → IsOneEach left → ((content : List ℕ) → AtMostOne (Over files (next content))) → AtMostOne (Over files (FetchesOr left name limit next))
+same_fetches_or files left name limit next each f a b x y = by x.0 y.0 x.1 y.1 x.2 y.2
   where
     gave : (fetch : Fetch) → fetch.name ≡ name → fetch.limit ≡ limit → IsGiven (Some files) ⊥ fetch → Gives (Some files) ⊥ name limit fetch.gave
     gave fetch n l given = subst (λ m. Gives (Some files) ⊥ m limit fetch.gave) n (subst (λ m. Gives (Some files) ⊥ fetch.name m fetch.gave) l given)
 
-    by : (xs ys : List Fetch) → AllByRecursion (IsGiven (Some files) ⊥) xs → AllByRecursion (IsGiven (Some files) ⊥) ys → Fetches name limit next xs a → Fetches name limit next ys b → a ≡ b
+    by : (xs ys : List Fetch) → AllByRecursion (IsGiven (Some files) ⊥) xs → AllByRecursion (IsGiven (Some files) ⊥) ys → FetchesOr left name limit next xs a → FetchesOr left name limit next ys b → a ≡ b
     by [] ys given others p q = absurd p
     by (x ∷ xs) [] given others p q = absurd q
     by (x ∷ xs) (y ∷ ys) given others p q =
-        let one = sure files name limit x.gave next xs a (gave x p.0 p.1 given.0) p.2 in
-        let other = sure files name limit y.gave next ys b (gave y q.0 q.1 others.0) q.2 in
-        same_after files name limit (found (lookup files name) limit) next f a b
-        (xs, given.1, subst (λ r. After name limit r next xs a) one p.2)
-        (ys, others.1, subst (λ r. After name limit r next ys b) other q.2)
+        let one = sure files left name limit x.gave next xs a (each.none a) (gave x p.0 p.1 given.0) p.2 in
+        let other = sure files left name limit y.gave next ys b (each.none b) (gave y q.0 q.1 others.0) q.2 in
+        same_after files left (found (lookup files name) limit) next each f a b
+        (xs, given.1, subst (λ r. After left r next xs a) one p.2)
+        (ys, others.1, subst (λ r. After left r next ys b) other q.2)
+
+same_fetches : (files : List Entry) (name : List ℕ) (limit : ℕ) (next : List ℕ → Course) → ((content : List ℕ) → AtMostOne (Over files (next content))) → AtMostOne (Over files (Fetches name limit next))
+same_fetches files name limit next f = same_fetches_or files (Unfetched name limit) name limit next (record { same = same_unfetched name limit; none = λ a h. h }) f
 
 same_judged : (files : List Entry) (v : Verdict) (next : Program → Course) → ((p : Program) → AtMostOne (Over files (next p))) → AtMostOne (Over files (Judged v next))
 same_judged files (Says p) next f = f p
@@ -191,6 +207,42 @@ same_machine laws files text next f a b x y = by x.2 y.2
     by (inr u) (inl v) = absurd (u.0 v.0 v.1)
     by (inr u) (inr v) = ends_said files not_a_machine x.0 a u.1 ∙ sym (ends_said files not_a_machine y.0 b v.1)
 
+same_names : ListsHaveOneVerdict → (files : List Entry) (list : List ℕ) (next : List (List ℕ) → Course) → ((names : List (List ℕ)) → AtMostOne (Over files (next names))) → AtMostOne (Over files (WithNames list next))
+same_names laws files list next f a b x y = by x.2 y.2
+  where
+    by : WithNames list next x.0 a → WithNames list next y.0 b → a ≡ b
+    by (inl u) (inl v) = f u.0 a b (x.0, x.1, u.2) (y.0, y.1, subst (λ names. next names y.0 b) (laws.names list v.0 u.0 v.1 u.1) v.2)
+    by (inl u) (inr v) = absurd (laws.apart list u.0 v.0 u.1 v.1)
+    by (inr u) (inl v) = absurd (laws.apart list v.0 u.0 v.1 u.1)
+    by (inr u) (inr v) = ends_said files (not_a_name u.0) x.0 a u.2 ∙ ap not_a_name (laws.one list u.0 v.0 u.1 v.1) ∙ sym (ends_said files (not_a_name v.0) y.0 b v.2)
+
+same_left : (p : Program) (done : List Entry) (name : List ℕ) (error : FetchError) → AtMostOne (FileUnfetched p done name error)
+same_left p done name Missing a b e f = e ∙ sym f
+same_left p done name Failed a b e f = e ∙ sym f
+same_left p done name TooLong a b e f = e ∙ sym f
+same_left p done name OutOfMemory a b e f = absurd e
+
+same_chosen : (files : List Entry) (b : Bool) (first second : Course) → AtMostOne (Over files first) → AtMostOne (Over files second) → AtMostOne (Over files (Chosen b first second))
+same_chosen files true first second f g = f
+same_chosen files false first second f g = g
+
+same_files : (files : List Entry) (hosts : Hosts) (p : Program) (done : List Entry) (names : List (List ℕ)) → AtMostOne (Over files (RunsFiles hosts p done names))
+same_files files hosts p done [] = same_ends files (Is (batch_done hosts p done)) (same_said (batch_done hosts p done))
+same_files files hosts p done (name ∷ names) =
+    same_fetches_or files (FileUnfetched p done name) name file_limit _ (record { same = same_left p done name; none = λ a h. h }) (λ content.
+    same_chosen files (nat_le (cell_count_of p (length content)) (max_cells p)) _ _
+    (same_files files hosts p (done ++ record { name = name; content = content } ∷ []) names) (same_ends files (Is _) (same_said _)))
+
+same_batches : (files : List Entry) (given : Handed) (p : Program) (names : List (List ℕ)) (missing : Option ℕ) → AtMostOne (Over files (Batches given p names missing))
+same_batches files given p names None = same_files files given.hosts p [] names
+same_batches files given p names (Some host) = same_ends files (Is (host_missing host)) (same_said (host_missing host))
+
+same_batch : ListsHaveOneVerdict → (files : List Entry) (given : Handed) (list : List ℕ) (p : Program) → AtMostOne (Over files (BatchesOn given list p))
+same_batch laws files given list p =
+    same_fetches files list max_list _ (λ bytes.
+    same_names laws files bytes (λ names. Batches given p names (missing_host given.count (constructs_in p.main))) (λ names.
+    same_batches files given p names (missing_host given.count (constructs_in p.main))))
+
 same_demo : EachInputIsGeneratedOnce → (decoder : Kind) (seed size : ℕ) → AtMostOne (Demonstrates decoder seed size)
 same_demo laws decoder seed size a b x y =
     let same = laws.one decoder seed size y.0 x.0 y.1 x.1 y.2 x.2 in
@@ -230,6 +282,9 @@ command_same laws one formats given (Show machine) files =
 command_same laws one formats given (Build text) files =
     same_fetches files text max_text _ (λ bytes.
     same_machine formats.machines files bytes (λ file. Ends (Is (written file))) (λ file. same_ends files (Is (written file)) (same_said (written file))))
+command_same laws one formats given (Batch program list workers) files =
+    same_fetches files program max_program _ (λ text. same_read one files text (λ p. CheckedBy p (BatchesOn given list p)) (λ p.
+    same_checked laws files p (BatchesOn given list p) (same_batch formats.lists files given list p)))
 command_same laws one formats given (Demo decoder seed size workers) files =
     same_ends files (Demonstrates decoder seed size) (same_demo formats.generated decoder seed size)
 
@@ -270,14 +325,18 @@ compare : (a b : ℕ) → (a ≤ b) ⊎ (b < a)
 compare a b = grind arith
 
 some_fetches : (files : List Entry) (name : List ℕ) (limit : ℕ) (next : List ℕ → Course) → ((content : List ℕ) → lookup files name ≡ Some content → HasOne (Over files (next content))) → HasOne (Over files (Fetches name limit next))
-some_fetches files name limit next f = by (lookup files name) refl
+some_fetches files name limit next f = some_fetches_or files (Unfetched name limit) name limit next (file_failed name, refl) (file_too_long name limit, refl) f
+
+some_fetches_or : (files : List Entry) (left : FetchError → Wanted) (name : List ℕ) (limit : ℕ) (next : List ℕ → Course) → HasOne (left Missing) → HasOne (left TooLong)
+    → ((content : List ℕ) → lookup files name ≡ Some content → HasOne (Over files (next content))) → HasOne (Over files (FetchesOr left name limit next))
+some_fetches_or files left name limit next missing long f = by (lookup files name) refl
   where
-    by : (held : Option (List ℕ)) → lookup files name ≡ held → HasOne (Over files (Fetches name limit next))
-    by None e = (file_failed name, (record { name = name; limit = limit; gave = Err Missing } ∷ [], (e, tt), (refl, refl, refl)))
+    by : (held : Option (List ℕ)) → lookup files name ≡ held → HasOne (Over files (FetchesOr left name limit next))
+    by None e = (missing.0, (record { name = name; limit = limit; gave = Err Missing } ∷ [], (e, tt), (refl, refl, missing.1)))
     by (Some content) e = elim (compare (length content) limit) [
       | inl l ↦ let one = f content e in
           (one.0, (record { name = name; limit = limit; gave = Ok content } ∷ one.1.0, ((e, l), one.1.1), (refl, refl, one.1.2)))
-      | inr l ↦ (file_too_long name limit, (record { name = name; limit = limit; gave = Err TooLong } ∷ [], ((content, e, l), tt), (refl, refl, refl)))
+      | inr l ↦ (long.0, (record { name = name; limit = limit; gave = Err TooLong } ∷ [], ((content, e, l), tt), (refl, refl, long.1)))
     ]
 
 some_read : (files : List Entry) (text : List ℕ) (next : Program → Course) → HasVerdict text → ((p : Program) → HasOne (Over files (next p))) → HasOne (Over files (Read text next))
@@ -341,6 +400,38 @@ some_machine laws files text next some =
       | inr none ↦ (not_a_machine, ([], tt, inr (none, refl)))
     ]
 
+-- a list is names, or has a first line that isn't one
+abbrev IsListed : List ℕ → Type 0
+IsListed list = ((names : List (List ℕ)) × AreNames list names) ⊎ ((number : ℕ) × IsBadAt list number)
+
+some_names : (files : List Entry) (list : List ℕ) (next : List (List ℕ) → Course) → IsListed list → ((names : List (List ℕ)) → HasOne (Over files (next names))) → HasOne (Over files (WithNames list next))
+some_names files list next listed some =
+    elim listed [
+      | inl h ↦ let one = some h.0 in (one.0, (one.1.0, one.1.1, inl (h.0, h.1, one.1.2)))
+      | inr r ↦ (not_a_name r.0, ([], tt, inr (r.0, r.1, refl)))
+    ]
+
+some_chosen : (files : List Entry) (b : Bool) (first second : Course) → HasOne (Over files first) → HasOne (Over files second) → HasOne (Over files (Chosen b first second))
+some_chosen files true first second f g = f
+some_chosen files false first second f g = g
+
+some_files : (files : List Entry) (hosts : Hosts) (p : Program) (done : List Entry) (names : List (List ℕ)) → HasOne (Over files (RunsFiles hosts p done names))
+some_files files hosts p done [] = some_ends files (Is (batch_done hosts p done)) (batch_done hosts p done, refl)
+some_files files hosts p done (name ∷ names) =
+    some_fetches_or files (FileUnfetched p done name) name file_limit _ (_, refl) (_, refl) (λ content e.
+    some_chosen files (nat_le (cell_count_of p (length content)) (max_cells p)) _ _
+    (some_files files hosts p (done ++ record { name = name; content = content } ∷ []) names) (some_ends files (Is _) (_, refl)))
+
+some_batches : (files : List Entry) (given : Handed) (p : Program) (names : List (List ℕ)) (missing : Option ℕ) → HasOne (Over files (Batches given p names missing))
+some_batches files given p names None = some_files files given.hosts p [] names
+some_batches files given p names (Some host) = some_ends files (Is (host_missing host)) (host_missing host, refl)
+
+some_batch : (files : List Entry) (given : Handed) (list : List ℕ) (p : Program) → ((bytes : List ℕ) → lookup files list ≡ Some bytes → IsListed bytes) → HasOne (Over files (BatchesOn given list p))
+some_batch files given list p listed =
+    some_fetches files list max_list _ (λ bytes e.
+    some_names files bytes (λ names. Batches given p names (missing_host given.count (constructs_in p.main))) (listed bytes e) (λ names.
+    some_batches files given p names (missing_host given.count (constructs_in p.main))))
+
 some_demo : EachInputIsGeneratedOnce → (decoder : Kind) (seed size : ℕ) → HasOne (Demonstrates decoder seed size)
 some_demo laws decoder seed size =
     let file = laws.some decoder seed size in
@@ -353,31 +444,38 @@ program_of (Run program input options) = program
 program_of (Check program) = program
 program_of (Explain program) = program
 program_of (Print program) = program
+program_of (Batch program list workers) = program
 program_of other = []
 
-some_command : RuleLaws → FormatLaws → (given : Handed) (command : Command) (files : List Entry) → ((text : List ℕ) → lookup files (program_of command) ≡ Some text → HasVerdict text) → HasOne (Over files (WholeOf given command))
-some_command laws formats given (Run program input options) files judged =
+-- that of its list, where it has one
+abbrev list_of : Command → List ℕ
+list_of (Batch program list workers) = list
+list_of other = []
+
+some_command : RuleLaws → FormatLaws → (given : Handed) (command : Command) (files : List Entry) → ((text : List ℕ) → lookup files (program_of command) ≡ Some text → HasVerdict text)
+    → ((bytes : List ℕ) → lookup files (list_of command) ≡ Some bytes → IsListed bytes) → HasOne (Over files (WholeOf given command))
+some_command laws formats given (Run program input options) files judged listed =
     some_fetches files program max_program _ (λ text e. some_read files text (λ p. Allowed options.plain p (RunsOn options given input p)) (judged text e) (λ p.
     some_allowed laws files options.plain p (RunsOn options given input p) (some_run files options given input p)))
-some_command laws formats given (Check program) files judged =
+some_command laws formats given (Check program) files judged listed =
     some_fetches files program max_program _ (λ text e. some_read files text (λ p. CheckedBy p (Ends (Is accepted))) (judged text e) (λ p.
     some_checked laws files p (Ends (Is accepted)) (some_ends files (Is accepted) (accepted, refl))))
-some_command laws formats given (Explain program) files judged =
+some_command laws formats given (Explain program) files judged listed =
     some_fetches files program max_program _ (λ text e. some_read files text (λ p. Ends (Explained p)) (judged text e) (λ p. some_ends files (Explained p) (some_explained laws p)))
-some_command laws formats given (Print program) files judged =
+some_command laws formats given (Print program) files judged listed =
     some_fetches files program max_program _ (λ text e. some_read files text (λ p. Ends (Is (printed p))) (judged text e) (λ p. some_ends files (Is (printed p)) (printed p, refl)))
-some_command laws formats given (Unpack input options) files judged =
+some_command laws formats given (Unpack input options) files judged listed =
     let p = packbits_program (block_of options) in
     some_fetches files input max_input (λ content. Ends (Unpacking options content)) (λ content e.
     some_ends files (Unpacking options content)
     (some_both (Decodes options p content) (Unpacked (block_of options) content) (formats.decoders.unpacked options content) (some_decoded options p content)))
-some_command laws formats given (Unhuff input options) files judged =
+some_command laws formats given (Unhuff input options) files judged listed =
     let p = huffman_program (block_of options) in
     some_fetches files input max_input (λ content. WithHuf1 content (Ends (Unhuffing options content))) (λ content e.
     some_huf1 formats.huf1 files content (Ends (Unhuffing options content)) (λ huf1.
     some_ends files (Unhuffing options content)
     (some_both (Decodes options p content) (Unhuffed (block_of options) content) (λ a. formats.decoders.unhuffed options content a huf1) (some_decoded options p content))))
-some_command laws formats given (Lex machine input options) files judged =
+some_command laws formats given (Lex machine input options) files judged listed =
     some_fetches files machine max_machine _ (λ table e.
     some_lex1 formats.lex1 files table (λ states classes. Fetches input max_input (λ content. Ends (Lexing options table states classes content))) (λ states classes lex1.
     let p = lexer_program (block_of options) states classes in
@@ -385,14 +483,17 @@ some_command laws formats given (Lex machine input options) files judged =
     some_ends files (Lexing options table states classes content)
     (some_both (Decodes options p (table ++ content)) (Tokenized (block_of options) table content)
     (λ a. formats.decoders.tokenized options states classes table content a lex1) (some_decoded options p (table ++ content))))))
-some_command laws formats given (Show machine) files judged =
+some_command laws formats given (Show machine) files judged listed =
     some_fetches files machine max_machine _ (λ table e.
     some_lex1 formats.lex1 files table (λ states classes. Ends (Is (written (machine_text table)))) (λ states classes lex1.
     some_ends files (Is (written (machine_text table))) (written (machine_text table), refl)))
-some_command laws formats given (Build text) files judged =
+some_command laws formats given (Build text) files judged listed =
     some_fetches files text max_text _ (λ bytes e.
     some_machine formats.machines files bytes (λ file. Ends (Is (written file))) (λ file. some_ends files (Is (written file)) (written file, refl)))
-some_command laws formats given (Demo decoder seed size workers) files judged =
+some_command laws formats given (Batch program list workers) files judged listed =
+    some_fetches files program max_program _ (λ text e. some_read files text (λ p. CheckedBy p (BatchesOn given list p)) (judged text e) (λ p.
+    some_checked laws files p (BatchesOn given list p) (some_batch files given list p listed)))
+some_command laws formats given (Demo decoder seed size workers) files judged listed =
     some_ends files (Demonstrates decoder seed size) (some_demo formats.generated decoder seed size)
 
 -- no list of words is left without an answer
@@ -406,11 +507,19 @@ none_unanswered laws left formats asks given words files never =
     same_text : (text other : List ℕ) → Some text ≡ Some other → text ≡ other
     same_text text other e = cc
 
+    by_list : (command : Command) → ((text : List ℕ) → lookup files (program_of command) ≡ Some text → HasVerdict text) → (held : Option (List ℕ)) → lookup files (list_of command) ≡ held
+        → ((answer : Answer) → Over files (WholeOf given command) answer → ⊥) → ⊥
+    by_list command judged None e unanswered =
+        let one = some_command laws formats given command files judged (λ bytes is. let none : None ≡ Some bytes = sym e ∙ is in absurd (cc)) in
+        unanswered one.0 one.1
+    by_list command judged (Some bytes) e unanswered =
+        let with_list = λ (listed : IsListed bytes).
+            let one = some_command laws formats given command files judged (λ other is. subst IsListed (same_text bytes other (sym e ∙ is)) listed) in
+            unanswered one.0 one.1 in
+        formats.lists.some bytes (λ names are. with_list (inl (names, are))) (λ number bad. with_list (inr (number, bad)))
+
     by_file : (command : Command) (held : Option (List ℕ)) → lookup files (program_of command) ≡ held → ((answer : Answer) → Over files (WholeOf given command) answer → ⊥) → ⊥
     by_file command None e unanswered =
-        let one = some_command laws formats given command files (λ text is. let none : None ≡ Some text = sym e ∙ is in absurd (cc)) in
-        unanswered one.0 one.1
+        by_list command (λ text is. let none : None ≡ Some text = sym e ∙ is in absurd (cc)) (lookup files (list_of command)) refl unanswered
     by_file command (Some text) e unanswered =
-        left text (λ v h.
-        let one = some_command laws formats given command files (λ other is. subst HasVerdict (same_text text other (sym e ∙ is)) (v, h)) in
-        unanswered one.0 one.1)
+        left text (λ v h. by_list command (λ other is. subst HasVerdict (same_text text other (sym e ∙ is)) (v, h)) (lookup files (list_of command)) refl unanswered)

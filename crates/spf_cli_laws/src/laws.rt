@@ -4,6 +4,7 @@ ghost use Rattle.spf_cli_laws.specs.Laws.{NoneHasTwoAnswers, NoneIsLeftUnanswere
 
 use spf_apps_formats::laws::{each_demo_input_is_generated_once, files_have_one_verdict};
 use spf_apps_machine_text::laws::machines_have_one_text;
+use spf_batch_lists::laws::lists_have_one_verdict;
 use spf_cli_answers::laws::{decoders_keep_their_formats, rules_say_one_thing};
 use spf_cli_words::laws::each_list_of_words_asks_for_one_command_or_none;
 use spf_parse::laws::{texts_say_writable_programs, tokens_go_wrong_once};
@@ -35,6 +36,7 @@ pub fn each_list_of_words_has_one_answer()
     each_text_has_one_verdict();
     files_have_one_verdict();
     machines_have_one_text();
+    lists_have_one_verdict();
     each_demo_input_is_generated_once();
     decoders_keep_their_formats();
     each_list_of_words_asks_for_one_command_or_none();

@@ -9,8 +9,8 @@ use Rattle.spf_edge.specs.Bytes.{Adds, AddsPrefix}
 use Rattle.spf_edge.specs.Puts.{SinkState, taken_whole, not_taken, put_of, HasPut, HasPutFirst}
 use Rattle.spf_edge.specs.declared.sink.PutError.{PutError}
 use Rattle.spf_edge.specs.declared.sink.PutError.TheVariants.{Failed, OutOfMemory}
-use Rattle.spf_edge.proofs.Taking.{adds_both, adds_whole, adds_none, adds_prefix_of_both, adds_prefix_of_more, puts_both, puts_none}
-use Rattle.spf_edge_pieces.specs.Pieces.{piece_size, ArePieces, AreTaken, AreTakenInPart, IsPutInPieces}
+use Rattle.spf_edge.proofs.Taking.{adds_both, adds_whole, adds_none, adds_empty_prefix, adds_prefix_of_both, adds_prefix_of_more, puts_both, puts_none}
+use Rattle.spf_edge_pieces.specs.Pieces.{piece_size, ArePieces, AreCut, AreCutEach, AreTaken, AreTakenInPart, IsPutInPieces}
 
 -- ---- pieces of bytes
 
@@ -71,6 +71,46 @@ taken-both first second before between now one two = record {
   took = subst (Adds before.taken now.taken) (sym (concat-append first second)) (adds_both before.taken between.taken now.taken (concat first) (concat second) one.took two.took);
   put = subst (HasPut before.puts now.puts) (sym (map-append taken_whole first second)) (puts_both before.puts between.puts now.puts (map taken_whole first) (map taken_whole second) one.put two.put);
 }
+
+-- the first of some pieces, after others were taken
+pub taken-part : (first second : List (List ℕ)) (before between now : SinkState) → AreTaken first before between → AreTakenInPart second between now → AreTakenInPart (first ++ second) before now
+taken-part first second before between now one two = record {
+  took = subst (AddsPrefix before.taken now.taken) (sym (concat-append first second)) (adds_prefix_of_both before.taken between.taken now.taken (concat first) (concat second) one.took two.took);
+  put = record {
+    whole = first ++ two.put.whole;
+    failed = two.put.failed;
+    rest = two.put.rest;
+    split = ap (λ ps. first ++ ps) two.put.split ∙ sym (append_assoc first two.put.whole (two.put.failed ++ two.put.rest));
+    one = two.put.one;
+    put = subst (HasPut before.puts now.puts)
+        (sym (ap (λ ps. ps ++ map not_taken two.put.failed) (map-append taken_whole first two.put.whole) ∙ append_assoc (map taken_whole first) (map taken_whole two.put.whole) (map not_taken two.put.failed)))
+        (puts_both before.puts between.puts now.puts (map taken_whole first) (map taken_whole two.put.whole ++ map not_taken two.put.failed) one.put two.put.put);
+  };
+}
+
+-- nothing was put
+pub none-taken : (pieces : List (List ℕ)) (before now : SinkState) → now ≡ before → AreTakenInPart pieces before now
+none-taken pieces before now same = record {
+  took = adds_empty_prefix before.taken now.taken (concat pieces) (ap (λ (s : SinkState). s.taken) same);
+  put = record {
+    whole = [];
+    failed = [];
+    rest = pieces;
+    split = refl;
+    one = omega arith;
+    put = puts_none before.puts now.puts (ap (λ (s : SinkState). s.puts) same);
+  };
+}
+
+-- texts are cut one after another
+pub cut-both : (first second pieces others : List (List ℕ)) → AreCutEach first pieces → AreCutEach second others → AreCutEach (first ++ second) (pieces ++ others)
+cut-both [] second pieces others none two = subst (λ p. AreCutEach second (p ++ others)) (sym none) two
+cut-both (answer ∷ first) second pieces others (own, rest, split, cut, each) two =
+    (own, rest ++ others, ap (λ p. p ++ others) split ∙ append_assoc own rest others, cut, cut-both first second rest others each two)
+
+-- one text is cut as it is
+pub cut-one : (text : List ℕ) (pieces : List (List ℕ)) → AreCut text pieces → AreCutEach (text ∷ []) pieces
+cut-one text pieces cut = (pieces, [], sym (append-nil pieces), cut, refl)
 
 -- one piece more of the bytes
 pub put-more : (bytes rest piece others : List ℕ) (before between now : SinkState) → IsPutUpTo bytes rest before between → rest ≡ piece ++ others

@@ -1,5 +1,5 @@
 -- How bytes are put on a sink: in pieces.
-use Rattle.std.specs.Prelude.{◌≡◌, ⊤, ℕ, ◌<◌, ◌≤◌, List, [], ◌∷◌, length, map, Result, OnOk}
+use Rattle.std.specs.Prelude.{◌≡◌, ⊤, ℕ, ◌<◌, ◌≤◌, List, [], ◌∷◌, ◌++◌, length, map, Result, OnOk}
 use Rattle.std.specs.List.{concat}
 use Rattle.spf_edge.specs.Bytes.{Adds, AddsPrefix}
 use Rattle.spf_edge.specs.Puts.{SinkState, taken_whole, HasPut, HasPutFirst}
@@ -20,6 +20,12 @@ ArePieces size (piece ∷ next ∷ pieces) = (length piece ≡ size) × ArePiece
 pub record AreCut (bytes : List ℕ) (pieces : List (List ℕ)) : Type 0 where
   pub all : concat pieces ≡ bytes
   pub sizes : ArePieces piece_size pieces
+
+-- texts are put in these pieces, one after another, each in pieces of its own
+abbrev pub AreCutEach : List (List ℕ) → List (List ℕ) → Type 0
+AreCutEach [] pieces = pieces ≡ []
+AreCutEach (text ∷ texts) pieces =
+    (own : List (List ℕ)) × (others : List (List ℕ)) × (pieces ≡ own ++ others) × AreCut text own × AreCutEach texts others
 
 -- these pieces were put on a sink, in order, and it took them whole
 pub record AreTaken (pieces : List (List ℕ)) (before now : SinkState) : Type 0 where

@@ -10,6 +10,7 @@ returns c =
       huf1 = c.files_have_one_verdict.ensures.huf1;
       lex1 = c.files_have_one_verdict.ensures.lex1;
       machines = c.machines_have_one_text.ensures;
+      lists = c.lists_have_one_verdict.ensures;
       generated = c.each_demo_input_is_generated_once.ensures;
       decoders = c.decoders_keep_their_formats.ensures;
     } in

@@ -1,6 +1,6 @@
 use Rattle.std.proofs.Common.{sym, ap}
 use Rattle.spf_cli_help.specs.Pages.{text_of}
-use Rattle.spf_cli_help.specs.Texts.{help_text, version_text, run_text, check_text, explain_text, print_text, unpack_text, unhuff_text, lex_text, show_text, build_text, demo_text}
+use Rattle.spf_cli_help.specs.Texts.{help_text, version_text, run_text, check_text, explain_text, print_text, unpack_text, unhuff_text, lex_text, show_text, build_text, batch_text, demo_text}
 use Rattle.spf_cli_help.proofs.help.Page.text.Goals as goal
 
 pub returns-in-Help : goal.returns-in-Help
@@ -46,6 +46,10 @@ returns-in-Show c = sym (ap text_of c.in-Show.is)
 pub returns-in-Build : goal.returns-in-Build
 unfolding build_text
 returns-in-Build c = sym (ap text_of c.in-Build.is)
+
+pub returns-in-Batch : goal.returns-in-Batch
+unfolding batch_text
+returns-in-Batch c = sym (ap text_of c.in-Batch.is)
 
 pub returns-in-Demo : goal.returns-in-Demo
 unfolding demo_text

@@ -1,0 +1,130 @@
+-- The steps to a batch that can begin.
+use Rattle.std.specs.Prelude.{Option, Some, None, Result, Ok, Err}
+use Rattle.std.proofs.Common.{◌≡◌, ℕ, List, [], ◌∷◌, ◌++◌, append_assoc, refl, sym, ap, ◌∙◌, subst, inl, inr}
+use Rattle.spf_ast.specs.Syntax.{Program}
+use Rattle.spf_ast.specs.Construct.{constructs_in}
+use Rattle.spf_check.specs.Accepting.{IsAccepted}
+use Rattle.spf_guess.specs.Missing.{missing_host}
+use Rattle.spf_edge.specs.declared.files.FetchError.{FetchError}
+use Rattle.spf_edge.specs.Fetches.{FilesState, Fetch, AreMade}
+use Rattle.spf_edge.proofs.Fetched.{made_none, made_both}
+use Rattle.spf_batch_lists.specs.Lists.{AreNames, IsBadAt}
+use Rattle.spf_batch_lists.specs.Laws.{ListsHaveOneVerdict}
+use Rattle.spf_cli_words.specs.Only.{IsOnly}
+use Rattle.spf_cli_answers.specs.Answer.{Answer, host_missing, not_a_name}
+use Rattle.spf_cli_answers.specs.Answering.{seen_answer, IsFollowed, AnswersWith}
+use Rattle.spf_cli_answers.specs.Batched.{RunsFiles}
+use Rattle.spf_cli_answers.specs.Course.{Wanted, Is, Course, Ends, FetchesOr, Fetches}
+use Rattle.spf_cli_answers.specs.Laws.{RuleLaws}
+use Rattle.spf_cli_answers.specs.Reading.{Says, IsVerdict}
+use Rattle.spf_cli_answers.specs.Replying.{LeadsTo, IsReady, IsNoList, IsListExit}
+use Rattle.spf_cli_answers.specs.Whole.{Handed, Judged, Read, CheckedBy, WithNames, Batches, max_list}
+use Rattle.spf_cli_answers.specs.declared.answer.Exit.{Exit}
+use Rattle.spf_cli_answers.specs.declared.answer.Exit.TheVariants.{Answered, NoMemory}
+use Rattle.spf_cli_answers.proofs.Steps.{answers_fetch, fetch_left, followed_end, only_same}
+
+-- ---- from a course to its rest
+
+-- no host is missing, and the files are what is left
+pub ready : (given : Handed) (p : Program) (names : List (List ℕ)) (state : FilesState) → missing_host given.count (constructs_in p.main) ≡ None
+    → IsReady given (Batches given p names (missing_host given.count (constructs_in p.main))) p names state state
+ready given p names state none = record {
+  complete = none;
+  leads = subst (λ m. LeadsTo (Batches given p names m) (RunsFiles given.hosts p [] names) state state) (sym none) (record {
+    fetches = [];
+    made = made_none state;
+    on = λ more a h. h;
+    back = λ more a h. h;
+  });
+}
+
+-- what leads on from a course that this one comes to, after these fetches, leads on from this one
+pub ready_by : (given : Handed) (course next : Course) (p : Program) (names : List (List ℕ)) (old mid new : FilesState) (fetches : List Fetch) → AreMade old mid fetches
+    → ((more : List Fetch) (a : Answer) → next more a → course (fetches ++ more) a) → ((more : List Fetch) (a : Answer) → course (fetches ++ more) a → next more a)
+    → IsReady given next p names mid new → IsReady given course p names old new
+ready_by given course next p names old mid new fetches made on back r = record {
+  complete = r.complete;
+  leads = record {
+    fetches = fetches ++ r.leads.fetches;
+    made = made_both old mid new fetches r.leads.fetches made r.leads.made;
+    on = λ more a h. subst (λ all. course all a) (sym (append_assoc fetches r.leads.fetches more)) (on (r.leads.fetches ++ more) a (r.leads.on more a h));
+    back = λ more a h. r.leads.back more a (back (r.leads.fetches ++ more) a (subst (λ all. course all a) (append_assoc fetches r.leads.fetches more) h));
+  };
+}
+
+pub ready_fetch : (given : Handed) (left : FetchError → Wanted) (name : List ℕ) (limit : ℕ) (next : List ℕ → Course) (content : List ℕ) (p : Program) (names : List (List ℕ)) (old mid new : FilesState)
+    → AreMade old mid (record { name = name; limit = limit; gave = Ok content } ∷ []) → IsReady given (next content) p names mid new → IsReady given (FetchesOr left name limit next) p names old new
+ready_fetch given left name limit next content p names old mid new made =
+    ready_by given (FetchesOr left name limit next) (next content) p names old mid new (record { name = name; limit = limit; gave = Ok content } ∷ []) made
+    (λ more a h. (refl, refl, h)) (λ more a h. h.2)
+
+pub ready_read : (given : Handed) (text : List ℕ) (q : Program) (next : Program → Course) (p : Program) (names : List (List ℕ)) (old new : FilesState)
+    → IsOnly (IsVerdict text) (Says q) → IsReady given (next q) p names old new → IsReady given (Read text next) p names old new
+ready_read given text q next p names old new v =
+    ready_by given (Read text next) (next q) p names old old new [] (made_none old)
+    (λ more a h. (Says q, v.is, h)) (λ more a h. subst (λ w. Judged w next more a) (v.only h.0 h.1) h.2)
+
+pub ready_accepted : RuleLaws → (given : Handed) (q : Program) (next : Course) (p : Program) (names : List (List ℕ)) (old new : FilesState)
+    → IsAccepted q → IsReady given next p names old new → IsReady given (CheckedBy q next) p names old new
+ready_accepted laws given q next p names old new accepted =
+    ready_by given (CheckedBy q next) next p names old old new [] (made_none old) (λ more a h. inl (accepted, h)) (λ more a h. back more a h)
+  where
+    back : (more : List Fetch) (a : Answer) → CheckedBy q next more a → next more a
+    back more a h = elim h [
+      | inl x ↦ x.1
+      | inr x ↦ absurd (laws.refused q x.0 x.1 x.2 x.3 accepted)
+    ]
+
+pub ready_names : ListsHaveOneVerdict → (given : Handed) (list : List ℕ) (found : List (List ℕ)) (next : List (List ℕ) → Course) (p : Program) (names : List (List ℕ)) (old new : FilesState)
+    → AreNames list found → IsReady given (next found) p names old new → IsReady given (WithNames list next) p names old new
+ready_names laws given list found next p names old new are =
+    ready_by given (WithNames list next) (next found) p names old old new [] (made_none old) (λ more a h. inl (found, are, h)) (λ more a h. back more a h)
+  where
+    back : (more : List Fetch) (a : Answer) → WithNames list next more a → next found more a
+    back more a h = elim h [
+      | inl x ↦ subst (λ ns. next ns more a) (laws.names list x.0 found x.1 are) x.2
+      | inr x ↦ absurd (laws.apart list found x.0 are x.1)
+    ]
+
+-- ---- where a batch can't begin
+
+-- a text is no list of names
+names_left : ListsHaveOneVerdict → (bytes : List ℕ) (next : List (List ℕ) → Course) (state : FilesState) (left : Exit) → IsListExit bytes left → AnswersWith (IsFollowed (WithNames bytes next) state state) (Err left)
+names_left laws bytes next state (Answered a) h = record {
+  fetches = [];
+  made = made_none state;
+  only = record { is = inr (h.0, h.1, h.2); only = λ b x. other b x };
+}
+  where
+    other : (b : Answer) → WithNames bytes next [] b → b ≡ seen_answer a
+    other b x = elim x [
+      | inl y ↦ absurd (laws.apart bytes y.0 h.0 y.1 h.1)
+      | inr z ↦ z.2 ∙ ap not_a_name (laws.one bytes z.0 h.0 z.1 h.1) ∙ sym h.2
+    ]
+names_left laws bytes next state NoMemory h = tt
+
+-- a list isn't to be had, or is none
+pub list_left : ListsHaveOneVerdict → (list : List ℕ) (next : List (List ℕ) → Course) (old new : FilesState) (left : Exit) → IsNoList old new list left
+    → AnswersWith (IsFollowed (Fetches list max_list (λ bytes. WithNames bytes next)) old new) (Err left)
+list_left laws list next old new (Answered a) h =
+    elim h [
+      | inl x ↦ fetch_left list max_list (λ bytes. WithNames bytes next) old new (Answered a) x
+      | inr x ↦ answers_fetch list max_list (λ bytes. WithNames bytes next) x.0 old new new (Err (Answered a)) x.1 (names_left laws x.0 next new (Answered a) x.2)
+    ]
+list_left laws list next old new NoMemory h = tt
+
+-- a list is names, and a host is missing
+pub host_left : (given : Handed) (p : Program) (names : List (List ℕ)) (host : ℕ) (state : FilesState) (a : Answer) → missing_host given.count (constructs_in p.main) ≡ Some host
+    → a ≡ host_missing host → IsFollowed (Batches given p names (missing_host given.count (constructs_in p.main))) state state a
+host_left given p names host state a some e =
+    subst (λ m. IsFollowed (Batches given p names m) state state a) (sym some) (followed_end (Is (host_missing host)) state a (only_same a (host_missing host) e))
+
+-- a list that is names leads on
+pub followed_names : ListsHaveOneVerdict → (list : List ℕ) (names : List (List ℕ)) (next : List (List ℕ) → Course) (old new : FilesState) (a : Answer) → AreNames list names → IsFollowed (next names) old new a → IsFollowed (WithNames list next) old new a
+followed_names laws list names next old new a are h = record { fetches = h.fetches; made = h.made; only = record { is = inl (names, are, h.only.is); only = λ b x. other b x } }
+  where
+    other : (b : Answer) → WithNames list next h.fetches b → b ≡ a
+    other b x = elim x [
+      | inl y ↦ h.only.only b (subst (λ ns. next ns h.fetches b) (laws.names list y.0 names y.1 are) y.2)
+      | inr z ↦ absurd (laws.apart list names z.0 are z.1)
+    ]

@@ -1,0 +1,26 @@
+//! What the words of a command line lead to.
+
+ghost use Rattle.std.specs.Prelude.{◌≡◌};
+ghost use Rattle.spf_cli_answers.specs.Replying.{reply_of};
+
+use crate::answer::{Answer, Exit};
+use crate::batch::Batch;
+
+/// What the words of a command line lead to.
+#[derive(Drop)]
+pub enum Reply {
+    /// The whole answer.
+    Answer(Answer),
+    /// A batch, whose answers go to the output as they come.
+    Batch(Batch),
+}
+
+/// An answer as a reply.
+pub(crate) fn replied(answer: Result<Answer, Exit>) -> Result<Reply, Exit>
+    ensures { result ≡ reply_of answer }
+{
+    match answer {
+        Ok(answer) => Ok(Reply::Answer(answer)),
+        Err(exit) => Err(exit),
+    }
+}
