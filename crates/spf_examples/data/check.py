@@ -48,7 +48,7 @@ def with_workers(words, count):
     """The words with `--workers count` after the files, where they are those of a run by blocks."""
     if count is None:
         return words
-    files = {"run": 2, "unpack": 1, "unhuff": 1, "lex": 2}
+    files = {"run": 2, "unpack": 1, "unhuff": 1, "lex": 2, "batch": 2}
     command = next((word for word in words if word in files), None)
     if command is None or "demo" in words or "--plain" in words:
         return None

@@ -25,6 +25,9 @@ fn files(alloc: Global, reader: &Reader, row: &Row) -> Result<MemFiles, AllocErr
     files.push(file(alloc, "P", reader.program.to_vec(alloc)?)?)?;
     files.push(file(alloc, "I", reader.input.to_vec(alloc)?)?)?;
     files.push(file(alloc, "M", toy_machine(alloc)?)?)?;
+    for (name, content) in &reader.others {
+        files.push(file(alloc, name, content.to_vec(alloc)?)?)?;
+    }
     Ok(MemFiles::make(files, row.failing_fetches.to_vec(alloc)?))
 }
 

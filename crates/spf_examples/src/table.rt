@@ -9,6 +9,7 @@
 //   number, counted from 0;
 // - `input TEXT`: the file `I` has this text; `bytes 1 2 0*65`: it has these bytes, here 0 65
 //   times; the file `M` is the toy machine;
+// - `file NAME 1 2 0*65`: a further file, of this name, has these bytes; it stays;
 // - `words WORDS`: the command line, with a space between any two words.
 //
 // The indented lines after it are what is wanted:
@@ -53,6 +54,8 @@ pub struct Reader<'a> {
     pub program: Vec<u8>,
     /// The content of the file `I`.
     pub input: Vec<u8>,
+    /// The further files: names and contents.
+    pub others: Vec<(&'a str, Vec<u8>)>,
     row: Option<Row<'a>>,
 }
 
@@ -178,6 +181,7 @@ impl<'a> Reader<'a> {
             alloc,
             program: Vec::new(alloc),
             input: Vec::new(alloc),
+            others: Vec::new(alloc),
             row: None,
         }
     }
@@ -218,6 +222,13 @@ impl<'a> Reader<'a> {
         } else if let Some(bytes) = line.strip_prefix("bytes ") {
             self.input.clear();
             add_bytes(&mut self.input, bytes)?;
+        } else if let Some(file) = line.strip_prefix("file ") {
+            let (name, bytes) = file.split_once(' ').unwrap_or((file, ""));
+            let mut content = Vec::new(self.alloc);
+            if !bytes.is_empty() {
+                add_bytes(&mut content, bytes)?;
+            }
+            self.others.push((name, content))?;
         }
         Ok(())
     }
