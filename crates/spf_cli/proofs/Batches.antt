@@ -256,7 +256,7 @@ same_some x y e = cc
 
 pub named : (p : Program) (names : List (List ℕ)) (before now : World) (error : BatchError) (st : IsStoppedAt p names before now error) (place : ℕ) → place ≡ length st.files → slice_get names place ≡ Some st.name
 named p names before now error st place e =
-    (λ i. slice_get (st.names_are i) ((e ∙ sym (length-map (λ (file : Entry). file.name) st.files)) i)) ∙ at_length (names_of st.files) st.name st.later
+    (λ i. slice_get (st.names_are i) ((e ∙ sym (length-map st.files (λ (file : Entry). file.name))) i)) ∙ at_length (names_of st.files) st.name st.later
 
 name_is : (p : Program) (names : List (List ℕ)) (before now : World) (error : BatchError) (st : IsStoppedAt p names before now error) (place : ℕ) (name : List ℕ) → place ≡ length st.files → slice_get names place ≡ Some name → name ≡ st.name
 name_is p names before now error st place name e is = same_some name st.name (sym is ∙ named p names before now error st place e)

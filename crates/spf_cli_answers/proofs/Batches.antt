@@ -1,6 +1,6 @@
 -- The steps to a batch that can begin.
 use Rattle.std.specs.Prelude.{Option, Some, None, Result, Ok, Err}
-use Rattle.std.proofs.Common.{◌≡◌, ℕ, List, [], ◌∷◌, ◌++◌, append_assoc, refl, sym, ap, ◌∙◌, subst, inl, inr}
+use Rattle.std.proofs.Common.{◌≡◌, ℕ, List, [], ◌∷◌, ◌++◌, append_assoc, map, string_bytes, refl, sym, ap, ◌∙◌, subst, inl, inr}
 use Rattle.spf_ast.specs.Syntax.{Program}
 use Rattle.spf_ast.specs.Construct.{constructs_in}
 use Rattle.spf_check.specs.Accepting.{IsAccepted}
@@ -10,6 +10,8 @@ use Rattle.spf_edge.specs.Fetches.{FilesState, Fetch, AreMade}
 use Rattle.spf_edge.proofs.Fetched.{made_none, made_both}
 use Rattle.spf_batch_lists.specs.Lists.{AreNames, IsBadAt}
 use Rattle.spf_batch_lists.specs.Laws.{ListsHaveOneVerdict}
+use Rattle.spf_ast.specs.View.{program}
+use Rattle.spf_cli_words.specs.Command.{Command, Asks}
 use Rattle.spf_cli_words.specs.Only.{IsOnly}
 use Rattle.spf_cli_answers.specs.Answer.{Answer, host_missing, not_a_name}
 use Rattle.spf_cli_answers.specs.Answering.{seen_answer, IsFollowed, AnswersWith}
@@ -17,11 +19,14 @@ use Rattle.spf_cli_answers.specs.Batched.{RunsFiles}
 use Rattle.spf_cli_answers.specs.Course.{Wanted, Is, Course, Ends, FetchesOr, Fetches}
 use Rattle.spf_cli_answers.specs.Laws.{RuleLaws}
 use Rattle.spf_cli_answers.specs.Reading.{Says, IsVerdict}
-use Rattle.spf_cli_answers.specs.Replying.{LeadsTo, IsReady, IsNoList, IsListExit}
-use Rattle.spf_cli_answers.specs.Whole.{Handed, Judged, Read, CheckedBy, WithNames, Batches, max_list}
+use Rattle.spf_cli_answers.specs.Replying.{LeadsTo, IsReady, IsNoList, IsListExit, IsReply, RepliesWith, reply_of}
+use Rattle.spf_cli_answers.specs.Whole.{Handed, Judged, Read, CheckedBy, WithNames, Batches, WholeOf, Whole, max_list}
+use Rattle.spf_cli_answers.specs.declared.answer.Answer as made
+use Rattle.spf_cli_answers.specs.declared.reply.Reply.{Reply}
+use Rattle.spf_cli_answers.specs.declared.reply.Reply.TheVariants as reply
 use Rattle.spf_cli_answers.specs.declared.answer.Exit.{Exit}
 use Rattle.spf_cli_answers.specs.declared.answer.Exit.TheVariants.{Answered, NoMemory}
-use Rattle.spf_cli_answers.proofs.Steps.{answers_fetch, fetch_left, followed_end, only_same}
+use Rattle.spf_cli_answers.proofs.Steps.{answers_fetch, fetch_left, followed_end, only_same, asked_words}
 
 -- ---- from a course to its rest
 
@@ -127,4 +132,27 @@ followed_names laws list names next old new a are h = record { fetches = h.fetch
     other b x = elim x [
       | inl y ↦ h.only.only b (subst (λ ns. next ns h.fetches b) (laws.names list y.0 names y.1 are) y.2)
       | inr z ↦ absurd (laws.apart list names z.0 are z.1)
+    ]
+
+-- ---- replies
+
+-- a reply that is an answer
+pub replied_so : (given : Handed) (course : Course) (old new : FilesState) (answer : Result made.Answer Exit) (r : Result Reply Exit) → r ≡ reply_of answer → AnswersWith (IsFollowed course old new) answer → RepliesWith given course old new r
+replied_so given course old new answer r e h = subst (RepliesWith given course old new) (sym e) (by answer h)
+  where
+    by : (x : Result made.Answer Exit) → AnswersWith (IsFollowed course old new) x → RepliesWith given course old new (reply_of x)
+    by (Ok a) h = h
+    by (Err left) h = h
+
+-- words that ask for a command lead to what that leads to
+pub asked_reply : (given : Handed) (words : List (List ℕ)) (command : Command) (old new : FilesState) (r : Reply) → IsOnly (Asks words) command → IsReply given (WholeOf given command) old new r → IsReply given (Whole given words) old new r
+asked_reply given words command old new (reply.Answer a) asks h = asked_words given words command old new (seen_answer a) asks h
+asked_reply given words command old new (reply.Batch b) asks h =
+    ready_by given (Whole given words) (WholeOf given command) (program b.checked) (map string_bytes b.names.items) old old new [] (made_none old)
+    (λ more a x. inl (command, asks.is, x)) (λ more a x. back more a x) h
+  where
+    back : (more : List Fetch) (a : Answer) → Whole given words more a → WholeOf given command more a
+    back more a x = elim x [
+      | inl y ↦ subst (λ k. WholeOf given k more a) (asks.only y.0 y.1) y.2
+      | inr z ↦ absurd (z.0 command asks.is)
     ]

@@ -18,6 +18,7 @@ ghost use Rattle.spf_cli_words.specs.Command.{IsUpTo, HasNumbers};
 ghost use Rattle.spf_cli_answers.specs.Reading.{IsVerdict, Says};
 ghost use Rattle.spf_check.specs.Accepting.{IsAccepted};
 ghost use Rattle.spf_cli_answers.specs.Answer.{refused as refused_answer};
+ghost use Rattle.spf_cli_answers.specs.Answer.{not_understood as not_understood_answer};
 ghost use Rattle.spf_cli_answers.specs.Answer.{accepted as accepted_answer};
 ghost use Rattle.spf_cli_answers.specs.Answer.{rule_refused as rule_refused_answer, file_failed};
 ghost use Rattle.spf_cli_answers.specs.Answer.{too_many_cells, host_missing, printed, stats_lines};
@@ -35,6 +36,7 @@ ghost use Rattle.spf_cli_answers.specs.Answering.{AnswersWith, IsRunToItsEnd, Is
 use crate::context::Context;
 use crate::message::{
     array_line, failed_line, host_line, long_line, rule_line, stats_line, too_many_line, trap_line,
+    words_line,
 };
 use crate::reading::{Unread, read_program, refusal_line};
 use crate::reply::{Reply, replied};
@@ -128,6 +130,13 @@ pub(crate) fn refused(alloc: Global, status: Status, line: String) -> Result<Ans
         (λ a. seen_answer a ≡ refused_answer (status_number status) (string_bytes line)) }
 {
     said(alloc, status, line.into_bytes())
+}
+
+/// The answer where the words aren't understood.
+fn not_understood(alloc: Global) -> Result<Answer, AllocError>
+    ensures { IfOk result (λ a. seen_answer a ≡ not_understood_answer) }
+{
+    refused(alloc, Status::NotUnderstood, words_line(alloc)?)
 }
 
 /// The answer where a file can't be had.
@@ -539,24 +548,24 @@ impl<'a, R: Threads + Wait + Sync, G: Gate + Sync> Context<'a, R, G> {
             (F.state files.old) (F.state files.new) result }
         ensures idle { IfOk result (λ reply. IsBatch reply → hosts.new ≡ hosts.old) }
     {
-        let answer = match command {
+        match command {
             Command::Run {
                 program,
                 input,
                 options,
-            } => self.run_files(program, input, options, files, hosts),
-            Command::Check { program } => check_file(self.alloc, program, files),
-            Command::Explain { program } => explain_file(self.alloc, program, files),
-            Command::Print { program } => print_file(self.alloc, program, files),
-            Command::Unpack { input, options } => self.unpack_file(input, options, files),
-            Command::Unhuff { input, options } => self.unhuff_file(input, options, files),
+            } => replied(self.run_files(program, input, options, files, hosts)),
+            Command::Check { program } => replied(check_file(self.alloc, program, files)),
+            Command::Explain { program } => replied(explain_file(self.alloc, program, files)),
+            Command::Print { program } => replied(print_file(self.alloc, program, files)),
+            Command::Unpack { input, options } => replied(self.unpack_file(input, options, files)),
+            Command::Unhuff { input, options } => replied(self.unhuff_file(input, options, files)),
             Command::Lex {
                 machine,
                 input,
                 options,
-            } => self.lex_files(machine, input, options, files),
-            Command::Show { machine } => show_file(self.alloc, machine, files),
-            Command::Build { text } => build_file(self.alloc, text, files),
+            } => replied(self.lex_files(machine, input, options, files)),
+            Command::Show { machine } => replied(show_file(self.alloc, machine, files)),
+            Command::Build { text } => replied(build_file(self.alloc, text, files)),
             Command::Batch {
                 program,
                 list,
@@ -564,16 +573,15 @@ impl<'a, R: Threads + Wait + Sync, G: Gate + Sync> Context<'a, R, G> {
             } => {
                 let count = hosts.len() as u64;
                 let batch = self.read_batch(program, list, workers, count, files)?;
-                return Ok(Reply::Batch(batch));
+                Ok(Reply::Batch(batch))
             }
             Command::Demo {
                 kind,
                 seed,
                 size,
                 workers,
-            } => self.demo(kind, seed, size, workers),
-        };
-        replied(answer)
+            } => replied(self.demo(kind, seed, size, workers)),
+        }
     }
 }
 
@@ -601,8 +609,8 @@ pub fn answer_words<R: Threads + Wait + Sync, F: Files, G: Gate + Sync>(
     let command = match read_words(alloc, words) {
         Ok(command) => command,
         Err(WordsError::NotUnderstood) => {
-            let line = String::from_str(alloc, "words not understood\n")?;
-            return Ok(Reply::Answer(refused(alloc, Status::NotUnderstood, line)?));
+            let given = not_understood(alloc)?;
+            return Ok(Reply::Answer(given));
         }
         Err(WordsError::OutOfMemory) => return Err(AllocError),
     };

@@ -5,6 +5,7 @@
 mod answer;
 mod at_hand;
 mod batch;
+mod batching;
 mod context;
 mod decoding;
 pub mod laws;
@@ -16,7 +17,8 @@ mod texts;
 
 pub use answer::{Answer, answer_words};
 pub use at_hand::answer_text;
-pub use batch::{Batch, Ending};
+pub use batch::Batch;
+pub use batching::Ending;
 pub use context::Context;
 pub use reply::Reply;
 pub use status::{Status, number};

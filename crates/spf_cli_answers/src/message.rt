@@ -5,6 +5,7 @@ ghost use Rattle.std.specs.Fmt.{signed_decimal};
 ghost use Rattle.spf_ast.specs.View.{name as seen_name, array as seen_array};
 ghost use Rattle.spf_check.specs.Text.{perhaps_range};
 ghost use Rattle.spf_cli_answers.specs.Message.{trap_line as trap_line_of};
+ghost use Rattle.spf_cli_answers.specs.Message.{words_line as words_line_of};
 ghost use Rattle.spf_cli_answers.specs.Message.{failed_line as failed_line_of};
 ghost use Rattle.spf_cli_answers.specs.Message.{long_line as long_line_of};
 ghost use Rattle.spf_cli_answers.specs.Message.{too_many_line as too_many_line_of};
@@ -46,6 +47,13 @@ pub(crate) fn trap_line(alloc: Global, trap: Trap) -> Result<String, AllocError>
         TrapKind::Blocks => format!(in alloc; "trap blocks line {line}\n"),
         TrapKind::Fail(number) => format!(in alloc; "trap fail {number} line {line}\n"),
     }
+}
+
+/// `words not understood`.
+pub(crate) fn words_line(alloc: Global) -> Result<String, AllocError>
+    ensures { IfOk result (λ text. string_bytes text ≡ words_line_of) }
+{
+    String::from_str(alloc, "words not understood\n")
 }
 
 /// `file NAME failed`.

@@ -1,7 +1,7 @@
 //! What the words of a command line lead to.
 
-ghost use Rattle.std.specs.Prelude.{◌≡◌};
-ghost use Rattle.spf_cli_answers.specs.Replying.{reply_of};
+ghost use Rattle.std.specs.Prelude.{◌≡◌, IfOk};
+ghost use Rattle.spf_cli_answers.specs.Replying.{reply_of, IsBatch};
 
 use crate::answer::{Answer, Exit};
 use crate::batch::Batch;
@@ -17,7 +17,8 @@ pub enum Reply {
 
 /// An answer as a reply.
 pub(crate) fn replied(answer: Result<Answer, Exit>) -> Result<Reply, Exit>
-    ensures { result ≡ reply_of answer }
+    ensures reply { result ≡ reply_of answer }
+    ensures answer { IfOk result (λ reply. IsBatch reply → ⊥) }
 {
     match answer {
         Ok(answer) => Ok(Reply::Answer(answer)),

@@ -33,7 +33,7 @@ returns-in-Err-NotMachine g c given =
     let old = g.F.Files.state c.args.files.now in
     let new = g.F.Files.state c.fetch.new.files in
     let content = c.in_ok-content.content.items in
-    let none : BelongsToNoMachine content = subst BelongsToNoMachine c.deref.ensures.value c.in-Err-NotMachine.ensures in
-    let a = c.in_ok-not_a_machine.field-0 in
+    let none : BelongsToNoMachine content = subst BelongsToNoMachine c.deref.ensures.value (rw c.in-Err-NotMachine.field-0-is at c.in-Err-NotMachine.ensures) in
+    let a = c.in_ok-not_a_machine-in-Err-NotMachine.field-0 in
     answers_fetch c.args.text.now max_text (λ bytes. WithMachine bytes (λ f. Ends (Is (written f)))) content old new new (Ok a) c.in_ok-content.ensures.content
-    (machine_left content (λ f. Ends (Is (written f))) new (seen_answer a) none c.in_ok-not_a_machine.ensures)
+    (machine_left content (λ f. Ends (Is (written f))) new (seen_answer a) none c.in_ok-not_a_machine-in-Err-NotMachine.ensures)

@@ -1,43 +1,68 @@
-use Rattle.std.proofs.Common.{map}
+use Rattle.std.specs.Prelude.{Err}
+use Rattle.std.proofs.Common.{rules, ◌≡◌, length, map, ◌∙◌}
+use Rattle.std.proofs.lemmas.List.{length-map}
+use Rattle.std.proofs.lemmas.Result.{err_from_is_err_and}
 use Rattle.spf_cli_answers.specs.Whole.{handed, Demonstrates}
 use Rattle.spf_cli_answers.proofs.Steps.{answers_end}
+use Rattle.spf_cli_answers.proofs.Batches.{replied_so}
 use Rattle.spf_cli_answers.proofs.context.Context.answer_command.Goals as goal
 
-pub returns-in-Run : goal.returns-in-Run
-returns-in-Run g c = rw c.in-Run.is c.run_files.ensures
+pub returns-in-Run-clause-reply : goal.returns-in-Run-clause-reply
+returns-in-Run-clause-reply g c =
+    rw c.in-Run.is (replied_so (handed (map (λ h. (goal.Predictor-dyn g (h.vtable, h.value)).answer h.value) c.args.hosts.now.items)) _ _ _ c.run_files.result c.replied.result c.replied.ensures.reply c.run_files.ensures)
 
-pub returns-in-Check : goal.returns-in-Check
-returns-in-Check g c =
-    rw c.in-Check.is (c.check_file.ensures (handed (map (λ h. (goal.Predictor-dyn g (h.vtable, h.value)).answer h.value) c.args.hosts.now.items)))
+pub returns-in-Check-clause-reply : goal.returns-in-Check-clause-reply
+returns-in-Check-clause-reply g c =
+    let given = (handed (map (λ h. (goal.Predictor-dyn g (h.vtable, h.value)).answer h.value) c.args.hosts.now.items)) in
+    rw c.in-Check.is (replied_so given _ _ _ c.check_file.result c.replied-in-Check.result c.replied-in-Check.ensures.reply (c.check_file.ensures given))
 
-pub returns-in-Explain : goal.returns-in-Explain
-returns-in-Explain g c =
-    rw c.in-Explain.is (c.explain_file.ensures (handed (map (λ h. (goal.Predictor-dyn g (h.vtable, h.value)).answer h.value) c.args.hosts.now.items)))
+pub returns-in-Explain-clause-reply : goal.returns-in-Explain-clause-reply
+returns-in-Explain-clause-reply g c =
+    let given = (handed (map (λ h. (goal.Predictor-dyn g (h.vtable, h.value)).answer h.value) c.args.hosts.now.items)) in
+    rw c.in-Explain.is (replied_so given _ _ _ c.explain_file.result c.replied-in-Explain.result c.replied-in-Explain.ensures.reply (c.explain_file.ensures given))
 
-pub returns-in-Print : goal.returns-in-Print
-returns-in-Print g c =
-    rw c.in-Print.is (c.print_file.ensures (handed (map (λ h. (goal.Predictor-dyn g (h.vtable, h.value)).answer h.value) c.args.hosts.now.items)))
+pub returns-in-Print-clause-reply : goal.returns-in-Print-clause-reply
+returns-in-Print-clause-reply g c =
+    let given = (handed (map (λ h. (goal.Predictor-dyn g (h.vtable, h.value)).answer h.value) c.args.hosts.now.items)) in
+    rw c.in-Print.is (replied_so given _ _ _ c.print_file.result c.replied-in-Print.result c.replied-in-Print.ensures.reply (c.print_file.ensures given))
 
-pub returns-in-Unpack : goal.returns-in-Unpack
-returns-in-Unpack g c =
-    rw c.in-Unpack.is (c.unpack_file.ensures (handed (map (λ h. (goal.Predictor-dyn g (h.vtable, h.value)).answer h.value) c.args.hosts.now.items)))
+pub returns-in-Unpack-clause-reply : goal.returns-in-Unpack-clause-reply
+returns-in-Unpack-clause-reply g c =
+    let given = (handed (map (λ h. (goal.Predictor-dyn g (h.vtable, h.value)).answer h.value) c.args.hosts.now.items)) in
+    rw c.in-Unpack.is (replied_so given _ _ _ c.unpack_file.result c.replied-in-Unpack.result c.replied-in-Unpack.ensures.reply (c.unpack_file.ensures given))
 
-pub returns-in-Unhuff : goal.returns-in-Unhuff
-returns-in-Unhuff g c =
-    rw c.in-Unhuff.is (c.unhuff_file.ensures (handed (map (λ h. (goal.Predictor-dyn g (h.vtable, h.value)).answer h.value) c.args.hosts.now.items)))
+pub returns-in-Unhuff-clause-reply : goal.returns-in-Unhuff-clause-reply
+returns-in-Unhuff-clause-reply g c =
+    let given = (handed (map (λ h. (goal.Predictor-dyn g (h.vtable, h.value)).answer h.value) c.args.hosts.now.items)) in
+    rw c.in-Unhuff.is (replied_so given _ _ _ c.unhuff_file.result c.replied-in-Unhuff.result c.replied-in-Unhuff.ensures.reply (c.unhuff_file.ensures given))
 
-pub returns-in-Lex : goal.returns-in-Lex
-returns-in-Lex g c =
-    rw c.in-Lex.is (c.lex_files.ensures (handed (map (λ h. (goal.Predictor-dyn g (h.vtable, h.value)).answer h.value) c.args.hosts.now.items)))
+pub returns-in-Lex-clause-reply : goal.returns-in-Lex-clause-reply
+returns-in-Lex-clause-reply g c =
+    let given = (handed (map (λ h. (goal.Predictor-dyn g (h.vtable, h.value)).answer h.value) c.args.hosts.now.items)) in
+    rw c.in-Lex.is (replied_so given _ _ _ c.lex_files.result c.replied-in-Lex.result c.replied-in-Lex.ensures.reply (c.lex_files.ensures given))
 
-pub returns-in-Show : goal.returns-in-Show
-returns-in-Show g c =
-    rw c.in-Show.is (c.show_file.ensures (handed (map (λ h. (goal.Predictor-dyn g (h.vtable, h.value)).answer h.value) c.args.hosts.now.items)))
+pub returns-in-Show-clause-reply : goal.returns-in-Show-clause-reply
+returns-in-Show-clause-reply g c =
+    let given = (handed (map (λ h. (goal.Predictor-dyn g (h.vtable, h.value)).answer h.value) c.args.hosts.now.items)) in
+    rw c.in-Show.is (replied_so given _ _ _ c.show_file.result c.replied-in-Show.result c.replied-in-Show.ensures.reply (c.show_file.ensures given))
 
-pub returns-in-Build : goal.returns-in-Build
-returns-in-Build g c =
-    rw c.in-Build.is (c.build_file.ensures (handed (map (λ h. (goal.Predictor-dyn g (h.vtable, h.value)).answer h.value) c.args.hosts.now.items)))
+pub returns-in-Build-clause-reply : goal.returns-in-Build-clause-reply
+returns-in-Build-clause-reply g c =
+    let given = (handed (map (λ h. (goal.Predictor-dyn g (h.vtable, h.value)).answer h.value) c.args.hosts.now.items)) in
+    rw c.in-Build.is (replied_so given _ _ _ c.build_file.result c.replied-in-Build.result c.replied-in-Build.ensures.reply (c.build_file.ensures given))
 
-pub returns-in-Demo : goal.returns-in-Demo
-returns-in-Demo g c =
-    rw c.in-Demo.is (answers_end (Demonstrates c.in-Demo.kind c.in-Demo.seed c.in-Demo.size) (g.F.Files.state c.args.files.now) c.demo.result c.demo.ensures)
+pub returns-in_err-batch-in-Batch-clause-reply : goal.returns-in_err-batch-in-Batch-clause-reply
+returns-in_err-batch-in-Batch-clause-reply g c =
+    let len : length c.args.hosts.now.items ≡ c.len-count.result = search rules in
+    let q = err_from_is_err_and c.from_residual.result c.from_residual.ensures.1 in
+    rw c.in-Batch.is (rw (q.1, q.2) (c.in_err-batch-in-Batch.ensures.left (handed (map (λ h. (goal.Predictor-dyn g (h.vtable, h.value)).answer h.value) c.args.hosts.now.items)) (length-map c.args.hosts.now.items _ ∙ len)))
+
+pub returns-in_ok-batch-in-Batch-clause-reply : goal.returns-in_ok-batch-in-Batch-clause-reply
+returns-in_ok-batch-in-Batch-clause-reply g c =
+    let len : length c.args.hosts.now.items ≡ c.len-count.result = search rules in
+    rw c.in-Batch.is (c.in_ok-batch-in-Batch.ensures.ready (handed (map (λ h. (goal.Predictor-dyn g (h.vtable, h.value)).answer h.value) c.args.hosts.now.items)) (length-map c.args.hosts.now.items _ ∙ len))
+
+pub returns-in-Demo-clause-reply : goal.returns-in-Demo-clause-reply
+returns-in-Demo-clause-reply g c =
+    rw c.in-Demo.is (replied_so (handed (map (λ h. (goal.Predictor-dyn g (h.vtable, h.value)).answer h.value) c.args.hosts.now.items)) _ _ _ c.demo.result c.replied-in-Demo.result c.replied-in-Demo.ensures.reply
+    (answers_end (Demonstrates c.in-Demo.kind c.in-Demo.seed c.in-Demo.size) (g.F.Files.state c.args.files.now) c.demo.result c.demo.ensures))
