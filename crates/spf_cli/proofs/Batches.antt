@@ -28,7 +28,7 @@ use Rattle.spf_cli_answers.specs.Message.{failed_line, long_line, too_many_line,
 use Rattle.spf_cli_answers.specs.Answer.{Answer}
 use Rattle.spf_cli_answers.specs.Batched.{batch_answer, batch_done, FileUnfetched, RunsFile, RunsFiles}
 use Rattle.spf_cli_answers.specs.Course.{Wanted, Is, Course, Ends, Chosen, After}
-use Rattle.spf_cli_answers.specs.Ending.{EndsWith, BreaksWith}
+use Rattle.spf_cli_answers.specs.Ending.{EndsWith, BreaksWith, NamesOneOf}
 use Rattle.spf_batch.specs.Batch.{max_input}
 use Rattle.spf_cli.specs.Answered.{Sinks, sinks, IsGivenInPart, IsBroken, IsBrokenOff, IsAnswered}
 
@@ -116,18 +116,18 @@ no_more p done said a e is = ([], ap (λ (x : Answer). x.out) e ∙ is ∙ sym (
 begins : (hosts : Hosts) (p : Program) (done : List Entry) (names : List (List ℕ)) (fetches : List FetchMade) (a : Answer) → RunsFiles hosts p done names fetches a → BeginsWith (map (file_answer p) done) a
 begins hosts p done [] fetches a h = no_more p done (batch_done hosts p done) a (ends_is (batch_done hosts p done) fetches a h) refl
 begins hosts p done (name ∷ names) [] a h = absurd h
-begins hosts p done (name ∷ names) (fetch ∷ fetches) a h = by fetch.gave h.2
+begins hosts p done (name ∷ names) (fetch ∷ fetches) a h = by (λ file r. begins hosts p (done ++ file ∷ []) names fetches a r) fetch.gave h.2
   where
-    with_content : (content : List ℕ) (b : Bool)
+    with_content : ((file : Entry) → RunsFiles hosts p (done ++ file ∷ []) names fetches a → BeginsWith (map (file_answer p) (done ++ file ∷ [])) a) → (content : List ℕ) (b : Bool)
         → Chosen b (RunsFiles hosts p (done ++ record { name = name; content = content } ∷ []) names) (Ends (Is (too_large p done (record { name = name; content = content })))) fetches a
         → BeginsWith (map (file_answer p) done) a
-    with_content content true r =
+    with_content later content true r =
         let file : Entry = record { name = name; content = content } in
-        let one = begins hosts p (done ++ file ∷ []) names fetches a r in (
+        let one = later file r in (
           file_answer p file ∷ one.0,
           one.1 ∙ ap (λ t. t ++ one.0) (map-append (file_answer p) done (file ∷ [])) ∙ append_assoc (map (file_answer p) done) (file_answer p file ∷ []) one.0,
         )
-    with_content content false r =
+    with_content later content false r =
         let file : Entry = record { name = name; content = content } in
         no_more p done (too_large p done file) a (ends_is (too_large p done file) fetches a r) refl
 
@@ -141,11 +141,11 @@ begins hosts p done (name ∷ names) (fetch ∷ fetches) a h = by fetch.gave h.2
         none [] r = absurd r
         none (f ∷ fs) r = absurd r
 
-    by : (gave : Result (List ℕ) FetchError)
+    by : ((file : Entry) → RunsFiles hosts p (done ++ file ∷ []) names fetches a → BeginsWith (map (file_answer p) (done ++ file ∷ [])) a) → (gave : Result (List ℕ) FetchError)
         → After (FileUnfetched p done name) gave (λ content. RunsFile p done (record { name = name; content = content }) (λ more. RunsFiles hosts p more names)) fetches a
         → BeginsWith (map (file_answer p) done) a
-    by (Ok content) r = with_content content (is_small p (record { name = name; content = content })) r
-    by (Err error) r = without error r
+    by later (Ok content) r = with_content later content (is_small p (record { name = name; content = content })) r
+    by later (Err error) r = without error r
 
 -- ---- a batch may always go on
 
@@ -264,8 +264,8 @@ name_is p names before now error st place name e is = same_some name st.name (sy
 fetch_ended : (p : Program) (names : List (List ℕ)) (before now : World) (place : ℕ) → IsStoppedAt p names before now (Fetch place) → HasEnded p names (Err (Fetch place)) before now
 fetch_ended p names before now place st =
     let said = batch_answer p st.files 5 (failed_line st.name) in
-    let ends = λ (status : ℕ) (lines : List (List ℕ)) (e : EndsWith p names (Err (Fetch place)) status lines).
-        (e.0, e.1.2 ∙ ap (λ n. failed_line n ∷ []) (name_is p names before now (Fetch place) st place e.1.0 st.stopped.0 e.1.1)) in
+    let ends : (status : ℕ) (lines : List (List ℕ)) → EndsWith p names (Err (Fetch place)) status lines → (status ≡ said.status) × (lines ≡ said.err) = λ status lines e.
+    (e.0, e.1.2 ∙ ap (λ n. failed_line n ∷ []) (name_is p names before now (Fetch place) st place e.1.0 st.stopped.0 e.1.1)) in
     elim st.stopped.2 [
       | inl missing ↦ ended_at p names before now (Fetch place) st (fetch_giving st.name (Err fetch_error.Missing)) said missing (record { is = (refl, refl, refl); only = λ b h. h.2 }) refl st.stopped.1.put ends
       | inr failed ↦ ended_at p names before now (Fetch place) st (fetch_giving st.name (Err fetch_error.Failed)) said failed (record { is = (refl, refl, refl); only = λ b h. h.2 }) refl st.stopped.1.put ends
@@ -374,7 +374,7 @@ rose-later a b c l rose = grind (arith, l, rose)
 put_broken : (p : Program) (names : List (List ℕ)) (before now : World) (err : SinkState) → IsStoppedAt p names before now Put
     → IsBrokenOff (RunsFiles before.hosts p [] names) before.files now.files 6 (quiet before.out now.out err)
 put_broken p names before now err st =
-    broken_put p names before now Put st st.stopped.1 6 err st.stopped.2
+    broken_put p names before now Put st st.stopped.1.0 6 err st.stopped.1.1
     (inr (refl, inl (rose-later before.out.faults st.between.out.faults now.out.faults st.run.put.later st.stopped.0)))
 
 memory_broken : (p : Program) (names : List (List ℕ)) (before now : World) (err : SinkState) → IsStoppedAt p names before now OutOfMemory
@@ -407,13 +407,21 @@ pub answered_whole : (p : Program) (names : List (List ℕ)) (came : Result Tota
     → IsAnswered (RunsFiles before.hosts p [] names) before.files now.files status (sinks before.out now.out err_before err_now)
 answered_whole p names came before now err_before err_now status said h e lines =
     let is = h.ends status said e in
-    inl (h.fetches, h.made, (h.answer, h.only, inl (record {
-      status_is = is.0;
-      pieces = h.put.pieces;
-      cut = h.put.cut;
-      out_took = h.put.taken;
-      err_took = subst (λ ls. AreTaken ls err_before err_now) is.1 lines;
-    })))
+    inl (
+      h.fetches,
+      h.made,
+      (
+        h.answer,
+        h.only,
+        inl (record {
+          status_is = is.0;
+          pieces = h.put.pieces;
+          cut = h.put.cut;
+          out_took = h.put.taken;
+          err_took = subst (λ ls. AreTaken ls err_before err_now) is.1 lines;
+        }),
+      ),
+    )
 
 -- or its line wasn't
 pub answered_part : (p : Program) (names : List (List ℕ)) (came : Result Totals BatchError) (before now : World) (err_before err_now : SinkState) (ending status : ℕ) (said : List (List ℕ))
@@ -421,16 +429,27 @@ pub answered_part : (p : Program) (names : List (List ℕ)) (came : Result Total
     → IsAnswered (RunsFiles before.hosts p [] names) before.files now.files status (sinks before.out now.out err_before err_now)
 answered_part p names came before now err_before err_now ending status said h e lines broken =
     let is = h.ends ending said e in
-    inl (h.fetches, h.made, (h.answer, h.only, inr (record {
-      texts = h.answer.out;
-      later = [];
-      out_is = sym (append-nil h.answer.out);
-      pieces = h.put.pieces;
-      cut = h.put.cut;
-      out_took = part-of-whole h.put.pieces before.out now.out h.put.taken;
-      err_took = subst (λ ls. AreTakenInPart ls err_before err_now) is.1 lines;
-      lines_wait = inl (refl, h.put.taken);
-    }, broken)))
+    inl (
+      h.fetches,
+      h.made,
+      (
+        h.answer,
+        h.only,
+        inr (
+          record {
+            texts = h.answer.out;
+            later = [];
+            out_is = sym (append-nil h.answer.out);
+            pieces = h.put.pieces;
+            cut = h.put.cut;
+            out_took = part-of-whole h.put.pieces before.out now.out h.put.taken;
+            err_took = subst (λ ls. AreTakenInPart ls err_before err_now) is.1 lines;
+            lines_wait = inl (refl, h.put.taken);
+          },
+          broken,
+        ),
+      ),
+    )
 
 -- or there was no memory for it
 line_lost : (p : Program) (names : List (List ℕ)) (came : Result Totals BatchError) (before now : World) (err : SinkState) (status : ℕ)
@@ -451,3 +470,13 @@ answered_broken p names before now err (Err (TooManyCells place count)) done sto
 answered_broken p names before now err (Err (NoHost number)) done stopped status e = let missing = stopped.0 in cc
 answered_broken p names before now err (Err Put) done stopped status e = broken_as (RunsFiles before.hosts p [] names) before.files now.files status 6 (quiet before.out now.out err) e (put_broken p names before now err stopped)
 answered_broken p names before now err (Err OutOfMemory) done stopped status e = broken_as (RunsFiles before.hosts p [] names) before.files now.files status 8 (quiet before.out now.out err) e (memory_broken p names before now err stopped)
+
+-- an error names a file of the list
+pub names_one : (p : Program) (names : List (List ℕ)) (missing : Option ℕ) (before now : World) (came : Result Totals BatchError) → IfErr came (IsStopped p names missing before now) → IfErr came (NamesOneOf names)
+names_one p names missing before now (Ok totals) stopped = tt
+names_one p names missing before now (Err (Fetch place)) stopped = (stopped.name, named p names before now (Fetch place) stopped place stopped.stopped.0)
+names_one p names missing before now (Err (TooLong place)) stopped = (stopped.name, named p names before now (TooLong place) stopped place stopped.stopped.0)
+names_one p names missing before now (Err (TooManyCells place count)) stopped = tt
+names_one p names missing before now (Err (NoHost number)) stopped = tt
+names_one p names missing before now (Err Put) stopped = tt
+names_one p names missing before now (Err OutOfMemory) stopped = tt

@@ -1,5 +1,5 @@
 -- What was answered, from what was put.
-use Rattle.std.specs.Prelude.{Option, Some, None}
+use Rattle.std.specs.Prelude.{Option, Some, None, Result, Ok, Err}
 use Rattle.std.specs.List.{AllByRecursion}
 use Rattle.std.proofs.Common.{◌≡◌, ◌⊎◌, ℕ, List, [], ◌∷◌, refl, sym, ◌∙◌, ◌++◌, append_assoc, arith, inl, inr, subst}
 use Rattle.spf_edge.specs.declared.sink.PutError.{PutError}
@@ -16,7 +16,8 @@ use Rattle.spf_edge.proofs.Fetched.{made_both}
 use Rattle.spf_cli_answers.specs.Laws.{HasFailed, StatusesHaveCauses}
 use Rattle.spf_cli_answers.specs.Whole.{Handed, AskForNothing, Whole}
 use Rattle.spf_cli.specs.Answered.{Sinks, IsGiven as IsAnswerGiven, IsGivenInPart, IsBroken, IsUntouched, IsPut, IsAnswered}
-use Rattle.spf_edge_pieces.specs.Pieces.{IsPutFault}
+use Rattle.spf_edge_pieces.specs.Pieces.{AreCutEach, AreTaken, AreTakenInPart, IsPutInPieces, IsPutFault}
+use Rattle.spf_edge_pieces.proofs.Parts.{cut-one, none-taken}
 use Rattle.spf_cli.specs.Putting.{put_status}
 
 -- an answer was given, with its status by another name
@@ -118,9 +119,7 @@ answered_rest course rest old mid new status s l h =
       | inl x ↦ inl (
         l.fetches ++ x.0,
         made_both old mid new l.fetches x.0 l.made x.1,
-        x.2.0,
-        record { is = l.on x.0 x.2.0 x.2.1.is; only = λ b y. x.2.1.only b (l.back x.0 b y) },
-        x.2.2,
+        (x.2.0, record { is = l.on x.0 x.2.0 x.2.1.is; only = λ b y. x.2.1.only b (l.back x.0 b y) }, x.2.2),
       )
       | inr r ↦ elim r [
         | inl u ↦ inr (inl u)
@@ -154,3 +153,46 @@ hand_cause wanted never status s h six =
       ]
       | inr u ↦ let eight = u.0 in absurd (omega (arith, six, eight))
     ]
+
+-- ---- answers with one text
+
+-- the first pieces of the text were put, and no line
+pub text_part : (a : Answer) (text : List ℕ) (r : Result (Unit {0}) PutError) (s : Sinks) → a.out ≡ text ∷ [] → IsPutInPieces text r s.out_before s.out_now → s.err_now ≡ s.err_before → IsGivenInPart a s
+text_part a text r s is put same = record {
+  texts = text ∷ [];
+  later = [];
+  out_is = is;
+  pieces = put.pieces;
+  cut = cut-one text put.pieces put.cut;
+  out_took = put.part;
+  err_took = none-taken a.err s.err_before s.err_now same;
+  lines_wait = inr same;
+}
+
+-- the text was put, and the first of the lines
+pub lines_part : (a : Answer) (text : List ℕ) (s : Sinks) → a.out ≡ text ∷ [] → IsPutInPieces text (Ok tt) s.out_before s.out_now → AreTakenInPart a.err s.err_before s.err_now → IsGivenInPart a s
+lines_part a text s is put lines = record {
+  texts = text ∷ [];
+  later = [];
+  out_is = is;
+  pieces = put.pieces;
+  cut = cut-one text put.pieces put.cut;
+  out_took = put.part;
+  err_took = lines;
+  lines_wait = inl (refl, put.whole);
+}
+
+-- both were put
+pub text_whole : (a : Answer) (text : List ℕ) (s : Sinks) → a.out ≡ text ∷ [] → IsPutInPieces text (Ok tt) s.out_before s.out_now → AreTaken a.err s.err_before s.err_now → IsAnswerGiven a a.status s
+text_whole a text s is put lines = record {
+  status_is = refl;
+  pieces = put.pieces;
+  cut = subst (λ texts. AreCutEach texts put.pieces) (sym is) (cut-one text put.pieces put.cut);
+  out_took = put.whole;
+  err_took = lines;
+}
+
+-- a fault of the error stream is one of a sink
+pub line_fault : (A B : Type 0) (error : PutError) → IsPutFault B error → IsPutFault (A ⊎ B) error
+line_fault A B put_error.Failed h = inr h
+line_fault A B put_error.OutOfMemory h = tt

@@ -324,9 +324,6 @@ some_ends files wanted one = (one.0, ([], tt, one.1))
 compare : (a b : ℕ) → (a ≤ b) ⊎ (b < a)
 compare a b = grind arith
 
-some_fetches : (files : List Entry) (name : List ℕ) (limit : ℕ) (next : List ℕ → Course) → ((content : List ℕ) → lookup files name ≡ Some content → HasOne (Over files (next content))) → HasOne (Over files (Fetches name limit next))
-some_fetches files name limit next f = some_fetches_or files (Unfetched name limit) name limit next (file_failed name, refl) (file_too_long name limit, refl) f
-
 some_fetches_or : (files : List Entry) (left : FetchError → Wanted) (name : List ℕ) (limit : ℕ) (next : List ℕ → Course) → HasOne (left Missing) → HasOne (left TooLong)
     → ((content : List ℕ) → lookup files name ≡ Some content → HasOne (Over files (next content))) → HasOne (Over files (FetchesOr left name limit next))
 some_fetches_or files left name limit next missing long f = by (lookup files name) refl
@@ -338,6 +335,9 @@ some_fetches_or files left name limit next missing long f = by (lookup files nam
           (one.0, (record { name = name; limit = limit; gave = Ok content } ∷ one.1.0, ((e, l), one.1.1), (refl, refl, one.1.2)))
       | inr l ↦ (long.0, (record { name = name; limit = limit; gave = Err TooLong } ∷ [], ((content, e, l), tt), (refl, refl, long.1)))
     ]
+
+some_fetches : (files : List Entry) (name : List ℕ) (limit : ℕ) (next : List ℕ → Course) → ((content : List ℕ) → lookup files name ≡ Some content → HasOne (Over files (next content))) → HasOne (Over files (Fetches name limit next))
+some_fetches files name limit next f = some_fetches_or files (Unfetched name limit) name limit next (file_failed name, refl) (file_too_long name limit, refl) f
 
 some_read : (files : List Entry) (text : List ℕ) (next : Program → Course) → HasVerdict text → ((p : Program) → HasOne (Over files (next p))) → HasOne (Over files (Read text next))
 some_read files text next v f = let judged = by_verdict v.0 in (judged.0, (judged.1.0, judged.1.1, (v.0, v.1, judged.1.2)))
@@ -514,8 +514,8 @@ none_unanswered laws left formats asks given words files never =
         unanswered one.0 one.1
     by_list command judged (Some bytes) e unanswered =
         let with_list = λ (listed : IsListed bytes).
-            let one = some_command laws formats given command files judged (λ other is. subst IsListed (same_text bytes other (sym e ∙ is)) listed) in
-            unanswered one.0 one.1 in
+        let one = some_command laws formats given command files judged (λ other is. subst IsListed (same_text bytes other (sym e ∙ is)) listed) in
+        unanswered one.0 one.1 in
         formats.lists.some bytes (λ names are. with_list (inl (names, are))) (λ number bad. with_list (inr (number, bad)))
 
     by_file : (command : Command) (held : Option (List ℕ)) → lookup files (program_of command) ≡ held → ((answer : Answer) → Over files (WholeOf given command) answer → ⊥) → ⊥
