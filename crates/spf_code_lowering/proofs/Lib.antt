@@ -1,4 +1,3 @@
-pub mod Trees
 pub mod Registers
 pub mod Expressions
 pub mod Conditions
@@ -17,3 +16,4 @@ pub mod Parts
 pub mod Settings
 pub mod Fitted
 pub mod Rows
+pub mod Same
