@@ -30,7 +30,6 @@ use Rattle.spf_engine_laws.specs.Passed.{PassedConstruct, where_blocks, passed_f
 use Rattle.spf_engine_laws.specs.Progress.{Progress, HasCome, BlocksComeTo, entry_there, guess_there, with_construct}
 use Rattle.spf_engine_laws.specs.Laws.{ConstructsSettle, ConstructsEndRuns}
 use Rattle.spf_engine.specs.declared.step.Step.{Step}
-use Rattle.spf_engine.specs.declared.step.Step.TheVariants as step
 use Rattle.spf_engine.specs.Runs.{IsThere, IsSettledSo, HasEntered}
 
 -- ---- blocks of a header

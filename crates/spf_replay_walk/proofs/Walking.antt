@@ -1,17 +1,15 @@
 -- What a walk comes to.
-use Rattle.std.proofs.Common.{◌≡◌, ◌↔◌, ℕ, zero, suc, ◌<◌, List, [], ◌∷◌, ◌++◌, map, Option, Some, None, refl, sym, ap, ◌∙◌, subst}
+use Rattle.std.proofs.Common.{◌≡◌, ◌↔◌, ℕ, zero, suc, List, [], ◌∷◌, ◌++◌, Option, Some, None, refl, sym, ap, subst}
 use Rattle.std.specs.Prelude.{slice_get}
-use Rattle.spf_ast.specs.Carried.{Carried}
 use Rattle.spf_ast.specs.Syntax.{Program}
 use Rattle.spf_ast.specs.Construct.{Construct, constructs_in, Reached, reals}
-use Rattle.spf_ast.specs.Program.{Outcome}
 use Rattle.spf_exec.specs.Pieces.{Stand}
 use Rattle.spf_speculation.specs.Steps.{Step}
 use Rattle.spf_guess_statistics.specs.Guess.{Hosts, Telling, tells}
 use Rattle.spf_guess_statistics.specs.Statistics.{tally}
 use Rattle.spf_guess.specs.Answers.{WereTold}
 use Rattle.spf_engine_laws.specs.Passed.{PassedConstruct, where_blocks, passed_plainly, all_passed_from, all_passed, OneByOne, PassedAlike}
-use Rattle.spf_engine_laws.specs.Progress.{Progress, HasCome, IsWhole}
+use Rattle.spf_engine_laws.specs.Progress.{Progress, IsWhole}
 use Rattle.spf_ast.specs.declared.outcome.Trap.{Trap}
 use Rattle.spf_engine.specs.declared.step.Step as taken
 use Rattle.spf_engine.specs.declared.step.Step.TheVariants as step

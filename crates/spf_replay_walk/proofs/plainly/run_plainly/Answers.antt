@@ -1,10 +1,9 @@
-use Rattle.std.proofs.Common.{◌≡◌, ◌∙◌, List, ℤ, length, sym, ap, subst}
+use Rattle.std.proofs.Common.{sym, subst}
 use Rattle.spf_ast.specs.Construct.{part_of}
 use Rattle.spf_ast.specs.ConstructView.{construct as seen_construct}
 use Rattle.spf_ast.specs.Lawful.{IsLawful}
 use Rattle.spf_check.specs.Accepting.{IsAccepted}
 use Rattle.spf_exec_instance.specs.Instance.{program_of}
-use Rattle.spf_replay.specs.Plainly.{AreRunPlainly, entry_from}
 use Rattle.spf_engine_laws.proofs.Constructs.{emits-none}
 use Rattle.spf_replay_walk.proofs.plainly.run_plainly.Goals as goal
 

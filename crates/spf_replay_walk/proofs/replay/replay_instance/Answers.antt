@@ -1,10 +1,8 @@
-use Rattle.std.proofs.Common.{◌∙◌, sym, subst, refl, [], map}
+use Rattle.std.proofs.Common.{◌∙◌, sym, subst, refl, map}
 use Rattle.spf_ast.specs.Lawful.{IsLawful}
 use Rattle.spf_exec_instance.specs.Instance.{program_of}
-use Rattle.spf_guess_statistics.specs.Statistics.{none}
 use Rattle.spf_guess.specs.Answers.{handed_in}
 use Rattle.spf_engine_laws.specs.Progress.{no_progress}
-use Rattle.spf_engine.specs.Runs.{GoesFurther}
 use Rattle.spf_engine.proofs.Stepping.{if-err, told-nothing, goes-on-so}
 use Rattle.spf_replay_walk.specs.Judging.{seen_log}
 use Rattle.spf_replay_walk.proofs.Walking.{whole-verdict, walk-finishes, walk-traps}
