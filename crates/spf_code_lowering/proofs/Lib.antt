@@ -1,3 +1,4 @@
+pub mod Trees
 pub mod Registers
 pub mod Expressions
 pub mod Conditions
@@ -16,4 +17,3 @@ pub mod Parts
 pub mod Settings
 pub mod Fitted
 pub mod Rows
-pub mod Same

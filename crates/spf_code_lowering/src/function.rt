@@ -3,14 +3,13 @@
 ghost use Rattle.std.specs.Prelude.{◌≡◌, ℕ, length, map, IfOk};
 ghost use Rattle.spf_ast.specs.View.{function as seen_function};
 ghost use Rattle.spf_ast.specs.Meaning.{callable_before};
-ghost use Rattle.spf_code.specs.InstructionView.{code};
+ghost use Rattle.spf_code.specs.NodeView.{code};
 ghost use Rattle.spf_code_lowering.specs.Lowering.{IsCodeOf, AreCodesOf};
 
 use crate::expression::{Scope, hold};
 use crate::statement::block;
 use spf_ast::syntax::Function;
 use spf_code::function::FunctionCode;
-use spf_code_flat::flat::flat;
 use std::alloc::{AllocError, Global};
 
 /// How many slots a function has.
@@ -46,7 +45,7 @@ pub fn function(
     let held = hold(&scope, source.answer_line, own, &source.answer, &mut made)?;
     Ok(FunctionCode {
         slots: own,
-        code: flat(alloc, &made)?,
+        code: made,
         register: held.register,
     })
 }

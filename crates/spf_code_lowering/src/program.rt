@@ -11,11 +11,11 @@ ghost use Rattle.spf_ast.specs.View.{block as seen_block, function as seen_funct
 ghost use Rattle.spf_ast.specs.View.{program as seen_program, fold_head, pair_head};
 ghost use Rattle.spf_ast.specs.Meaning.{callable_before};
 ghost use Rattle.spf_code.specs.Code.{code_sets};
-ghost use Rattle.spf_code.specs.InstructionView.{code};
+ghost use Rattle.spf_code.specs.NodeView.{code};
 ghost use Rattle.spf_code_lowering.specs.Lowering.{IsRowCode, IsExpressionCode, IsGuessCode};
 ghost use Rattle.spf_code_lowering.specs.Lowering.{AreGuessCodes, IsFoldCode, IsPairCode};
 ghost use Rattle.spf_code_lowering.specs.Lowering.{IsConstructCode, AreConstructCodes};
-ghost use Rattle.spf_code_lowering.specs.Lowering.{AreStatementCodes, AreRun, IsRun, IsCodeOfProgram};
+ghost use Rattle.spf_code_lowering.specs.Lowering.{AreStatementCodes, IsRun, IsCodeOfProgram};
 ghost use Rattle.spf_code_lowering.specs.Lowering.{SetsWhatIsChanged, SetsNoSlot};
 
 use crate::expression::{Scope, count_of, hold, pass};
@@ -23,9 +23,8 @@ use crate::function::functions;
 use crate::statement::{block, statement};
 use spf_ast::construct::{ConstructKind, TopConstruct, as_construct};
 use spf_ast::syntax::{Expr, Fold, Pair, Predict, Program, Stmt};
-use spf_code::instruction::Instruction;
+use spf_code::node::Node;
 use spf_code::program::{ConstructCode, HeaderCode, ProgramCode, RowCode, ValueCode};
-use spf_code_flat::flat::flat;
 use std::alloc::{AllocError, Global};
 
 /// How many slots there are.
@@ -55,7 +54,7 @@ fn row_code(
     let mut nodes = block(scope, statements)?;
     pass(scope, line, scope.own, row, &mut nodes)?;
     Ok(RowCode {
-        nodes: flat(scope.alloc, &nodes)?,
+        nodes,
         register: scope.own,
         width: count_of(row)?,
     })
@@ -72,7 +71,7 @@ fn expression_code(scope: &Scope, line: u32, value: &Expr) -> Result<ValueCode, 
     let mut nodes = Vec::new(scope.alloc);
     let held = hold(scope, line, scope.own, value, &mut nodes)?;
     Ok(ValueCode {
-        nodes: flat(scope.alloc, &nodes)?,
+        nodes,
         register: held.register,
     })
 }
@@ -126,19 +125,6 @@ fn guess_codes(scope: &Scope, line: u32, predict: &[Predict]) -> Result<Vec<Valu
     Ok(codes)
 }
 
-/// The code of a block.
-fn block_code(scope: &Scope, statements: &[Stmt]) -> Result<Vec<Instruction>, AllocError>
-    ensures code { (calls : ℕ → ℕ)
-        → IfOk result (λ k. AreRun
-        (callable_before (map seen_function scope.now.functions.now) scope.now.below) calls
-        scope.now.own (seen_block statements.now) (code k.items)) }
-    ensures sets { IfOk result
-        (λ k. SetsWhatIsChanged scope.now.own (seen_block statements.now) (code k.items)) }
-{
-    let nodes = block(scope, statements)?;
-    flat(scope.alloc, &nodes)
-}
-
 /// The code of a fold's parts.
 fn fold_code(scope: &Scope, line: u32, fold: &Fold) -> Result<ConstructCode, AllocError>
     ensures code { (calls : ℕ → ℕ)
@@ -175,7 +161,7 @@ fn pair_code(scope: &Scope, line: u32, pair: &Pair) -> Result<ConstructCode, All
         high: no_value(scope.alloc),
     };
     let first = row_code(scope, &pair.producer, pair.give_line, &pair.give)?;
-    let consumer = block_code(scope, &pair.consumer)?;
+    let consumer = block(scope, &pair.consumer)?;
     let guesses = guess_codes(scope, line, &pair.predict)?;
     Ok(ConstructCode {
         header,
@@ -216,7 +202,7 @@ fn construct_codes(scope: &Scope, main: &[Stmt]) -> Result<Vec<ConstructCode>, A
 }
 
 /// The code of one statement.
-fn statement_code(scope: &Scope, stmt: &Stmt) -> Result<Vec<Instruction>, AllocError>
+fn statement_code(scope: &Scope, stmt: &Stmt) -> Result<Vec<Node>, AllocError>
     ensures code { (calls : ℕ → ℕ)
         → IfOk result (λ k. IsRun
         (callable_before (map seen_function scope.now.functions.now) scope.now.below) calls
@@ -224,11 +210,11 @@ fn statement_code(scope: &Scope, stmt: &Stmt) -> Result<Vec<Instruction>, AllocE
 {
     let mut nodes = Vec::new(scope.alloc);
     statement(scope, stmt.line, &stmt.kind, &mut nodes)?;
-    flat(scope.alloc, &nodes)
+    Ok(nodes)
 }
 
 /// The code of each of these statements.
-fn statement_codes(scope: &Scope, main: &[Stmt]) -> Result<Vec<Vec<Instruction>>, AllocError>
+fn statement_codes(scope: &Scope, main: &[Stmt]) -> Result<Vec<Vec<Node>>, AllocError>
     ensures codes { (calls : ℕ → ℕ)
         → IfOk result (λ codes. AreStatementCodes
         (callable_before (map seen_function scope.now.functions.now) scope.now.below) calls

@@ -1,4 +1,3 @@
 pub mod Counts
 pub mod Runs
-pub mod Accounts
 pub mod Errors

@@ -6,4 +6,4 @@ mod construct;
 pub mod error;
 pub mod run;
 mod runner;
-pub mod step;
+mod step;

@@ -133,12 +133,7 @@ pub fn run_instance<R: Threads + Wait + Sync, G: Gate + Sync>(
 }
 
 /// Lays out the arrays of the program for the input.
-///
-/// # Errors
-///
-/// `TooManyCells` where the arrays have more cells than a run of the program's version may have, and
-/// `OutOfMemory`.
-pub fn lay_out<'a>(
+fn lay_out<'a>(
     alloc: Global,
     checked: &'a Checked,
     input: &'a [u8],

@@ -2,7 +2,7 @@
 #![tactic(auto)]
 
 pub mod construct;
-pub mod counts;
+mod counts;
 pub mod guesses;
 mod pieces;
-pub mod telling;
+mod telling;

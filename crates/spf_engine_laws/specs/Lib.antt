@@ -1,4 +1,3 @@
 pub mod Traces
-pub mod Passed
 pub mod Progress
 pub mod Laws

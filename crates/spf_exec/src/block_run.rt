@@ -18,7 +18,7 @@ ghost use Rattle.spf_ast.specs.Silence.{FunctionsAreSilent, PartIsSilent};
 ghost use Rattle.spf_ast.specs.Slots.{LeavesOtherSlots};
 ghost use Rattle.spf_code_registers.specs.Registers.{rooms, predictor_needs, predictors_need};
 ghost use Rattle.spf_code_registers.specs.Registers.{statement_needs};
-ghost use Rattle.spf_code.specs.InstructionView.{code as seen_code};
+ghost use Rattle.spf_code.specs.NodeView.{code as seen_code};
 ghost use Rattle.spf_code_lowering.specs.Lowering.{IsGuessCode, AreGuessCodes, SetsNoSlot};
 ghost use Rattle.spf_code_lowering.specs.Lowering.{IsFoldCode, IsPairCode, IsConstructCode};
 ghost use Rattle.spf_exec_instance.specs.Frame.{frame_size, main_slots};

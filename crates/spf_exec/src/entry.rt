@@ -12,7 +12,7 @@ ghost use Rattle.spf_exec_instance.specs.Frame.{main_slots};
 ghost use Rattle.spf_exec_instance.specs.Instance.{program_of};
 ghost use Rattle.spf_code.specs.Code.{code_sets};
 ghost use Rattle.spf_code.specs.Fits.{CodeFits};
-ghost use Rattle.spf_code.specs.InstructionView.{code as seen_code};
+ghost use Rattle.spf_code.specs.NodeView.{code as seen_code};
 ghost use Rattle.spf_code_lowering.specs.Lowering.{IsRowCode, IsExpressionCode, SetsNoSlot};
 ghost use Rattle.spf_exec_memory.specs.Leaves.{Leaves};
 ghost use Rattle.spf_exec_memory.specs.Performs.{Performs, state};
@@ -21,7 +21,7 @@ ghost use Rattle.spf_exec.specs.Sources.{callable_of, RunsAs, wholly, GivesAs, r
 use crate::context::context_of;
 use spf_ast::row::Row;
 use spf_ast::syntax::Expr;
-use spf_code::instruction::Instruction;
+use spf_code::node::Node;
 use spf_code::program::{RowCode, ValueCode};
 use spf_exec_instance::instance::Instance;
 use spf_exec_machine::machine::perform;
@@ -31,7 +31,7 @@ use spf_exec_memory::primitives::read;
 /// Performs code that does what a form does.
 pub(crate) fn run<M: Memory>(
     instance: &Instance,
-    code: &[Instruction],
+    code: &[Node],
     registers: &mut [i64],
     memory: &mut M,
 ) -> Result<(), Halt>

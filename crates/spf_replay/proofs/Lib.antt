@@ -20,6 +20,3 @@ mod Picking
 mod Restored
 mod Apart
 mod Pieces
-mod Growing
-mod Settled
-mod Simulated

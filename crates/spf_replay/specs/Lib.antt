@@ -12,5 +12,4 @@ pub mod Laws
 pub mod Recording
 pub mod RecordingLaws
 pub mod Expecting
-pub mod Limits
 pub mod Runners

@@ -2,8 +2,6 @@ use Rattle.std.proofs.Common.{◌≡◌, length, map, ap, ◌∙◌, subst}
 use Rattle.spf_ast.specs.Meaning.{callable_before}
 use Rattle.spf_ast.specs.View.{expression, block, function}
 use Rattle.spf_code.specs.NodeView.{code}
-use Rattle.spf_code.specs.InstructionView.{code as seen}
-use Rattle.spf_code_flat.specs.Flat.{DoesTheSame}
 use Rattle.spf_code_lowering.specs.Lowering.{IsHeldIn, AreRun}
 use Rattle.spf_code_lowering.proofs.Lowering.{code-append}
 use Rattle.spf_code_lowering.proofs.function.function.Goals as goal
@@ -14,13 +12,12 @@ returns-clause-code c = λ calls.
     let f = c.args.source.now in
     let own : c.in_ok-own.own ≡ length (function f).slots = c.in_ok-own.ensures {u = tt} in
     let value = c.in_ok-held.ensures.wrote calls in
-    let same = rw c.deref-2.ensures.value at c.in_ok-flat.ensures.same in
     let body = rw c.deref.ensures.value at c.in_ok-made.ensures.runs calls in
     record {
       body = code c.in_ok-made.made.items;
       answer = code value.made;
       next = c.in_ok-held.held.next;
-      split = subst (λ k. DoesTheSame k (seen c.in_ok-flat.field-0.items)) (ap code value.appended ∙ code-append c.in_ok-made.made.items value.made) same;
+      split = ap code value.appended ∙ code-append c.in_ok-made.made.items value.made;
       runs = subst (λ n. AreRun callable calls n (block f.body.items) (code c.in_ok-made.made.items)) own body;
       holds = subst (λ n. IsHeldIn callable calls f.answer_line n n c.in_ok-held.held.next c.in_ok-held.held.register (expression f.answer) (code value.made)) own value.asked;
     }

@@ -6,7 +6,7 @@ use Rattle.spf_ast.specs.Meaning.{gives, block_means}
 use Rattle.spf_ast.specs.Program.{environment_of}
 use Rattle.spf_code_registers.specs.Registers.{rooms, arguments_need, block_needs}
 use Rattle.spf_code.specs.Code.{code_sets}
-use Rattle.spf_code.specs.InstructionView.{code}
+use Rattle.spf_code.specs.NodeView.{code}
 use Rattle.spf_code_lowering.specs.Lowering.{block_changes}
 use Rattle.spf_code_lowering.proofs.Fitted.{block_fits}
 use Rattle.spf_exec_instance.specs.Frame.{main_slots}

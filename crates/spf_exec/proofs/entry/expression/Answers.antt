@@ -3,7 +3,7 @@ use Rattle.spf_ast.specs.Meaning.{expression_means}
 use Rattle.spf_ast.specs.Program.{environment_of}
 use Rattle.spf_ast.specs.View.{expression}
 use Rattle.spf_code_registers.specs.Registers.{rooms, needs}
-use Rattle.spf_code.specs.InstructionView.{code}
+use Rattle.spf_code.specs.NodeView.{code}
 use Rattle.spf_exec_instance.specs.Instance.{program_of}
 use Rattle.spf_exec.proofs.Fitting.{expression_fits}
 use Rattle.spf_exec.proofs.Sources.{gives_expression, no_slot_set, at_slots}

@@ -5,7 +5,7 @@ use Rattle.spf_ast.specs.Meaning.{arguments_mean}
 use Rattle.spf_ast.specs.Program.{environment_of}
 use Rattle.spf_ast.specs.View.{arguments}
 use Rattle.spf_code_registers.specs.Registers.{rooms, arguments_need}
-use Rattle.spf_code.specs.InstructionView.{code}
+use Rattle.spf_code.specs.NodeView.{code}
 use Rattle.spf_exec_instance.specs.Instance.{program_of}
 use Rattle.spf_exec.proofs.Fitting.{row_fits}
 use Rattle.spf_exec.proofs.Sources.{gives_block, words_need, no_slot_set, at_slots}

@@ -6,7 +6,7 @@ use Rattle.spf_exec_memory.specs.Performs.{state}
 use Rattle.spf_exec_instructions.specs.Instructions.{setting}
 use Rattle.spf_exec.specs.Sources.{wholly}
 use Rattle.spf_exec_machine.specs.Machine.{whole_means}
-use Rattle.spf_code.specs.InstructionView.{code}
+use Rattle.spf_code.specs.NodeView.{code}
 use Rattle.spf_exec.proofs.Sources.{answer-performed, runs-whole}
 use Rattle.spf_exec.proofs.entry.run.Goals as goal
 

@@ -9,7 +9,7 @@ use Rattle.spf_exec_memory.specs.Performs.{state}
 use Rattle.spf_exec_memory.proofs.Steps.{at_once, then_value, exit_halt}
 use Rattle.spf_exec_instructions.specs.Instructions.{setting}
 use Rattle.spf_exec_machine.specs.Machine.{whole_means}
-use Rattle.spf_code.specs.InstructionView.{code}
+use Rattle.spf_code.specs.NodeView.{code}
 use Rattle.spf_exec.proofs.Sources.{answer-performed}
 use Rattle.spf_exec.proofs.entry.value_of.Goals as goal
 

@@ -3,7 +3,7 @@ use Rattle.spf_ast.specs.Meaning.{statement_means, main_means}
 use Rattle.spf_ast.specs.Program.{environment_of}
 use Rattle.spf_ast.specs.View.{statement}
 use Rattle.spf_code_registers.specs.Registers.{rooms, statement_needs}
-use Rattle.spf_code.specs.InstructionView.{code}
+use Rattle.spf_code.specs.NodeView.{code}
 use Rattle.spf_code_lowering.proofs.Fitted.{run_fits}
 use Rattle.spf_exec_instance.specs.Instance.{program_of}
 use Rattle.spf_exec_memory.proofs.Steps.{along, exit_halt, steps}

@@ -4,7 +4,7 @@ use Rattle.spf_ast.specs.Program.{environment_of}
 use Rattle.spf_exec_instance.specs.Frame.{main_slots}
 use Rattle.spf_exec_instance.specs.Instance.{program_of}
 use Rattle.spf_exec_memory.specs.Performs.{state}
-use Rattle.spf_exec_memory.specs.Performs.{Continues}
+use Rattle.spf_exec_memory.proofs.Steps.{Continues}
 use Rattle.spf_exec.proofs.Sources.{between}
 use Rattle.spf_exec.proofs.plain_run.perform_statements.Given as goal
 

@@ -1,7 +1,7 @@
 use Rattle.std.proofs.Common.{◌≡◌, ◌+◌, ◌-◌}
 use Rattle.spf_ast.specs.Meaning.{stores_each}
 use Rattle.spf_exec_memory.specs.Performs.{state}
-use Rattle.spf_exec_memory.specs.Performs.{Continues}
+use Rattle.spf_exec_memory.proofs.Steps.{Continues}
 use Rattle.spf_exec_memory.proofs.primitives.store_each.Given as goal
 
 -- the cells that are left lead to all of them

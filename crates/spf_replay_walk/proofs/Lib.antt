@@ -1,4 +1,0 @@
-pub mod Sections
-pub mod Verdicts
-pub mod Passing
-pub mod Walking
