@@ -28,13 +28,14 @@ const FIVE_SYMBOLS: [u8; 16] = [0, 0, 0, 0, 0, 0, 0, 0, 1, 1, 1, 1, 2, 2, 3, 4];
 
 /// A linear congruential generator with 64 bits of state, of which a draw gives the highest 32.
 #[derive(Drop)]
-struct Draws {
-    state: u64,
+pub struct Draws {
+    /// The state after the last draw; the seed before the first.
+    pub state: u64,
 }
 
 impl Draws {
     /// The next draw.
-    fn next(&mut self) -> u32
+    pub fn next(&mut self) -> u32
         ensures state { self.new.state ≡ next_state self.old.state }
         ensures draw { result ≡ given_by (next_state self.old.state) }
     {

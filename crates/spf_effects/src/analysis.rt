@@ -68,14 +68,15 @@ fn fold_effects(
     let mut bounds = unknown_bounds(alloc, program)?;
     let slots = slots_in(alloc, &program.main)?;
     let context = Context {
+        alloc,
         functions: &program.functions,
+        below: callable(program),
         assigned: &slots.assigned,
     };
     declare(context.assigned, fold.block, BLOCK, &mut bounds);
-    let below = callable(program);
     match part {
-        Part::Body => effects_and(alloc, &context, below, &bounds, &fold.body, &fold.next),
-        Part::Predictor => predictor_effects(alloc, &context, below, &bounds, &fold.predict),
+        Part::Body => effects_and(&context, &bounds, &fold.body, &fold.next),
+        Part::Predictor => predictor_effects(&context, &bounds, &fold.predict),
         Part::Producer | Part::Consumer => Ok(no_effects(alloc)),
     }
 }
@@ -95,14 +96,15 @@ fn pair_effects(
     let bounds = unknown_bounds(alloc, program)?;
     let slots = slots_in(alloc, &program.main)?;
     let context = Context {
+        alloc,
         functions: &program.functions,
+        below: callable(program),
         assigned: &slots.assigned,
     };
-    let below = callable(program);
     match part {
-        Part::Producer => effects_and(alloc, &context, below, &bounds, &pair.producer, &pair.give),
-        Part::Consumer => block_effects(alloc, &context, below, &bounds, &pair.consumer),
-        Part::Predictor => predictor_effects(alloc, &context, below, &bounds, &pair.predict),
+        Part::Producer => effects_and(&context, &bounds, &pair.producer, &pair.give),
+        Part::Consumer => block_effects(&context, &bounds, &pair.consumer),
+        Part::Predictor => predictor_effects(&context, &bounds, &pair.predict),
         Part::Body => Ok(no_effects(alloc)),
     }
 }
@@ -125,75 +127,67 @@ fn unknown_bounds(alloc: Global, program: &Program) -> Result<Vec<Bound>, AllocE
 
 /// The effects of a block, and of a row in whose parts what the block declares is visible.
 fn effects_and(
-    alloc: Global,
     context: &Context,
-    below: usize,
     bounds: &[Bound],
     statements: &[Stmt],
     last: &[Expr],
 ) -> Result<Effects, AllocError>
-    ensures { IfOk result (AreEffects (effects_of (block_then_row (setting context.now below)
+    ensures { IfOk result (AreEffects (effects_of (block_then_row (setting context.now)
         bounds.now (seen_block statements.now) (seen_arguments last.now))
         (seen_block statements.now))) }
 {
-    let mut found = Findings::new(alloc);
-    block_and_row(alloc, context, below, bounds, statements, last, &mut found)?;
-    gathered(alloc, found, statements)
+    let mut found = Findings::new(context.alloc);
+    block_and_row(context, bounds, statements, last, &mut found)?;
+    gathered(context.alloc, found, statements)
 }
 
 /// The effects of a block.
 fn block_effects(
-    alloc: Global,
     context: &Context,
-    below: usize,
     bounds: &[Bound],
     statements: &[Stmt],
 ) -> Result<Effects, AllocError>
     ensures { IfOk result (AreEffects (effects_of
-        (block_finds (setting context.now below) bounds.now (seen_block statements.now))
+        (block_finds (setting context.now) bounds.now (seen_block statements.now))
         (seen_block statements.now))) }
 {
-    let mut found = Findings::new(alloc);
-    block(alloc, context, below, bounds, statements, &mut found)?;
-    gathered(alloc, found, statements)
+    let mut found = Findings::new(context.alloc);
+    block(context, bounds, statements, &mut found)?;
+    gathered(context.alloc, found, statements)
 }
 
 /// The effects of the guesses of a row's parts.
 fn predictor_effects(
-    alloc: Global,
     context: &Context,
-    below: usize,
     bounds: &[Bound],
     predict: &[Predict],
 ) -> Result<Effects, AllocError>
     ensures { IfOk result (AreEffects (effects_of
-        (guesses_find (setting context.now below) bounds.now (map seen_predictor predict.now))
+        (guesses_find (setting context.now) bounds.now (map seen_predictor predict.now))
         end)) }
 {
-    let mut found = Findings::new(alloc);
+    let mut found = Findings::new(context.alloc);
     for part in predict {
-        guess(alloc, context, below, bounds, part, &mut found)?;
+        guess(context, bounds, part, &mut found)?;
     }
-    gathered(alloc, found, &[])
+    gathered(context.alloc, found, &[])
 }
 
 /// Examines the guess of one part of a row. A predictor that is supplied does nothing here.
 fn guess(
-    alloc: Global,
     context: &Context,
-    below: usize,
     bounds: &[Bound],
     predict: &Predict,
     found: &mut Findings,
 ) -> Result<(), AllocError>
     ensures { OnOk result (Extends
-        (guess_finds (setting context.now below) bounds.now (seen_predictor predict.now)) found.old
+        (guess_finds (setting context.now) bounds.now (seen_predictor predict.now)) found.old
         found.new) }
 {
     match predict {
         Predict::Host(_) => Ok(()),
         Predict::Expr(guess) => {
-            expression(alloc, context, below, bounds, guess, found)?;
+            expression(context, bounds, guess, found)?;
             Ok(())
         }
     }

@@ -1,5 +1,5 @@
 -- Where the code's forms stand.
-use Rattle.std.specs.Prelude.{ℕ, map}
+use Rattle.std.specs.Prelude.{map}
 use Rattle.spf_region.specs.declared.bound.Bound.TheVariants.{Unknown}
 use Rattle.spf_ast.specs.View.{function}
 use Rattle.spf_effects_walk.specs.declared.context.Context as code
@@ -8,11 +8,11 @@ use Rattle.spf_effects_findings.specs.Forms.{Entered, Setting}
 use Rattle.spf_effects_findings.specs.Parts.{call_before}
 use Rattle.spf_effects_walk.specs.SlotSets.{has_slot}
 
--- the functions before a place may be called
-abbrev pub setting : code.Context → ℕ → Setting
-setting context below = record {
+-- the functions with an index below that of the context may be called
+abbrev pub setting : code.Context → Setting
+setting context = record {
   is_assigned = has_slot context.assigned.now;
-  call = call_before (map function context.functions.now) below;
+  call = call_before (map function context.functions.now) context.below;
 }
 
 -- a call that enters no function

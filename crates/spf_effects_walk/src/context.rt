@@ -15,12 +15,16 @@ use spf_ast::syntax::Function;
 use spf_region::bound::Bound;
 use std::alloc::{AllocError, Global};
 
-/// Where a form stands: the program's functions, and the slots that an assignment sets somewhere in
-/// the present one.
+/// Where a form stands: the functions that it may call, and the slots that an assignment sets
+/// somewhere in the present one.
 #[derive(Clone, Copy)]
 pub struct Context<'a> {
+    /// Where memory is taken from.
+    pub alloc: Global,
     /// The program's functions.
     pub functions: &'a [Function],
+    /// Functions with an index below this one may be called.
+    pub below: usize,
     /// The slots that an assignment sets.
     pub assigned: &'a SlotSet,
 }

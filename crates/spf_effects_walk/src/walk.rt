@@ -1,5 +1,4 @@
-//! The walk over expressions, conditions, statements and calls, which lead to each other. In each
-//! of them the functions before the place `below` may be called.
+//! The walk over expressions, conditions, statements and calls, which lead to each other.
 ghost use Rattle.std.specs.Prelude.{◌≡◌, ◌<◌, Some, map, IfOk, OnOk, slice_get, List, []};
 ghost use Rattle.spf_ast.specs.declared.syntax.Fold.{out-Fold};
 ghost use Rattle.spf_ast.specs.declared.syntax.Pair.{out-Pair};
@@ -38,17 +37,15 @@ const BYTE: Bound = Bound::Known {
 /// Examines an expression, and gives its bound.
 #[cycle(walk)]
 pub fn expression(
-    alloc: Global,
     context: &Context,
-    below: usize,
     bounds: &[Bound],
     expr: &Expr,
     found: &mut Findings,
 ) -> Result<Bound, AllocError>
     ensures bound { IfOk result (λ b.
-        b ≡ expression_bound (setting context.now below) bounds.now (seen_expression expr.now)) }
+        b ≡ expression_bound (setting context.now) bounds.now (seen_expression expr.now)) }
     ensures finds { OnOk result (Extends
-        (expression_finds (setting context.now below) bounds.now (seen_expression expr.now))
+        (expression_finds (setting context.now) bounds.now (seen_expression expr.now))
         found.old found.new) }
 {
     match expr {
@@ -56,22 +53,22 @@ pub fn expression(
         Expr::Local(slot) => Ok(bound_of(bounds, *slot)),
         Expr::Len => Ok(Bound::Unknown),
         Expr::Input(index) => {
-            expression(alloc, context, below, bounds, index, found)?;
+            expression(context, bounds, index, found)?;
             Ok(BYTE)
         }
         Expr::Load(array, index) => {
-            let index = expression(alloc, context, below, bounds, index, found)?;
-            found.read_element(alloc, *array, index)?;
+            let index = expression(context, bounds, index, found)?;
+            found.read_element(context.alloc, *array, index)?;
             Ok(Bound::Unknown)
         }
-        Expr::Call(function, given) => call(alloc, context, below, bounds, *function, given, found),
+        Expr::Call(function, given) => call(context, bounds, *function, given, found),
         Expr::Neg(inner) => {
-            let inner = expression(alloc, context, below, bounds, inner, found)?;
+            let inner = expression(context, bounds, inner, found)?;
             Ok(inner.negated())
         }
         Expr::Binary(op, left, right) => {
-            let left = expression(alloc, context, below, bounds, left, found)?;
-            let right = expression(alloc, context, below, bounds, right, found)?;
+            let left = expression(context, bounds, left, found)?;
+            let right = expression(context, bounds, right, found)?;
             Ok(binary_bound(*op, left, right))
         }
     }
@@ -80,22 +77,20 @@ pub fn expression(
 /// Examines arguments, and gives their bounds.
 #[cycle(walk)]
 fn arguments(
-    alloc: Global,
     context: &Context,
-    below: usize,
     bounds: &[Bound],
     given: &[Expr],
     found: &mut Findings,
 ) -> Result<Vec<Bound>, AllocError>
     ensures bounds { IfOk result (λ v. v.items
-        ≡ argument_bounds (setting context.now below) bounds.now (seen_arguments given.now)) }
+        ≡ argument_bounds (setting context.now) bounds.now (seen_arguments given.now)) }
     ensures finds { OnOk result (Extends
-        (arguments_find (setting context.now below) bounds.now (seen_arguments given.now)) found.old
+        (arguments_find (setting context.now) bounds.now (seen_arguments given.now)) found.old
         found.new) }
 {
-    let mut known = Vec::new(alloc);
+    let mut known = Vec::new(context.alloc);
     for argument in given {
-        let bound = expression(alloc, context, below, bounds, argument, found)?;
+        let bound = expression(context, bounds, argument, found)?;
         known.push(bound)?;
     }
     Ok(known)
@@ -104,25 +99,30 @@ fn arguments(
 /// Examines a call, and gives the bound of its answer.
 #[cycle(walk)]
 fn call(
-    alloc: Global,
     context: &Context,
-    below: usize,
     bounds: &[Bound],
     function: u32,
     given: &[Expr],
     found: &mut Findings,
 ) -> Result<Bound, AllocError>
     ensures bound { IfOk result (λ b. b
-        ≡ expression_bound (setting context.now below) bounds.now
+        ≡ expression_bound (setting context.now) bounds.now
         (call_form function (seen_arguments given.now))) }
-    ensures finds { OnOk result (Extends (expression_finds (setting context.now below) bounds.now
+    ensures finds { OnOk result (Extends (expression_finds (setting context.now) bounds.now
         (call_form function (seen_arguments given.now))) found.old found.new) }
 {
-    let given = arguments(alloc, context, below, bounds, given, found)?;
+    let given = arguments(context, bounds, given, found)?;
     let place = function as usize;
-    match callee(context.functions, below, place) {
+    match callee(context.functions, context.below, place) {
         None => Ok(Bound::Unknown),
-        Some(callee) => enter(alloc, context.functions, place, callee, &given, found),
+        Some(callee) => enter(
+            context.alloc,
+            context.functions,
+            place,
+            callee,
+            &given,
+            found,
+        ),
     }
 }
 
@@ -147,70 +147,60 @@ fn enter(
     let slots = slots_in(alloc, &function.body)?;
     let own = own_bounds(alloc, &slots.assigned, function.slots.len(), given)?;
     let context = Context {
+        alloc,
         functions,
+        below: place,
         assigned: &slots.assigned,
     };
-    block_and(
-        alloc,
-        &context,
-        place,
-        &own,
-        &function.body,
-        &function.answer,
-        found,
-    )
+    block_and(&context, &own, &function.body, &function.answer, found)
 }
 
 /// Examines a condition.
 #[cycle(walk)]
 fn condition(
-    alloc: Global,
     context: &Context,
-    below: usize,
     bounds: &[Bound],
     cond: &Cond,
     found: &mut Findings,
 ) -> Result<(), AllocError>
     ensures finds { OnOk result (Extends
-        (condition_finds (setting context.now below) bounds.now (seen_condition cond.now)) found.old
+        (condition_finds (setting context.now) bounds.now (seen_condition cond.now)) found.old
         found.new) }
 {
     match cond {
         Cond::Compare(_, left, right) => {
-            expression(alloc, context, below, bounds, left, found)?;
-            expression(alloc, context, below, bounds, right, found)?;
+            expression(context, bounds, left, found)?;
+            expression(context, bounds, right, found)?;
             Ok(())
         }
         Cond::Both(first, second) | Cond::Either(first, second) => {
-            condition(alloc, context, below, bounds, first, found)?;
-            let before = found.surely_written(alloc)?;
-            condition(alloc, context, below, bounds, second, found)?;
+            condition(context, bounds, first, found)?;
+            let before = found.surely_written(context.alloc)?;
+            condition(context, bounds, second, found)?;
             found.exchange_written(before);
             Ok(())
         }
-        Cond::Not(inner) => condition(alloc, context, below, bounds, inner, found),
+        Cond::Not(inner) => condition(context, bounds, inner, found),
     }
 }
 
 /// Examines statements one after another, and gives the bounds of the slots at their end.
 #[cycle(walk)]
 pub fn block(
-    alloc: Global,
     context: &Context,
-    below: usize,
     bounds: &[Bound],
     statements: &[Stmt],
     found: &mut Findings,
 ) -> Result<Vec<Bound>, AllocError>
     ensures bounds { IfOk result (λ v. v.items
-        ≡ bounds_at_end (setting context.now below) bounds.now (seen_block statements.now)) }
+        ≡ bounds_at_end (setting context.now) bounds.now (seen_block statements.now)) }
     ensures finds { OnOk result (Extends
-        (block_finds (setting context.now below) bounds.now (seen_block statements.now)) found.old
+        (block_finds (setting context.now) bounds.now (seen_block statements.now)) found.old
         found.new) }
 {
-    let mut known = Vec::from_slice(alloc, bounds)?;
+    let mut known = Vec::from_slice(context.alloc, bounds)?;
     for item in statements {
-        statement(alloc, context, below, &mut known, &item.kind, found)?;
+        statement(context, &mut known, &item.kind, found)?;
     }
     Ok(known)
 }
@@ -219,107 +209,95 @@ pub fn block(
 /// bound.
 #[cycle(walk)]
 fn block_and(
-    alloc: Global,
     context: &Context,
-    below: usize,
     bounds: &[Bound],
     statements: &[Stmt],
     last: &Expr,
     found: &mut Findings,
 ) -> Result<Bound, AllocError>
     ensures bound { IfOk result (λ b. b
-        ≡ expression_bound (setting context.now below)
-        (bounds_at_end (setting context.now below) bounds.now (seen_block statements.now))
+        ≡ expression_bound (setting context.now)
+        (bounds_at_end (setting context.now) bounds.now (seen_block statements.now))
         (seen_expression last.now)) }
-    ensures finds { OnOk result (Extends (block_then (setting context.now below) bounds.now
+    ensures finds { OnOk result (Extends (block_then (setting context.now) bounds.now
         (seen_block statements.now) (seen_expression last.now)) found.old found.new) }
 {
-    let behind = block(alloc, context, below, bounds, statements, found)?;
-    expression(alloc, context, below, &behind, last, found)
+    let behind = block(context, bounds, statements, found)?;
+    expression(context, &behind, last, found)
 }
 
 /// Examines statements and then a row in whose parts what they declare is visible.
 #[cycle(walk)]
 pub fn block_and_row(
-    alloc: Global,
     context: &Context,
-    below: usize,
     bounds: &[Bound],
     statements: &[Stmt],
     last: &[Expr],
     found: &mut Findings,
 ) -> Result<(), AllocError>
-    ensures finds { OnOk result (Extends (block_then_row (setting context.now below) bounds.now
+    ensures finds { OnOk result (Extends (block_then_row (setting context.now) bounds.now
         (seen_block statements.now) (seen_arguments last.now)) found.old found.new) }
 {
-    let behind = block(alloc, context, below, bounds, statements, found)?;
-    arguments(alloc, context, below, &behind, last, found)?;
+    let behind = block(context, bounds, statements, found)?;
+    arguments(context, &behind, last, found)?;
     Ok(())
 }
 
 /// Examines a statement, and makes the bound of a slot known that it declares.
 #[cycle(walk)]
 fn statement(
-    alloc: Global,
     context: &Context,
-    below: usize,
     bounds: &mut [Bound],
     kind: &StmtKind,
     found: &mut Findings,
 ) -> Result<(), AllocError>
     ensures bounds { OnOk result (bounds.new
-        ≡ bounds_behind (setting context.now below) bounds.old (seen_statement kind.now)) }
+        ≡ bounds_behind (setting context.now) bounds.old (seen_statement kind.now)) }
     ensures finds { OnOk result (Extends
-        (statement_finds (setting context.now below) bounds.old (seen_statement kind.now)) found.old
+        (statement_finds (setting context.now) bounds.old (seen_statement kind.now)) found.old
         found.new) }
 {
     match kind {
         StmtKind::Let(slot, value) => {
-            let bound = expression(alloc, context, below, bounds, value, found)?;
+            let bound = expression(context, bounds, value, found)?;
             declare(context.assigned, *slot, bound, bounds);
             Ok(())
         }
         StmtKind::Assign(_, value) | StmtKind::Emit(value) => {
-            expression(alloc, context, below, bounds, value, found)?;
+            expression(context, bounds, value, found)?;
             Ok(())
         }
         StmtKind::Store(array, index, value) => {
-            let index = expression(alloc, context, below, bounds, index, found)?;
-            expression(alloc, context, below, bounds, value, found)?;
-            found.write_element(alloc, *array, index)
+            let index = expression(context, bounds, index, found)?;
+            expression(context, bounds, value, found)?;
+            found.write_element(context.alloc, *array, index)
         }
         StmtKind::Fill(array, low, high, value) => {
-            fill(
-                alloc, context, below, bounds, *array, low, high, value, found,
-            )
+            fill(context, bounds, *array, low, high, value, found)
         }
         StmtKind::Fail(_) | StmtKind::Break => Ok(()),
         StmtKind::If(cond, first, second) => {
-            branches(alloc, context, below, bounds, cond, first, second, found)
+            branches(context, bounds, cond, first, second, found)
         }
         StmtKind::For(slot, low, high, body) => {
-            let low = expression(alloc, context, below, bounds, low, found)?;
-            let high = expression(alloc, context, below, bounds, high, found)?;
-            for_turns(alloc, context, below, bounds, *slot, low, high, body, found)
+            let low = expression(context, bounds, low, found)?;
+            let high = expression(context, bounds, high, found)?;
+            for_turns(context, bounds, *slot, low, high, body, found)
         }
-        StmtKind::While(cond, _, body) => {
-            while_turns(alloc, context, below, bounds, cond, body, found)
-        }
+        StmtKind::While(cond, _, body) => { while_turns(context, bounds, cond, body, found) }
         StmtKind::Call(function, given) => {
-            call(alloc, context, below, bounds, *function, given, found)?;
+            call(context, bounds, *function, given, found)?;
             Ok(())
         }
-        StmtKind::Fold(fold) => inner_fold(alloc, context, below, bounds, fold, found),
-        StmtKind::Pair(pair) => inner_pair(alloc, context, below, bounds, pair, found),
+        StmtKind::Fold(fold) => inner_fold(context, bounds, fold, found),
+        StmtKind::Pair(pair) => inner_pair(context, bounds, pair, found),
     }
 }
 
 /// Examines a `fill`.
 #[cycle(walk)]
 fn fill(
-    alloc: Global,
     context: &Context,
-    below: usize,
     bounds: &[Bound],
     array: u32,
     low: &Expr,
@@ -327,46 +305,42 @@ fn fill(
     value: &Expr,
     found: &mut Findings,
 ) -> Result<(), AllocError>
-    ensures finds { OnOk result (Extends (statement_finds (setting context.now below) bounds.now
+    ensures finds { OnOk result (Extends (statement_finds (setting context.now) bounds.now
         (fill_form array (seen_expression low.now) (seen_expression high.now)
         (seen_expression value.now))) found.old found.new) }
 {
-    let low = expression(alloc, context, below, bounds, low, found)?;
-    let high = expression(alloc, context, below, bounds, high, found)?;
-    expression(alloc, context, below, bounds, value, found)?;
-    found.write_range(alloc, array, low, high)
+    let low = expression(context, bounds, low, found)?;
+    let high = expression(context, bounds, high, found)?;
+    expression(context, bounds, value, found)?;
+    found.write_range(context.alloc, array, low, high)
 }
 
 /// Examines a condition and the two blocks of an `if`. What both surely write is surely written.
 #[cycle(walk)]
 fn branches(
-    alloc: Global,
     context: &Context,
-    below: usize,
     bounds: &[Bound],
     cond: &Cond,
     first: &[Stmt],
     second: &[Stmt],
     found: &mut Findings,
 ) -> Result<(), AllocError>
-    ensures finds { OnOk result (Extends (statement_finds (setting context.now below) bounds.now
+    ensures finds { OnOk result (Extends (statement_finds (setting context.now) bounds.now
         (if_form (seen_condition cond.now) (seen_block first.now) (seen_block second.now)))
         found.old found.new) }
 {
-    condition(alloc, context, below, bounds, cond, found)?;
-    let before = found.surely_written(alloc)?;
-    block(alloc, context, below, bounds, first, found)?;
+    condition(context, bounds, cond, found)?;
+    let before = found.surely_written(context.alloc)?;
+    block(context, bounds, first, found)?;
     let one = found.exchange_written(before);
-    block(alloc, context, below, bounds, second, found)?;
-    found.keep_common(alloc, &one)
+    block(context, bounds, second, found)?;
+    found.keep_common(context.alloc, &one)
 }
 
 /// Examines the turns of a `for`: its body, unless there is no turn, and its sweeps.
 #[cycle(walk)]
 fn for_turns(
-    alloc: Global,
     context: &Context,
-    below: usize,
     bounds: &[Bound],
     slot: u32,
     low: Bound,
@@ -375,40 +349,38 @@ fn for_turns(
     found: &mut Findings,
 ) -> Result<(), AllocError>
     ensures finds { OnOk result (Extends (turns low high (loop_sweeps slot (seen_block body.now))
-        (block_finds (setting context.now below)
-        (declared (setting context.now below) slot (turn_bound low high) bounds.now)
+        (block_finds (setting context.now)
+        (declared (setting context.now) slot (turn_bound low high) bounds.now)
         (seen_block body.now))) found.old found.new) }
 {
     if has_no_turn(low, high) {
         return Ok(());
     }
-    let mut inner = Vec::from_slice(alloc, bounds)?;
+    let mut inner = Vec::from_slice(context.alloc, bounds)?;
     declare(context.assigned, slot, turn_bound(low, high), &mut inner);
-    let before = found.surely_written(alloc)?;
-    block(alloc, context, below, &inner, body, found)?;
+    let before = found.surely_written(context.alloc)?;
+    block(context, &inner, body, found)?;
     found.leave_loop(before);
-    sweep(alloc, slot, low, high, body, found)
+    sweep(context.alloc, slot, low, high, body, found)
 }
 
 /// Examines a `while`: its condition, and its body, which surely writes nothing.
 #[cycle(walk)]
 fn while_turns(
-    alloc: Global,
     context: &Context,
-    below: usize,
     bounds: &[Bound],
     cond: &Cond,
     body: &[Stmt],
     found: &mut Findings,
 ) -> Result<(), AllocError>
-    ensures finds { OnOk result (Extends (condition_finds (setting context.now below) bounds.now
+    ensures finds { OnOk result (Extends (condition_finds (setting context.now) bounds.now
         (seen_condition cond.now) then perhaps
-        (block_finds (setting context.now below) bounds.now (seen_block body.now))) found.old
+        (block_finds (setting context.now) bounds.now (seen_block body.now))) found.old
         found.new) }
 {
-    condition(alloc, context, below, bounds, cond, found)?;
-    let before = found.surely_written(alloc)?;
-    block(alloc, context, below, bounds, body, found)?;
+    condition(context, bounds, cond, found)?;
+    let before = found.surely_written(context.alloc)?;
+    block(context, bounds, body, found)?;
     found.leave_loop(before);
     Ok(())
 }
@@ -416,51 +388,49 @@ fn while_turns(
 /// Examines a fold that isn't the examined one.
 #[cycle(walk)]
 fn inner_fold(
-    alloc: Global,
     context: &Context,
-    below: usize,
     bounds: &[Bound],
     fold: &Fold,
     found: &mut Findings,
 ) -> Result<(), AllocError>
-    ensures finds { OnOk result (Extends (statement_finds (setting context.now below) bounds.now
+    ensures finds { OnOk result (Extends (statement_finds (setting context.now) bounds.now
         (fold_form (fold_head fold.now) (seen_block (out-Fold fold.now).body.items))) found.old
         found.new) }
 {
-    arguments(alloc, context, below, bounds, &fold.start, found)?;
-    let low = expression(alloc, context, below, bounds, &fold.low, found)?;
-    let high = expression(alloc, context, below, bounds, &fold.high, found)?;
-    fold_turns(
-        alloc, context, below, bounds, fold.block, low, high, &fold.body, &fold.next, found,
-    )
+    arguments(context, bounds, &fold.start, found)?;
+    let low = expression(context, bounds, &fold.low, found)?;
+    let high = expression(context, bounds, &fold.high, found)?;
+    fold_turns(context, bounds, fold, low, high, found)
 }
 
 /// Examines the blocks of a fold as the turns of a `for` without sweeps.
 #[cycle(walk)]
 fn fold_turns(
-    alloc: Global,
     context: &Context,
-    below: usize,
     bounds: &[Bound],
-    slot: u32,
+    fold: &Fold,
     low: Bound,
     high: Bound,
-    body: &[Stmt],
-    next: &[Expr],
     found: &mut Findings,
 ) -> Result<(), AllocError>
     ensures finds { OnOk result (Extends (turns low high [] (block_then_row
-        (setting context.now below)
-        (declared (setting context.now below) slot (turn_bound low high) bounds.now)
-        (seen_block body.now) (seen_arguments next.now))) found.old found.new) }
+        (setting context.now)
+        (declared (setting context.now) (out-Fold fold.now).block (turn_bound low high) bounds.now)
+        (seen_block (out-Fold fold.now).body.items)
+        (seen_arguments (out-Fold fold.now).next.items))) found.old found.new) }
 {
     if has_no_turn(low, high) {
         return Ok(());
     }
-    let mut inner = Vec::from_slice(alloc, bounds)?;
-    declare(context.assigned, slot, turn_bound(low, high), &mut inner);
-    let before = found.surely_written(alloc)?;
-    block_and_row(alloc, context, below, &inner, body, next, found)?;
+    let mut inner = Vec::from_slice(context.alloc, bounds)?;
+    declare(
+        context.assigned,
+        fold.block,
+        turn_bound(low, high),
+        &mut inner,
+    );
+    let before = found.surely_written(context.alloc)?;
+    block_and_row(context, &inner, &fold.body, &fold.next, found)?;
     found.leave_loop(before);
     Ok(())
 }
@@ -469,26 +439,16 @@ fn fold_turns(
 /// consumer.
 #[cycle(walk)]
 fn inner_pair(
-    alloc: Global,
     context: &Context,
-    below: usize,
     bounds: &[Bound],
     pair: &Pair,
     found: &mut Findings,
 ) -> Result<(), AllocError>
-    ensures finds { OnOk result (Extends (statement_finds (setting context.now below) bounds.now
+    ensures finds { OnOk result (Extends (statement_finds (setting context.now) bounds.now
         (pair_form (pair_head pair.now) (seen_block (out-Pair pair.now).producer.items)
         (seen_block (out-Pair pair.now).consumer.items))) found.old found.new) }
 {
-    block_and_row(
-        alloc,
-        context,
-        below,
-        bounds,
-        &pair.producer,
-        &pair.give,
-        found,
-    )?;
-    block(alloc, context, below, bounds, &pair.consumer, found)?;
+    block_and_row(context, bounds, &pair.producer, &pair.give, found)?;
+    block(context, bounds, &pair.consumer, found)?;
     Ok(())
 }

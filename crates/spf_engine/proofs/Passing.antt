@@ -1,7 +1,6 @@
--- What a construct that was passed leads to.
+-- What a construct that was passed leads to, whoever ran its blocks.
 use Rattle.std.proofs.Common.{◌≡◌, ℕ, zero, suc, ◌+◌, ◌≤◌, List, [], ◌∷◌, ◌++◌, ℤ, pos, ◌+ℤ◌, length, refl, sym, ap, ◌∙◌, subst, arith}
-use Rattle.std.specs.Prelude.{Some, None, Ok}
-use Rattle.std.specs.Option.{option_to_list}
+use Rattle.std.specs.Prelude.{Ok}
 use Rattle.std.proofs.lemmas.List.{append-nil}
 use Rattle.spf_ast.specs.Carried as carried
 use Rattle.spf_ast.specs.Interaction.{State, Ending, Value, Trapped as trapped_at}
@@ -9,15 +8,13 @@ use Rattle.spf_ast.specs.Syntax.{Program}
 use Rattle.spf_ast.specs.Meaning.{Environment}
 use Rattle.spf_ast.specs.Program.{environment_of, Stopped}
 use Rattle.spf_ast.specs.Construct.{Construct, fold, pair, Header, header_means, carried_of, Moment, plainly}
-use Rattle.spf_ast.specs.Pieces.{construct_first}
 use Rattle.spf_ast.specs.Silence.{FunctionsAreSilent}
 use Rattle.spf_check.specs.Plans.{AreBlocksOf}
 use Rattle.spf_exec.specs.declared.pieces.Header as code_header
-use Rattle.spf_ast.specs.declared.outcome.Trap.{Trap}
-use Rattle.spf_exec.specs.Pieces.{Stand, EndsAt, TrapsAt, ahead, refilled, seen_header}
+use Rattle.spf_exec.specs.Pieces.{Stand, refilled, seen_header}
 use Rattle.spf_check_rules.specs.Rules.{KeepsTheRules}
 use Rattle.spf_speculation_entry.specs.Entry.{Entry, plain_blocks}
-use Rattle.spf_ast_laws.specs.Chained.{chained}
+use Rattle.spf_ast_laws.specs.Chained.{chained, is_trap}
 use Rattle.spf_exec_instance.specs.Frame.{main_slots}
 use Rattle.spf_chain.specs.declared.validated.Settled.{Settled}
 use Rattle.spf_chain.specs.declared.validated.Settled.TheVariants.{Carried, Trapped}
@@ -28,11 +25,12 @@ use Rattle.spf_guess_statistics.specs.declared.stats.Stats.{Stats}
 use Rattle.spf_guess_statistics.specs.Guess.{Guess, Hosts, Telling, guess_for, tells}
 use Rattle.spf_guess_statistics.specs.Statistics.{none, plus, statistics_with}
 use Rattle.spf_guess.specs.Answers.{WereTold}
-use Rattle.spf_engine_laws.specs.Traces.{Trace, begin_with}
-use Rattle.spf_engine_laws.specs.Progress.{Progress, GoesOn, HasCome, HasRuns, BlocksComeTo, entry_there, guess_there, with_construct}
-use Rattle.spf_engine_laws.specs.Laws.{HeadersEndRuns, ConstructsSettle, ConstructsEndRuns}
-use Rattle.spf_engine.specs.declared.construct.Passed.{Passed}
-use Rattle.spf_engine.specs.Runs.{SettlesSo, LeadsTo}
+use Rattle.spf_engine_laws.specs.Traces.{Trace}
+use Rattle.spf_engine_laws.specs.Passed.{PassedConstruct, where_blocks, passed_from, real_rows_from, OneByOne, IsItsTrace}
+use Rattle.spf_engine_laws.specs.Progress.{Progress, HasCome, BlocksComeTo, entry_there, guess_there, with_construct}
+use Rattle.spf_engine_laws.specs.Laws.{ConstructsSettle, ConstructsEndRuns}
+use Rattle.spf_engine.specs.declared.step.Step.{Step}
+use Rattle.spf_engine.specs.Runs.{IsThere, IsSettledSo, HasEntered}
 
 -- ---- blocks of a header
 
@@ -48,95 +46,39 @@ has-its-blocks g (pair line head producer consumer) m h s e = let two : 2 ≡ h.
 -- ---- where it leads
 
 -- the run was left where the header left it, but for its cells
-pub record IsLeftThere (before after now : Stand) : Type 0 where
-  pub place : after.place ≡ before.place
+pub record IsLeftThere (after now : Stand) : Type 0 where
   pub frame : now.frame ≡ after.frame
   pub output : now.output ≡ after.output
-  pub same_place : now.place ≡ after.place
+  pub place : now.place ≡ after.place
 
--- how the run is settled with it
-settles-with : ConstructsSettle → ConstructsEndRuns → (hosts : Hosts) (p : Program) (input : List ℕ) (before after now : Stand) (progress : Progress) (c : Construct) (h : Header) (values : List carried.Carried) (traces : List Trace)
-    → GoesOn hosts p input before progress → construct_first (ahead p before) ≡ Some c → EndsAt p (header_means (environment_of p input) c) before after h
-    → FunctionsAreSilent p.functions → KeepsTheRules p c → IsLeftThere before after now → (r : Settled)
-    → BlocksComeTo (entry_there p input c h after) (guess_there hosts progress.telling p input c h after) (result_as r) values now.cells traces
-    → SettlesSo hosts p input now c r (with_construct (guess_there hosts progress.telling p input c h after) c h values traces progress)
-settles-with settle ends hosts p input before after now progress c h values traces goes first went silent keeps left (Carried v) o = λ last s.
-    settle hosts p input before after last progress c h v values traces goes first went silent keeps
-    (subst (λ cells. BlocksComeTo (entry_there p input c h after) (guess_there hosts progress.telling p input c h after) (Ok v) values cells traces) (sym s.cells) o)
-    (s.slots ∙ ap (λ f. carried.with_carried (carried_of c) v (main_slots p f)) left.frame) (s.output ∙ left.output) (s.place ∙ ap (λ n. n + 1) (left.same_place ∙ left.place))
-settles-with settle ends hosts p input before after now progress c h values traces goes first went silent keeps left (Trapped t) o =
-    subst (λ out. HasCome hosts p input (Stopped t out) (with_construct (guess_there hosts progress.telling p input c h after) c h values traces progress)) (sym left.output)
-    (ends hosts p input before after progress c h t values now.cells traces goes first went silent keeps o)
-
-pub leads : ConstructsSettle → ConstructsEndRuns → (hosts : Hosts) (p : Program) (input : List ℕ) (before after now : Stand) (progress : Progress) (c : Construct) (h : Header) (passed : Passed) (told : Hosts) (values : List carried.Carried)
-    → GoesOn hosts p input before progress → construct_first (ahead p before) ≡ Some c → EndsAt p (header_means (environment_of p input) c) before after h
-    → FunctionsAreSilent p.functions → KeepsTheRules p c → IsLeftThere before after now
-    → BlocksComeTo (entry_there p input c h after) (guess_there hosts progress.telling p input c h after) (result_as passed.settled) values now.cells (option_to_list passed.trace)
-    → passed.stats ≡ statistics_with (guess_there hosts progress.telling p input c h after) values
-    → WereTold hosts (progress.telling ++ tells c h values) told
-    → LeadsTo hosts p input progress now c passed told
-leads settle ends hosts p input before after now progress c h passed told values goes first went silent keeps left came stats were =
-    record {
-      later = with_construct (guess_there hosts progress.telling p input c h after) c h values (option_to_list passed.trace) progress;
-      stats = ap (plus progress.stats) (sym stats);
-      traces = refl;
-      told = were;
-      settles = settles-with settle ends hosts p input before after now progress c h values (option_to_list passed.trace) goes first went silent keeps left passed.settled came;
-    }
-
--- ---- with blocks
-
-one-trace : (blocks : ℕ) (First : Trace → Type 0) (trace : Trace) → 1 ≤ blocks → First trace → begin_with blocks First (λ others. others ≡ []) (trace ∷ [])
-one-trace zero First trace some is = absurd (omega (arith, some))
-one-trace (suc n) First trace some is = (is, refl)
-
-carried-as : (s : Settled) (v : carried.Carried) → result_as s ≡ Ok v → s ≡ Carried v
-carried-as (Carried w) v is = (let same : w ≡ v = cc in ap Carried same)
-carried-as (Trapped t) v is = cc
-
--- what they came to
-pub blocks-come : (e : Entry) (guess : ℕ → Guess) (report : ConstructReport) (memory : List ℤ) → 1 ≤ e.header.blocks → ComesTo e guess report memory
-    → BlocksComeTo e guess (result_as report.settled) (plain_blocks e).values memory (report.trace ∷ [])
-blocks-come e guess report memory some c = record {
-  result = c.result;
-  values_are = refl;
-  memory_is = λ v is. c.plain_memory v (carried-as report.settled v is);
-  traces_are = one-trace e.header.blocks (HasRuns e guess (result_as report.settled) (plain_blocks e).values) report.trace some (record { logs = c.logs; merging = c.merging });
-}
+-- A construct was entered, its blocks came to this, and the run was settled with it. Then the run goes on past it, or
+-- has come to its end, with what the construct adds to its progress.
+pub goes-past-blocks : ConstructsSettle → ConstructsEndRuns → (hosts : Hosts) (p : Program) (input : List ℕ) (after now last : Stand) (progress : Progress) (c : Construct) (h : Header) (settled : Settled) (taken : Step)
+    → HasEntered hosts p input c h after progress → FunctionsAreSilent p.functions → KeepsTheRules p c → IsLeftThere after now
+    → BlocksComeTo (entry_there p input c h after) (result_as settled) now.cells → IsSettledSo p c now last settled taken
+    → IsThere hosts p input taken last (with_construct (entry_there p input c h after) (guess_there hosts progress.telling p input c h after) progress)
+goes-past-blocks settle ends hosts p input after now last progress c h (Carried v) taken e silent keeps left came so =
+    let s = so.1 in
+    subst (λ t. IsThere hosts p input t last (with_construct (entry_there p input c h after) (guess_there hosts progress.telling p input c h after) progress)) (sym so.0)
+    (settle hosts p input e.before after last progress c h v e.goes e.first e.header silent keeps
+    (subst (λ cells. BlocksComeTo (entry_there p input c h after) (Ok v) cells) (sym s.cells) came)
+    (s.slots ∙ ap (λ f. carried.with_carried (carried_of c) v (main_slots p f)) left.frame) (s.output ∙ left.output) (s.place ∙ ap (λ n. n + 1) (left.place ∙ e.place)))
+goes-past-blocks settle ends hosts p input after now last progress c h (Trapped t) taken e silent keeps left came so =
+    let later = with_construct (entry_there p input c h after) (guess_there hosts progress.telling p input c h after) progress in
+    subst (λ x. IsThere hosts p input x last later) (sym so.0)
+    (subst (λ (x : Stand). HasCome hosts p input (Stopped t x.output) later) (sym so.1)
+    (subst (λ out. HasCome hosts p input (Stopped t out) later) (sym left.output)
+    (ends hosts p input e.before after progress c h t now.cells e.goes e.first e.header silent keeps came)))
 
 -- ---- without blocks
 
-no-trace : (blocks : ℕ) (First : Trace → Type 0) → blocks ≡ 0 → begin_with blocks First (λ others. others ≡ []) []
-no-trace zero First none = refl
-no-trace (suc n) First none = cc
-
-pub no-blocks-come : (p : Program) (input : List ℕ) (c : Construct) (h : Header) (s : Stand) (guess : ℕ → Guess) → h.blocks ≡ 0
-    → BlocksComeTo (entry_there p input c h s) guess (Ok h.start) [] s.cells []
-no-blocks-come p input c h s guess none_there = record {
+no-blocks-come : (p : Program) (input : List ℕ) (c : Construct) (h : Header) (s : Stand) → h.blocks ≡ 0 → BlocksComeTo (entry_there p input c h s) (Ok h.start) s.cells
+no-blocks-come p input c h s none_there = record {
   result = ap (λ n. (chained (environment_of p input) c (main_slots p s.frame) 0 n h.low h.start s.cells).result) none_there;
-  values_are = ap (λ n. (chained (environment_of p input) c (main_slots p s.frame) 0 n h.low h.start s.cells).values) none_there;
   memory_is = λ v is. sym (ap (λ n. (chained (environment_of p input) c (main_slots p s.frame) 0 n h.low h.start s.cells).memory) none_there);
-  traces_are = no-trace h.blocks (HasRuns (entry_there p input c h s) guess (Ok h.start) []) none_there;
 }
 
--- a construct without blocks leads on with its start row
-pub leads-nothing : ConstructsSettle → ConstructsEndRuns → (hosts : Hosts) (p : Program) (input : List ℕ) (before after : Stand) (progress : Progress) (c : Construct) (h : Header) (passed : Passed) (told : Hosts)
-    → GoesOn hosts p input before progress → construct_first (ahead p before) ≡ Some c → EndsAt p (header_means (environment_of p input) c) before after h
-    → FunctionsAreSilent p.functions → KeepsTheRules p c → after.place ≡ before.place → h.blocks ≡ 0
-    → passed.settled ≡ Carried h.start → passed.stats ≡ none → passed.trace ≡ None → WereTold hosts progress.telling told
-    → LeadsTo hosts p input progress after c passed told
-leads-nothing settle ends hosts p input before after progress c h passed told goes first went silent keeps place none_there settled stats trace were =
-    leads settle ends hosts p input before after after progress c h passed told [] goes first went silent keeps
-    (record { place = place; frame = refl; output = refl; same_place = refl })
-    (subst (λ t. BlocksComeTo (entry_there p input c h after) (guess_there hosts progress.telling p input c h after) (result_as passed.settled) [] after.cells (option_to_list t)) (sym trace)
-    (subst (λ s. BlocksComeTo (entry_there p input c h after) (guess_there hosts progress.telling p input c h after) (result_as s) [] after.cells []) (sym settled)
-    (no-blocks-come p input c h after (guess_there hosts progress.telling p input c h after) none_there)))
-    stats
-    (subst (λ t. WereTold hosts t told) (sym (append-nil progress.telling)) were)
-
--- ---- headers that trap
-
-plus-none : (one : Stats) → plus one none ≡ one
+pub plus-none : (one : Stats) → plus one none ≡ one
 plus-none one =
     let blocks : one.blocks + 0 ≡ one.blocks = omega arith in
     let hits : one.hits + 0 ≡ one.hits = omega arith in
@@ -144,17 +86,52 @@ plus-none one =
     let blind : one.blind + 0 ≡ one.blind = omega arith in
     λ i. record { blocks = blocks i; hits = hits i; misses = misses i; blind = blind i }
 
-pub header-leads : HeadersEndRuns → (hosts : Hosts) (p : Program) (input : List ℕ) (before after : Stand) (progress : Progress) (c : Construct) (t : Trap) (passed : Passed) (told : Hosts)
-    → GoesOn hosts p input before progress → construct_first (ahead p before) ≡ Some c → TrapsAt p (header_means (environment_of p input) c) before after t
-    → passed.settled ≡ Trapped t → passed.stats ≡ none → passed.trace ≡ None → WereTold hosts progress.telling told
-    → LeadsTo hosts p input progress after c passed told
-header-leads ends hosts p input before after progress c t passed told goes first traps settled stats trace were = record {
-  later = progress;
-  stats = sym (plus-none progress.stats) ∙ ap (plus progress.stats) (sym stats);
-  traces = sym (append-nil progress.traces) ∙ ap (λ x. progress.traces ++ option_to_list x) (sym trace);
-  told = were;
-  settles = subst (λ s. SettlesSo hosts p input after c s progress) (sym settled) (ends hosts p input before after progress c t goes first traps);
-}
+-- it adds nothing
+adds-nothing : (p : Program) (input : List ℕ) (c : Construct) (h : Header) (s : Stand) (guess : ℕ → Guess) (progress : Progress) → h.blocks ≡ 0
+    → with_construct (entry_there p input c h s) guess progress ≡ progress
+adds-nothing p input c h s guess progress none_there =
+    let values : (plain_blocks (entry_there p input c h s)).values ≡ []
+    = ap (λ n. (chained (environment_of p input) c (main_slots p s.frame) 0 n h.low h.start s.cells).values) none_there in
+    let e = entry_there p input c h s in
+    let passed : passed_from e guess ≡ []
+    = ap (λ n. where_blocks n (record { entry = e; guess = λ k. (guess k).value; reals = real_rows_from e })) none_there in
+    let stats : plus progress.stats (statistics_with guess (plain_blocks e).values) ≡ progress.stats
+    = ap (λ vs. plus progress.stats (statistics_with guess vs)) values ∙ plus-none progress.stats in
+    let told = ap (λ vs. progress.telling ++ tells c h vs) values ∙ append-nil progress.telling in
+    let all = ap (λ l. progress.passed ++ l) passed ∙ append-nil progress.passed in
+    λ i. record { stats = stats i; telling = told i; passed = all i }
+
+-- a construct without blocks is passed with its start row
+pub goes-past-none : ConstructsSettle → ConstructsEndRuns → (hosts : Hosts) (p : Program) (input : List ℕ) (after last : Stand) (progress : Progress) (c : Construct) (h : Header) (taken : Step)
+    → HasEntered hosts p input c h after progress → FunctionsAreSilent p.functions → KeepsTheRules p c → h.blocks ≡ 0
+    → IsSettledSo p c after last (Carried h.start) taken → IsThere hosts p input taken last progress
+goes-past-none settle ends hosts p input after last progress c h taken e silent keeps none_there so =
+    subst (IsThere hosts p input taken last) (adds-nothing p input c h after (guess_there hosts progress.telling p input c h after) progress none_there)
+    (goes-past-blocks settle ends hosts p input after after last progress c h (Carried h.start) taken e silent keeps
+    (record { frame = refl; output = refl; place = refl }) (no-blocks-come p input c h after none_there) so)
+
+-- ---- with blocks that workers ran
+
+carried-as : (s : Settled) (v : carried.Carried) → result_as s ≡ Ok v → s ≡ Carried v
+carried-as (Carried w) v is = (let same : w ≡ v = cc in ap Carried same)
+carried-as (Trapped t) v is = cc
+
+-- what they came to
+pub blocks-come : (e : Entry) (guess : ℕ → Guess) (report : ConstructReport) (memory : List ℤ) → ComesTo e guess report memory → BlocksComeTo e (result_as report.settled) memory
+blocks-come e guess report memory c = record { result = c.result; memory_is = λ v is. c.plain_memory v (carried-as report.settled v is) }
+
+one-trace : (blocks : ℕ) (x : PassedConstruct) (trace : Trace) → 1 ≤ blocks → IsItsTrace x trace → OneByOne IsItsTrace (where_blocks blocks x) (trace ∷ [])
+one-trace zero x trace some is = absurd (omega (arith, some))
+one-trace (suc n) x trace some is = (is, tt)
+
+-- and the trace of their construct
+pub its-trace : (e : Entry) (guess : ℕ → Guess) (report : ConstructReport) (memory : List ℤ) → 1 ≤ e.header.blocks → ComesTo e guess report memory
+    → OneByOne IsItsTrace (passed_from e guess) (report.trace ∷ [])
+its-trace e guess report memory some c =
+    one-trace e.header.blocks (record { entry = e; guess = λ n. (guess n).value; reals = real_rows_from e }) report.trace some (record {
+      logs = c.logs;
+      merging = λ steps merges. record { result = result_as report.settled; run = c.merging steps merges; trapped = ap is_trap (sym c.result) };
+    })
 
 -- ---- what blocks came to where a run stands
 

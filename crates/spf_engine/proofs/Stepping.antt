@@ -2,10 +2,9 @@
 use Rattle.std.proofs.Common.{◌≡◌, ℕ, ◌+◌, ◌-◌, ◌*◌, ◌≤◌, length, List, [], ◌∷◌, ◌++◌, refl, sym, ap, ◌∙◌, subst, append_assoc, arith}
 use Rattle.std.specs.Prelude.{Some, Result, Ok, Err, IfOk, IfErr}
 use Rattle.std.proofs.lemmas.List.{append-nil}
-use Rattle.std.specs.Option.{option_to_list}
 use Rattle.spf_ast.specs.Syntax.{Program, Block}
-use Rattle.spf_ast.specs.Pieces.{construct_first, rest_from, statement_count}
-use Rattle.spf_ast.specs.Construct.{Construct, constructs_in, Reached, reached_from, reals}
+use Rattle.spf_ast.specs.Pieces.{construct_first, from_construct, rest_from, statement_count}
+use Rattle.spf_ast.specs.Construct.{Construct, Header, constructs_in, Reached, reached_from, reals}
 use Rattle.spf_guess_statistics.specs.Guess.{Hosts, Telling, tells}
 use Rattle.spf_guess_statistics.specs.Statistics.{tally_from, tally}
 use Rattle.spf_guess.specs.Answers.{WereTold}
@@ -15,18 +14,23 @@ use Rattle.spf_exec.specs.declared.pieces.Pause.{Pause}
 use Rattle.spf_exec.specs.Pieces.{Stand, Advanced, ahead}
 use Rattle.spf_engine_laws.specs.Progress.{Progress, GoesOn, HasCome}
 use Rattle.spf_engine.specs.declared.account.Account.{Account}
-use Rattle.spf_engine_laws.specs.Laws.{RunsAdvance, IsPausedSo}
+use Rattle.spf_engine_laws.specs.Laws.{RunsAdvance, IsPausedSo, PassedHaveTheTraces}
 use Rattle.spf_engine_laws.specs.Traces.{Trace, AreTraces}
 use Rattle.spf_chain.specs.declared.validated.Settled.{Settled}
 use Rattle.spf_chain.specs.declared.validated.Settled.TheVariants.{Carried, Trapped}
 use Rattle.spf_engine_construct.specs.Guesses.{AreAtMost}
 use Rattle.spf_guess_statistics.specs.declared.stats.Stats.{Stats}
-use Rattle.spf_guess_statistics.specs.Statistics.{plus}
-use Rattle.spf_engine.specs.declared.construct.Passed.{Passed}
+use Rattle.spf_guess_statistics.specs.Statistics.{none, plus}
+use Rattle.spf_ast.specs.declared.construct.TopConstruct.{TopConstruct}
+use Rattle.spf_exec.specs.declared.pieces.Header as code_header
 use Rattle.spf_engine.specs.declared.step.Step.{Step}
 use Rattle.spf_engine.specs.declared.step.Step.TheVariants as step
-use Rattle.spf_engine.specs.Runs.{SettlesSo, LeadsTo, IsSettledSo, AreFew, AgreesWith, IsThere, StepsTo, GoesFurther, WereToldFirst}
-use Rattle.spf_engine.proofs.Ending.{goes-past, few-past}
+use Rattle.spf_engine.specs.declared.step.Arrival.{Arrival}
+use Rattle.spf_engine.specs.declared.step.Arrival.TheVariants.{AtBlocks, Over}
+use Rattle.spf_engine.specs.Runs.{HasEntered, IsSettledSo, AreFew, IsThere, GoesFurther, ComesNearer, WereToldFirst}
+use Rattle.spf_engine.specs.Accounts.{AgreesWith, StepsTo}
+use Rattle.spf_engine.proofs.Ending.{advance-counts, few-none, few-advanced, goes-past, few-past}
+use Rattle.spf_engine.proofs.Passing.{plus-none}
 
 -- what is told later comes after what was told
 record TellsOn (hosts : Hosts) (p : Program) (input : List ℕ) (constructs : List Construct) (others : List Reached) (telling : List Telling) : Type 0 where
@@ -50,37 +54,13 @@ told-first hosts p input s progress now goes told =
 pub told-all : (hosts : Hosts) (p : Program) (input : List ℕ) (telling : List Telling) (now : Hosts) → telling ≡ (tally hosts p input).telling → WereTold hosts telling now → WereToldFirst hosts p input now
 told-all hosts p input telling now is told = record { telling = telling; more = []; all = append-nil telling ∙ is; told = told }
 
--- ---- after a construct
+-- so were those of a run that is at the end of a step
+pub first-there : (hosts : Hosts) (p : Program) (input : List ℕ) (taken : Step) (s : Stand) (later : Progress) (now : Hosts) → IsThere hosts p input taken s later → WereTold hosts later.telling now → WereToldFirst hosts p input now
+first-there hosts p input step.Next s later now there told = told-first hosts p input s later now there told
+first-there hosts p input step.Finished s later now there told = told-all hosts p input later.telling now there.whole.telling_is told
+first-there hosts p input (step.Trapped t) s later now there told = told-all hosts p input later.telling now there.whole.telling_is told
 
--- hosts were told the first pairs
-pub first-after : (hosts : Hosts) (p : Program) (input : List ℕ) (progress : Progress) (s last : Stand) (c : Construct) (passed : Passed) (now : Hosts) (taken : Step)
-    → LeadsTo hosts p input progress s c passed now → IsSettledSo p c s last passed.settled taken → WereToldFirst hosts p input now
-first-after hosts p input progress s last c passed now taken l is = go passed.settled l.settles is
-  where
-    go : (r : Settled) → SettlesSo hosts p input s c r l.later → IsSettledSo p c s last r taken → WereToldFirst hosts p input now
-    go (Carried v) settles so = told-first hosts p input last l.later now (settles last so.1) l.told
-    go (Trapped t) come so = told-all hosts p input l.later.telling now come.whole.telling_is l.told
-
--- and the account agrees with the further progress
-pub steps-after : (hosts : Hosts) (p : Program) (input : List ℕ) (progress : Progress) (s last : Stand) (c : Construct) (passed : Passed) (now : Hosts) (taken : Step) (before after : Account)
-    → LeadsTo hosts p input progress s c passed now → IsSettledSo p c s last passed.settled taken → AgreesWith progress before
-    → after.stats ≡ plus before.stats passed.stats → after.traces.items ≡ before.traces.items ++ option_to_list passed.trace
-    → StepsTo hosts p input taken last after now
-steps-after hosts p input progress s last c passed now taken before after l is agrees stats traces = record {
-  later = l.later;
-  agrees = record {
-    stats = stats ∙ ap (λ x. plus x passed.stats) agrees.stats ∙ sym l.stats;
-    traces = traces ∙ ap (λ x. x ++ option_to_list passed.trace) agrees.traces ∙ sym l.traces;
-  };
-  told = l.told;
-  there = go passed.settled l.settles is;
-}
-  where
-    go : (r : Settled) → SettlesSo hosts p input s c r l.later → IsSettledSo p c s last r taken → IsThere hosts p input taken last l.later
-    go (Carried v) settles so = subst (λ t. IsThere hosts p input t last l.later) (sym so.0) (settles last so.1)
-    go (Trapped t) come so =
-        subst (λ x. IsThere hosts p input x last l.later) (sym so.0)
-        (subst (λ (x : Stand). HasCome hosts p input (Stopped t x.output) l.later) (sym so.1) come)
+-- ---- further
 
 -- where the run goes on, it is past the construct
 pub further-after : (p : Program) (before s last : Stand) (c : Construct) (settled : Settled) (taken : Step) (counted more : Stats)
@@ -97,6 +77,13 @@ further-after p before s last c (Carried v) taken counted more first place so co
 further-after p before s last c (Trapped t) taken counted more first place so count few at_most =
     subst (λ x. GoesFurther p x before last (plus counted more)) (sym so.0) tt
 
+-- also where nothing was counted
+pub further-uncounted : (p : Program) (before s last : Stand) (c : Construct) (settled : Settled) (taken : Step)
+    → construct_first (ahead p before) ≡ Some c → s.place ≡ before.place → IsSettledSo p c s last settled taken
+    → s.passed + length (constructs_in (ahead p s)) ≡ length (constructs_in p.main) → ComesNearer p before (Over taken) last
+further-uncounted p before s last c settled taken first place so count = λ counted few.
+    subst (GoesFurther p taken before last) (plus-none counted) (further-after p before s last c settled taken counted none first place so count few (few-none 4096))
+
 -- it is further also from before
 pub further-from : (p : Program) (before between last : Stand) (taken : Step) (counted : Stats) → statement_count (ahead p between) ≤ statement_count (ahead p before)
     → GoesFurther p taken between last counted → GoesFurther p taken before last counted
@@ -104,19 +91,37 @@ further-from p before between last step.Next counted nearer h = (let fewer = h.0
 further-from p before between last step.Finished counted nearer h = tt
 further-from p before between last (step.Trapped t) counted nearer h = tt
 
+-- a run is as near after a header as before it
+pub near-there : (p : Program) (before after : Stand) (number : ℕ) (c : TopConstruct) (header : code_header.Header) → after.place ≡ before.place → ComesNearer p before (AtBlocks number c header) after
+near-there p before after number c header place =
+    let same : ahead p after ≡ ahead p before = ap (λ n. rest_from n p.main) place in
+    let count = ap statement_count same in
+    (omega (arith, count), λ counted few. subst (λ (x : Block). AreAtMost counted (4096 * (length (constructs_in p.main) - length (constructs_in x)))) (sym same) few)
+
+-- it came nearer also from before
+pub nearer-from : (p : Program) (before between last : Stand) (arrival : Arrival) → ahead p between ≡ from_construct (ahead p before) → ComesNearer p between arrival last → ComesNearer p before arrival last
+nearer-from p before between last (AtBlocks number c header) at h =
+    let nearer = advance-counts p before between at in
+    let here = h.0 in
+    (omega (arith, nearer, here), λ counted few. h.1 counted (few-advanced p before between counted at few))
+nearer-from p before between last (Over taken) at h = λ counted few.
+    further-from p before between last taken counted (advance-counts p before between at) (h counted (few-advanced p before between counted at few))
+
 -- whatever hosts there were before
-pub all-told-first : (p : Program) (input : List ℕ) (s : Stand) (was now : Hosts) → ((before : Hosts) (telling : List Telling) → WereTold before telling was → WereTold before telling now)
-    → (before : Hosts) (progress : Progress) → WereTold before progress.telling was → GoesOn before p input s progress → WereToldFirst before p input now
-all-told-first p input s was now keeps before progress were goes = told-first before p input s progress now goes (keeps before progress.telling were)
+pub entered-told-first : (p : Program) (input : List ℕ) (c : Construct) (h : Header) (s : Stand) (was now : Hosts) → ((before : Hosts) (telling : List Telling) → WereTold before telling was → WereTold before telling now)
+    → (before : Hosts) (progress : Progress) → WereTold before progress.telling was → HasEntered before p input c h s progress → WereToldFirst before p input now
+entered-told-first p input c h s was now keeps before progress were e = told-first before p input e.before progress now e.goes (keeps before progress.telling were)
+
+-- so it is with one whose construct was settled and told
+pub told-there : (p : Program) (input : List ℕ) (c : Construct) (h : Header) (s last : Stand) (taken : Step) (was now : Hosts) (later : Hosts → Progress → Progress)
+    → ((before : Hosts) (progress : Progress) → WereTold before progress.telling was → HasEntered before p input c h s progress → IsThere before p input taken last (later before progress) × WereTold before (later before progress).telling now)
+    → (before : Hosts) (progress : Progress) → WereTold before progress.telling was → HasEntered before p input c h s progress → WereToldFirst before p input now
+told-there p input c h s last taken was now later f before progress were e =
+    let both = f before progress were e in
+    first-there before p input taken last (later before progress) now both.0 both.1
 
 pub same-told-first : (p : Program) (input : List ℕ) (s : Stand) (was : Hosts) (before : Hosts) (progress : Progress) → WereTold before progress.telling was → GoesOn before p input s progress → WereToldFirst before p input was
 same-told-first p input s was before progress were goes = told-first before p input s progress was goes were
-
-pub all-first-after : (p : Program) (input : List ℕ) (begin s last : Stand) (c : Construct) (passed : Passed) (was now : Hosts) (taken : Step)
-    → ((before : Hosts) (progress : Progress) → WereTold before progress.telling was → GoesOn before p input begin progress → LeadsTo before p input progress s c passed now)
-    → IsSettledSo p c s last passed.settled taken
-    → (before : Hosts) (progress : Progress) → WereTold before progress.telling was → GoesOn before p input begin progress → WereToldFirst before p input now
-all-first-after p input begin s last c passed was now taken leads is before progress were goes = first-after before p input progress s last c passed now taken (leads before progress were goes) is
 
 -- ---- results
 
@@ -146,21 +151,21 @@ pub record EndsSo (hosts : Hosts) (p : Program) (input : List ℕ) (o : Outcome)
   pub traces : AreTraces hosts p input (constructs_in p.main) (reals p input) [] account.traces.items
   pub told : WereTold hosts (tally hosts p input).telling now
 
-ends-so : (hosts : Hosts) (p : Program) (input : List ℕ) (o : Outcome) (later : Progress) (account : Account) (now : Hosts) → AgreesWith later account → WereTold hosts later.telling now → HasCome hosts p input o later → EndsSo hosts p input o account now
-ends-so hosts p input o later account now agrees told come = record {
+ends-so : PassedHaveTheTraces → (hosts : Hosts) (p : Program) (input : List ℕ) (o : Outcome) (later : Progress) (account : Account) (now : Hosts) → AgreesWith later account → WereTold hosts later.telling now → HasCome hosts p input o later → EndsSo hosts p input o account now
+ends-so law hosts p input o later account now agrees told come = record {
   outcome_is = come.outcome_is;
   stats = agrees.stats ∙ come.whole.stats_are;
-  traces = subst (AreTraces hosts p input (constructs_in p.main) (reals p input) []) (sym agrees.traces) come.whole.traces_are;
+  traces = law hosts p input later account.traces.items come.whole agrees.traces;
   told = subst (λ telling. WereTold hosts telling now) come.whole.telling_is told;
 }
 
-pub finishes-so : (hosts : Hosts) (p : Program) (input : List ℕ) (taken : Step) (s : Stand) (account : Account) (now : Hosts) → StepsTo hosts p input taken s account now → taken ≡ step.Finished → EndsSo hosts p input (Done s.cells s.output) account now
-finishes-so hosts p input taken s account now to is =
-    ends-so hosts p input (Done s.cells s.output) to.later account now to.agrees to.told (subst (λ t. IsThere hosts p input t s to.later) is to.there)
+pub finishes-so : PassedHaveTheTraces → (hosts : Hosts) (p : Program) (input : List ℕ) (taken : Step) (s : Stand) (account : Account) (now : Hosts) → StepsTo hosts p input taken s account now → taken ≡ step.Finished → EndsSo hosts p input (Done s.cells s.output) account now
+finishes-so law hosts p input taken s account now to is =
+    ends-so law hosts p input (Done s.cells s.output) to.later account now to.agrees to.told (subst (λ t. IsThere hosts p input t s to.later) is to.there)
 
-pub traps-so : (hosts : Hosts) (p : Program) (input : List ℕ) (taken : Step) (t : Trap) (s : Stand) (account : Account) (now : Hosts) → StepsTo hosts p input taken s account now → taken ≡ step.Trapped t → EndsSo hosts p input (Stopped t s.output) account now
-traps-so hosts p input taken t s account now to is =
-    ends-so hosts p input (Stopped t s.output) to.later account now to.agrees to.told (subst (λ x. IsThere hosts p input x s to.later) is to.there)
+pub traps-so : PassedHaveTheTraces → (hosts : Hosts) (p : Program) (input : List ℕ) (taken : Step) (t : Trap) (s : Stand) (account : Account) (now : Hosts) → StepsTo hosts p input taken s account now → taken ≡ step.Trapped t → EndsSo hosts p input (Stopped t s.output) account now
+traps-so law hosts p input taken t s account now to is =
+    ends-so law hosts p input (Stopped t s.output) to.later account now to.agrees to.told (subst (λ x. IsThere hosts p input x s to.later) is to.there)
 
 -- hosts that were told nothing
 pub told-nothing : (hosts : Hosts) (p : Program) (input : List ℕ) → WereToldFirst hosts p input hosts

@@ -1,3 +1,4 @@
 pub mod Counts
 pub mod Runs
+pub mod Accounts
 pub mod Errors

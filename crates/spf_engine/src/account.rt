@@ -1,6 +1,5 @@
 //! What a run has counted and recorded so far.
-ghost use Rattle.std.specs.Prelude.{◌≡◌, ◌<◌, ◌++◌, [], IfOk};
-ghost use Rattle.std.specs.Option.{option_to_list};
+ghost use Rattle.std.specs.Prelude.{◌≡◌, ◌<◌, ◌++◌, ◌∷◌, [], IfOk};
 ghost use Rattle.spf_guess_statistics.specs.Statistics.{none as no_blocks, plus as both};
 ghost use Rattle.spf_engine_construct.specs.Guesses.{AreAtMost};
 ghost use Rattle.spf_engine.specs.Counts.{most_counted};
@@ -9,7 +8,7 @@ use spf_cells::finish::Trace;
 use spf_guess_statistics::stats::Stats;
 use std::alloc::{AllocError, Global};
 
-/// The statistics and the traces of the constructs that a run has passed.
+/// The statistics and the traces of the constructs with blocks that a run has passed.
 #[derive(Drop)]
 pub(crate) struct Account {
     pub stats: Stats,
@@ -29,17 +28,15 @@ impl Account {
         }
     }
 
-    /// Adds what a construct counted, and its trace where it has one.
-    pub(crate) fn add(&mut self, stats: Stats, trace: Option<Trace>) -> Result<(), AllocError>
+    /// Adds what a construct counted, and its trace.
+    pub(crate) fn add(&mut self, stats: Stats, trace: Trace) -> Result<(), AllocError>
         requires few { AreAtMost (both self.old.stats stats) most_counted }
         ensures stats { IfOk result (λ u. self.new.stats ≡ both self.old.stats stats) }
         ensures traces { IfOk result
-            (λ u. self.new.traces.items ≡ self.old.traces.items ++ option_to_list trace) }
+            (λ u. self.new.traces.items ≡ self.old.traces.items ++ trace ∷ []) }
     {
         self.stats = self.stats.plus(stats);
-        if let Some(trace) = trace {
-            self.traces.push(trace)?;
-        }
+        self.traces.push(trace)?;
         Ok(())
     }
 }

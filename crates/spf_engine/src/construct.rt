@@ -5,50 +5,28 @@ ghost use Rattle.spf_ast.specs.Meaning.{max_blocks};
 ghost use Rattle.spf_ast.specs.View.{program as seen_program};
 ghost use Rattle.spf_ast.specs.ConstructView.{construct as seen_construct};
 ghost use Rattle.spf_ast.specs.Construct.{constructs_in};
-ghost use Rattle.spf_ast.specs.Pieces.{construct_first};
 ghost use Rattle.spf_check.specs.Plans.{AreBlocksOf};
-ghost use Rattle.spf_exec.specs.Pieces.{IsRunOf, ahead, seen_header};
+ghost use Rattle.spf_exec.specs.Pieces.{IsRunOf, seen_header};
 ghost use Rattle.spf_exec_instance.specs.Instance.{program_of};
-ghost use Rattle.spf_guess_statistics.specs.Statistics.{none as no_blocks};
 ghost use Rattle.spf_guess.specs.Answers.{supplied, WereToldNoMore};
+ghost use Rattle.spf_guess.specs.Missing.{missing_host};
 ghost use Rattle.spf_engine_construct.specs.Guesses.{AreAtMost, IsHandedIn};
-ghost use Rattle.spf_engine.specs.Runs.{BlocksCome, RowsWereTold, Passes};
+ghost use Rattle.spf_engine.specs.Runs.{AreFew, GoesFurther, IsReadyAt, BreaksOffAt};
+ghost use Rattle.spf_engine.specs.Runs.{RowsWereTold};
+ghost use Rattle.spf_engine.specs.Accounts.{BlocksCome, Passes};
 
+use crate::account::Account;
 use crate::runner::Runner;
+use crate::step::{Step, settle};
 use spf_ast::construct::TopConstruct;
-use spf_cells::finish::Trace;
-use spf_chain::validated::Settled;
 use spf_engine_construct::construct::{ConstructReport, run_blocks};
 use spf_engine_construct::guesses::Stand;
 use spf_exec::pieces::{Header, Run};
 use spf_guess::Predictor;
-use spf_guess_statistics::stats::Stats;
 use spf_ticket_gate::Gate;
 use std::alloc::AllocError;
 use std::sync::Wait;
 use std::thread::Threads;
-
-/// What a construct came to.
-#[derive(Drop)]
-pub(crate) struct Passed {
-    pub settled: Settled,
-    pub stats: Stats,
-    /// The logs of its attempts, where it has blocks.
-    pub trace: Option<Trace>,
-}
-
-/// A construct without blocks, or one whose header trapped.
-fn without_blocks(settled: Settled) -> Passed
-    ensures settled { result.settled ≡ settled }
-    ensures stats { result.stats ≡ no_blocks }
-    ensures trace { result.trace ≡ None }
-{
-    Passed {
-        settled,
-        stats: Stats::none(),
-        trace: None,
-    }
-}
 
 impl<'a, R: Threads + Wait + Sync, G: Gate + Sync> Runner<'a, R, G> {
     /// Runs the blocks of the construct that stands next, whose header is done.
@@ -95,51 +73,45 @@ impl<'a, R: Threads + Wait + Sync, G: Gate + Sync> Runner<'a, R, G> {
         Ok(blocks.write_back(run.cells_mut()))
     }
 
-    /// Performs the header of the construct that stands next and runs its blocks. The run stays
-    /// before the construct.
-    pub(crate) fn pass_construct(
+    /// Passes the construct that stands next, whose header is done, and adds to the account what it
+    /// counted and recorded.
+    pub(crate) fn pass(
         &self,
         construct: TopConstruct,
         number: u32,
+        header: &Header,
         run: &mut Run,
+        account: &mut Account,
         hosts: &mut Vec<Box<dyn Predictor>>,
-    ) -> Result<Passed, AllocError>
+    ) -> Result<Step, AllocError>
         requires program { program_of self.now.instance.now ≡ seen_program self.now.checked.now }
+        requires hosts { missing_host (length hosts.old.items)
+            (constructs_in (program_of self.now.instance.now).main) ≡ None }
         requires run { IsRunOf (program_of self.now.instance.now)
             (length self.now.instance.now.input) run.old }
-        requires next { construct_first (ahead (program_of self.now.instance.now) run.old)
-            ≡ Some (seen_construct construct) }
-        requires construct { slice_get (constructs_in (program_of self.now.instance.now).main) number
-            ≡ Some (seen_construct construct) }
-        requires host { IsHandedIn (length hosts.old.items) (seen_construct construct) }
-        ensures came { IfOk result (λ r. Passes self.now.instance.now run.old
-            (supplied answer hosts.old.items) (seen_construct construct.entry) r run.new
-            (supplied answer hosts.new.items)) }
-        ensures nothing_told { IfErr result (λ why.
-            WereToldNoMore (supplied answer hosts.old.items) (supplied answer hosts.new.items)) }
+        requires ready { IsReadyAt (program_of self.now.instance.now) number
+            (seen_construct construct) header.now run.old }
+        requires few { AreFew (program_of self.now.instance.now) run.old account.old.stats }
+        ensures steps { IfOk result (λ s. Passes self.now.instance.now run.old account.old
+            (supplied answer hosts.old.items) (seen_construct construct.entry)
+            (seen_header header.now) s run.new account.new (supplied answer hosts.new.items)) }
+        ensures told_first { IfErr result (λ why. BreaksOffAt self.now.instance.now run.old
+            (supplied answer hosts.old.items) (seen_construct construct.entry)
+            (seen_header header.now) (supplied answer hosts.new.items)) }
         ensures count { length hosts.new.items ≡ length hosts.old.items }
-        ensures few { IfOk result (λ r. AreAtMost r.stats max_blocks) }
         ensures run { IsRunOf (program_of self.now.instance.now)
             (length self.now.instance.now.input) run.new }
-        ensures place { run.new.place ≡ run.old.place }
+        ensures further { IfOk result (λ s.
+            GoesFurther (program_of self.now.instance.now) s run.old run.new account.new.stats) }
     {
         // Law: a run in pieces goes on as the plain run does.
         spf_engine_laws::runs_in_pieces_go_on();
         // Law: functions emit nothing, and there are fewer than 2^32 top constructs.
         spf_ast::laws::lawful_programs_are_quiet_and_small();
         let _program = self.checked.program();
-        let header = match run.header(self.instance, construct) {
-            Ok(header) => header,
-            Err(trap) => return Ok(without_blocks(Settled::Trapped(trap))),
-        };
-        if header.blocks == 0 {
-            return Ok(without_blocks(Settled::Carried(header.start)));
-        }
-        let report = self.run_at(construct, number, &header, run, hosts)?;
-        Ok(Passed {
-            settled: report.settled,
-            stats: report.stats,
-            trace: Some(report.trace),
-        })
+        let report = self.run_at(construct, number, header, run, hosts)?;
+        let step = settle(run, self.instance, construct, report.settled);
+        account.add(report.stats, report.trace)?;
+        Ok(step)
     }
 }

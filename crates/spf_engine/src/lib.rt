@@ -6,4 +6,4 @@ mod construct;
 pub mod error;
 pub mod run;
 mod runner;
-mod step;
+pub mod step;

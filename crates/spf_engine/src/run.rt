@@ -133,7 +133,12 @@ pub fn run_instance<R: Threads + Wait + Sync, G: Gate + Sync>(
 }
 
 /// Lays out the arrays of the program for the input.
-fn lay_out<'a>(
+///
+/// # Errors
+///
+/// `TooManyCells` where the arrays have more cells than a run of the program's version may have, and
+/// `OutOfMemory`.
+pub fn lay_out<'a>(
     alloc: Global,
     checked: &'a Checked,
     input: &'a [u8],

@@ -1,31 +1,25 @@
-//! Steps of a run: from one construct past the next.
-ghost use Rattle.std.specs.Prelude.{◌≡◌, ◌<◌, ◌≤◌, ◌+◌, List, length, map, None, Some, IfOk, IfErr};
+//! Steps of a run: from one construct past the next. A run goes up to each construct by itself, and
+//! past it where it has no blocks; who runs the blocks settles it with what they came to.
+ghost use Rattle.std.specs.Prelude.{◌≡◌, ◌<◌, ◌≤◌, ◌+◌, length, Some, slice_get, IfOk};
 ghost use Rattle.spf_ast.specs.View.{program as seen_program};
 ghost use Rattle.spf_ast.specs.ConstructView.{construct as seen_construct};
 ghost use Rattle.spf_ast.specs.Construct.{constructs_in};
 ghost use Rattle.spf_ast.specs.Pieces.{construct_first};
 ghost use Rattle.spf_exec.specs.Pieces.{IsRunOf, ahead};
 ghost use Rattle.spf_exec_instance.specs.Instance.{program_of};
-ghost use Rattle.spf_guess.specs.Answers.{supplied};
-ghost use Rattle.spf_guess.specs.Missing.{missing_host};
-ghost use Rattle.spf_engine.specs.Runs.{IsSettledSo, AreFew, Steps, BreaksOff, GoesFurther};
+ghost use Rattle.spf_engine.specs.Runs.{IsSettledSo, Arrives, CanBeRun, ComesNearer};
 
-use crate::account::Account;
-use crate::runner::Runner;
 use spf_ast::construct::TopConstruct;
 use spf_ast::outcome::Trap;
 use spf_chain::validated::Settled;
-use spf_exec::pieces::{Pause, Run};
+use spf_check::checked::Checked;
+use spf_exec::pieces::{Header, Pause, Run};
 use spf_exec_instance::instance::Instance;
-use spf_guess::Predictor;
-use spf_ticket_gate::Gate;
 use std::alloc::AllocError;
-use std::sync::Wait;
-use std::thread::Threads;
 
 /// Where a step ends.
 #[derive(Clone, Copy, PartialEq, Eq, Debug)]
-pub(crate) enum Step {
+pub enum Step {
     /// After a construct.
     Next,
     /// At the end of `main`.
@@ -34,8 +28,22 @@ pub(crate) enum Step {
     Trapped(Trap),
 }
 
+/// Where a run has come to that went up to its next construct.
+#[derive(Clone, Copy)]
+pub enum Arrival<'a> {
+    /// Before a construct with blocks, whose header is done.
+    AtBlocks {
+        /// Its number: how many top constructs stand before it.
+        number: u32,
+        construct: TopConstruct<'a>,
+        header: Header,
+    },
+    /// Where a step ends in which no blocks are run.
+    Over(Step),
+}
+
 /// Settles the construct that stands next with what its blocks came to.
-fn settle(run: &mut Run, instance: &Instance, construct: TopConstruct, settled: Settled) -> Step
+pub fn settle(run: &mut Run, instance: &Instance, construct: TopConstruct, settled: Settled) -> Step
     requires run { IsRunOf (program_of instance.now) (length instance.now.input) run.old }
     requires construct { construct_first (ahead (program_of instance.now) run.old)
         ≡ Some (seen_construct construct) }
@@ -52,81 +60,75 @@ fn settle(run: &mut Run, instance: &Instance, construct: TopConstruct, settled: 
     }
 }
 
-impl<'a, R: Threads + Wait + Sync, G: Gate + Sync> Runner<'a, R, G> {
-    /// Passes the construct that stands next, and adds to the account what it counted and recorded.
-    fn pass(
-        &self,
-        construct: TopConstruct,
-        number: u32,
-        run: &mut Run,
-        account: &mut Account,
-        hosts: &mut Vec<Box<dyn Predictor>>,
-    ) -> Result<Step, AllocError>
-        requires program { program_of self.now.instance.now ≡ seen_program self.now.checked.now }
-        requires hosts { missing_host (length hosts.old.items)
-            (constructs_in (program_of self.now.instance.now).main) ≡ None }
-        requires run { IsRunOf (program_of self.now.instance.now)
-            (length self.now.instance.now.input) run.old }
-        requires next { construct_first (ahead (program_of self.now.instance.now) run.old)
-            ≡ Some (seen_construct construct) }
-        requires number { number + length (constructs_in (ahead (program_of self.now.instance.now) run.old))
-            ≡ length (constructs_in (program_of self.now.instance.now).main) }
-        requires few { AreFew (program_of self.now.instance.now) run.old account.old.stats }
-        ensures steps { IfOk result (λ s. Steps self.now.instance.now run.old account.old
-            (supplied answer hosts.old.items) s run.new account.new
-            (supplied answer hosts.new.items)) }
-        ensures told_first { IfErr result (λ why. BreaksOff self.now.instance.now run.old
-            (supplied answer hosts.old.items) (supplied answer hosts.new.items)) }
-        ensures count { length hosts.new.items ≡ length hosts.old.items }
-        ensures run { IsRunOf (program_of self.now.instance.now)
-            (length self.now.instance.now.input) run.new }
-        ensures further { IfOk result (λ s.
-            GoesFurther (program_of self.now.instance.now) s run.old run.new account.new.stats) }
-    {
-        // Law: functions emit nothing, and there are fewer than 2^32 top constructs.
-        spf_ast::laws::lawful_programs_are_quiet_and_small();
-        let _program = self.checked.program();
-        let passed = self.pass_construct(construct, number, run, hosts)?;
-        let step = settle(run, self.instance, construct, passed.settled);
-        account.add(passed.stats, passed.trace)?;
-        Ok(step)
+/// Performs the header of the construct that stands next. The run stays before the construct where
+/// it has blocks, and goes past it where it has none.
+fn enter<'a>(
+    checked: &Checked,
+    instance: &Instance,
+    construct: TopConstruct<'a>,
+    number: u32,
+    run: &mut Run,
+) -> Arrival<'a>
+    requires program { program_of instance.now ≡ seen_program checked.now }
+    requires run { IsRunOf (program_of instance.now) (length instance.now.input) run.old }
+    requires next { construct_first (ahead (program_of instance.now) run.old)
+        ≡ Some (seen_construct construct) }
+    requires construct { slice_get (constructs_in (program_of instance.now).main) number
+        ≡ Some (seen_construct construct) }
+    ensures arrived { Arrives instance.now run.old result run.new }
+    ensures ready { CanBeRun (program_of instance.now) result run.new }
+    ensures nearer { ComesNearer (program_of instance.now) run.old result run.new }
+    ensures run { IsRunOf (program_of instance.now) (length instance.now.input) run.new }
+{
+    // Law: a run in pieces goes on as the plain run does.
+    spf_engine_laws::runs_in_pieces_go_on();
+    // Law: functions emit nothing, and there are fewer than 2^32 top constructs.
+    spf_ast::laws::lawful_programs_are_quiet_and_small();
+    let _program = checked.program();
+    let header = match run.header(instance, construct) {
+        Ok(header) => header,
+        Err(trap) => return Arrival::Over(Step::Trapped(trap)),
+    };
+    if header.blocks == 0 {
+        let settled = Settled::Carried(header.start);
+        return Arrival::Over(settle(run, instance, construct, settled));
     }
+    Arrival::AtBlocks {
+        number,
+        construct,
+        header,
+    }
+}
 
-    /// Runs `main` up to the next construct and past it, or to its end.
-    pub(crate) fn take_step(
-        &self,
-        run: &mut Run,
-        account: &mut Account,
-        hosts: &mut Vec<Box<dyn Predictor>>,
-    ) -> Result<Step, AllocError>
-        requires program { program_of self.now.instance.now ≡ seen_program self.now.checked.now }
-        requires hosts { missing_host (length hosts.old.items)
-            (constructs_in (program_of self.now.instance.now).main) ≡ None }
-        requires run { IsRunOf (program_of self.now.instance.now)
-            (length self.now.instance.now.input) run.old }
-        requires few { AreFew (program_of self.now.instance.now) run.old account.old.stats }
-        ensures steps { IfOk result (λ s. Steps self.now.instance.now run.old account.old
-            (supplied answer hosts.old.items) s run.new account.new
-            (supplied answer hosts.new.items)) }
-        ensures told_first { IfErr result (λ why. BreaksOff self.now.instance.now run.old
-            (supplied answer hosts.old.items) (supplied answer hosts.new.items)) }
-        ensures count { length hosts.new.items ≡ length hosts.old.items }
-        ensures run { IsRunOf (program_of self.now.instance.now)
-            (length self.now.instance.now.input) run.new }
-        ensures further { IfOk result (λ s.
-            GoesFurther (program_of self.now.instance.now) s run.old run.new account.new.stats) }
-    {
-        // Law: a run in pieces goes on as the plain run does.
-        spf_engine_laws::runs_in_pieces_go_on();
-        // Law: functions emit nothing, and there are fewer than 2^32 top constructs.
-        spf_ast::laws::lawful_programs_are_quiet_and_small();
-        let _program = self.checked.program();
-        match run.advance(self.instance)? {
-            Pause::Finished => Ok(Step::Finished),
-            Pause::Trapped(trap) => Ok(Step::Trapped(trap)),
-            Pause::AtConstruct { number, construct } => {
-                self.pass(construct, number, run, account, hosts)
-            }
+/// Runs `main` up to the next construct and does its header; past it where it has no blocks, or to
+/// the end of `main`.
+///
+/// # Errors
+///
+/// `AllocError` where there is no memory for the output.
+pub fn arrive<'a>(
+    checked: &Checked,
+    instance: &Instance<'a>,
+    run: &mut Run,
+) -> Result<Arrival<'a>, AllocError>
+    requires program { program_of instance.now ≡ seen_program checked.now }
+    requires run { IsRunOf (program_of instance.now) (length instance.now.input) run.old }
+    ensures arrived { IfOk result (λ a. Arrives instance.now run.old a run.new) }
+    ensures ready { IfOk result (λ a. CanBeRun (program_of instance.now) a run.new) }
+    ensures nearer { IfOk result
+        (λ a. ComesNearer (program_of instance.now) run.old a run.new) }
+    ensures run { IsRunOf (program_of instance.now) (length instance.now.input) run.new }
+{
+    // Law: a run in pieces goes on as the plain run does.
+    spf_engine_laws::runs_in_pieces_go_on();
+    // Law: functions emit nothing, and there are fewer than 2^32 top constructs.
+    spf_ast::laws::lawful_programs_are_quiet_and_small();
+    let _program = checked.program();
+    match run.advance(instance)? {
+        Pause::Finished => Ok(Arrival::Over(Step::Finished)),
+        Pause::Trapped(trap) => Ok(Arrival::Over(Step::Trapped(trap))),
+        Pause::AtConstruct { number, construct } => {
+            Ok(enter(checked, instance, construct, number, run))
         }
     }
 }

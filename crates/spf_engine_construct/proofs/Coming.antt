@@ -2,6 +2,7 @@
 use Rattle.std.proofs.Common.{◌≡◌, ℕ, zero, suc, ◌+◌, ◌-◌, ◌<◌, ◌≤◌, List, length, map, drop, ℤ, sym, ap, ◌∙◌, subst, arith}
 use Rattle.std.specs.Prelude.{Some, slice_get}
 use Rattle.std.proofs.lemmas.List.{length-map}
+use Rattle.spf_ast.specs.Carried.{Carried}
 use Rattle.spf_ast.specs.Construct.{constructs_in}
 use Rattle.spf_ast.specs.ConstructView.{construct as seen_construct}
 use Rattle.spf_ast.specs.Syntax.{Program}
@@ -42,6 +43,10 @@ entry-is at h guesses is = λ i. record {
   memory = at.cells.now;
   header = seen_header h;
 }
+
+-- validated blocks have as many real rows
+pub row-count : (rows : List Carried) (history : List Validated) → rows ≡ real_values history → length rows ≡ length history
+row-count rows history is = ap length is ∙ length-map history (λ (b : Validated). b.real)
 
 -- the guesses of the site are those that were taken
 same-guesses : (guess : ℕ → Guess) (at : Stand) (h : Header) (guesses : List code_guess.Guess) → map seen_guess guesses ≡ guesses_from guess 1 (h.blocks - 1)

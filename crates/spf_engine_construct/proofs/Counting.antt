@@ -4,10 +4,9 @@ use Rattle.std.proofs.lemmas.Int.{ints}
 use Rattle.std.specs.Prelude.{if◌then◌else◌, slice_index_or, ◌≤ℤ◌}
 use Rattle.spf_ast.specs.Carried.{Carried}
 use Rattle.spf_guess_statistics.specs.declared.guess.Guess as code_guess
-use Rattle.spf_chain.specs.declared.validated.Validated.{Validated}
 use Rattle.spf_guess_statistics.specs.Guess.{Guess}
 use Rattle.spf_guess_statistics.specs.Statistics.{guessed_from, statistics_with}
-use Rattle.spf_engine_construct.specs.Guesses.{seen_guess, real_values, guesses_from, paired, counts_of}
+use Rattle.spf_engine_construct.specs.Guesses.{seen_guess, guesses_from, paired, counts_of}
 
 -- one guess more
 pub guesses-snoc : (guess : ℕ → Guess) (place count : ℕ) → guesses_from guess place (suc count) ≡ guesses_from guess place count ++ guess (place + count) ∷ []
@@ -38,12 +37,12 @@ guesses-append guess place (suc first) second =
     ∙ ap (λ l. guess place ∷ l) (guesses-append guess (suc place) first second ∙ ap (λ n. guesses_from guess (suc place) first ++ guesses_from guess n second) after)
 
 -- the block at a place with its guess
-pub pair-step : (gs : List code_guess.Guess) (bs : List Validated) (place : ℕ) (g : code_guess.Guess) (b : Validated) → place < length gs → place < length bs
+pub pair-step : (gs : List code_guess.Guess) (bs : List Carried) (place : ℕ) (g : code_guess.Guess) (b : Carried) → place < length gs → place < length bs
     → g ≡ slice_index_or gs place g → b ≡ slice_index_or bs place b
-    → paired (drop place (map seen_guess gs)) (drop place (real_values bs)) ≡ record { guess = seen_guess g; real = b.real } ∷ paired (drop (suc place) (map seen_guess gs)) (drop (suc place) (real_values bs))
+    → paired (drop place (map seen_guess gs)) (drop place bs) ≡ record { guess = seen_guess g; real = b } ∷ paired (drop (suc place) (map seen_guess gs)) (drop (suc place) bs)
 pair-step [] bs place g b l k read_g read_b = absurd (omega (arith, l))
 pair-step (x ∷ gs) [] place g b l k read_g read_b = absurd (omega (arith, k))
-pair-step (x ∷ gs) (y ∷ bs) zero g b l k read_g read_b = λ i. record { guess = seen_guess (sym read_g i); real = (sym read_b i).real } ∷ paired (map seen_guess gs) (real_values bs)
+pair-step (x ∷ gs) (y ∷ bs) zero g b l k read_g read_b = λ i. record { guess = seen_guess (sym read_g i); real = sym read_b i } ∷ paired (map seen_guess gs) bs
 pair-step (x ∷ gs) (y ∷ bs) (suc place) g b l k read_g read_b = pair-step gs bs place g b (omega (arith, l)) (omega (arith, k)) read_g read_b
 
 -- one more is counted

@@ -11,16 +11,18 @@ ghost use Rattle.spf_exec.specs.Pieces.{seen_header};
 ghost use Rattle.spf_guess_statistics.specs.Guess.{Hosts, Telling, tells};
 ghost use Rattle.spf_guess.specs.Answers.{WereTold, supplied, WereToldNoMore};
 ghost use Rattle.spf_engine_construct.specs.Guesses.{block_guess, AreAtMost, IsHandedIn};
+ghost use Rattle.spf_engine_construct.specs.Guesses.{real_values};
 ghost use Rattle.spf_chain.specs.Finishing.{IsFinished};
 ghost use Rattle.spf_engine_construct.specs.Coming.{IsAtConstruct, IsReady, entry_of, ComeTo};
 
 use crate::counts::count_blocks;
 use crate::guesses::{Stand, take_guesses};
 use crate::telling::tell_history;
+use spf_ast::row::Row;
 use spf_cells::cells::Cells;
 use spf_cells::finish::Trace;
 use spf_chain::chain::Chain;
-use spf_chain::validated::Settled;
+use spf_chain::validated::{Settled, Validated};
 use spf_check::checked::Checked;
 use spf_crew_threads::workers::Workers;
 use spf_exec::frame::Frame;
@@ -30,7 +32,7 @@ use spf_guess_statistics::guess::Guess;
 use spf_guess_statistics::stats::Stats;
 use spf_ticket::run::Job;
 use spf_ticket_gate::Gate;
-use std::alloc::AllocError;
+use std::alloc::{AllocError, Global};
 use std::sync::Wait;
 use std::thread::Threads;
 
@@ -96,6 +98,17 @@ fn run_from<R: Threads + Wait + Sync, G: Gate + Sync>(
     workers.run_crew(chain, cells, tickets, header.blocks, job)
 }
 
+/// The real rows of validated blocks.
+fn real_rows(alloc: Global, history: &[Validated]) -> Result<Vec<Row>, AllocError>
+    ensures rows { IfOk result (λ r. r.items ≡ real_values history.now) }
+{
+    let mut rows = Vec::with_capacity(alloc, history.len())?;
+    for block in history {
+        rows.push(block.real)?;
+    }
+    Ok(rows)
+}
+
 /// Runs the blocks of a top construct whose header is done. `at` is where the run stands. Each of
 /// the workers has a thread of its own; no more of them are used than there are blocks. Before the first attempt
 /// the workers compute what expressions guess, and a host is asked once for each part that names it
@@ -143,8 +156,9 @@ pub fn run_blocks<R: Threads + Wait + Sync, G: Gate + Sync>(
     let (chain, cells) = run_from(workers, checked, at, header, &guesses)?;
     chain.merged_logs_are_speculative_runs();
     let history = chain.history();
-    let stats = count_blocks(history, &guesses);
-    tell_history(at.construct, header, history, hosts);
+    let reals = real_rows(workers.alloc, history)?;
+    let stats = count_blocks(&reals, &guesses);
+    tell_history(at.construct, header, &reals, hosts);
     Ok(Blocks {
         chain,
         cells,

@@ -2,10 +2,9 @@
 ghost use Rattle.std.specs.Prelude.{◌≡◌, ◌≤◌, ◌+◌, length, map, drop, not, if◌then◌else◌};
 ghost use Rattle.spf_ast.specs.Meaning.{max_blocks};
 ghost use Rattle.spf_ast.specs.Carried.{same_carried};
-ghost use Rattle.spf_engine_construct.specs.Guesses.{seen_guess, real_values, paired, counts_of};
-ghost use Rattle.spf_engine_construct.specs.Guesses.{AreAtMost};
+ghost use Rattle.spf_engine_construct.specs.Guesses.{seen_guess, paired, counts_of, AreAtMost};
 
-use spf_chain::validated::Validated;
+use spf_ast::row::Row;
 use spf_guess_statistics::guess::Guess;
 use spf_guess_statistics::stats::Stats;
 
@@ -17,16 +16,16 @@ fn one_if(so: bool) -> u64
 }
 
 /// The statistics with the counts of one more guess.
-fn with_guess(stats: Stats, guess: &Guess, block: &Validated) -> Stats
+fn with_guess(stats: Stats, guess: &Guess, real: &Row) -> Stats
     requires room { AreAtMost stats max_blocks }
     ensures blocks { result.blocks ≡ stats.blocks }
     ensures hits { result.hits
-        ≡ stats.hits + (if same_carried guess.now.value block.now.real then 1 else 0) }
+        ≡ stats.hits + (if same_carried guess.now.value real.now then 1 else 0) }
     ensures misses { result.misses
-        ≡ stats.misses + (if not (same_carried guess.now.value block.now.real) then 1 else 0) }
+        ≡ stats.misses + (if not (same_carried guess.now.value real.now) then 1 else 0) }
     ensures blind { result.blind ≡ stats.blind + (if guess.now.blind then 1 else 0) }
 {
-    let hit = guess.value.is_same(&block.real);
+    let hit = guess.value.is_same(real);
     Stats {
         blocks: stats.blocks,
         hits: stats.hits + one_if(hit),
@@ -35,18 +34,18 @@ fn with_guess(stats: Stats, guess: &Guess, block: &Validated) -> Stats
     }
 }
 
-/// The statistics of validated blocks with the guesses for them.
-pub(crate) fn count_blocks(history: &[Validated], guesses: &[Guess]) -> Stats
-    requires few { length history.now ≤ max_blocks }
-    requires enough { length history.now ≤ length guesses.now + 1 }
+/// The statistics of blocks with these real rows: how many they are, and how good the guesses for
+/// all but the first were.
+pub fn count_blocks(reals: &[Row], guesses: &[Guess]) -> Stats
+    requires few { length reals.now ≤ max_blocks }
+    requires enough { length reals.now ≤ length guesses.now + 1 }
     ensures counts { result
-        ≡ counts_of (length history.now)
-        (paired (map seen_guess guesses.now) (drop 1 (real_values history.now))) }
+        ≡ counts_of (length reals.now) (paired (map seen_guess guesses.now) (drop 1 reals.now)) }
     ensures few { AreAtMost result max_blocks }
 {
     let mut stats = Stats::none();
-    stats.blocks = history.len() as u64;
-    let Some((_, others)) = history.split_first() else {
+    stats.blocks = reals.len() as u64;
+    let Some((_, others)) = reals.split_first() else {
         return stats;
     };
     for place in 0..others.len() {

@@ -18,7 +18,7 @@ ghost use Rattle.spf_engine_construct.specs.Guesses.{seen_guess, predicted, pred
 ghost use Rattle.spf_engine_construct.specs.Guesses.{Results, block_guess, guesses_from};
 ghost use Rattle.spf_engine_construct.specs.Guesses.{IsHandedIn};
 
-use crate::pieces::predict_all;
+use crate::pieces::{predict_all, predict_piece};
 use spf_ast::construct::TopConstruct;
 use spf_ast::row::Row;
 use spf_ast::syntax::Predict;
@@ -234,5 +234,40 @@ pub(crate) fn take_guesses<R: Threads + Sync>(
 {
     let helpers = helpers(at.construct, workers);
     let predicted = predict_all(rt, alloc, at, header, helpers)?;
+    ask_all(alloc, at, header, &predicted, hosts)
+}
+
+/// The same without a thread: the calling one computes what the expressions come to.
+///
+/// # Errors
+///
+/// `AllocError` where there is no memory for the guesses.
+pub fn take_guesses_alone(
+    alloc: Global,
+    at: Stand,
+    header: &Header,
+    hosts: &mut Vec<Box<dyn Predictor>>,
+) -> Result<Vec<Guess>, AllocError>
+    requires construct { slice_get (constructs_in (program_of at.instance.now).main) at.index
+        ≡ Some (seen_construct at.construct) }
+    requires width { IsWidth (length (predictors_of (seen_construct at.construct))) }
+    requires functions { FunctionsAreSilent (program_of at.instance.now).functions }
+    requires own_frame { length at.frame.now ≡ frame_size (program_of at.instance.now) }
+    requires own_cells { length at.cells.now
+        ≡ cell_count_of (program_of at.instance.now) (length at.instance.now.input) }
+    requires host { IsHandedIn (length hosts.old.items) (seen_construct at.construct) }
+    requires some { 1 ≤ header.now.blocks }
+    requires few { header.now.blocks ≤ max_blocks }
+    requires fits { (header.now.low +ℤ pos header.now.blocks) ≤ℤ i64.MAX }
+    ensures guesses { IfOk result (λ r. (before : Hosts) (telling : List Telling)
+        → WereTold before telling (supplied answer hosts.old.items)
+        → map seen_guess r.items
+        ≡ guesses_from (block_guess before telling at.entry header.now) 1 (header.now.blocks - 1)) }
+    ensures told { WereToldNoMore (supplied answer hosts.old.items)
+        (supplied answer hosts.new.items) }
+    ensures count { length hosts.new.items ≡ length hosts.old.items }
+    ensures size { IfOk result (λ r. length r.items + 1 ≡ header.now.blocks) }
+{
+    let predicted = predict_piece(alloc, at, header, 1, header.blocks - 1)?;
     ask_all(alloc, at, header, &predicted, hosts)
 }

@@ -2,7 +2,7 @@
 #![tactic(auto)]
 
 pub mod construct;
-mod counts;
+pub mod counts;
 pub mod guesses;
 mod pieces;
-mod telling;
+pub mod telling;

@@ -41,7 +41,7 @@ fn piece_count(guesses: u64, size: u64) -> u64
 }
 
 /// The guesses of expressions for so many blocks from an index on, in order.
-fn predict_piece(
+pub(crate) fn predict_piece(
     alloc: Global,
     at: Stand,
     header: &Header,

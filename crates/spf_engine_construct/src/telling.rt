@@ -9,13 +9,12 @@ ghost use Rattle.spf_guess_statistics.specs.Guess.{Hosts, Telling, tells, tells_
 ghost use Rattle.spf_guess_statistics.specs.Guess.{tells_row};
 ghost use Rattle.spf_guess.specs.Answers.{supplied, WereTold};
 ghost use Rattle.spf_guess.specs.Missing.{AreAllHandedIn};
-ghost use Rattle.spf_engine_construct.specs.Guesses.{real_values, IsHandedIn};
+ghost use Rattle.spf_engine_construct.specs.Guesses.{IsHandedIn};
 
 use crate::guesses::number_at;
 use spf_ast::construct::TopConstruct;
 use spf_ast::row::Row;
 use spf_ast::syntax::Predict;
-use spf_chain::validated::Validated;
 use spf_exec::pieces::Header;
 use spf_guess::Predictor;
 use spf_guess::hosts::tell;
@@ -56,7 +55,7 @@ fn tell_row(predictors: &[Predict], number: i64, row: &Row, hosts: &mut Vec<Box<
 fn tell_from_one(
     predictors: &[Predict],
     header: &Header,
-    others: &[Validated],
+    others: &[Row],
     hosts: &mut Vec<Box<dyn Predictor>>,
 )
     requires handed_in { AreAllHandedIn (length hosts.old.items)
@@ -67,35 +66,35 @@ fn tell_from_one(
         → WereTold before telling (supplied answer hosts.old.items)
         → WereTold before (telling
         ++ tells_from (map seen_predictor predictors.now) (header.now.low +ℤ pos 1)
-        (real_values others.now)) (supplied answer hosts.new.items) }
+        others.now) (supplied answer hosts.new.items) }
     ensures count { length hosts.new.items ≡ length hosts.old.items }
 {
     for index in 0..others.len() {
         let number = number_at(header, index as u64 + 1);
-        tell_row(predictors, number, &others[index].real, hosts);
+        tell_row(predictors, number, &others[index], hosts);
     }
 }
 
-/// Tells the hosts that guessed the blocks of a construct the real rows of all blocks but the
-/// first, in order, and each host those parts that it guessed, from left to right.
-pub(crate) fn tell_history(
+/// Tells the hosts that guessed the blocks of a construct the real rows of all blocks that have one
+/// but the first, in order, and each host those parts that it guessed, from left to right.
+pub fn tell_history(
     construct: TopConstruct,
     header: &Header,
-    history: &[Validated],
+    reals: &[Row],
     hosts: &mut Vec<Box<dyn Predictor>>,
 )
     requires host { IsHandedIn (length hosts.old.items) (seen_construct construct) }
-    requires few { length history.now ≤ header.now.blocks }
+    requires few { length reals.now ≤ header.now.blocks }
     requires few_blocks { header.now.blocks ≤ max_blocks }
     requires fits { (header.now.low +ℤ pos header.now.blocks) ≤ℤ i64.MAX }
     ensures told { (before : Hosts) (telling : List Telling)
         → WereTold before telling (supplied answer hosts.old.items)
         → WereTold before (telling
-        ++ tells (seen_construct construct.entry) (seen_header header.now)
-        (real_values history.now)) (supplied answer hosts.new.items) }
+        ++ tells (seen_construct construct.entry) (seen_header header.now) reals.now)
+        (supplied answer hosts.new.items) }
     ensures count { length hosts.new.items ≡ length hosts.old.items }
 {
-    if let Some((_, others)) = history.split_first() {
+    if let Some((_, others)) = reals.split_first() {
         tell_from_one(construct.predictors(), header, others, hosts);
     }
 }

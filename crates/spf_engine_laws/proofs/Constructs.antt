@@ -27,21 +27,20 @@ use Rattle.spf_ast.specs.Slots.{assigns_outer}
 use Rattle.spf_ast.specs.Silence.{PartIsSilent}
 use Rattle.spf_ast_laws.specs.Keeping.{StandsInMain}
 use Rattle.spf_check_rules.specs.Rules.{KeepsTheRules}
-use Rattle.spf_speculation_entry.specs.Entry.{Entry}
-use Rattle.spf_speculation.specs.Steps.{Step}
-use Rattle.spf_speculation.specs.Runs.{IsSpeculativeRun}
+use Rattle.spf_speculation_entry.specs.Entry.{plain_blocks}
 use Rattle.spf_speculation.specs.Alike.{SlotsLookAlike}
 use Rattle.spf_guess_statistics.specs.Guess.{Guess, Hosts, Telling, guess_for}
 use Rattle.spf_guess_statistics.specs.Statistics.{guess_at}
-use Rattle.spf_engine_laws.specs.Traces.{Trace, entry_reached, begin_with}
-use Rattle.spf_engine_laws.specs.Progress.{IsAt, Progress, IsCompletedBy, GoesOn, HasCome, HasRuns, BlocksComeTo, entry_there, guess_there, with_construct}
+use Rattle.spf_engine_laws.specs.Passed.{PassedConstruct, where_blocks, passed_from, passed_plainly, real_rows_from, OneByOne, PassedAlike}
+use Rattle.spf_engine_laws.specs.Progress.{IsAt, Progress, IsCompletedBy, GoesOn, HasCome, BlocksComeTo, entry_there, guess_there, with_construct}
 use Rattle.spf_engine_laws.specs.Laws.{ConstructsSettle, ConstructsEndRuns}
 use Rattle.spf_engine_laws.proofs.Places.{goes-to}
 use Rattle.spf_engine_laws.proofs.Fronts.{declared-after}
 use Rattle.spf_engine_laws.proofs.Guesses.{same-guess}
 use Rattle.spf_engine_laws.proofs.Performing.{Sees}
 use Rattle.spf_engine_laws.proofs.Standing.{Laws, Follows, follows, follows-trap, traps-here, outcome-of}
-use Rattle.spf_engine_laws.proofs.Tallies.{whole-of-it, AreItsTraces, completes-after}
+use Rattle.spf_engine_laws.proofs.Passed.{alike-where-blocks}
+use Rattle.spf_engine_laws.proofs.Tallies.{whole-of-it, completes-after}
 
 -- ---- the construct that stands next
 
@@ -162,7 +161,7 @@ reached_as g c m h entered = record {
   reals = blocks_from g c 0 h.blocks h.low h.start (moment_after (header_means g c) m entered);
 }
 
--- ---- guesses and traces
+-- ---- guesses
 
 -- the construct stands at its place in `main`
 abbrev place-of : (hosts : Hosts) (p : Program) (input : List ℕ) (before after : Stand) (progress : Progress) (c : Construct) (h : Header) (e : Entered hosts p input before after progress c h) → StandsInMain p c
@@ -184,23 +183,6 @@ guesses-alike laws hosts p input before after progress c h e n =
     same-guess p input e.goes.scope e.stands.line e.stands.statement c e.stands.construct lawful e.header.state (moment_of p after).state e.header.alike hosts progress.telling x (h.low +ℤ pos n)
     ∙ ap (λ y. guess_for hosts progress.telling p input c (main_slots p after.frame) y (h.low +ℤ pos n)) e.header.comes.memory
 
--- so are the speculative runs
-runs-alike : Laws → (hosts : Hosts) (p : Program) (input : List ℕ) (before after : Stand) (progress : Progress) (c : Construct) (h : Header) (e : Entered hosts p input before after progress c h)
-    → (steps : List Step) (values : List Carried) (r : Result Carried Trap)
-    → IsSpeculativeRun (entry_there p input c h after) (λ n. (guess_there hosts progress.telling p input c h after n).value) steps values r
-    → IsSpeculativeRun (entry_reached p input c (reached_as (environment_of p input) c e.goes.moment h e.header.state))
-    (λ n. (guess_at hosts progress.telling p input c (reached_as (environment_of p input) c e.goes.moment h e.header.state) n).value) steps values r
-runs-alike laws hosts p input before after progress c h e steps values r run =
-    let place = place-of hosts p input before after progress c h e in
-    let back : SlotsLookAlike e.goes.scope.visible (main_slots p after.frame) e.header.state.slots
-    = record { agree = record { slots = λ slot k. sym (e.header.alike.agree.slots slot k); output = refl }; slot_count = sym e.header.alike.slot_count } in
-    let entry : Entry = record { program = p; construct = c; input = input; slots = main_slots p after.frame; memory = after.cells; header = h } in
-    let other = laws.slots entry e.header.state.slots place (λ n. (guess_there hosts progress.telling p input c h after n).value) steps values r back run in
-    subst (λ (y : List ℤ). IsSpeculativeRun (record { program = p; construct = c; input = input; slots = e.header.state.slots; memory = y; header = h })
-    (λ n. (guess_at hosts progress.telling p input c (reached_as (environment_of p input) c e.goes.moment h e.header.state) n).value) steps values r) (sym e.header.comes.memory)
-    (subst (λ (g : ℕ → Carried). IsSpeculativeRun (record { program = p; construct = c; input = input; slots = e.header.state.slots; memory = after.cells; header = h }) g steps values r)
-    (λ i n. (sym (guesses-alike laws hosts p input before after progress c h e n) i).value) other)
-
 -- ---- what the blocks came to, beside the plain run
 
 -- the construct that keeps the rules can have its blocks run on their own
@@ -214,7 +196,7 @@ assigns-none p (fold line head body) k Predictor = refl
 assigns-none p (pair line head producer consumer) k Body = refl
 assigns-none p (pair line head producer consumer) k Predictor = refl
 
-emits-none : (p : Program) (c : Construct) → KeepsTheRules p c → (part : Part) → PartIsSilent c part
+pub emits-none : (p : Program) (c : Construct) → KeepsTheRules p c → (part : Part) → PartIsSilent c part
 emits-none p (fold line head body) k Body = k.emits_nothing Body tt
 emits-none p (pair line head producer consumer) k Producer = k.emits_nothing Producer tt
 emits-none p (pair line head producer consumer) k Consumer = k.emits_nothing Consumer tt
@@ -229,38 +211,41 @@ contained-here laws hosts p input before after progress c h e keeps =
     laws.contained (names_at p (length p.functions) p.slots) e.goes.scope e.stands.line e.stands.statement c e.stands.construct
     (first-lawful hosts p input before progress e.goes c e.stands).0 e.goes.declared (assigns-none p c keeps) (emits-none p c keeps)
 
--- the plain run reached the construct with these real values, and these are its traces
-record IsReachedSo (hosts : Hosts) (p : Program) (input : List ℕ) (telling : List Telling) (c : Construct) (reached_there : Reached) (guess : ℕ → Guess) (values : List Carried) (traces : List Trace) : Type 0 where
-  guesses : (n : ℕ) → guess_at hosts telling p input c reached_there n ≡ guess n
-  values_are : reached_there.reals.values ≡ values
-  traces_are : AreItsTraces hosts telling p input c reached_there traces
-
-traces-of : (blocks : ℕ) (One Other : Trace → Type 0) → ((trace : Trace) → One trace → Other trace) → (traces : List Trace) → begin_with blocks One (λ others. others ≡ []) traces → begin_with blocks Other (λ others. others ≡ []) traces
-traces-of zero One Other f traces h = h
-traces-of (suc blocks) One Other f [] h = h
-traces-of (suc blocks) One Other f (trace ∷ traces) h = (f trace h.0, h.1)
+-- the plain run reached the construct with these guesses and with the real rows that its blocks have where the run stands
+record IsReachedSo (hosts : Hosts) (p : Program) (input : List ℕ) (telling : List Telling) (c : Construct) (there : Reached) (guess : ℕ → Guess) (values : List Carried) (passed : List PassedConstruct) : Type 0 where
+  guesses : (n : ℕ) → guess_at hosts telling p input c there n ≡ guess n
+  values_are : there.reals.values ≡ values
+  alike : OneByOne PassedAlike passed (where_blocks there.header.blocks (passed_plainly hosts telling p input c there))
 
 is-reached-so : (laws : Laws) (hosts : Hosts) (p : Program) (input : List ℕ) (before after : Stand) (progress : Progress) (c : Construct) (h : Header) (e : Entered hosts p input before after progress c h)
-    → FunctionsAreSilent p.functions → KeepsTheRules p c → (r : Result Carried Trap) (values : List Carried) (memory : List ℤ) (traces : List Trace)
-    → BlocksComeTo (entry_there p input c h after) (guess_there hosts progress.telling p input c h after) r values memory traces
-    → IsReachedSo hosts p input progress.telling c (reached_as (environment_of p input) c e.goes.moment h e.header.state) (guess_there hosts progress.telling p input c h after) values traces
-is-reached-so laws hosts p input before after progress c h e silent keeps r values memory traces out =
+    → FunctionsAreSilent p.functions → KeepsTheRules p c
+    → IsReachedSo hosts p input progress.telling c (reached_as (environment_of p input) c e.goes.moment h e.header.state) (guess_there hosts progress.telling p input c h after)
+    (plain_blocks (entry_there p input c h after)).values (passed_from (entry_there p input c h after) (guess_there hosts progress.telling p input c h after))
+is-reached-so laws hosts p input before after progress c h e silent keeps =
     let g = environment_of p input in
+    let there = reached_as g c e.goes.moment h e.header.state in
+    let guess = guess_there hosts progress.telling p input c h after in
     let law = is-its-blocks laws hosts p input before after progress c h e silent (contained-here laws hosts p input before after progress c h e keeps) in
-    let real = law.values ∙ ap (λ y. (chained g c (main_slots p after.frame) 0 h.blocks h.low h.start y).values) e.header.comes.memory ∙ out.values_are in
-    let trap = law.trapped ∙ ap (λ y. is_trap (chained g c (main_slots p after.frame) 0 h.blocks h.low h.start y).result) e.header.comes.memory ∙ ap is_trap out.result in
+    let real = law.values ∙ ap (λ y. (chained g c (main_slots p after.frame) 0 h.blocks h.low h.start y).values) e.header.comes.memory in
+    let trap = law.trapped ∙ ap (λ y. is_trap (chained g c (main_slots p after.frame) 0 h.blocks h.low h.start y).result) e.header.comes.memory in
+    let same = guesses-alike laws hosts p input before after progress c h e in
+    let back : SlotsLookAlike e.goes.scope.visible (main_slots p after.frame) e.header.state.slots
+    = record { agree = record { slots = λ slot k. sym (e.header.alike.agree.slots slot k); output = refl }; slot_count = sym e.header.alike.slot_count } in
     record {
-      guesses = guesses-alike laws hosts p input before after progress c h e;
+      guesses = same;
       values_are = real;
-      traces_are = traces-of h.blocks (HasRuns (entry_there p input c h after) (guess_there hosts progress.telling p input c h after) r values) _ (λ trace has. record {
-        logs = has.logs;
-        merging = λ steps merges. record {
-          result = r;
-          run = subst (λ vs. IsSpeculativeRun (entry_reached p input c (reached_as g c e.goes.moment h e.header.state)) (λ n. (guess_at hosts progress.telling p input c (reached_as g c e.goes.moment h e.header.state) n).value) steps vs r) (sym real)
-              (runs-alike laws hosts p input before after progress c h e steps values r (has.merging steps merges));
-          trapped = sym trap;
-        };
-      }) traces out.traces_are;
+      alike = alike-where-blocks h.blocks
+          (record { entry = entry_there p input c h after; guess = λ n. (guess n).value; reals = real_rows_from (entry_there p input c h after) })
+          (passed_plainly hosts progress.telling p input c there)
+          (record {
+            place = place-of hosts p input before after progress c h e;
+            slots = back;
+            rest = λ i. record {
+              entry = record { program = p; construct = c; input = input; slots = e.header.state.slots; memory = e.header.comes.memory i; header = h };
+              guess = λ n. (same n i).value;
+              reals = record { values = real i; trapped = trap i };
+            };
+          });
     }
 
 -- ---- settling
@@ -301,11 +286,11 @@ reached-before hosts p input before after progress c h e ending memory ended lef
 
 -- where its blocks gave a row, the run goes on after it with this row and their memory
 pub settles-so : Laws → (hosts : Hosts) (p : Program) (input : List ℕ) (before after : Stand) (progress : Progress) (last : Stand) (c : Construct) (h : Header) (e : Entered hosts p input before after progress c h)
-    → FunctionsAreSilent p.functions → KeepsTheRules p c → (v : Carried) (values : List Carried) (traces : List Trace)
-    → BlocksComeTo (entry_there p input c h after) (guess_there hosts progress.telling p input c h after) (Ok v) values last.cells traces
+    → FunctionsAreSilent p.functions → KeepsTheRules p c → (v : Carried)
+    → BlocksComeTo (entry_there p input c h after) (Ok v) last.cells
     → main_slots p last.frame ≡ with_carried (carried_of c) v (main_slots p after.frame) → last.output ≡ after.output → last.place ≡ before.place + 1
-    → GoesOn hosts p input last (with_construct (guess_there hosts progress.telling p input c h after) c h values traces progress)
-settles-so laws hosts p input before after progress last c h e silent keeps v values traces out slots output place =
+    → GoesOn hosts p input last (with_construct (entry_there p input c h after) (guess_there hosts progress.telling p input c h after) progress)
+settles-so laws hosts p input before after progress last c h e silent keeps v out slots output place =
     let g = environment_of p input in
     let m = e.goes.moment in
     let b = e.stands in
@@ -325,7 +310,8 @@ settles-so laws hosts p input before after progress last c h e silent keeps v va
     let statement : Comes (statement_means g b.line b.statement) m.state m.memory (Value Onward ended.state) last.cells = record { answer = ended.is; memory = memory } in
     let entry_is : record (moment_of p after).state { slots = with_carried (carried_of c) v (main_slots p after.frame) } ≡ (moment_of p last).state
     = λ i. record { slots = sym slots i; output = sym output i } in
-    let mine = is-reached-so laws hosts p input before after progress c h e silent keeps (Ok v) values last.cells traces out in
+    let mine = is-reached-so laws hosts p input before after progress c h e silent keeps in
+    let there = entry_there p input c h after in
     record {
       scope = scope_after e.goes.scope b.statement;
       moment = next;
@@ -342,18 +328,18 @@ settles-so laws hosts p input before after progress last c h e silent keeps v va
           ∙ sym (outcome-of {form = main_means g (on_line b.line b.statement b.rest)} (comes-then (λ u. main_means g b.rest) statement (record { answer = refl; memory = refl })))
           ∙ ap (λ all. outcome_from (plain_answer (main_means g all m.state) m.memory) (plain_memory (main_means g all m.state) m.memory)) (sym b.is)
           ∙ e.goes.outcome_is;
-      completes = subst (λ rest. IsCompletedBy hosts p input (constructs_in rest) (reached_from g rest next) (with_construct guess c h values traces progress)) (sym behind)
-          (completes-after hosts p input c (constructs_in b.rest) (reached_as g c m h e.header.state) (reached_from g b.rest next) guess values traces progress
-          mine.guesses mine.values_are mine.traces_are
+      completes = subst (λ rest. IsCompletedBy hosts p input (constructs_in rest) (reached_from g rest next) (with_construct there guess progress)) (sym behind)
+          (completes-after hosts p input c (constructs_in b.rest) (reached_as g c m h e.header.state) (reached_from g b.rest next) guess (plain_blocks there).values (passed_from there guess) progress
+          mine.guesses mine.values_are mine.alike
           (reached-before hosts p input before after progress c h e (Value Onward ended.state) last.cells ended.is memory));
     }
 
 -- where one of its blocks trapped
 pub settles-to-trap : Laws → (hosts : Hosts) (p : Program) (input : List ℕ) (before after : Stand) (progress : Progress) (c : Construct) (h : Header) (e : Entered hosts p input before after progress c h)
-    → FunctionsAreSilent p.functions → KeepsTheRules p c → (t : Trap) (values : List Carried) (memory : List ℤ) (traces : List Trace)
-    → BlocksComeTo (entry_there p input c h after) (guess_there hosts progress.telling p input c h after) (Err t) values memory traces
-    → HasCome hosts p input (Stopped t after.output) (with_construct (guess_there hosts progress.telling p input c h after) c h values traces progress)
-settles-to-trap laws hosts p input before after progress c h e silent keeps t values memory traces out =
+    → FunctionsAreSilent p.functions → KeepsTheRules p c → (t : Trap) (memory : List ℤ)
+    → BlocksComeTo (entry_there p input c h after) (Err t) memory
+    → HasCome hosts p input (Stopped t after.output) (with_construct (entry_there p input c h after) (guess_there hosts progress.telling p input c h after) progress)
+settles-to-trap laws hosts p input before after progress c h e silent keeps t memory out =
     let g = environment_of p input in
     let m = e.goes.moment in
     let b = e.stands in
@@ -366,14 +352,15 @@ settles-to-trap laws hosts p input before after progress c h e silent keeps t va
     (subst (λ r. IsSettledAs e.goes.scope.visible (moment_of p after).state (carried_of c) r (plainly (statement_means g b.line b.statement) m)) result law.settled) in
     let y = plain_memory (statement_means g b.line b.statement m.state) m.memory in
     let statement : Comes (statement_means g b.line b.statement) m.state m.memory (Trapped t after.output) y = record { answer = ended; memory = refl } in
-    let mine = is-reached-so laws hosts p input before after progress c h e silent keeps (Err t) values memory traces out in
+    let mine = is-reached-so laws hosts p input before after progress c h e silent keeps in
+    let there = entry_there p input c h after in
     record {
       outcome_is = sym (outcome-of {form = main_means g (on_line b.line b.statement b.rest)} (comes-trap (λ u. main_means g b.rest) statement))
           ∙ ap (λ all. outcome_from (plain_answer (main_means g all m.state) m.memory) (plain_memory (main_means g all m.state) m.memory)) (sym b.is)
           ∙ e.goes.outcome_is;
-      whole = whole-of-it hosts p input (constructs_in b.rest) [] (with_construct guess c h values traces progress) refl
-          (completes-after hosts p input c (constructs_in b.rest) (reached_as g c m h e.header.state) [] guess values traces progress
-          mine.guesses mine.values_are mine.traces_are
+      whole = whole-of-it hosts p input (constructs_in b.rest) [] (with_construct there guess progress) refl
+          (completes-after hosts p input c (constructs_in b.rest) (reached_as g c m h e.header.state) [] guess (plain_blocks there).values (passed_from there guess) progress
+          mine.guesses mine.values_are mine.alike
           (reached-before hosts p input before after progress c h e (Trapped t after.output) y ended refl));
     }
 
@@ -381,10 +368,10 @@ settles-to-trap laws hosts p input before after progress c h e silent keeps t va
 
 pub construct-settles : Laws → ConstructsSettle
 unfolding enters
-construct-settles laws hosts p input before after last progress c h v values traces goes first went silent keeps out slots output place =
-    settles-so laws hosts p input before after progress last c h (enters laws hosts p input before after progress c h goes first went) silent keeps v values traces out slots output place
+construct-settles laws hosts p input before after last progress c h v goes first went silent keeps out slots output place =
+    settles-so laws hosts p input before after progress last c h (enters laws hosts p input before after progress c h goes first went) silent keeps v out slots output place
 
 pub construct-ends-run : Laws → ConstructsEndRuns
 unfolding enters
-construct-ends-run laws hosts p input before after progress c h t values memory traces goes first went silent keeps out =
-    settles-to-trap laws hosts p input before after progress c h (enters laws hosts p input before after progress c h goes first went) silent keeps t values memory traces out
+construct-ends-run laws hosts p input before after progress c h t memory goes first went silent keeps out =
+    settles-to-trap laws hosts p input before after progress c h (enters laws hosts p input before after progress c h goes first went) silent keeps t memory out

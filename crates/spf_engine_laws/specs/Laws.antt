@@ -1,9 +1,9 @@
 -- What runs in pieces come to.
-use Rattle.std.specs.Prelude.{◌≡◌, ℕ, ◌+◌, List, length, Some, Ok, Err, ℤ}
+use Rattle.std.specs.Prelude.{◌≡◌, ℕ, ◌+◌, List, [], length, Some, Ok, Err, ℤ}
 use Rattle.spf_ast.specs.declared.outcome.Trap.{Trap}
 use Rattle.spf_ast.specs.Syntax.{Program}
 use Rattle.spf_ast.specs.Program.{environment_of, Done, Stopped}
-use Rattle.spf_ast.specs.Construct.{Construct, Header, header_means, carried_of}
+use Rattle.spf_ast.specs.Construct.{Construct, Header, header_means, carried_of, constructs_in, reals}
 use Rattle.spf_ast.specs.Pieces.{construct_first}
 use Rattle.spf_ast.specs.Carried.{Carried, with_carried}
 use Rattle.spf_ast.specs.Silence.{FunctionsAreSilent}
@@ -14,8 +14,9 @@ use Rattle.spf_exec.specs.declared.pieces.Pause.TheVariants as pause
 use Rattle.spf_exec.specs.Pieces.{Stand, HasBegun, Advanced, EndsAt, TrapsAt, ahead}
 use Rattle.spf_check_rules.specs.Rules.{KeepsTheRules}
 use Rattle.spf_guess_statistics.specs.Guess.{Hosts}
-use Rattle.spf_engine_laws.specs.Traces.{Trace}
-use Rattle.spf_engine_laws.specs.Progress.{Progress, no_progress, GoesOn, HasCome, BlocksComeTo, entry_there, guess_there, with_construct}
+use Rattle.spf_engine_laws.specs.Traces.{Trace, AreTraces}
+use Rattle.spf_engine_laws.specs.Passed.{OneByOne, IsItsTrace}
+use Rattle.spf_engine_laws.specs.Progress.{Progress, no_progress, GoesOn, IsWhole, HasCome, BlocksComeTo, entry_there, guess_there, with_construct}
 
 -- a run that begins goes on as the plain run of its program
 abbrev pub RunsBegin : Type 0
@@ -46,26 +47,31 @@ HeadersEndRuns =
 abbrev pub ConstructsSettle : Type 0
 ConstructsSettle =
     (hosts : Hosts) (p : Program) (input : List ℕ) (before after last : Stand) (progress : Progress)
-    (construct : Construct) (header : Header) (value : Carried) (values : List Carried) (traces : List Trace)
+    (construct : Construct) (header : Header) (value : Carried)
     → GoesOn hosts p input before progress → construct_first (ahead p before) ≡ Some construct
     → EndsAt p (header_means (environment_of p input) construct) before after header
     → FunctionsAreSilent p.functions → KeepsTheRules p construct
-    → BlocksComeTo (entry_there p input construct header after)
-    (guess_there hosts progress.telling p input construct header after) (Ok value) values last.cells traces
+    → BlocksComeTo (entry_there p input construct header after) (Ok value) last.cells
     → main_slots p last.frame ≡ with_carried (carried_of construct) value (main_slots p after.frame)
     → last.output ≡ after.output → last.place ≡ before.place + 1
-    → GoesOn hosts p input last (with_construct (guess_there hosts progress.telling p input construct header after) construct header values traces progress)
+    → GoesOn hosts p input last
+    (with_construct (entry_there p input construct header after) (guess_there hosts progress.telling p input construct header after) progress)
 
 -- where one of them trapped, the run has come to its end
 abbrev pub ConstructsEndRuns : Type 0
 ConstructsEndRuns =
     (hosts : Hosts) (p : Program) (input : List ℕ) (before after : Stand) (progress : Progress)
-    (construct : Construct) (header : Header) (trap : Trap) (values : List Carried) (memory : List ℤ) (traces : List Trace)
+    (construct : Construct) (header : Header) (trap : Trap) (memory : List ℤ)
     → GoesOn hosts p input before progress → construct_first (ahead p before) ≡ Some construct
     → EndsAt p (header_means (environment_of p input) construct) before after header
     → FunctionsAreSilent p.functions → KeepsTheRules p construct
-    → BlocksComeTo (entry_there p input construct header after)
-    (guess_there hosts progress.telling p input construct header after) (Err trap) values memory traces
+    → BlocksComeTo (entry_there p input construct header after) (Err trap) memory
     → HasCome hosts p input (Stopped trap after.output)
-    (with_construct (guess_there hosts progress.telling p input construct header after) construct header values
-    traces progress)
+    (with_construct (entry_there p input construct header after) (guess_there hosts progress.telling p input construct header after) progress)
+
+-- traces of the constructs that a run has passed by its end are the traces of the whole run
+abbrev pub PassedHaveTheTraces : Type 0
+PassedHaveTheTraces =
+    (hosts : Hosts) (p : Program) (input : List ℕ) (progress : Progress) (traces : List Trace)
+    → IsWhole hosts p input progress → OneByOne IsItsTrace progress.passed traces
+    → AreTraces hosts p input (constructs_in p.main) (reals p input) [] traces

@@ -1,3 +1,4 @@
 pub mod Traces
+pub mod Passed
 pub mod Progress
 pub mod Laws

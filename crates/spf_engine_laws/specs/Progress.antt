@@ -7,20 +7,17 @@ use Rattle.spf_ast.specs.Meaning.{main_means}
 use Rattle.spf_ast.specs.Carried.{Carried}
 use Rattle.spf_ast.specs.Plain.{plain_answer, plain_memory}
 use Rattle.spf_ast.specs.Program.{environment_of, start_of, zeros_of, Outcome, outcome, outcome_from}
-use Rattle.spf_ast.specs.Construct.{Moment, Construct, Header, constructs_in, Reached, reached_from, reals}
+use Rattle.spf_ast.specs.Construct.{Moment, Construct, Header, constructs_in, Reached, reached_from}
 use Rattle.spf_ast.specs.Lawful.{Scope, names_at, IsLawfulBlock}
 use Rattle.spf_exec_instance.specs.Frame.{main_slots}
 use Rattle.spf_exec.specs.Pieces.{Stand, moment_of, ahead}
 use Rattle.spf_ast_laws.specs.Agreement.{LookAlike}
 use Rattle.spf_ast_laws.specs.Keeping.{AreDeclared}
 use Rattle.spf_speculation_entry.specs.Entry.{Entry, plain_blocks}
-use Rattle.spf_speculation.specs.Steps.{Step, Merges}
-use Rattle.spf_speculation.specs.Runs.{IsSpeculativeRun}
-use Rattle.spf_speculation_lanes.specs.Lanes.{logs_in}
 use Rattle.spf_guess_statistics.specs.declared.stats.Stats.{Stats}
 use Rattle.spf_guess_statistics.specs.Guess.{Guess, Hosts, Telling, guess_for, tells}
 use Rattle.spf_guess_statistics.specs.Statistics.{none, plus, statistics_with, tally_from, tally}
-use Rattle.spf_engine_laws.specs.Traces.{Trace, AreTraces, begin_with}
+use Rattle.spf_engine_laws.specs.Passed.{PassedConstruct, passed_from, all_passed_from, all_passed, OneByOne, PassedAlike}
 
 -- ---- where a run is
 
@@ -31,23 +28,25 @@ pub record IsAt (p : Program) (input : List ℕ) (rest : Block) (m : Moment) : T
   pub state : plain_answer (main_means (environment_of p input) before (start_of p)) (zeros_of p (length input)) ≡ Value tt m.state
   pub memory : plain_memory (main_means (environment_of p input) before (start_of p)) (zeros_of p (length input)) ≡ m.memory
 
--- what a run has counted, what it has told its hosts, and the traces of its constructs, up to where it is
+-- what a run has counted, what it has told its hosts, and which constructs with blocks it has passed, up to where it is
 pub record Progress : Type 0 where
   pub stats : Stats
   pub telling : List Telling
-  pub traces : List Trace
+  pub passed : List PassedConstruct
 
 -- none yet
 abbrev pub no_progress : Progress
-no_progress = record { stats = none; telling = []; traces = [] }
+no_progress = record { stats = none; telling = []; passed = [] }
 
--- with what the constructs still add that the plain run will reach, the progress is that of the whole run
+-- With what the constructs still add that the plain run will reach, the progress is that of the whole run: what was
+-- passed is, one by one, what the plain run passed before them.
 pub record IsCompletedBy (hosts : Hosts) (p : Program) (input : List ℕ) (constructs : List Construct)
     (others : List Reached) (progress : Progress) : Type 0 where
   pub stats_are : plus progress.stats (tally_from hosts p input constructs others progress.telling).stats ≡ (tally hosts p input).stats
   pub telling_is : (tally_from hosts p input constructs others progress.telling).telling ≡ (tally hosts p input).telling
-  pub traces_are : (more : List Trace) → AreTraces hosts p input constructs others progress.telling more
-      → AreTraces hosts p input (constructs_in p.main) (reals p input) [] (progress.traces ++ more)
+  pub before : List PassedConstruct
+  pub passed_are : OneByOne PassedAlike progress.passed before
+  pub all_are : before ++ all_passed_from hosts p input constructs others progress.telling ≡ all_passed hosts p input
 
 -- A run of a lawful program is where its plain run is at the same place: they agree on the slots that are visible
 -- there, on the output and on the memory. What the plain run does from this moment on gives the program's outcome,
@@ -83,25 +82,17 @@ entry_there p input c h s = record {
 abbrev pub guess_there : Hosts → List Telling → Program → List ℕ → Construct → Header → Stand → ℕ → Guess
 guess_there hosts telling p input c h s n = guess_for hosts telling p input c (main_slots p s.frame) s.cells (h.low +ℤ pos n)
 
--- the trace has one log for each block, and every merging of the logs is a speculative run from these guesses, with these values and this result
-pub record HasRuns (e : Entry) (guess : ℕ → Guess) (r : Result Carried Trap) (values : List Carried) (trace : Trace) : Type 0 where
-  pub logs : length trace ≡ e.header.blocks
-  pub merging : (steps : List Step) → Merges e.header.blocks (logs_in trace) steps → IsSpeculativeRun e (λ n. (guess n).value) steps values r
-
--- The blocks from this entry came to this result, began at these rows, and left this memory where none trapped.
--- Their trace is one of speculative runs from these guesses; without blocks there is no trace.
-pub record BlocksComeTo (e : Entry) (guess : ℕ → Guess) (r : Result Carried Trap) (values : List Carried) (memory : List ℤ) (traces : List Trace) : Type 0 where
+-- the blocks from this entry come to this result, and leave this memory where none traps
+pub record BlocksComeTo (e : Entry) (r : Result Carried Trap) (memory : List ℤ) : Type 0 where
   pub result : (plain_blocks e).result ≡ r
-  pub values_are : (plain_blocks e).values ≡ values
   pub memory_is : (v : Carried) → r ≡ Ok v → memory ≡ (plain_blocks e).memory
-  pub traces_are : begin_with e.header.blocks (HasRuns e guess r values) (λ others. others ≡ []) traces
 
--- the progress after a construct whose blocks began at these rows, had these guesses and left these traces
-abbrev pub with_construct : (ℕ → Guess) → Construct → Header → List Carried → List Trace → Progress → Progress
-with_construct guess c h values traces progress = record {
-  stats = plus progress.stats (statistics_with guess values);
-  telling = progress.telling ++ tells c h values;
-  traces = progress.traces ++ traces;
+-- the progress after the construct of this entry, whose blocks had these guesses
+abbrev pub with_construct : Entry → (ℕ → Guess) → Progress → Progress
+with_construct e guess progress = record {
+  stats = plus progress.stats (statistics_with guess (plain_blocks e).values);
+  telling = progress.telling ++ tells e.construct e.header (plain_blocks e).values;
+  passed = progress.passed ++ passed_from e guess;
 }
 
 -- ---- the end
@@ -110,7 +101,7 @@ with_construct guess c h values traces progress = record {
 pub record IsWhole (hosts : Hosts) (p : Program) (input : List ℕ) (progress : Progress) : Type 0 where
   pub stats_are : progress.stats ≡ (tally hosts p input).stats
   pub telling_is : progress.telling ≡ (tally hosts p input).telling
-  pub traces_are : AreTraces hosts p input (constructs_in p.main) (reals p input) [] progress.traces
+  pub passed_are : OneByOne PassedAlike progress.passed (all_passed hosts p input)
 
 -- a run has come to its end with the program's outcome
 pub record HasCome (hosts : Hosts) (p : Program) (input : List ℕ) (o : Outcome) (progress : Progress) : Type 0 where

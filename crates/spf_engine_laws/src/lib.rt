@@ -4,6 +4,7 @@
 
 ghost use Rattle.spf_engine_laws.specs.Laws.{RunsBegin, RunsAdvance, HeadersEndRuns};
 ghost use Rattle.spf_engine_laws.specs.Laws.{ConstructsSettle, ConstructsEndRuns};
+ghost use Rattle.spf_engine_laws.specs.Laws.{PassedHaveTheTraces};
 
 use spf_ast_laws::{
     each_construct_is_its_block_runs, each_construct_is_self_contained,
@@ -13,14 +14,15 @@ use spf_speculation::laws::speculative_runs_see_visible_slots_alone;
 
 /// A run in pieces goes on as the plain run of its program does, from its begin over each piece to
 /// its end, where each construct is settled as its blocks come out. So its end has the program's
-/// outcome; what was counted by then are its statistics, and what hosts were told and the traces
-/// are those of the whole run.
+/// outcome; what was counted by then are its statistics, and what hosts were told and which
+/// constructs were passed is as in the whole run. Traces of what was passed are those of the run.
 pub fn runs_in_pieces_go_on()
     ensures begin { RunsBegin }
     ensures advance { RunsAdvance }
     ensures headers { HeadersEndRuns }
     ensures settle { ConstructsSettle }
     ensures blocks { ConstructsEndRuns }
+    ensures traces { PassedHaveTheTraces }
 {
     each_form_sees_visible_slots_alone();
     each_construct_is_its_block_runs();

@@ -53,17 +53,17 @@ goes-once e {s} {steps} {others} {last} {other} (one_more n picked rest) (one_mo
 
 -- ---- sums over blocks
 
-abbrev sum : (ℕ → Status → ℕ) → (ℕ → Status) → ℕ → ℕ
+abbrev pub sum : (ℕ → Status → ℕ) → (ℕ → Status) → ℕ → ℕ
 sum weight status zero = 0
 sum weight status (suc n) = weight n (status n) + sum weight status n
 
-sum-same : (weight : ℕ → Status → ℕ) (status other : ℕ → Status) (count : ℕ) → ((n : ℕ) → n < count → status n ≡ other n) → sum weight status count ≡ sum weight other count
+pub sum-same : (weight : ℕ → Status → ℕ) (status other : ℕ → Status) (count : ℕ) → ((n : ℕ) → n < count → status n ≡ other n) → sum weight status count ≡ sum weight other count
 sum-same weight status other zero h = refl
 sum-same weight status other (suc n) h =
     ap (λ p. weight n p + sum weight status n) (h n (omega arith)) ∙ ap (λ x. weight n (other n) + x) (sum-same weight status other n (λ k low. h k (omega (arith, low))))
 
 -- all but one are the same
-sum-one : (weight : ℕ → Status → ℕ) (status other : ℕ → Status) (n count : ℕ) → n < count → ((k : ℕ) → k ≢ n → other k ≡ status k)
+pub sum-one : (weight : ℕ → Status → ℕ) (status other : ℕ → Status) (n count : ℕ) → n < count → ((k : ℕ) → k ≢ n → other k ≡ status k)
     → sum weight other count + weight n (status n) ≡ sum weight status count + weight n (other n)
 sum-one weight status other n zero low h = absurd (omega (arith, low))
 sum-one weight status other n (suc count) low h = cases (alike n count)
@@ -86,7 +86,7 @@ size n (Running attempt value left) = suc (length left)
 size n (Filed value ended) = 0
 
 -- a block isn't at its real value
-abbrev off : Option Carried → Status → ℕ
+abbrev pub off : Option Carried → Status → ℕ
 off None status = 0
 off (Some v) (Running attempt value left) = if same_carried value v then 0 else 1
 off (Some v) (Filed value ended) = if same_carried value v then 0 else 1
@@ -94,15 +94,15 @@ off (Some v) (Filed value ended) = if same_carried value v then 0 else 1
 abbrev off-at : Entry → ℕ → Status → ℕ
 off-at e n status = off (slice_get (plain_blocks e).values n) status
 
-out-home : (r : Option Carried) (a : ℕ) (v : Carried) (left : List Event) (ended : Bool) → off r (Filed v ended) ≡ off r (Running a v left)
+pub out-home : (r : Option Carried) (a : ℕ) (v : Carried) (left : List Event) (ended : Bool) → off r (Filed v ended) ≡ off r (Running a v left)
 out-home None a v left ended = refl
 out-home (Some w) a v left ended = refl
 
-out-out : (r : Option Carried) (a b : ℕ) (v : Carried) (left rest : List Event) → off r (Running b v rest) ≡ off r (Running a v left)
+pub out-out : (r : Option Carried) (a b : ℕ) (v : Carried) (left rest : List Event) → off r (Running b v rest) ≡ off r (Running a v left)
 out-out None a b v left rest = refl
 out-out (Some w) a b v left rest = refl
 
-same-self : (v : Carried) → same_carried v v ≡ true
+pub same-self : (v : Carried) → same_carried v v ≡ true
 same-self v = (Decides-same_carried v v).1 refl
 
 -- a block that runs again is at its real row then
@@ -160,7 +160,7 @@ replace_at-lowers e status n x low same less =
     lower : (a b p q : ℕ) → a + p ≡ b + q → q < p → a < b
     lower a b p q h l = omega (arith, h, l)
 
-inside-or-not : (n k : ℕ) → (n < k) ⊎ (k ≤ n)
+pub inside-or-not : (n k : ℕ) → (n < k) ⊎ (k ≤ n)
 inside-or-not n k = grind arith
 
 status_after-same : (e : Entry) (t : Situation) → status_after e t (front e t.status) ≡ t.status (front e t.status) → (n : ℕ) → status_after e t n ≡ t.status n

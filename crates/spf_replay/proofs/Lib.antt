@@ -20,3 +20,6 @@ mod Picking
 mod Restored
 mod Apart
 mod Pieces
+mod Growing
+mod Settled
+mod Simulated

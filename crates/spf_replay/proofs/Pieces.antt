@@ -22,7 +22,7 @@ pub later-of : (events seen : List Event) (full : Bool) → HasSeen events full 
 later-of events seen true h = record { later = h.0; split = h.1 }
 later-of events seen false h = record { later = []; split = h ∙ sym (append-nil seen) }
 
-left-of : (events seen later : List Event) (taken : ℕ) → events ≡ seen ++ later → taken ≤ length seen → drop taken events ≡ drop taken seen ++ later
+pub left-of : (events seen later : List Event) (taken : ℕ) → events ≡ seen ++ later → taken ≤ length seen → drop taken events ≡ drop taken seen ++ later
 left-of events seen later taken split inside = ap (drop taken) split ∙ drop-append-le taken seen later inside
 
 -- where the record has a turn left, the piece is the record's
@@ -56,7 +56,7 @@ mapped : (l : List logged.Event) → length (map event_of l) ≡ length l
 mapped [] = refl
 mapped (x ∷ l) = ap suc (mapped l)
 
-seen-length : (r : Runner) → r.count ≤ length r.room.items → length (seen_by r) ≡ r.count
+pub seen-length : (r : Runner) → r.count ≤ length r.room.items → length (seen_by r) ≡ r.count
 seen-length r inside = mapped (take r.count r.room.items) ∙ omega (arith, inside, length-take r.count r.room.items)
 
 slice-length : (r : Runner) (room : List logged.Event) → room ≡ r.room.items → r.count ≤ length r.room.items → length (take r.count room) ≡ r.count

@@ -26,7 +26,7 @@ use Rattle.spf_replay.proofs.Polled.{IsPolled}
 use Rattle.spf_replay.proofs.Following.{Follows, follows-on, follows-polled, follows-below, last-piece, turn-piece, polled-attempt, unstopped-whole}
 
 -- the real values of the plain run
-abbrev real : Entry → ℕ → Option Carried
+abbrev pub real : Entry → ℕ → Option Carried
 real e n = slice_get (plain_blocks e).values n
 
 -- ---- logs of steps
@@ -140,69 +140,69 @@ past e f n none from = slice_get_past (plain_blocks e).values n (cases (inside-o
 -- ---- where a block stands
 
 -- its first attempt runs
-record FirstRuns (e : Entry) (guess : ℕ → Carried) (n : ℕ) (v : Carried) (log left : List Event) : Type 0 where
-  value : v ≡ begins_at e guess n
-  done : List Event
-  split : attempt_events e n v [] ≡ done ++ left
-  follows : Follows 1 done log
+pub record FirstRuns (e : Entry) (guess : ℕ → Carried) (n : ℕ) (v : Carried) (log left : List Event) : Type 0 where
+  pub value : v ≡ begins_at e guess n
+  pub done : List Event
+  pub split : attempt_events e n v [] ≡ done ++ left
+  pub follows : Follows 1 done log
 
 -- its second attempt runs
-record SecondRuns (e : Entry) (guess : ℕ → Carried) (n : ℕ) (v : Carried) (log left : List Event) : Type 0 where
-  first : List Event
-  second : List Event
-  parts : log ≡ first ++ second
-  attempt : IsAttempt e n (begins_at e guess n) 1 first
-  is : IsConsistent first e.memory
-  wrong : begins_at e guess n ≢ v
-  real_value : real e n ≡ Some v
-  done : List Event
-  split : attempt_events e n v first ≡ done ++ left
-  follows : Follows 2 done second
+pub record SecondRuns (e : Entry) (guess : ℕ → Carried) (n : ℕ) (v : Carried) (log left : List Event) : Type 0 where
+  pub first : List Event
+  pub second : List Event
+  pub parts : log ≡ first ++ second
+  pub attempt : IsAttempt e n (begins_at e guess n) 1 first
+  pub is : IsConsistent first e.memory
+  pub wrong : begins_at e guess n ≢ v
+  pub real_value : real e n ≡ Some v
+  pub done : List Event
+  pub split : attempt_events e n v first ≡ done ++ left
+  pub follows : Follows 2 done second
 
 -- its first attempt is filed, which ended
-record FirstEnded (e : Entry) (guess : ℕ → Carried) (n : ℕ) (v : Carried) (log : List Event) : Type 0 where
-  value : v ≡ begins_at e guess n
-  answer : Ending Carried
-  whole : IsWhole e n v 1 log answer
-  is : IsConsistent log e.memory
+pub record FirstEnded (e : Entry) (guess : ℕ → Carried) (n : ℕ) (v : Carried) (log : List Event) : Type 0 where
+  pub value : v ≡ begins_at e guess n
+  pub answer : Ending Carried
+  pub whole : IsWhole e n v 1 log answer
+  pub is : IsConsistent log e.memory
 
 -- its second attempt is filed
-record SecondEnded (e : Entry) (guess : ℕ → Carried) (n : ℕ) (v : Carried) (log : List Event) : Type 0 where
-  real_value : real e n ≡ Some v
-  answer : Ending Carried
-  real_log : IsRealLog e guess n v log answer
-  is : IsConsistent log e.memory
+pub record SecondEnded (e : Entry) (guess : ℕ → Carried) (n : ℕ) (v : Carried) (log : List Event) : Type 0 where
+  pub real_value : real e n ≡ Some v
+  pub answer : Ending Carried
+  pub real_log : IsRealLog e guess n v log answer
+  pub is : IsConsistent log e.memory
 
 -- its first attempt is filed, which was useless and stopped
-record FirstStopped (e : Entry) (guess : ℕ → Carried) (n : ℕ) (v : Carried) (log : List Event) : Type 0 where
-  value : v ≡ begins_at e guess n
-  attempt : IsAttempt e n v 1 log
-  is : IsConsistent log e.memory
-  vain : real e n ≢ Some v
+pub record FirstStopped (e : Entry) (guess : ℕ → Carried) (n : ℕ) (v : Carried) (log : List Event) : Type 0 where
+  pub value : v ≡ begins_at e guess n
+  pub attempt : IsAttempt e n v 1 log
+  pub is : IsConsistent log e.memory
+  pub vain : real e n ≢ Some v
 
-abbrev Stands : Entry → (ℕ → Carried) → ℕ → Status → List Event → Type 0
+abbrev pub Stands : Entry → (ℕ → Carried) → ℕ → Status → List Event → Type 0
 Stands e guess n (Running attempt v left) log = ((attempt ≡ 1) × FirstRuns e guess n v log left) ⊎ ((attempt ≡ 2) × SecondRuns e guess n v log left)
 Stands e guess n (Filed v true) log = FirstEnded e guess n v log ⊎ SecondEnded e guess n v log
 Stands e guess n (Filed v false) log = FirstStopped e guess n v log
 
 -- a flag is down, or is raised for a useless first attempt
-abbrev IsFlag : Entry → (ℕ → Carried) → ℕ → ℕ → Type 0
+abbrev pub IsFlag : Entry → (ℕ → Carried) → ℕ → ℕ → Type 0
 IsFlag e guess n flag = (flag ≡ 0) ⊎ ((flag ≡ 1) × (real e n ≢ Some (begins_at e guess n)))
 
 -- the front block's attempt isn't filed at another row than the real one
-abbrev IsSettledAt : Option Carried → Status → Type 0
+abbrev pub IsSettledAt : Option Carried → Status → Type 0
 IsSettledAt None status = Unit {0}
 IsSettledAt (Some v) (Running attempt w left) = Unit {0}
 IsSettledAt (Some v) (Filed w ended) = w ≡ v
 
-record Loose (e : Entry) (guess : ℕ → Carried) (s : Situation) : Type 0 where
-  below : AreBelow e.header.blocks s.steps
-  at : (n : ℕ) → n < e.header.blocks → Stands e guess n (s.status n) (log_of n s.steps)
-  flags : (n : ℕ) → n < e.header.blocks → IsFlag e guess n (s.flag n)
+pub record Loose (e : Entry) (guess : ℕ → Carried) (s : Situation) : Type 0 where
+  pub below : AreBelow e.header.blocks s.steps
+  pub at : (n : ℕ) → n < e.header.blocks → Stands e guess n (s.status n) (log_of n s.steps)
+  pub flags : (n : ℕ) → n < e.header.blocks → IsFlag e guess n (s.flag n)
 
-record Kept (e : Entry) (guess : ℕ → Carried) (s : Situation) : Type 0 where
-  loose : Loose e guess s
-  settled : IsSettledAt (real e (front e s.status)) (s.status (front e s.status))
+pub record Kept (e : Entry) (guess : ℕ → Carried) (s : Situation) : Type 0 where
+  pub loose : Loose e guess s
+  pub settled : IsSettledAt (real e (front e s.status)) (s.status (front e s.status))
 
 -- ---- filing
 
@@ -387,7 +387,7 @@ outside-first : (e : Entry) → IsEntry e → (guess : ℕ → Carried) (n : ℕ
 outside-first e h guess n first is c out = outside-after (own e n) first e.memory c (attempt-within e h n (begins_at e guess n) 1 first is) out
 
 -- to its end
-end-stands : BlockLaws → (e : Entry) → IsEntry e → (guess : ℕ → Carried) (n a : ℕ) (v : Carried) (left log : List Event) (k : ℕ) → after_piece left ≡ None
+pub end-stands : BlockLaws → (e : Entry) → IsEntry e → (guess : ℕ → Carried) (n a : ℕ) (v : Carried) (left log : List Event) (k : ℕ) → after_piece left ≡ None
     → Stands e guess n (Running a v left) log → Stands e guess n (Filed v true) (log ++ piece k left)
 end-stands laws e h guess n a v left log k last (inl o) =
     let all : Follows 1 (attempt_events e n v []) (log ++ piece k left) =
@@ -420,7 +420,7 @@ flag-most e guess n k (inl z) = omega arith
 flag-most e guess n k (inr o) = let one = o.0 in omega (arith, one)
 
 -- up to a turn that stops it
-stop-stands : BlockLaws → (e : Entry) → IsEntry e → (guess : ℕ → Carried) (n a : ℕ) (v : Carried) (left rest log : List Event) (k : ℕ) → after_piece left ≡ Some rest
+pub stop-stands : BlockLaws → (e : Entry) → IsEntry e → (guess : ℕ → Carried) (n a : ℕ) (v : Carried) (left rest log : List Event) (k : ℕ) → after_piece left ≡ Some rest
     → nat_le a k ≡ true → IsFlag e guess n k → Stands e guess n (Running a v left) log → Stands e guess n (Filed v false) (log ++ piece k left)
 stop-stands laws e h guess n a v left rest log k turn stops flag (inr o) =
     absurd (two-stops k (flag-most e guess n k flag) (subst (λ (x : ℕ). nat_le x k ≡ true) o.0 stops))
@@ -434,7 +434,7 @@ stop-stands laws e h guess n a v left rest log k turn stops (inr f) (inl o) =
     record { value = b.value; attempt = made.attempt; is = made.is; vain = λ same. f.1 (same ∙ ap (λ x. Some x) b.value) }
 
 -- up to a turn that doesn't
-on-stands : (e : Entry) (guess : ℕ → Carried) (n a : ℕ) (v : Carried) (left rest log : List Event) (k : ℕ) → after_piece left ≡ Some rest
+pub on-stands : (e : Entry) (guess : ℕ → Carried) (n a : ℕ) (v : Carried) (left rest log : List Event) (k : ℕ) → after_piece left ≡ Some rest
     → nat_le a k ≡ false → Stands e guess n (Running a v left) log → Stands e guess n (Running a v rest) (log ++ piece k left)
 on-stands e guess n a v left rest log k turn on (inl o) =
     let t = turn-piece 1 k left rest turn in
@@ -468,7 +468,7 @@ on-stands e guess n a v left rest log k turn on (inr o) =
 
 -- ---- one turn of the schedule
 
-placed : BlockLaws → (e : Entry) (guess : ℕ → Carried) (s : Situation) (n : ℕ) (status : Status) (es : List Event) → n < e.header.blocks → Loose e guess s
+pub placed : BlockLaws → (e : Entry) (guess : ℕ → Carried) (s : Situation) (n : ℕ) (status : Status) (es : List Event) → n < e.header.blocks → Loose e guess s
     → Stands e guess n status (log_of n s.steps ++ es) → Loose e guess (record s { status = replace_at n status s.status; steps = s.steps ++ steps_of n es })
 placed laws e guess s n status es low h here = record {
   below = below-append e.header.blocks s.steps (steps_of n es) h.below (below-steps e.header.blocks n es low);
@@ -514,13 +514,13 @@ turned-keeps laws e h guess s n a v left (Some rest) next low is k =
           (settled-on e s n a v rest (front e s.status) k.settled);
     }))
 
-advance-keeps : BlockLaws → (e : Entry) → IsEntry e → (guess : ℕ → Carried) (s : Situation) (n : ℕ) (status : Status) → s.status n ≡ status → n < e.header.blocks → Kept e guess s
+pub advance-keeps : BlockLaws → (e : Entry) → IsEntry e → (guess : ℕ → Carried) (s : Situation) (n : ℕ) (status : Status) → s.status n ≡ status → n < e.header.blocks → Kept e guess s
     → Kept e guess (advance e n status s)
 advance-keeps laws e h guess s n (Filed v ended) is low k = k
 advance-keeps laws e h guess s n (Running a v left) is low k = turned-keeps laws e h guess s n a v left (after_piece left) refl low is k
 
 -- the generator's state is nothing to it
-any-state : (e : Entry) (guess : ℕ → Carried) (s : Situation) (state : ℕ) → Kept e guess s → Kept e guess (record s { state = state })
+pub any-state : (e : Entry) (guess : ℕ → Carried) (s : Situation) (state : ℕ) → Kept e guess s → Kept e guess (record s { state = state })
 any-state e guess s state k = record { loose = record { below = k.loose.below; at = k.loose.at; flags = k.loose.flags }; settled = k.settled }
 
 -- ---- the end
@@ -598,7 +598,7 @@ goes-runs laws e h guess {s} (none_running none) k = ended-logs laws e h guess s
 goes-runs laws e h guess {s} (one_more n picked rest) k =
     goes-runs laws e h guess rest (advance-keeps laws e h guess (record s { state = next_state s.state }) n (s.status n) refl picked.inside (any-state e guess s (next_state s.state) k))
 
-begins-kept : (e : Entry) (guess : ℕ → Carried) (state : ℕ) → Kept e guess (beginning e guess state)
+pub begins-kept : (e : Entry) (guess : ℕ → Carried) (state : ℕ) → Kept e guess (beginning e guess state)
 begins-kept e guess state = record {
   loose = record {
     below = tt;

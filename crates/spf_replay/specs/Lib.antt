@@ -12,4 +12,5 @@ pub mod Laws
 pub mod Recording
 pub mod RecordingLaws
 pub mod Expecting
+pub mod Limits
 pub mod Runners

@@ -1,11 +1,13 @@
 -- Blocks of a schedule, as the code keeps them: an attempt's first events are recorded, and taken piece by piece.
-use Rattle.std.specs.Prelude.{◌≡◌, ◌≢◌, ◌≤◌, ℕ, Bool, true, false, if◌then◌else◌, nat_le, List, [], ◌++◌, length, map, take, drop, Option, Some, None}
+use Rattle.std.specs.Prelude.{◌≡◌, ◌≢◌, ◌≤◌, ◌<◌, ℕ, Bool, true, false, if◌then◌else◌, nat_le, List, [], ◌++◌, length, map, take, drop, slice_get, Option, Some, None}
 use Rattle.spf_ast.specs.Carried.{Carried}
 use Rattle.spf_ast.specs.Event.{Event}
-use Rattle.spf_speculation_entry.specs.Entry.{Entry}
+use Rattle.spf_speculation_entry.specs.Entry.{Entry, plain_blocks}
+use Rattle.spf_replay.specs.declared.entered.EnteredConstruct.{EnteredConstruct}
 use Rattle.spf_replay.specs.declared.runner.Runner.{Runner}
+use Rattle.spf_replay.specs.declared.scratch.Scratch.{Scratch}
 use Rattle.spf_replay.specs.Reading.{event_of}
-use Rattle.spf_replay.specs.Schedule.{Status, Running, Filed, attempt_events, after_piece}
+use Rattle.spf_replay.specs.Schedule.{Status, Running, Filed, Situation, is_running, attempt_events, after_piece, front, rerun, after_filing}
 
 -- how block n stands
 abbrev pub status_of : Entry → ℕ → Runner → Status
@@ -34,3 +36,37 @@ HasPiece r = r.full ≡ true → after_piece (drop r.taken (seen_by r)) ≢ None
 abbrev pub next_status : (flag attempt : ℕ) → Carried → Option (List Event) → Status
 next_status flag attempt row None = Filed row true
 next_status flag attempt row (Some rest) = if nat_le attempt flag then Filed row false else Running attempt row rest
+
+-- ---- records that grow
+
+-- the words of the entry, and a frame of the program's size
+pub record IsScratch (c : EnteredConstruct) (scratch : Scratch) : Type 0 where
+  pub cells : scratch.cells.items ≡ c.cells.now
+  pub work : length scratch.work ≡ length c.frame.now
+
+-- a block with another one's record
+abbrev pub with_record_of : Runner → Runner → Runner
+with_record_of other r = record r { room = other.room; count = other.count; full = other.full }
+
+-- ---- all blocks
+
+-- this is block n of the situation
+pub record IsBlockOf (e : Entry) (s : Situation) (n : ℕ) (r : Runner) : Type 0 where
+  pub runner : IsRunner e n r
+  pub status : status_of e n r ≡ s.status n
+  pub flag : r.flag ≡ s.flag n
+
+-- these are the blocks of the situation
+pub record AreBlocksOf (e : Entry) (s : Situation) (runners : List Runner) : Type 0 where
+  pub count : length runners ≡ e.header.blocks
+  pub each : (n : ℕ) (r : Runner) → slice_get runners n ≡ Some r → IsBlockOf e s n r
+
+-- where the front block runs again, its attempt has the events that it would have on the entry
+abbrev pub RunsAgainOnEntry : Entry → Situation → Type 0
+RunsAgainOnEntry e s = front e s.status < e.header.blocks
+    → rerun e s.steps (front e s.status) (slice_get (plain_blocks e).values (front e s.status)) (s.status (front e s.status))
+    ≡ rerun e [] (front e s.status) (slice_get (plain_blocks e).values (front e s.status)) (s.status (front e s.status))
+
+-- what follows once block n has gone on: something only where its attempt is filed
+abbrev pub after_going_on : Entry → ℕ → Situation → Situation
+after_going_on e n s = if is_running (s.status n) then s else after_filing e s

@@ -17,6 +17,7 @@ use spf_region::span::Plan;
 
 /// A top construct that a run has come to, with its header done, and what its blocks come to when
 /// they are run plainly.
+#[derive(Clone, Copy)]
 pub struct EnteredConstruct<'a> {
     /// The program with its input.
     pub instance: &'a Instance<'a>,

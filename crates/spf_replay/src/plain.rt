@@ -110,6 +110,7 @@ pub fn run_blocks(
     ensures plain { IfOk result (λ r.
         AreRunPlainly (entry_from instance.now construct.entry header.now frame.now
         memory.old.cells.items) r.0.items r.1 memory.new.cells.items) }
+    ensures cells { length memory.new.cells.items ≡ length memory.old.cells.items }
 {
     let mut work = frame.copy(alloc)?;
     let mut reals = Vec::with_capacity(alloc, header.blocks as usize)?;

@@ -78,7 +78,7 @@ pub(crate) fn record_block(
 }
 
 /// A room for so many events.
-fn room_of(alloc: Global, size: usize) -> Result<Vec<Event>, AllocError>
+pub(crate) fn room_of(alloc: Global, size: usize) -> Result<Vec<Event>, AllocError>
     ensures { IfOk result (λ room. length room.items ≡ size) }
 {
     let mut room = Vec::with_capacity(alloc, size)?;
@@ -87,7 +87,7 @@ fn room_of(alloc: Global, size: usize) -> Result<Vec<Event>, AllocError>
 }
 
 /// Whether a block's record has the next piece whole.
-fn has_piece(runner: &Runner) -> bool
+pub(crate) fn has_piece(runner: &Runner) -> bool
     requires inside { runner.now.count ≤ length runner.now.room.items }
     requires taken { runner.now.taken ≤ runner.now.count }
     ensures whole { IsTrue result → HasPiece runner.now }

@@ -1,6 +1,7 @@
 use Rattle.spf_exec.specs.declared.pieces.Pause.TheVariants as pause
 use Rattle.spf_engine_laws.specs.Laws.{RunsAdvance}
 use Rattle.spf_engine_laws.proofs.Standing.{Laws, begins, advances, advances-to-trap, finishes}
+use Rattle.spf_engine_laws.proofs.Passed.{passed-have-the-traces}
 use Rattle.spf_engine_laws.proofs.Constructs.{header-traps-run, construct-settles, construct-ends-run}
 use Rattle.spf_engine_laws.proofs.runs_in_pieces_go_on.Goals as goal
 
@@ -27,4 +28,5 @@ returns c =
       headers = header-traps-run laws;
       settle = construct-settles laws;
       blocks = construct-ends-run laws;
+      traces = passed-have-the-traces laws.slots;
     }

@@ -15,7 +15,7 @@ use Rattle.spf_effects.proofs.analysis.fold_effects.Goals as goal
 pub returns-in-Body : goal.returns-in-Body
 returns-in-Body c =
     let main = rw c.deref.ensures.value at (c.in_ok-slots.ensures {u = tt}) in
-    let same = main_setting_is c.args.program.now c.in_ok-slots.slots c.deref-2.result.now c.callable-below.result main c.deref-2.ensures.value c.callable-below.ensures in
+    let same = main_setting_is c.args.program.now c.in_ok-slots.slots c.deref-2.result.now c.callable.result main c.deref-2.ensures.value c.callable.ensures in
     let lent = c.deref_mut.ensures.value ∙ c.in_ok-bounds.ensures {u = tt} in
     let made = rw lent at c.declare.ensures in
     let long : c.in_ok-bounds.bounds.len ≡ length c.in_ok-bounds.bounds.items = search rules in
@@ -27,7 +27,7 @@ returns-in-Body c =
 pub returns-in-Predictor : goal.returns-in-Predictor
 returns-in-Predictor c =
     let main = rw c.deref.ensures.value at (c.in_ok-slots.ensures {u = tt}) in
-    let same = main_setting_is c.args.program.now c.in_ok-slots.slots c.deref-2.result.now c.callable-below.result main c.deref-2.ensures.value c.callable-below.ensures in
+    let same = main_setting_is c.args.program.now c.in_ok-slots.slots c.deref-2.result.now c.callable.result main c.deref-2.ensures.value c.callable.ensures in
     let lent = c.deref_mut.ensures.value ∙ c.in_ok-bounds.ensures {u = tt} in
     let made = rw lent at c.declare.ensures in
     let long : c.in_ok-bounds.bounds.len ≡ length c.in_ok-bounds.bounds.items = search rules in

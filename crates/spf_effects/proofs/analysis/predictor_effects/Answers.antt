@@ -10,15 +10,15 @@ use Rattle.spf_effects.proofs.analysis.predictor_effects.Goals as goal
 
 pub loop-part-init : goal.loop-part-init
 loop-part-init c =
-    record { finds = λ new n. subst (λ l. Extends (guesses_find (setting c.args.context.now c.args.below) c.args.bounds.now (map predictor c.args.predict.now)) l new) c.new-found.ensures n }
+    record { finds = λ new n. subst (λ l. Extends (guesses_find (setting c.args.context.now) c.args.bounds.now (map predictor c.args.predict.now)) l new) c.new-found.ensures n }
 
 pub loop-part-preserved : goal.loop-part-preserved
 loop-part-preserved c =
-    guesses_next (setting c.args.context.now c.args.below) c.args.bounds.now c.args.predict.now (record { uncovered = []; may = []; written = [] }) c.loop-part.part-index c.loop-part.found c.guess.new.found c.part-item.result c.loop-part-test.true c.part-item.is (c.in_ok-guess.ensures {u = tt}) c.loop-part.invariant
+    guesses_next (setting c.args.context.now) c.args.bounds.now c.args.predict.now (record { uncovered = []; may = []; written = [] }) c.loop-part.part-index c.loop-part.found c.guess.new.found c.part-item.result c.loop-part-test.true c.part-item.is (c.in_ok-guess.ensures {u = tt}) c.loop-part.invariant
 
 pub returns : goal.returns
 returns c =
-    let g = setting c.args.context.now c.args.below in
+    let g = setting c.args.context.now in
     let finds = guesses_find g c.args.bounds.now (map predictor c.args.predict.now) in
     let none : Lists = record { uncovered = []; may = []; written = [] } in
     effects_are c.gathered.result finds end none c.loop-part.found refl

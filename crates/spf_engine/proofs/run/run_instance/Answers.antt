@@ -5,6 +5,7 @@ use Rattle.spf_exec_instance.specs.Instance.{program_of}
 use Rattle.spf_guess.specs.Answers.{handed_in}
 use Rattle.spf_engine_laws.specs.Progress.{no_progress}
 use Rattle.spf_engine_laws.specs.Traces.{AreTraces}
+use Rattle.spf_engine_laws.specs.Passed.{OneByOne, IsItsTrace}
 use Rattle.spf_engine.specs.Runs.{AreFew, GoesFurther}
 use Rattle.spf_engine.proofs.Ending.{few-none}
 use Rattle.spf_engine.proofs.Stepping.{if-err, told-nothing, finishes-so, traps-so, goes-on-so}
@@ -15,7 +16,7 @@ loop-account-init g c = record {
   run = c.in_ok-run.ensures.run;
   count = refl;
   progress = no_progress;
-  agrees = record { stats = c.new-account.ensures.stats; traces = c.new-account.ensures.traces };
+  agrees = record { stats = c.new-account.ensures.stats; traces = subst (OneByOne IsItsTrace []) (sym c.new-account.ensures.traces) tt };
   told = λ host pairs block. refl;
   goes = c.runs_in_pieces_go_on.ensures.begin _ (program_of c.args.instance.now) c.args.instance.now.input c.in_ok-run.run' (subst IsLawful (sym c.requires.program) c.program-program.ensures.lawful) c.in_ok-run.ensures.begins;
   few = subst (λ s. AreFew (program_of c.args.instance.now) c.in_ok-run.run' s) (sym c.new-account.ensures.stats) (few-none _);
@@ -48,46 +49,46 @@ pub returns-in-Finished-clause-outcome : goal.returns-in-Finished-clause-outcome
 returns-in-Finished-clause-outcome g c =
     let i = c.loop-account.invariant in
     c.finished.ensures.outcome
-    ∙ (finishes-so _ (program_of c.args.instance.now) c.args.instance.now.input c.in_ok-take_step.field-0 c.take_step.new.run c.take_step.new.account _ (c.in_ok-take_step.ensures.steps _ i.progress i.agrees i.told i.goes) c.in-Finished.is).outcome_is
+    ∙ (finishes-so c.runs_in_pieces_go_on.ensures.traces _ (program_of c.args.instance.now) c.args.instance.now.input c.in_ok-take_step.field-0 c.take_step.new.run c.take_step.new.account _ (c.in_ok-take_step.ensures.steps _ i.progress i.agrees i.told i.goes) c.in-Finished.is).outcome_is
 
 pub returns-in-Finished-clause-statistics : goal.returns-in-Finished-clause-statistics
 returns-in-Finished-clause-statistics g c =
     let i = c.loop-account.invariant in
     c.finished.ensures.stats
-    ∙ (finishes-so _ (program_of c.args.instance.now) c.args.instance.now.input c.in_ok-take_step.field-0 c.take_step.new.run c.take_step.new.account _ (c.in_ok-take_step.ensures.steps _ i.progress i.agrees i.told i.goes) c.in-Finished.is).stats
+    ∙ (finishes-so c.runs_in_pieces_go_on.ensures.traces _ (program_of c.args.instance.now) c.args.instance.now.input c.in_ok-take_step.field-0 c.take_step.new.run c.take_step.new.account _ (c.in_ok-take_step.ensures.steps _ i.progress i.agrees i.told i.goes) c.in-Finished.is).stats
 
 pub returns-in-Finished-clause-traces : goal.returns-in-Finished-clause-traces
 returns-in-Finished-clause-traces g c =
     let i = c.loop-account.invariant in
     let hosts = (handed_in (map (λ h. (goal.Predictor-dyn g (h.vtable, h.value)).answer h.value) c.args.hosts.now.items)) in
     subst (AreTraces hosts (program_of c.args.instance.now) c.args.instance.now.input (constructs_in (program_of c.args.instance.now).main) (reals (program_of c.args.instance.now) c.args.instance.now.input) []) (sym c.finished.ensures.traces)
-    (finishes-so hosts (program_of c.args.instance.now) c.args.instance.now.input c.in_ok-take_step.field-0 c.take_step.new.run c.take_step.new.account _ (c.in_ok-take_step.ensures.steps _ i.progress i.agrees i.told i.goes) c.in-Finished.is).traces
+    (finishes-so c.runs_in_pieces_go_on.ensures.traces hosts (program_of c.args.instance.now) c.args.instance.now.input c.in_ok-take_step.field-0 c.take_step.new.run c.take_step.new.account _ (c.in_ok-take_step.ensures.steps _ i.progress i.agrees i.told i.goes) c.in-Finished.is).traces
 
 pub returns-in-Finished-clause-told : goal.returns-in-Finished-clause-told
 returns-in-Finished-clause-told g c =
     let i = c.loop-account.invariant in
-    (finishes-so _ (program_of c.args.instance.now) c.args.instance.now.input c.in_ok-take_step.field-0 c.take_step.new.run c.take_step.new.account _ (c.in_ok-take_step.ensures.steps _ i.progress i.agrees i.told i.goes) c.in-Finished.is).told
+    (finishes-so c.runs_in_pieces_go_on.ensures.traces _ (program_of c.args.instance.now) c.args.instance.now.input c.in_ok-take_step.field-0 c.take_step.new.run c.take_step.new.account _ (c.in_ok-take_step.ensures.steps _ i.progress i.agrees i.told i.goes) c.in-Finished.is).told
 
 pub returns-in-Trapped-clause-outcome : goal.returns-in-Trapped-clause-outcome
 returns-in-Trapped-clause-outcome g c =
     let i = c.loop-account.invariant in
     c.trapped.ensures.outcome
-    ∙ (traps-so _ (program_of c.args.instance.now) c.args.instance.now.input c.in_ok-take_step.field-0 c.in-Trapped.trap c.take_step.new.run c.take_step.new.account _ (c.in_ok-take_step.ensures.steps _ i.progress i.agrees i.told i.goes) c.in-Trapped.is).outcome_is
+    ∙ (traps-so c.runs_in_pieces_go_on.ensures.traces _ (program_of c.args.instance.now) c.args.instance.now.input c.in_ok-take_step.field-0 c.in-Trapped.trap c.take_step.new.run c.take_step.new.account _ (c.in_ok-take_step.ensures.steps _ i.progress i.agrees i.told i.goes) c.in-Trapped.is).outcome_is
 
 pub returns-in-Trapped-clause-statistics : goal.returns-in-Trapped-clause-statistics
 returns-in-Trapped-clause-statistics g c =
     let i = c.loop-account.invariant in
     c.trapped.ensures.stats
-    ∙ (traps-so _ (program_of c.args.instance.now) c.args.instance.now.input c.in_ok-take_step.field-0 c.in-Trapped.trap c.take_step.new.run c.take_step.new.account _ (c.in_ok-take_step.ensures.steps _ i.progress i.agrees i.told i.goes) c.in-Trapped.is).stats
+    ∙ (traps-so c.runs_in_pieces_go_on.ensures.traces _ (program_of c.args.instance.now) c.args.instance.now.input c.in_ok-take_step.field-0 c.in-Trapped.trap c.take_step.new.run c.take_step.new.account _ (c.in_ok-take_step.ensures.steps _ i.progress i.agrees i.told i.goes) c.in-Trapped.is).stats
 
 pub returns-in-Trapped-clause-traces : goal.returns-in-Trapped-clause-traces
 returns-in-Trapped-clause-traces g c =
     let i = c.loop-account.invariant in
     let hosts = (handed_in (map (λ h. (goal.Predictor-dyn g (h.vtable, h.value)).answer h.value) c.args.hosts.now.items)) in
     subst (AreTraces hosts (program_of c.args.instance.now) c.args.instance.now.input (constructs_in (program_of c.args.instance.now).main) (reals (program_of c.args.instance.now) c.args.instance.now.input) []) (sym c.trapped.ensures.traces)
-    (traps-so hosts (program_of c.args.instance.now) c.args.instance.now.input c.in_ok-take_step.field-0 c.in-Trapped.trap c.take_step.new.run c.take_step.new.account _ (c.in_ok-take_step.ensures.steps _ i.progress i.agrees i.told i.goes) c.in-Trapped.is).traces
+    (traps-so c.runs_in_pieces_go_on.ensures.traces hosts (program_of c.args.instance.now) c.args.instance.now.input c.in_ok-take_step.field-0 c.in-Trapped.trap c.take_step.new.run c.take_step.new.account _ (c.in_ok-take_step.ensures.steps _ i.progress i.agrees i.told i.goes) c.in-Trapped.is).traces
 
 pub returns-in-Trapped-clause-told : goal.returns-in-Trapped-clause-told
 returns-in-Trapped-clause-told g c =
     let i = c.loop-account.invariant in
-    (traps-so _ (program_of c.args.instance.now) c.args.instance.now.input c.in_ok-take_step.field-0 c.in-Trapped.trap c.take_step.new.run c.take_step.new.account _ (c.in_ok-take_step.ensures.steps _ i.progress i.agrees i.told i.goes) c.in-Trapped.is).told
+    (traps-so c.runs_in_pieces_go_on.ensures.traces _ (program_of c.args.instance.now) c.args.instance.now.input c.in_ok-take_step.field-0 c.in-Trapped.trap c.take_step.new.run c.take_step.new.account _ (c.in_ok-take_step.ensures.steps _ i.progress i.agrees i.told i.goes) c.in-Trapped.is).told

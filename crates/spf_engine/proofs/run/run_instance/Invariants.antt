@@ -4,7 +4,8 @@ use Rattle.spf_exec_instance.specs.Instance.{program_of}
 use Rattle.spf_exec.specs.Pieces.{IsRunOf, ahead}
 use Rattle.spf_guess.specs.Answers.{handed_in, WereTold}
 use Rattle.spf_engine_laws.specs.Progress.{Progress, GoesOn}
-use Rattle.spf_engine.specs.Runs.{AreFew, AgreesWith}
+use Rattle.spf_engine.specs.Runs.{AreFew}
+use Rattle.spf_engine.specs.Accounts.{AgreesWith}
 use Rattle.spf_engine.proofs.run.run_instance.Given as goal
 
 -- the run goes on, with progress that the account and what hosts were told agree with

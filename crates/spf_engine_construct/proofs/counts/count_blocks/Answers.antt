@@ -1,8 +1,7 @@
 use Rattle.std.proofs.Common.{◌≡◌, add-one, List, [], ◌∷◌, not, map, length, drop, sym, refl, ap, ◌∙◌, arith}
-use Rattle.std.proofs.lemmas.List.{length-map}
 use Rattle.spf_guess_statistics.specs.Statistics.{is_hit, how_many}
-use Rattle.spf_chain.specs.declared.validated.Validated.{Validated}
-use Rattle.spf_engine_construct.specs.Guesses.{seen_guess, real_values, paired, counts_of}
+use Rattle.spf_ast.specs.Carried.{Carried}
+use Rattle.spf_engine_construct.specs.Guesses.{seen_guess, paired, counts_of}
 use Rattle.spf_engine_construct.proofs.Counting.{pair-step, paired-none, paired-nothing, add-step, add-none, at-most-more}
 use Rattle.spf_engine_construct.proofs.counts.count_blocks.Goals as goal
 
@@ -10,12 +9,12 @@ pub returns-in_default-clause-counts : goal.returns-in_default-clause-counts
 returns-in_default-clause-counts c =
     let cases = c.in_default.ensures.cases in
     let e = c.none-stats.ensures in
-    let nothing : paired (map seen_guess c.args.guesses.now) (drop 1 (real_values c.args.history.now)) ≡ []
-    = ap (λ l. paired (map seen_guess c.args.guesses.now) (drop 1 (real_values l))) (no-blocks c.args.history.now cases) ∙ paired-nothing (map seen_guess c.args.guesses.now) in
-    (λ i. record { blocks = length c.args.history.now; hits = (e i).hits; misses = (e i).misses; blind = (e i).blind })
-    ∙ ap (counts_of (length c.args.history.now)) (sym nothing)
+    let nothing : paired (map seen_guess c.args.guesses.now) (drop 1 c.args.reals.now) ≡ []
+    = ap (λ l. paired (map seen_guess c.args.guesses.now) (drop 1 l)) (no-blocks c.args.reals.now cases) ∙ paired-nothing (map seen_guess c.args.guesses.now) in
+    (λ i. record { blocks = length c.args.reals.now; hits = (e i).hits; misses = (e i).misses; blind = (e i).blind })
+    ∙ ap (counts_of (length c.args.reals.now)) (sym nothing)
   where
-    no-blocks : (l : List Validated) → length l ≡ 0 → l ≡ []
+    no-blocks : (l : List Carried) → length l ≡ 0 → l ≡ []
     no-blocks [] e = refl
     no-blocks (x ∷ xs) e = absurd (omega (arith, e))
 
@@ -43,11 +42,10 @@ returns-clause-counts c =
     let cases = c.in-Some.ensures.cases in
     let inv = c.loop-place.invariant in
     let test = c.loop-place-test.false in
-    let size = length-map c.in-Some.others.now (λ (b : Validated). b.real) in
-    let none = paired-none (map seen_guess c.args.guesses.now) (real_values c.in-Some.others.now) c.loop-place.place (omega (arith, test, size)) in
+    let none = paired-none (map seen_guess c.args.guesses.now) c.in-Some.others.now c.loop-place.place (omega (arith, test)) in
     let hits = add-none _ _ _ (ap (how_many is_hit) none) inv.hits in
     let misses = add-none _ _ _ (ap (how_many (λ block. not (is_hit block))) none) inv.misses in
     let blind = add-none _ _ _ (ap (how_many (λ block. block.guess.blind)) none) inv.blind in
-    let counted : c.loop-place.stats ≡ counts_of (length c.args.history.now) (paired (map seen_guess c.args.guesses.now) (real_values c.in-Some.others.now))
+    let counted : c.loop-place.stats ≡ counts_of (length c.args.reals.now) (paired (map seen_guess c.args.guesses.now) c.in-Some.others.now)
     = λ i. record { blocks = inv.blocks i; hits = hits i; misses = misses i; blind = blind i } in
-    counted ∙ ap (λ (l : List Validated). counts_of (length c.args.history.now) (paired (map seen_guess c.args.guesses.now) (drop 1 (real_values l)))) (sym cases.0)
+    counted ∙ ap (λ (l : List Carried). counts_of (length c.args.reals.now) (paired (map seen_guess c.args.guesses.now) (drop 1 l))) (sym cases.0)

@@ -1,55 +1,51 @@
-use Rattle.std.proofs.Common.{sym, subst}
-use Rattle.spf_ast.specs.Lawful.{IsLawful}
+use Rattle.std.proofs.Common.{subst}
 use Rattle.spf_exec_instance.specs.Instance.{program_of}
-use Rattle.spf_exec.specs.Pieces.{Advanced}
-use Rattle.spf_engine.proofs.Ending.{few-advanced, advance-counts}
-use Rattle.spf_engine.proofs.Stepping.{same-told-first, over-ok, over-err, if-err, paused-so, further-from}
+use Rattle.spf_engine.specs.Runs.{IsArrived, CanBeRun, ComesNearer}
+use Rattle.spf_engine.proofs.Stepping.{same-told-first, over-ok, over-err, further-from}
 use Rattle.spf_engine.proofs.runner.Runner.take_step.Goals as goal
 
-pub advance-requires-clause-few_constructs : goal.advance-requires-clause-few_constructs
-advance-requires-clause-few_constructs g c =
-    c.lawful_programs_are_quiet_and_small.ensures.constructs (program_of c.args.self.now.instance.now) (subst IsLawful (sym c.requires.program) c.program-program.ensures.lawful)
+pub returns-in-Err-clause-told_first : goal.returns-in-Err-clause-told_first
+returns-in-Err-clause-told_first g c = same-told-first (program_of c.args.self.now.instance.now) c.args.self.now.instance.now.input c.args.run.now _
 
-pub returns-in_err-advance-clause-told_first : goal.returns-in_err-advance-clause-told_first
-returns-in_err-advance-clause-told_first g c = if-err _
-    (same-told-first (program_of c.args.self.now.instance.now) c.args.self.now.instance.now.input c.args.run.now _)
+pub pass-requires-clause-ready : goal.pass-requires-clause-ready
+pass-requires-clause-ready g c κs within =
+    subst (λ a. CanBeRun (program_of c.args.self.now.instance.now) a c.arrive.new.run) c.in-AtBlocks.is c.in-Ok.ensures.ready
 
 pub pass-requires-clause-few : goal.pass-requires-clause-few
 pass-requires-clause-few g c κs within =
     let p = program_of c.args.self.now.instance.now in
-    let a = subst (Advanced p c.args.self.now.instance.now.input c.args.run.now c.advance.new.self) c.in-AtConstruct.is c.in_ok-advance.ensures.advanced in
-    few-advanced p c.args.run.now c.advance.new.self c.args.account.now.stats a.at c.requires.few
+    (subst (λ a. ComesNearer p c.args.run.now a c.arrive.new.run) c.in-AtBlocks.is c.in-Ok.ensures.nearer).1 c.args.account.now.stats c.requires.few
 
-pub returns-in-Finished-clause-steps : goal.returns-in-Finished-clause-steps
-returns-in-Finished-clause-steps g c = λ before progress agrees were goes. record {
-  later = progress;
-  agrees = agrees;
-  told = were;
-  there = paused-so c.runs_in_pieces_go_on.ensures.advance before (program_of c.args.self.now.instance.now) c.args.self.now.instance.now.input c.args.run.now c.advance.new.self progress c.in-Finished.is goes c.in_ok-advance.ensures.advanced;
-}
-
-pub returns-in-Trapped-clause-steps : goal.returns-in-Trapped-clause-steps
-returns-in-Trapped-clause-steps g c = λ before progress agrees were goes. record {
-  later = progress;
-  agrees = agrees;
-  told = were;
-  there = paused-so c.runs_in_pieces_go_on.ensures.advance before (program_of c.args.self.now.instance.now) c.args.self.now.instance.now.input c.args.run.now c.advance.new.self progress c.in-Trapped.is goes c.in_ok-advance.ensures.advanced;
-}
-
-pub returns-in-AtConstruct-clause-steps : goal.returns-in-AtConstruct-clause-steps
-returns-in-AtConstruct-clause-steps g c = over-ok _ _ (λ s steps before progress agrees were goes.
+pub returns-in-AtBlocks-clause-steps : goal.returns-in-AtBlocks-clause-steps
+returns-in-AtBlocks-clause-steps g c = over-ok _ _ (λ s steps before progress agrees were goes.
     steps before progress agrees were
-    (paused-so c.runs_in_pieces_go_on.ensures.advance before (program_of c.args.self.now.instance.now) c.args.self.now.instance.now.input c.args.run.now c.advance.new.self progress c.in-AtConstruct.is goes c.in_ok-advance.ensures.advanced))
+    (subst (λ a. IsArrived before (program_of c.args.self.now.instance.now) c.args.self.now.instance.now.input a c.arrive.new.run progress) c.in-AtBlocks.is
+    (c.in-Ok.ensures.arrived before progress goes)))
     c.pass.result c.pass.ensures.steps
 
-pub returns-in-AtConstruct-clause-told_first : goal.returns-in-AtConstruct-clause-told_first
-returns-in-AtConstruct-clause-told_first g c = over-err _ _ (λ why first before progress were goes.
+pub returns-in-AtBlocks-clause-told_first : goal.returns-in-AtBlocks-clause-told_first
+returns-in-AtBlocks-clause-told_first g c = over-err _ _ (λ why first before progress were goes.
     first before progress were
-    (paused-so c.runs_in_pieces_go_on.ensures.advance before (program_of c.args.self.now.instance.now) c.args.self.now.instance.now.input c.args.run.now c.advance.new.self progress c.in-AtConstruct.is goes c.in_ok-advance.ensures.advanced))
+    (subst (λ a. IsArrived before (program_of c.args.self.now.instance.now) c.args.self.now.instance.now.input a c.arrive.new.run progress) c.in-AtBlocks.is
+    (c.in-Ok.ensures.arrived before progress goes)))
     c.pass.result c.pass.ensures.told_first
 
-pub returns-in-AtConstruct-clause-further : goal.returns-in-AtConstruct-clause-further
-returns-in-AtConstruct-clause-further g c =
+pub returns-in-AtBlocks-clause-further : goal.returns-in-AtBlocks-clause-further
+returns-in-AtBlocks-clause-further g c =
     let p = program_of c.args.self.now.instance.now in
-    let a = subst (Advanced p c.args.self.now.instance.now.input c.args.run.now c.advance.new.self) c.in-AtConstruct.is c.in_ok-advance.ensures.advanced in
-    over-ok _ _ (λ s further. further-from p c.args.run.now c.advance.new.self _ s _ (advance-counts p c.args.run.now c.advance.new.self a.at) further) c.pass.result c.pass.ensures.further
+    let nearer = subst (λ a. ComesNearer p c.args.run.now a c.arrive.new.run) c.in-AtBlocks.is c.in-Ok.ensures.nearer in
+    over-ok _ _ (λ s further. further-from p c.args.run.now c.arrive.new.run _ s _ nearer.0 further) c.pass.result c.pass.ensures.further
+
+pub returns-in-Over-clause-steps : goal.returns-in-Over-clause-steps
+returns-in-Over-clause-steps g c = λ before progress agrees were goes. record {
+  later = progress;
+  agrees = agrees;
+  told = were;
+  there = subst (λ a. IsArrived before (program_of c.args.self.now.instance.now) c.args.self.now.instance.now.input a c.arrive.new.run progress) c.in-Over.is
+      (c.in-Ok.ensures.arrived before progress goes);
+}
+
+pub returns-in-Over-clause-further : goal.returns-in-Over-clause-further
+returns-in-Over-clause-further g c =
+    let p = program_of c.args.self.now.instance.now in
+    (subst (λ a. ComesNearer p c.args.run.now a c.arrive.new.run) c.in-Over.is c.in-Ok.ensures.nearer) c.args.account.now.stats c.requires.few

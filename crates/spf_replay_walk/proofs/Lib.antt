@@ -1,0 +1,4 @@
+pub mod Sections
+pub mod Verdicts
+pub mod Passing
+pub mod Walking

@@ -1,0 +1,150 @@
+-- A construct that a walk passes: its guesses, its real rows, and what its section is read with.
+use Rattle.std.proofs.Common.{◌≡◌, ℕ, zero, suc, ◌+◌, ◌≤◌, ◌<◌, List, [], ◌∷◌, length, map, drop, ℤ, pos, ◌+ℤ◌, refl, sym, ap, ◌∙◌, subst, arith}
+use Rattle.std.specs.Prelude.{Some, slice_get, ◌≤ℤ◌}
+use Rattle.std.specs.List.{All}
+use Rattle.std.specs.Global.{Vec}
+use Rattle.std.proofs.lemmas.List.{length-map, length-take-le}
+use Rattle.spf_ast.specs.declared.syntax.Program as code_program
+use Rattle.spf_ast.specs.Carried.{Carried}
+use Rattle.spf_ast.specs.Interaction.{Ending, Value, Trapped}
+use Rattle.spf_ast.specs.Meaning.{Environment}
+use Rattle.spf_ast.specs.Syntax.{Program}
+use Rattle.spf_ast.specs.View.{program}
+use Rattle.spf_ast.specs.Plain.{plain_answer, plain_memory}
+use Rattle.spf_ast.specs.Program.{environment_of, cell_count_of}
+use Rattle.spf_ast.specs.Construct.{Construct, fold, pair, Header, constructs_in, part_of}
+use Rattle.spf_ast.specs.ConstructView.{construct as seen_construct}
+use Rattle.spf_ast.specs.Silence.{FunctionsAreSilent, PartIsSilent}
+use Rattle.spf_ast_laws.specs.Chained.{Chained, chained, chained_on, block_asks}
+use Rattle.spf_exec_instance.specs.Frame.{frame_size}
+use Rattle.spf_exec_instance.specs.Instance.{program_of}
+use Rattle.spf_exec_instance.specs.Layout.{LayoutValue, IsLayoutOf}
+use Rattle.spf_exec.specs.Pieces.{Stand, IsRunOf, seen_header}
+use Rattle.spf_chain.specs.declared.validated.Settled.{Settled}
+use Rattle.spf_chain.specs.Finishing.{result_as}
+use Rattle.spf_engine_laws.specs.Passed.{PassedConstruct, where_blocks}
+use Rattle.spf_engine_laws.specs.Progress.{BlocksComeTo}
+use Rattle.spf_replay.specs.Plainly.{AreRunPlainly}
+use Rattle.spf_region.specs.declared.span.Span.{Span}
+use Rattle.spf_region.specs.Cells.{cells_at}
+use Rattle.spf_check_rules.specs.Rules.{may_write}
+use Rattle.spf_check_rules.specs.Freedom.{IsRollbackFree}
+use Rattle.spf_check.specs.Checking.{IsFree}
+use Rattle.spf_check.specs.Plans.{AreBlocksOf, IsPlanOf}
+use Rattle.spf_guess_statistics.specs.declared.guess.Guess as code_guess
+use Rattle.spf_guess_statistics.specs.Guess.{Guess}
+use Rattle.spf_engine_construct.specs.Guesses.{seen_guess, guesses_from}
+use Rattle.spf_speculation_entry.specs.Entry.{Entry, HasItsBlocks, plain_blocks}
+use Rattle.spf_replay.specs.declared.entered.EnteredConstruct.{EnteredConstruct}
+use Rattle.spf_replay.specs.Entered.{entry_of, IsEntered}
+use Rattle.spf_replay_walk.specs.Walking.{AreGuesses}
+
+-- ---- guesses
+
+guess-at : (items : List code_guess.Guess) (guess : ℕ → Guess) (place count : ℕ) → map seen_guess items ≡ guesses_from guess place count
+    → (n : ℕ) (g : code_guess.Guess) → slice_get items n ≡ Some g → seen_guess g ≡ guess (place + n)
+guess-at [] guess place count h n g at = cc
+guess-at (x ∷ items) guess place zero h n g at = cc
+guess-at (x ∷ items) guess place (suc count) h zero g at =
+    let same : x ≡ g = cc in
+    let here : place ≡ place + 0 = omega arith in
+    ap seen_guess (sym same) ∙ ap (head_or (seen_guess x)) h ∙ ap guess here
+  where
+    head_or : Guess → List Guess → Guess
+    head_or d [] = d
+    head_or d (g ∷ gs) = g
+guess-at (x ∷ items) guess place (suc count) h (suc n) g at =
+    let there : suc place + n ≡ place + suc n = omega arith in
+    guess-at items guess (suc place) count (ap (drop 1) h) n g at ∙ ap guess there
+
+pub are-guesses : (items : List code_guess.Guess) (guess : ℕ → Guess) (count : ℕ) → map seen_guess items ≡ guesses_from guess 1 count → AreGuesses items (λ n. (guess n).value)
+are-guesses items guess count h = λ n g at.
+    let next : 1 + n ≡ suc n = omega arith in
+    ap (λ (k : Guess). k.value) (guess-at items guess 1 count h n g at) ∙ ap (λ k. (guess k).value) next
+
+-- ---- real rows
+
+few-values : (g : Environment) (c : Construct) (slots : List ℤ) (n count : ℕ) (b : ℤ) (v : Carried) (m : List ℤ) → length (chained g c slots n count b v m).values ≤ count
+few-values g c slots n zero b v m = omega arith
+few-values g c slots n (suc count) b v m =
+    go (plain_answer (block_asks g c slots n b v) m) (λ next. chained g c slots (suc n) count (b +ℤ pos 1) next (plain_memory (block_asks g c slots n b v) m))
+    (λ next. few-values g c slots (suc n) count (b +ℤ pos 1) next (plain_memory (block_asks g c slots n b v) m))
+  where
+    go : (e : Ending Carried) (others : Carried → Chained) → ((next : Carried) → length (others next).values ≤ count) → length (chained_on v e (plain_memory (block_asks g c slots n b v) m) others).values ≤ suc count
+    go (Value next s) others h = let k = h next in omega (arith, k)
+    go (Trapped t o) others h = omega arith
+
+-- no more blocks begin than there are
+pub few-reals : (e : Entry) (reals : List Carried) → reals ≡ (plain_blocks e).values → length reals ≤ e.header.blocks
+few-reals e reals is =
+    subst (λ (l : List Carried). length l ≤ e.header.blocks) (sym is)
+    (few-values (environment_of e.program e.input) e.construct e.slots 0 e.header.blocks e.header.low e.header.start e.memory)
+
+-- ---- what a section is read with
+
+its-blocks : (c : Construct) (h : Header) → AreBlocksOf c h.blocks → HasItsBlocks c h
+its-blocks (fold line head body) h b = tt
+its-blocks (pair line head producer consumer) h b = b
+
+-- the parts of a construct that is entered, where the program is accepted
+pub record AreParts (checked : code_program.Program) (c : EnteredConstruct) : Type 0 where
+  pub program_is : program_of c.instance.now ≡ program checked
+  pub free : IsFree checked
+  pub bytes : All (λ b. b < 256) c.instance.now.input
+  pub top : slice_get (constructs_in (program_of c.instance.now).main) c.index ≡ Some (seen_construct c.construct)
+  pub blocks : AreBlocksOf (seen_construct c.construct) c.header.blocks
+  pub few : c.header.blocks ≤ 4096
+  pub numbers : (c.header.low +ℤ pos c.header.blocks) ≤ℤ pos 9223372036854775807
+  pub frame : length c.frame.now ≡ frame_size (program_of c.instance.now)
+  pub cells : length c.cells.now ≡ cell_count_of (program_of c.instance.now) (length c.instance.now.input)
+  pub silent : (n : ℕ) → PartIsSilent (seen_construct c.construct) (part_of (seen_construct c.construct) n)
+  pub functions_silent : FunctionsAreSilent (program_of c.instance.now).functions
+  pub guesses : length c.guesses.now + 1 ≡ c.header.blocks
+  pub reals : c.reals.now ≡ (plain_blocks (entry_of c)).values
+
+-- with a plan of its blocks it can be judged
+pub is-entered : (checked : code_program.Program) (c : EnteredConstruct) (l : LayoutValue) (low : ℤ) → AreParts checked c → IsLayoutOf (program_of c.instance.now) (length c.instance.now.input) l → low ≡ c.header.low
+    → ((k : Construct) → slice_get (constructs_in (program checked).main) c.index ≡ Some k → IsPlanOf (program checked) k l.extents l.cells low c.header.blocks (map (λ (v : Vec Span). v.items) c.plan.now.blocks.items))
+    → IsEntered c
+is-entered checked c l low parts layout low-is planned =
+    let i = c.instance.now in
+    let k = seen_construct c.construct in
+    let mine : IsPlanOf (program_of i) k l.extents l.cells c.header.low c.header.blocks (map (λ (v : Vec Span). v.items) c.plan.now.blocks.items)
+    = subst (λ x. IsPlanOf (program_of i) k l.extents l.cells x c.header.blocks (map (λ (v : Vec Span). v.items) c.plan.now.blocks.items)) low-is
+    (subst (λ (q : Program). slice_get (constructs_in q.main) c.index ≡ Some k → IsPlanOf q k l.extents l.cells low c.header.blocks (map (λ (v : Vec Span). v.items) c.plan.now.blocks.items)) (sym parts.program_is) (planned k) parts.top) in
+    record {
+      is_entry = record {
+        free = subst (λ (q : Program). slice_get (constructs_in q.main) c.index ≡ Some k → IsRollbackFree q k) (sym parts.program_is) (parts.free c.index k) parts.top;
+        bytes = parts.bytes;
+        slots = length-take-le (length (program_of i).slots) c.frame.now (let size = parts.frame in omega (arith, size));
+        blocks = its-blocks k (seen_header c.header) parts.blocks;
+      };
+      top = parts.top;
+      cells = parts.cells;
+      frame = parts.frame;
+      silent = parts.silent;
+      functions_silent = parts.functions_silent;
+      few = parts.few;
+      numbers = parts.numbers;
+      plan = sym (length-map c.plan.now.blocks.items (λ (v : Vec Span). v.items)) ∙ mine.count;
+      spans = λ n spans cell at.
+          (mine.spans n spans at).cells cell
+          ∙ ap (λ x. cells_at x (c.header.low +ℤ pos n) (may_write (program_of i) k (part_of k n)) cell) layout.extents;
+      guesses = parts.guesses;
+      reals = parts.reals;
+    }
+
+-- ---- blocks that were run plainly
+
+-- what they came to
+pub plain-come : (e : Entry) (reals : List Carried) (settled : Settled) (cells memory : List ℤ) → AreRunPlainly e reals (result_as settled) cells → memory ≡ cells → BlocksComeTo e (result_as settled) memory
+plain-come e reals settled cells memory came is = record { result = sym came.result_is; memory_is = λ v ok. is ∙ came.memory_is }
+
+-- a run whose cells were changed is one yet
+pub put-run : (p : Program) (size : ℕ) (s now : Stand) (cells : List ℤ) → IsRunOf p size s → now ≡ record s { cells = cells } → length cells ≡ length s.cells → IsRunOf p size now
+put-run p size s now cells r is same = subst (IsRunOf p size) (sym is) (record { frame = r.frame; cells = same ∙ r.cells; place = r.place; passed = r.passed })
+
+-- a construct that has blocks is one that was passed
+pub some-blocks : (blocks : ℕ) (x : PassedConstruct) → 1 ≤ blocks → x ∷ [] ≡ where_blocks blocks x
+some-blocks zero x some = absurd (omega (arith, some))
+some-blocks (suc blocks) x some = refl

@@ -1,0 +1,150 @@
+//! The verdict on a log, section by section.
+ghost use Rattle.std.specs.Prelude.{◌≡◌, ◌<◌, ◌≤◌, ◌++◌, ◌∷◌, [], ℕ, List, length, slice_get, Some, IfOk};
+ghost use Rattle.spf_ast.specs.Carried.{Carried};
+ghost use Rattle.spf_engine_laws.specs.Passed.{PassedConstruct};
+ghost use Rattle.spf_speculation.specs.Steps.{Step as SeenStep};
+ghost use Rattle.spf_replay.specs.declared.verdict.Verdict.TheVariants.{Yes, No};
+ghost use Rattle.spf_replay.specs.SeenSteps.{seen_steps};
+ghost use Rattle.spf_replay.specs.Entered.{entry_of, IsEntered, HasGuesses};
+ghost use Rattle.spf_replay.specs.Verdicts.{IsVerdict};
+ghost use Rattle.spf_replay_walk.specs.Judging.{seen_log, expected_of_all, HasJudged, IsAfterRun};
+
+use spf_replay::Step;
+use spf_replay::entered::EnteredConstruct;
+use spf_replay::section::is_speculative_run;
+use spf_replay::verdict::Verdict;
+use std::alloc::{AllocError, Global};
+
+/// The verdict on the sections of the constructs that a run has passed.
+#[derive(Clone, Copy)]
+pub(crate) struct Judged {
+    /// The index of the section that comes next, where all before it were right.
+    pub(crate) next: usize,
+    pub(crate) verdict: Verdict,
+}
+
+/// The verdict on no section.
+pub(crate) fn nothing_judged() -> Judged
+    ensures { (log : List (List SeenStep)) → HasJudged [] log result }
+{
+    Judged {
+        next: 0,
+        verdict: Verdict::Yes,
+    }
+}
+
+/// That the section at an index is the first that isn't as expected.
+fn no_at(n: usize) -> Verdict
+    ensures { result ≡ No n }
+{
+    Verdict::No { section: n as u64 }
+}
+
+/// That the section that comes next isn't one of the construct that was passed.
+fn refused(next: usize) -> Judged
+    ensures { result.verdict ≡ No next }
+{
+    Judged {
+        next,
+        verdict: no_at(next),
+    }
+}
+
+/// The section at an index.
+fn section_at(log: &[Vec<Step>], n: usize) -> &[Step]
+    requires { n < length log.now }
+    ensures { slice_get (seen_log log.now) n ≡ Some (seen_steps result.now) }
+{
+    &log[n]
+}
+
+/// The index after the section at an index, where that section is a speculative run of the
+/// construct's blocks.
+///
+/// # Errors
+///
+/// Fails where memory runs out.
+fn after_section(
+    alloc: Global,
+    log: &[Vec<Step>],
+    n: usize,
+    entered: &EnteredConstruct,
+) -> Result<Option<usize>, AllocError>
+    requires is { IsEntered entered.now }
+    ensures { (guess : ℕ → Carried) → HasGuesses entered.now guess
+        → IfOk result (IsAfterRun (seen_log log.now) n (entry_of entered.now) guess) }
+{
+    if n >= log.len() {
+        return Ok(None);
+    }
+    if is_speculative_run(alloc, entered, section_at(log, n))? {
+        return Ok(Some(n + 1));
+    }
+    Ok(None)
+}
+
+/// The verdict with one more construct, where all sections before its own were right.
+fn judge_next(
+    alloc: Global,
+    log: &[Vec<Step>],
+    entered: &EnteredConstruct,
+    judged: Judged,
+) -> Result<Judged, AllocError>
+    requires is { IsEntered entered.now }
+    requires right { judged.verdict ≡ Yes }
+    ensures { IfOk result (λ j. (passed : List PassedConstruct) (x : PassedConstruct)
+        → HasJudged passed (seen_log log.now) judged → x.entry ≡ entry_of entered.now
+        → HasGuesses entered.now x.guess → HasJudged (passed ++ x ∷ []) (seen_log log.now) j) }
+{
+    match after_section(alloc, log, judged.next, entered)? {
+        Some(next) => Ok(Judged {
+            next,
+            verdict: Verdict::Yes,
+        }),
+        None => Ok(refused(judged.next)),
+    }
+}
+
+/// The verdict with one more construct. Where a section was refused before, no further one is read.
+///
+/// # Errors
+///
+/// Fails where memory runs out.
+pub(crate) fn judge_section(
+    alloc: Global,
+    log: &[Vec<Step>],
+    entered: &EnteredConstruct,
+    judged: Judged,
+) -> Result<Judged, AllocError>
+    requires is { IsEntered entered.now }
+    ensures { IfOk result (λ j. (passed : List PassedConstruct) (x : PassedConstruct)
+        → HasJudged passed (seen_log log.now) judged → x.entry ≡ entry_of entered.now
+        → HasGuesses entered.now x.guess → HasJudged (passed ++ x ∷ []) (seen_log log.now) j) }
+{
+    match judged.verdict {
+        Verdict::No { .. } => Ok(judged),
+        Verdict::Yes => judge_next(alloc, log, entered, judged),
+    }
+}
+
+/// The verdict where all sections before an index were right, and no further one is expected.
+fn end_verdict(log: &[Vec<Step>], next: usize) -> Verdict
+    ensures right { length log.now ≤ next → result ≡ Yes }
+    ensures early { next < length log.now → result ≡ No next }
+{
+    if next < log.len() {
+        return no_at(next);
+    }
+    Verdict::Yes
+}
+
+/// The verdict on the whole log, where no further construct is passed.
+pub(crate) fn judge_end(log: &[Vec<Step>], judged: Judged) -> Verdict
+    ensures { (passed : List PassedConstruct) → HasJudged passed (seen_log log.now) judged
+        → IsVerdict (expected_of_all passed) (seen_log log.now) result }
+{
+    match judged.verdict {
+        Verdict::No { .. } => judged.verdict,
+        Verdict::Yes => end_verdict(log, judged.next),
+    }
+}

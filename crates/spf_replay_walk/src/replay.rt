@@ -1,0 +1,136 @@
+//! Whole logs.
+ghost use Rattle.std.specs.Prelude.{◌≡◌, ◌<◌, ◌≤◌, length, map, None, IfOk, IfErr, IsErrAnd};
+ghost use Rattle.spf_ast.specs.View.{program as seen_program};
+ghost use Rattle.spf_ast.specs.Construct.{constructs_in};
+ghost use Rattle.spf_ast.specs.Program.{cell_count_of, max_cells};
+ghost use Rattle.spf_exec_instance.specs.Instance.{program_of};
+ghost use Rattle.spf_guess_statistics.specs.Statistics.{tally};
+ghost use Rattle.spf_guess.specs.Answers.{supplied, WereTold};
+ghost use Rattle.spf_guess.specs.Missing.{missing_host};
+ghost use Rattle.spf_engine.specs.Runs.{WereToldFirst};
+ghost use Rattle.spf_engine.specs.Errors.{AreTooMany, IsMissing, WereToldNothing, IsNotRun};
+ghost use Rattle.spf_replay.specs.Expecting.{expected};
+ghost use Rattle.spf_replay.specs.Verdicts.{IsVerdict};
+ghost use Rattle.spf_replay_walk.specs.Judging.{seen_log};
+
+use crate::judging::{judge_end, nothing_judged};
+use crate::walker::Walker;
+use spf_check::checked::Checked;
+use spf_engine::error::EngineError;
+use spf_engine::run::lay_out;
+use spf_engine::step::Step;
+use spf_exec::pieces::Run;
+use spf_exec_instance::instance::Instance;
+use spf_guess::Predictor;
+use spf_guess::missing::first_missing;
+use spf_replay::Step as LogStep;
+use spf_replay::verdict::Verdict;
+use std::alloc::{AllocError, Global};
+
+/// Runs an instance of an accepted program and judges a log of it, section by section. All hosts
+/// that its constructs name are supplied.
+///
+/// # Errors
+///
+/// `AllocError` where there is no memory for the run; the hosts were told the first of what they
+/// are told in the whole run.
+pub fn replay_instance(
+    alloc: Global,
+    checked: &Checked,
+    instance: &Instance,
+    hosts: &mut Vec<Box<dyn Predictor>>,
+    log: &[Vec<LogStep>],
+) -> Result<Verdict, AllocError>
+    requires program { program_of instance.now ≡ seen_program checked.now }
+    requires hosts { missing_host (length hosts.old.items) (constructs_in (program_of instance.now).main)
+        ≡ None }
+    ensures verdict { IfOk result (IsVerdict (expected (supplied answer hosts.old.items)
+        (program_of instance.now) instance.now.input) (seen_log log.now)) }
+    ensures told { IfOk result (λ r. WereTold (supplied answer hosts.old.items)
+        (tally (supplied answer hosts.old.items) (program_of instance.now)
+        instance.now.input).telling (supplied answer hosts.new.items)) }
+    ensures told_first { IfErr result (λ why. WereToldFirst
+        (supplied answer hosts.old.items) (program_of instance.now)
+        instance.now.input (supplied answer hosts.new.items)) }
+    ensures count { length hosts.new.items ≡ length hosts.old.items }
+{
+    // Law: a run in pieces goes on as the plain run does.
+    spf_engine_laws::runs_in_pieces_go_on();
+    // Law: what is expected matters by its speculative runs alone.
+    spf_replay::verdict::verdicts_are_exact();
+    // Law: a speculative run depends on the visible slots alone.
+    spf_replay::laws::runs_look_alike();
+    let _program = checked.program();
+    let walker = Walker {
+        alloc,
+        checked,
+        instance,
+        log,
+    };
+    let mut run = Run::start(alloc, instance)?;
+    let mut judged = nothing_judged();
+    loop {
+        match walker.take_step(&mut run, &mut judged, hosts)? {
+            Step::Next => {}
+            Step::Finished => return Ok(judge_end(log, judged)),
+            Step::Trapped(_) => return Ok(judge_end(log, judged)),
+        }
+    }
+}
+
+/// Whether a log is one of the program's speculative runs on this input: it is where it has one
+/// section for each construct with blocks that the run reaches, in order, and each is a speculative
+/// run of the construct's blocks from the guesses for them. Otherwise the answer names the first
+/// section that isn't, is missing, or is one too many.
+///
+/// The program is run as `spf_engine::run::run_program` does it, but in the calling thread, and hosts
+/// are asked and told as there. The run goes on to its end also where a section was refused.
+///
+/// # Errors
+///
+/// `TooManyCells` where the arrays have more cells than a run of the program's version may have;
+/// `NoHost` where the program names a host that isn't supplied; and `OutOfMemory`. The hosts were
+/// told the first of what they are told in the whole run; after the first two errors nothing.
+pub fn replay(
+    alloc: Global,
+    checked: &Checked,
+    input: &[u8],
+    hosts: &mut Vec<Box<dyn Predictor>>,
+    log: &[Vec<LogStep>],
+) -> Result<Verdict, EngineError>
+    ensures verdict { IfOk result (IsVerdict (expected (supplied answer hosts.old.items)
+        (seen_program checked.now) input.now) (seen_log log.now)) }
+    ensures told { IfOk result (λ r. WereTold (supplied answer hosts.old.items)
+        (tally (supplied answer hosts.old.items) (seen_program checked.now)
+        input.now).telling (supplied answer hosts.new.items)) }
+    ensures told_first { IfErr result (λ why. WereToldFirst
+        (supplied answer hosts.old.items) (seen_program checked.now) input.now
+        (supplied answer hosts.new.items)) }
+    ensures too_many { max_cells (seen_program checked.now)
+        < cell_count_of (seen_program checked.now) (length input.now)
+        → IsErrAnd result
+        (AreTooMany (cell_count_of (seen_program checked.now) (length input.now))) }
+    ensures few { cell_count_of (seen_program checked.now) (length input.now)
+        ≤ max_cells (seen_program checked.now)
+        → IfErr result (IsMissing
+        (missing_host (length hosts.old.items) (constructs_in (seen_program checked.now).main))) }
+    ensures complete { IfOk result (λ r.
+        missing_host (length hosts.old.items) (constructs_in (seen_program checked.now).main)
+        ≡ None) }
+    ensures untold { IfErr result (λ why. WereToldNothing why
+        (supplied answer hosts.old.items)
+        (supplied answer hosts.new.items)) }
+    ensures not_run { IfErr result (IsNotRun
+        (cell_count_of (seen_program checked.now) (length input.now))
+        (max_cells (seen_program checked.now))
+        (missing_host (length hosts.old.items) (constructs_in (seen_program checked.now).main))
+        (supplied answer hosts.old.items) (supplied answer hosts.new.items)) }
+    ensures count { length hosts.new.items ≡ length hosts.old.items }
+{
+    let instance = lay_out(alloc, checked, input)?;
+    if let Some(number) = first_missing(checked.program(), hosts.len() as u64) {
+        return Err(EngineError::NoHost { number });
+    }
+    let verdict = replay_instance(alloc, checked, &instance, hosts, log)?;
+    Ok(verdict)
+}
