@@ -1,5 +1,6 @@
--- Laws of the format: bytes are at most one log, and those that break are none.
-use Rattle.std.specs.Prelude.{◌≡◌, ℕ, List}
+-- Laws of the format: bytes are at most one log, and exactly those that break are none.
+use Rattle.std.specs.Prelude.{◌≡◌, ◌⊎◌, ◌<◌, ℕ, List}
+use Rattle.std.specs.List.{All}
 use Rattle.spf_replay_log.specs.declared.log.Step.{Step}
 use Rattle.spf_replay_log.specs.Log.{IsLog}
 use Rattle.spf_replay_log.specs.Refusals.{LogBreaksAt}
@@ -15,3 +16,9 @@ LogsDoNotBreak = (bytes : List ℕ) (log : List (List Step)) (place : ℕ) → I
 -- bytes break at one place at most
 abbrev pub LogsBreakOnce : Type 0
 LogsBreakOnce = (bytes : List ℕ) (one other : ℕ) → LogBreaksAt bytes one → LogBreaksAt bytes other → one ≡ other
+
+-- bytes are a log, or break at a place
+abbrev pub LogsAreOrBreak : Type 0
+LogsAreOrBreak =
+    (bytes : List ℕ) → All (λ byte. byte < 256) bytes
+    → ((log : List (List Step)) × IsLog log bytes) ⊎ ((place : ℕ) × LogBreaksAt bytes place)

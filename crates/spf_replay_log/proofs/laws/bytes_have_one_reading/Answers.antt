@@ -1,4 +1,5 @@
 use Rattle.spf_replay_log.proofs.Once.{one-log, none-breaks, log-once}
+use Rattle.spf_replay_log.proofs.Some.{log-or-break}
 use Rattle.spf_replay_log.proofs.laws.bytes_have_one_reading.Goals as goal
 
 pub returns-clause-one : goal.returns-clause-one
@@ -9,3 +10,6 @@ returns-clause-none c bytes log place p b = none-breaks bytes log place p b
 
 pub returns-clause-place : goal.returns-clause-place
 returns-clause-place c bytes one other p q = log-once bytes one other p q
+
+pub returns-clause-some : goal.returns-clause-some
+returns-clause-some c bytes are = log-or-break bytes are

@@ -1,6 +1,6 @@
 use Rattle.std.proofs.Common.{arith, rules}
-use Rattle.spf_replay_log.specs.Refusals.{Kind, Block, Cell, Content}
-use Rattle.spf_replay_log.proofs.Reading.{step_found, ends_in, wrong_in, before_kind, before_block, before_cell, before_content}
+use Rattle.spf_replay_log.specs.Refusals.{Kind, Block, Cell}
+use Rattle.spf_replay_log.proofs.Reading.{step_found, ends_in, wrong_in, before_kind, before_block, before_cell}
 use Rattle.spf_replay_log.proofs.reader.read_step.Goals as goal
 
 pub returns : goal.returns
