@@ -1,5 +1,5 @@
 -- The steps to a batch that can begin.
-use Rattle.std.specs.Prelude.{Option, Some, None, Result, Ok, Err}
+use Rattle.std.specs.Prelude.{Some, None, Result, Ok, Err}
 use Rattle.std.proofs.Common.{◌≡◌, ℕ, List, [], ◌∷◌, ◌++◌, append_assoc, map, string_bytes, refl, sym, ap, ◌∙◌, subst, inl, inr}
 use Rattle.spf_ast.specs.Syntax.{Program}
 use Rattle.spf_ast.specs.Construct.{constructs_in}
@@ -8,7 +8,7 @@ use Rattle.spf_guess.specs.Missing.{missing_host}
 use Rattle.spf_edge.specs.declared.files.FetchError.{FetchError}
 use Rattle.spf_edge.specs.Fetches.{FilesState, Fetch, AreMade}
 use Rattle.spf_edge.proofs.Fetched.{made_none, made_both}
-use Rattle.spf_batch_lists.specs.Lists.{AreNames, IsBadAt}
+use Rattle.spf_batch_lists.specs.Lists.{AreNames}
 use Rattle.spf_batch_lists.specs.Laws.{ListsHaveOneVerdict}
 use Rattle.spf_ast.specs.View.{program}
 use Rattle.spf_cli_words.specs.Command.{Command, Asks}
@@ -16,7 +16,7 @@ use Rattle.spf_cli_words.specs.Only.{IsOnly}
 use Rattle.spf_cli_answers.specs.Answer.{Answer, host_missing, not_a_name}
 use Rattle.spf_cli_answers.specs.Answering.{seen_answer, IsFollowed, AnswersWith}
 use Rattle.spf_cli_answers.specs.Batched.{RunsFiles}
-use Rattle.spf_cli_answers.specs.Course.{Wanted, Is, Course, Ends, FetchesOr, Fetches}
+use Rattle.spf_cli_answers.specs.Course.{Wanted, Is, Course, FetchesOr, Fetches}
 use Rattle.spf_cli_answers.specs.Laws.{RuleLaws}
 use Rattle.spf_cli_answers.specs.Reading.{Says, IsVerdict}
 use Rattle.spf_cli_answers.specs.Replying.{LeadsTo, IsReady, IsNoList, IsListExit, IsReply, RepliesWith, reply_of}

@@ -11,19 +11,24 @@ use Rattle.spf_edge.specs.Fetches.{Fetch}
 use Rattle.spf_ast.specs.Construct.{constructs_in}
 use Rattle.spf_guess_statistics.specs.Guess.{Hosts}
 use Rattle.spf_guess.specs.Missing.{missing_host}
+use Rattle.spf_guess_statistics.specs.Statistics.{tally}
+use Rattle.spf_replay_log.specs.declared.log.Step as logged
+use Rattle.spf_replay.specs.declared.verdict.Verdict as log_verdict
+use Rattle.spf_replay.specs.declared.verdict.Verdict.TheVariants.{Yes, No}
+use Rattle.spf_replay_sim.specs.Bytes.{bytes_of}
 use Rattle.spf_guess_statistics.specs.declared.stats.Stats.{Stats}
-use Rattle.spf_cli_words.specs.Command.{Command, Run, Check, Explain, Print, Unpack, Unhuff, Lex, Show, Build, Batch, Demo, Options, DecodeOptions}
+use Rattle.spf_cli_words.specs.Command.{Command, Run, Check, Explain, Print, Unpack, Unhuff, Lex, Show, Build, Sim, Replay, Batch, Demo, Options, DecodeOptions}
 use Rattle.spf_apps_machine_text.specs.MachineText.{machine_text}
 use Rattle.spf_apps_programs.specs.PackBits.{packbits_program}
 use Rattle.spf_apps_programs.specs.Huffman.{huffman_program}
 use Rattle.spf_apps_programs.specs.Lexer.{lexer_program}
-use Rattle.spf_cli_answers.specs.Answer.{Answer, not_understood, text_refused, accepted, rule_refused, explained, printed, file_failed, file_too_long, too_many_cells, host_missing, not_huf1, not_lex1, not_a_machine, not_a_name, written, ran, shown}
+use Rattle.spf_cli_answers.specs.Answer.{Answer, not_understood, text_refused, accepted, rule_refused, explained, printed, file_failed, file_too_long, too_many_cells, host_missing, not_huf1, not_lex1, not_a_machine, not_a_name, not_a_log, too_many_steps, written, ran, simulated, judged, shown}
 use Rattle.spf_cli_answers.specs.Reading.{Verdict, Says, Refuses}
 use Rattle.spf_cli_answers.specs.Course.{Wanted, Is, Either, Course, Ends, Chosen, Unfetched, After, FetchesOr, Fetches}
 use Rattle.spf_cli_answers.specs.Message.{failed_line, long_line, too_many_line}
 use Rattle.spf_cli_answers.specs.Batched.{batch_answer, batch_done, FileUnfetched, RunsFiles}
 use Rattle.spf_batch.specs.Batch.{max_input as file_limit}
-use Rattle.spf_cli_answers.specs.Whole.{Handed, handed, Judged, Read, CheckedBy, Allowed, Explained, WithHosts, host_wanted, RunsTo, stats_of, Runs, RunsOn, Decodes, Unpacking, Unhuffing, Lexing, WithHuf1, WithLex1, WithMachine, Batches, BatchesOn, Demonstrates, WholeOf, AskForNothing, Whole, block_of, run_options, by_blocks, with_stats, RunsText, demo_program, demo_input, max_program, max_machine, max_text, max_list, max_input}
+use Rattle.spf_cli_answers.specs.Whole.{Handed, handed, Judged, Read, CheckedBy, AcceptedIn, Allowed, Explained, WithHosts, Started, host_wanted, RunsTo, WithLog, Drawn, Simulates, Ruled, Replays, stats_of, Runs, RunsOn, Decodes, Unpacking, Unhuffing, Lexing, WithHuf1, WithLex1, WithMachine, Batches, BatchesOn, Demonstrates, WholeOf, AskForNothing, Whole, block_of, run_options, by_blocks, with_stats, RunsText, demo_program, demo_input, max_program, max_machine, max_text, max_list, max_log, max_input}
 use Rattle.spf_cli_answers.specs.Laws.{HasFailed, StatusesHaveCauses}
 
 -- the status is none of those for words, for a file, for a put and for want of memory
@@ -55,6 +60,9 @@ over_limit a said e is = let s = status_as a said 7 e is in record { words = λ 
 wrong_format : (a said : Answer) → a ≡ said → said.status ≡ 9 → IsCommon a
 wrong_format a said e is = let s = status_as a said 9 e is in record { words = λ t. omega (arith, s, t); file = λ t. omega (arith, s, t); put = λ t. omega (arith, s, t); memory = λ t. omega (arith, s, t) }
 
+wrong_log : (a said : Answer) → a ≡ said → said.status ≡ 10 → IsCommon a
+wrong_log a said e is = let s = status_as a said 10 e is in record { words = λ t. omega (arith, s, t); file = λ t. omega (arith, s, t); put = λ t. omega (arith, s, t); memory = λ t. omega (arith, s, t) }
+
 -- ---- what is wanted
 
 abbrev AreCommon : Wanted → Type 0
@@ -68,21 +76,47 @@ shown_common : (o : Outcome) (stats : Stats) (a : Answer) → a ≡ shown o stat
 shown_common (Done cells output) stats a e = done a _ e refl
 shown_common (Stopped trap output) stats a e = trapped a _ e refl
 
-hosts_common : (wanted : Option ℕ) (said a : Answer) → (a ≡ said → IsCommon a) → WithHosts wanted (Is said) a → IsCommon a
-hosts_common None said a f e = f e
-hosts_common (Some host) said a f e = over_limit a (host_missing host) e refl
+simulated_common : (o : Outcome) (stats : Stats) (log : List ℕ) (a : Answer) → a ≡ simulated o stats log → IsCommon a
+simulated_common (Done cells output) stats log a e = done a _ e refl
+simulated_common (Stopped trap output) stats log a e = trapped a _ e refl
+
+judged_common : (v : log_verdict.Verdict) (a : Answer) → a ≡ judged v → IsCommon a
+judged_common Yes a e = done a _ e refl
+judged_common (No section) a e = wrong_log a _ e refl
+
+hosts_common : (wanted : Option ℕ) (next : Wanted) (a : Answer) → (next a → IsCommon a) → WithHosts wanted next a → IsCommon a
+hosts_common None next a f h = f h
+hosts_common (Some host) next a f h = over_limit a (host_missing host) h refl
 
 either_common : (b : Bool) (P Q : Wanted) (a : Answer) → (P a → IsCommon a) → (Q a → IsCommon a) → Either b P Q a → IsCommon a
 either_common true P Q a f g h = f h
 either_common false P Q a f g h = g h
 
+started_common : (missing : Option ℕ) (p : Program) (input : List ℕ) (next : Wanted) (a : Answer) → (next a → IsCommon a) → Started missing p input next a → IsCommon a
+started_common missing p input next a f h =
+    either_common (nat_le (cell_count_of p (length input)) (max_cells p)) (WithHosts missing next) (Is (too_many_cells (counted (cell_count_of p (length input))) (max_cells p))) a
+    (hosts_common missing next a f)
+    (λ e. over_limit a (too_many_cells (counted (cell_count_of p (length input))) (max_cells p)) e refl) h
+
 runs_common : (said : Outcome → Stats → Answer) → ((o : Outcome) (stats : Stats) (a : Answer) → a ≡ said o stats → IsCommon a)
     → (options : Options) (given : Handed) (p : Program) (input : List ℕ) (a : Answer) → RunsTo said options given p input a → IsCommon a
 runs_common said f options given p input a h =
-    either_common (nat_le (cell_count_of p (length input)) (max_cells p))
-    (WithHosts (host_wanted options given p) (Is (said (outcome p input) (stats_of options given p input)))) (Is (too_many_cells (counted (cell_count_of p (length input))) (max_cells p))) a
-    (hosts_common (host_wanted options given p) (said (outcome p input) (stats_of options given p input)) a (f (outcome p input) (stats_of options given p input) a))
-    (λ e. over_limit a (too_many_cells (counted (cell_count_of p (length input))) (max_cells p)) e refl) h
+    started_common (host_wanted options given p) p input (Is (said (outcome p input) (stats_of options given p input))) a (f (outcome p input) (stats_of options given p input) a) h
+
+drawn_common : (hosts : Hosts) (p : Program) (input : List ℕ) (seed : ℕ) (a : Answer) → Drawn hosts p input seed a → IsCommon a
+drawn_common hosts p input seed a h =
+    elim h [
+      | inl x ↦ simulated_common (outcome p input) (tally hosts p input).stats (bytes_of x.0) a x.3
+      | inr x ↦ over_limit a too_many_steps x.1 refl
+    ]
+
+simulates_common : (given : Handed) (seed : ℕ) (p : Program) (input : List ℕ) (a : Answer) → Simulates given seed p input a → IsCommon a
+simulates_common given seed p input a h =
+    started_common (missing_host given.count (constructs_in p.main)) p input (Drawn given.hosts p input seed) a (drawn_common given.hosts p input seed a) h
+
+replays_common : (given : Handed) (p : Program) (input : List ℕ) (log : List (List logged.Step)) (a : Answer) → Replays given p input log a → IsCommon a
+replays_common given p input log a h =
+    started_common (missing_host given.count (constructs_in p.main)) p input (Ruled given.hosts p input log) a (λ x. judged_common x.0 a x.2) h
 
 run_common : (options : Options) (given : Handed) (p : Program) (input : List ℕ) (a : Answer) → Runs options given p input a → IsCommon a
 run_common options given p input a h = runs_common (ran options p (length input)) (ran_common options p (length input)) options given p input a h
@@ -175,6 +209,17 @@ caused_batches : (given : Handed) (p : Program) (names : List (List ℕ)) (missi
 caused_batches given p names None = caused_files given.hosts p [] names
 caused_batches given p names (Some host) = caused_ends (Is (host_missing host)) (λ a e. over_limit a (host_missing host) e refl)
 
+caused_accepted : (name : List ℕ) (next : Program → Course) → ((p : Program) → AreCaused (next p)) → AreCaused (AcceptedIn name next)
+caused_accepted name next f =
+    caused_fetches name max_program (λ text. Read text (λ p. CheckedBy p (next p))) (λ text. caused_read text (λ p. CheckedBy p (next p)) (λ p. caused_checked p (next p) (f p)))
+
+caused_log : (given : Handed) (p : Program) (input file : List ℕ) → AreCaused (WithLog file (λ sections. Ends (Replays given p input sections)))
+caused_log given p input file fetches a h =
+    elim h [
+      | inl x ↦ caused_ends (Replays given p input x.0) (replays_common given p input x.0) fetches a x.2
+      | inr x ↦ caused_ends (Is (not_a_log x.0)) (λ b e. wrong_format b (not_a_log x.0) e refl) fetches a x.2
+    ]
+
 caused_list : (given : Handed) (list : List ℕ) (p : Program) → AreCaused (BatchesOn given list p)
 caused_list given list p =
     caused_fetches list max_list _ (λ bytes fetches a h.
@@ -191,8 +236,7 @@ caused_command given (Run program input options) =
     caused_fetches program max_program (λ text. Read text (λ p. Allowed options.plain p (RunsOn options given input p))) (λ text.
     caused_read text (λ p. Allowed options.plain p (RunsOn options given input p)) (λ p. caused_allowed options.plain p (RunsOn options given input p) (caused_runs options given input p)))
 caused_command given (Check program) =
-    caused_fetches program max_program (λ text. Read text (λ p. CheckedBy p (Ends (Is accepted)))) (λ text.
-    caused_read text (λ p. CheckedBy p (Ends (Is accepted))) (λ p. caused_checked p (Ends (Is accepted)) (caused_ends (Is accepted) (λ a e. done a accepted e refl))))
+    caused_accepted program (λ p. Ends (Is accepted)) (λ p. caused_ends (Is accepted) (λ a e. done a accepted e refl))
 caused_command given (Explain program) =
     caused_fetches program max_program (λ text. Read text (λ p. Ends (Explained p))) (λ text.
     caused_read text (λ p. Ends (Explained p)) (λ p. caused_ends (Explained p) (λ a x. done a (explained x.0) x.2 refl)))
@@ -227,9 +271,13 @@ caused_command given (Build text) =
       | inl x ↦ caused_ends (Is (written x.0)) (λ b e. done b (written x.0) e refl) fetches a x.2
       | inr x ↦ caused_ends (Is not_a_machine) (λ b e. wrong_format b not_a_machine e refl) fetches a x.1
     ])
-caused_command given (Batch program list workers) =
-    caused_fetches program max_program (λ text. Read text (λ p. CheckedBy p (BatchesOn given list p))) (λ text.
-    caused_read text (λ p. CheckedBy p (BatchesOn given list p)) (λ p. caused_checked p (BatchesOn given list p) (caused_list given list p)))
+caused_command given (Sim program input seed) =
+    caused_accepted program (λ p. Fetches input max_input (λ content. Ends (Simulates given seed p content))) (λ p.
+    caused_fetches input max_input (λ content. Ends (Simulates given seed p content)) (λ content. caused_ends (Simulates given seed p content) (simulates_common given seed p content)))
+caused_command given (Replay program input log) =
+    caused_accepted program (λ p. Fetches input max_input (λ content. Fetches log max_log (λ file. WithLog file (λ sections. Ends (Replays given p content sections))))) (λ p.
+    caused_fetches input max_input _ (λ content. caused_fetches log max_log _ (caused_log given p content)))
+caused_command given (Batch program list workers) = caused_accepted program (BatchesOn given list) (caused_list given list)
 caused_command given (Demo decoder seed size workers) =
     caused_ends (Demonstrates decoder seed size) (λ a h. runs_common shown shown_common by_blocks (handed []) (demo_program decoder) (demo_input decoder h.0) a h.3)
 

@@ -7,3 +7,4 @@ pub mod Verdicts
 pub mod AtHand
 mod Causes
 pub mod Batches
+pub mod Logs

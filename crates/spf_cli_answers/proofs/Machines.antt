@@ -1,6 +1,5 @@
 -- The answers on machines as texts.
 use Rattle.std.proofs.Common.{◌≡◌, List, ℕ, [], sym, ◌∙◌, subst, inl, inr}
-use Rattle.std.specs.Prelude.{Result}
 use Rattle.spf_edge.specs.Fetches.{FilesState, Fetch}
 use Rattle.spf_edge.proofs.Fetched.{made_none}
 use Rattle.spf_apps_machine_text.specs.MachineText.{IsTextOf}

@@ -29,7 +29,7 @@ use Rattle.spf_cli_answers.specs.Answering.{seen_answer, IsFetchExit, IsReadExit
 use Rattle.spf_cli_answers.specs.Course.{Wanted, Is, Either, Course, Ends, Unfetched, Fetches}
 use Rattle.spf_cli_answers.specs.Reading.{Says, Refuses, IsVerdict, Refusal}
 use Rattle.spf_cli_answers.specs.Laws.{RuleLaws}
-use Rattle.spf_cli_answers.specs.Whole.{Handed, Judged, Read, CheckedBy, Allowed, Explained, WithHosts, host_wanted, RunsTo, stats_of, WholeOf, AskForNothing, Whole}
+use Rattle.spf_cli_answers.specs.Whole.{Handed, Judged, Read, CheckedBy, Allowed, Explained, WithHosts, Started, host_wanted, RunsTo, stats_of, WholeOf, AskForNothing, Whole}
 use Rattle.spf_cli_answers.specs.declared.answer.Answer as made
 use Rattle.spf_cli_answers.specs.declared.answer.Exit.{Exit}
 use Rattle.spf_cli_answers.specs.declared.answer.Exit.TheVariants.{Answered, NoMemory}
@@ -73,6 +73,10 @@ fits cells limit few = go cells limit few
     go : (a b : ℕ) → (b < a → ⊥) → nat_le a b ≡ true
     go a b few = grind (arith, few)
 
+-- so many aren't above the limit
+pub not_above : (cells limit : ℕ) → cells ≤ limit → limit < cells → ⊥
+not_above cells limit fits over = omega (arith, fits, over)
+
 -- where no host is missing, and where one is
 with_hosts : (wanted : Option ℕ) (next : Wanted) (a : Answer) → wanted ≡ None → IsOnly next a → IsOnly (WithHosts wanted next) a
 with_hosts wanted next a none h = subst (λ w. IsOnly (WithHosts w next) a) (sym none) h
@@ -80,24 +84,19 @@ with_hosts wanted next a none h = subst (λ w. IsOnly (WithHosts w next) a) (sym
 without_hosts : (wanted : Option ℕ) (host : ℕ) (next : Wanted) → wanted ≡ Some host → IsOnly (WithHosts wanted next) (host_missing host)
 without_hosts wanted host next some = subst (λ w. IsOnly (WithHosts w next) (host_missing host)) (sym some) (only_this (host_missing host))
 
--- a program was run, whose cells aren't too many and whose hosts are supplied
-pub run_done : (said : Outcome → Stats → Answer) (options : Options) (given : Handed) (p : Program) (input : List ℕ) (a : Answer) → (max_cells p < cell_count_of p (length input) → ⊥) → host_wanted options given p ≡ None
-    → a ≡ said (outcome p input) (stats_of options given p input) → IsOnly (RunsTo said options given p input) a
-run_done said options given p input a few none e =
-    let done = said (outcome p input) (stats_of options given p input) in
-    subst (IsOnly (RunsTo said options given p input)) (sym e)
-    (either_first _ _ (nat_le (cell_count_of p (length input)) (max_cells p)) done (fits (cell_count_of p (length input)) (max_cells p) few)
-    (with_hosts (host_wanted options given p) (Is done) done none (only_this done)))
+-- a program can be run, whose cells aren't too many and whose hosts are supplied
+pub started_done : (missing : Option ℕ) (p : Program) (input : List ℕ) (next : Wanted) (a : Answer) → (max_cells p < cell_count_of p (length input) → ⊥) → missing ≡ None
+    → IsOnly next a → IsOnly (Started missing p input next) a
+started_done missing p input next a few none only =
+    either_first _ _ (nat_le (cell_count_of p (length input)) (max_cells p)) a (fits (cell_count_of p (length input)) (max_cells p) few) (with_hosts missing next a none only)
 
--- a program wasn't run, since a host is missing
-pub host_left : (said : Outcome → Stats → Answer) (options : Options) (given : Handed) (p : Program) (input : List ℕ) (host : ℕ) (a : Answer) → (max_cells p < cell_count_of p (length input) → ⊥) → host_wanted options given p ≡ Some host
-    → a ≡ host_missing host → IsOnly (RunsTo said options given p input) a
-host_left said options given p input host a few some e =
-    subst (IsOnly (RunsTo said options given p input)) (sym e)
+-- it can't, since a host is missing
+pub started_without_host : (missing : Option ℕ) (p : Program) (input : List ℕ) (next : Wanted) (host : ℕ) (a : Answer) → (max_cells p < cell_count_of p (length input) → ⊥) → missing ≡ Some host
+    → a ≡ host_missing host → IsOnly (Started missing p input next) a
+started_without_host missing p input next host a few some e =
+    subst (IsOnly (Started missing p input next)) (sym e)
     (either_first _ _ (nat_le (cell_count_of p (length input)) (max_cells p)) (host_missing host) (fits (cell_count_of p (length input)) (max_cells p) few)
-    (without_hosts (host_wanted options given p) host _ some))
-
--- ---- runs that didn't come to their end
+    (without_hosts missing host next some))
 
 -- by a test that fails
 either_second : (A B : Wanted) (b : Bool) (a : Answer) → b ≡ false → IsOnly B a → IsOnly (Either b A B) a
@@ -110,36 +109,50 @@ exceeds cells limit over = go cells limit over
     go : (a b : ℕ) → b < a → nat_le a b ≡ false
     go a b over = grind (arith, over)
 
--- a program has too many cells
-cells_left : (said : Outcome → Stats → Answer) (options : Options) (given : Handed) (p : Program) (input : List ℕ) (a : Answer) → max_cells p < cell_count_of p (length input)
-    → a ≡ too_many_cells (counted (cell_count_of p (length input))) (max_cells p) → IsOnly (RunsTo said options given p input) a
-cells_left said options given p input a over e =
+-- it can't, since it has too many cells
+pub started_too_large : (missing : Option ℕ) (p : Program) (input : List ℕ) (next : Wanted) (a : Answer) → max_cells p < cell_count_of p (length input)
+    → a ≡ too_many_cells (counted (cell_count_of p (length input))) (max_cells p) → IsOnly (Started missing p input next) a
+started_too_large missing p input next a over e =
     let line = too_many_cells (counted (cell_count_of p (length input))) (max_cells p) in
-    subst (IsOnly (RunsTo said options given p input)) (sym e)
-    (either_second (WithHosts (host_wanted options given p) (Is (said (outcome p input) (stats_of options given p input)))) (Is line)
-    (nat_le (cell_count_of p (length input)) (max_cells p)) line (exceeds (cell_count_of p (length input)) (max_cells p) over) (only_this line))
+    subst (IsOnly (Started missing p input next)) (sym e)
+    (either_second (WithHosts missing next) (Is line) (nat_le (cell_count_of p (length input)) (max_cells p)) line (exceeds (cell_count_of p (length input)) (max_cells p) over) (only_this line))
 
 -- the one answer says why
+pub started_left : (missing : Option ℕ) (p : Program) (input : List ℕ) (next : Wanted) (error : EngineError) (a : Answer)
+    → (max_cells p < cell_count_of p (length input) → AreTooMany (cell_count_of p (length input)) error)
+    → (cell_count_of p (length input) ≤ max_cells p → IsMissing missing error)
+    → SaysWhy p error a → IsOnly (Started missing p input next) a
+started_left missing p input next error a many none why = elim (cases_lt (max_cells p) (cell_count_of p (length input))) [
+  | inl over ↦ too_large error over (many over) why
+  | inr fits ↦ without_host error fits (none fits) why
+]
+  where
+    too_large : (error : EngineError) → max_cells p < cell_count_of p (length input) → AreTooMany (cell_count_of p (length input)) error → SaysWhy p error a
+        → IsOnly (Started missing p input next) a
+    too_large (engine_error.TooManyCells count) over is why = started_too_large missing p input next a over (why ∙ ap (λ n. too_many_cells n (max_cells p)) is)
+    too_large (engine_error.NoHost host) over is why = absurd is
+    too_large engine_error.OutOfMemory over is why = absurd why
+
+    without_host : (error : EngineError) → cell_count_of p (length input) ≤ max_cells p → IsMissing missing error → SaysWhy p error a
+        → IsOnly (Started missing p input next) a
+    without_host (engine_error.TooManyCells count) fits is why = absurd is
+    without_host (engine_error.NoHost host) fits is why = started_without_host missing p input next host a (λ over. omega (arith, fits, over)) is why
+    without_host engine_error.OutOfMemory fits is why = absurd why
+
+-- a program was run
+pub run_done : (said : Outcome → Stats → Answer) (options : Options) (given : Handed) (p : Program) (input : List ℕ) (a : Answer) → (max_cells p < cell_count_of p (length input) → ⊥) → host_wanted options given p ≡ None
+    → a ≡ said (outcome p input) (stats_of options given p input) → IsOnly (RunsTo said options given p input) a
+run_done said options given p input a few none e =
+    let done = said (outcome p input) (stats_of options given p input) in
+    started_done (host_wanted options given p) p input (Is done) a few none (only_same a done e)
+
+-- it wasn't run to its end
 pub unfinished : (said : Outcome → Stats → Answer) (options : Options) (given : Handed) (p : Program) (input : List ℕ) (error : EngineError) (a : Answer)
     → (max_cells p < cell_count_of p (length input) → AreTooMany (cell_count_of p (length input)) error)
     → (cell_count_of p (length input) ≤ max_cells p → IsMissing (host_wanted options given p) error)
     → SaysWhy p error a → IsOnly (RunsTo said options given p input) a
-unfinished said options given p input error a many missing why = elim (cases_lt (max_cells p) (cell_count_of p (length input))) [
-  | inl over ↦ too_large error over (many over) why
-  | inr fits ↦ without_host error fits (missing fits) why
-]
-  where
-    too_large : (error : EngineError) → max_cells p < cell_count_of p (length input) → AreTooMany (cell_count_of p (length input)) error → SaysWhy p error a
-        → IsOnly (RunsTo said options given p input) a
-    too_large (engine_error.TooManyCells count) over is why = cells_left said options given p input a over (why ∙ ap (λ n. too_many_cells n (max_cells p)) is)
-    too_large (engine_error.NoHost host) over is why = absurd is
-    too_large engine_error.OutOfMemory over is why = absurd why
-
-    without_host : (error : EngineError) → cell_count_of p (length input) ≤ max_cells p → IsMissing (host_wanted options given p) error → SaysWhy p error a
-        → IsOnly (RunsTo said options given p input) a
-    without_host (engine_error.TooManyCells count) fits is why = absurd is
-    without_host (engine_error.NoHost host) fits is why = host_left said options given p input host a (λ over. omega (arith, fits, over)) is why
-    without_host engine_error.OutOfMemory fits is why = absurd why
+unfinished said options given p input error a many missing why =
+    started_left (host_wanted options given p) p input (Is (said (outcome p input) (stats_of options given p input))) error a many missing why
 
 -- ---- courses
 

@@ -19,12 +19,17 @@ use Rattle.spf_cli_answers.specs.Message.{
   not_lex1_line,
   not_machine_line,
   not_name_line,
+  not_log_line,
+  steps_line,
+  verdict_line,
   sum_line,
   accepted_line,
   rule_line,
   stats_line,
   array_lines,
 }
+use Rattle.spf_replay.specs.declared.verdict.Verdict.{Verdict}
+use Rattle.spf_replay.specs.declared.verdict.Verdict.TheVariants.{Yes, No}
 use Rattle.spf_cli_words.specs.Command.{Options}
 use Rattle.spf_cli_answers.specs.Reading.{Refusal, refusal_line}
 
@@ -86,6 +91,14 @@ not_a_machine = refused 9 not_machine_line
 abbrev pub not_a_name : ℕ → Answer
 not_a_name number = refused 9 (not_name_line number)
 
+-- the file is no log, for what stands, or is missing, at this place
+abbrev pub not_a_log : ℕ → Answer
+not_a_log place = refused 9 (not_log_line place)
+
+-- a schedule has too many steps
+abbrev pub too_many_steps : Answer
+too_many_steps = refused 7 steps_line
+
 -- a machine's text, or its file, was written
 abbrev pub written : List ℕ → Answer
 written bytes = record { status = 0; out = bytes ∷ []; err = [] }
@@ -112,6 +125,29 @@ abbrev pub ran : Options → Program → ℕ → Outcome → Stats → Answer
 ran options p len (Done cells output) stats =
     record { status = 0; out = output ∷ []; err = stats_lines options stats ++ asked options.cells (array_lines len p.arrays cells) }
 ran options p len (Stopped trap output) stats = record { status = 1; out = output ∷ []; err = trap_line trap ∷ stats_lines options stats }
+
+-- the status of a run that ended so
+abbrev pub end_status : Outcome → ℕ
+end_status (Done cells output) = 0
+end_status (Stopped trap output) = 1
+
+-- the line of its trap, where it trapped
+abbrev pub trap_lines : Outcome → List (List ℕ)
+trap_lines (Done cells output) = []
+trap_lines (Stopped trap output) = trap_line trap ∷ []
+
+-- a run was simulated, to its end or to a trap: its log is written, and on the error stream what a run writes there with its statistics
+abbrev pub simulated : Outcome → Stats → List ℕ → Answer
+simulated o stats log = record {
+  status = end_status o;
+  out = log ∷ [];
+  err = trap_lines o ++ stats_line stats.blocks stats.hits stats.misses stats.blind ∷ [];
+}
+
+-- a log was judged
+abbrev pub judged : Verdict → Answer
+judged Yes = record { status = 0; out = verdict_line Yes ∷ []; err = [] }
+judged (No section) = record { status = 10; out = verdict_line (No section) ∷ []; err = [] }
 
 -- a decoder was run on a generated input: shown are the sum of the output's bytes and how good the guesses were, or the trap
 abbrev pub shown : Outcome → Stats → Answer

@@ -9,5 +9,6 @@ pub mod Whole
 pub mod Unread
 pub mod Answering
 pub mod Replying
+pub mod Logs
 pub mod Ending
 pub mod Laws

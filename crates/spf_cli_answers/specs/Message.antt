@@ -11,6 +11,9 @@ use Rattle.spf_check.specs.Text.{rule_name, perhaps_range}
 use Rattle.spf_ast.specs.Program.{size_of}
 use Rattle.spf_guess_statistics.specs.declared.stats.Stats.{Stats}
 use Rattle.spf_batch.specs.Text.{line, kind_name}
+use Rattle.spf_replay.specs.Limits.{max_steps}
+use Rattle.spf_replay.specs.declared.verdict.Verdict.{Verdict}
+use Rattle.spf_replay.specs.declared.verdict.Verdict.TheVariants.{Yes, No}
 
 -- `trap KIND line N`
 abbrev pub trap_line : Trap → List ℕ
@@ -51,6 +54,19 @@ not_machine_line = line (codes "not a machine" ∷ [])
 -- `list line N: not a name`
 abbrev pub not_name_line : ℕ → List ℕ
 not_name_line number = line (codes "list line " ∷ decimal number ∷ codes ": not a name" ∷ [])
+
+-- `log byte N: not SPL1`
+abbrev pub not_log_line : ℕ → List ℕ
+not_log_line place = line (codes "log byte " ∷ decimal place ∷ codes ": not SPL1" ∷ [])
+
+-- `steps over LIMIT`
+abbrev pub steps_line : List ℕ
+steps_line = line (codes "steps over " ∷ decimal max_steps ∷ [])
+
+-- `yes`, or `no section N`
+abbrev pub verdict_line : Verdict → List ℕ
+verdict_line Yes = line (codes "yes" ∷ [])
+verdict_line (No section) = line (codes "no section " ∷ decimal section ∷ [])
 
 -- `sum S blocks B hits H misses M`
 abbrev pub sum_line : ℕ → ℕ → ℕ → ℕ → List ℕ

@@ -12,6 +12,7 @@ use Rattle.spf_cli_answers.specs.declared.status.Status.TheVariants.{
   OverLimit,
   NoMemory,
   WrongFormat,
+  WrongLog,
 }
 
 -- the number of a status
@@ -26,3 +27,4 @@ status_number PutFailed = 6
 status_number OverLimit = 7
 status_number NoMemory = 8
 status_number WrongFormat = 9
+status_number WrongLog = 10

@@ -1,5 +1,5 @@
 -- The whole answer of the program: what it says to these words, by what the fetches of their files give.
-use Rattle.std.specs.Prelude.{◌≡◌, ◌⊎◌, ℕ, Bool, true, false, if◌then◌else◌, nat_le, List, [], ◌++◌, length, Option, Some, None, unwrap_or}
+use Rattle.std.specs.Prelude.{◌≡◌, ◌⊎◌, ◌≤◌, ℕ, Bool, true, false, if◌then◌else◌, nat_le, List, [], ◌++◌, length, map, Option, Some, None, unwrap_or}
 use Rattle.spf_ast.specs.Syntax.{Program}
 use Rattle.spf_ast.specs.Program.{Outcome, outcome, cell_count_of, max_cells}
 use Rattle.spf_exec_instance.specs.RunErrors.{counted}
@@ -16,13 +16,17 @@ use Rattle.spf_cli_answers.specs.Answer.{
   not_lex1,
   not_a_machine,
   not_a_name,
+  not_a_log,
+  too_many_steps,
   written,
   printed,
   ran,
+  simulated,
+  judged,
   shown,
 }
 use Rattle.spf_cli_answers.specs.Course.{Wanted, Is, Both, Either, Course, Ends, Fetches}
-use Rattle.spf_cli_words.specs.Command.{Command, Run, Check, Explain, Print, Unpack, Unhuff, Lex, Show, Build, Batch, Demo, Options, DecodeOptions, Asks}
+use Rattle.spf_cli_words.specs.Command.{Command, Run, Check, Explain, Print, Unpack, Unhuff, Lex, Show, Build, Sim, Replay, Batch, Demo, Options, DecodeOptions, Asks}
 use Rattle.spf_region.specs.declared.range.Range.{Range}
 use Rattle.spf_check.specs.declared.rule.Rule.{Rule}
 use Rattle.spf_check.specs.Accepting.{IsAccepted, IsFirstRefusal}
@@ -45,12 +49,23 @@ use Rattle.spf_apps_machine_text.specs.Building.{BelongsToNoMachine}
 use Rattle.spf_apps_programs.specs.PackBits.{packbits_program}
 use Rattle.spf_apps_programs.specs.Huffman.{huffman_program}
 use Rattle.spf_apps_programs.specs.Lexer.{lexer_program}
+use Rattle.spf_speculation.specs.Steps.{Step}
+use Rattle.spf_replay_log.specs.declared.log.Step as logged
+use Rattle.spf_replay_log.specs.Log.{IsLog}
+use Rattle.spf_replay_log.specs.Refusals.{LogBreaksAt}
+use Rattle.spf_replay.specs.Limits.{max_steps}
+use Rattle.spf_replay.specs.SeenSteps.{seen_steps}
+use Rattle.spf_replay.specs.Expecting.{expected, IsSchedule}
+use Rattle.spf_replay.specs.declared.verdict.Verdict as log_verdict
+use Rattle.spf_replay.specs.Verdicts.{IsVerdict as IsVerdictOn}
+use Rattle.spf_replay_sim.specs.Drawing.{step_count, HasTooManySteps}
+use Rattle.spf_replay_sim.specs.Bytes.{bytes_of}
 use Rattle.spf_cli_answers.specs.Reading.{Verdict, Says, Refuses, IsVerdict}
 use Rattle.spf_batch_lists.specs.Lists.{AreNames, IsBadAt}
 use Rattle.spf_cli_answers.specs.Batched.{RunsFiles}
 use Rattle.spf_cli_answers.specs.Decoded.{Unpacked, Unhuffed, Tokenized}
 
--- how many bytes the file of a program, that of a machine, that of a machine's text, that of a list, and that of an input may have
+-- how many bytes the file of a program, that of a machine, that of a machine's text, that of a list, that of a log, and that of an input may have
 abbrev pub max_program : ℕ
 max_program = 1048576
 
@@ -62,6 +77,9 @@ max_text = 32768
 
 abbrev pub max_list : ℕ
 max_list = 1048576
+
+abbrev pub max_log : ℕ
+max_log = 20971520
 
 abbrev pub max_input : ℕ
 max_input = 4194304
@@ -85,6 +103,10 @@ CheckedBy p next fetches answer =
 abbrev pub Allowed : Bool → Program → Course → Course
 Allowed true p next = next
 Allowed false p next = CheckedBy p next
+
+-- with the program of a file, where the rules accept it
+abbrev pub AcceptedIn : List ℕ → (Program → Course) → Course
+AcceptedIn name next = Fetches name max_program (λ text. Read text (λ p. CheckedBy p (next p)))
 
 -- the explanation of a program
 abbrev pub Explained : Program → Wanted
@@ -112,12 +134,16 @@ abbrev pub WithHosts : Option ℕ → Wanted → Wanted
 WithHosts None next = next
 WithHosts (Some host) next = Is (host_missing host)
 
+-- a program can be run on an input: it has not too many cells, and this host isn't missing
+abbrev pub Started : Option ℕ → Program → List ℕ → Wanted → Wanted
+Started missing p input next =
+    Either (nat_le (cell_count_of p (length input)) (max_cells p)) (WithHosts missing next)
+    (Is (too_many_cells (counted (cell_count_of p (length input))) (max_cells p)))
+
 -- a program is run on an input, and this is said of how it ended and of its statistics
 abbrev pub RunsTo : (Outcome → Stats → Answer) → Options → Handed → Program → List ℕ → Wanted
 RunsTo said options given p input =
-    Either (nat_le (cell_count_of p (length input)) (max_cells p))
-    (WithHosts (host_wanted options given p) (Is (said (outcome p input) (stats_of options given p input))))
-    (Is (too_many_cells (counted (cell_count_of p (length input))) (max_cells p)))
+    Started (host_wanted options given p) p input (Is (said (outcome p input) (stats_of options given p input)))
 
 -- a program is run on an input
 abbrev pub Runs : Options → Handed → Program → List ℕ → Wanted
@@ -201,6 +227,33 @@ abbrev pub BatchesOn : Handed → List ℕ → Program → Course
 BatchesOn given list p =
     Fetches list max_list (λ bytes. WithNames bytes (λ names. Batches given p names (missing_host given.count (constructs_in p.main))))
 
+-- ---- logs
+
+-- with the log that a file is, or by the place at which it is none
+abbrev pub WithLog : List ℕ → (List (List logged.Step) → Course) → Course
+WithLog file next fetches answer =
+    ((log : List (List logged.Step)) × IsLog log file × next log fetches answer)
+    ⊎ ((place : ℕ) × LogBreaksAt file place × Ends (Is (not_a_log place)) fetches answer)
+
+-- the log of the run whose schedule a seed draws, unless it has too many steps
+abbrev pub Drawn : Hosts → Program → List ℕ → (seed : ℕ) → Wanted
+Drawn hosts p input seed answer =
+    ((log : List (List Step)) × IsSchedule hosts p input seed log × (step_count log ≤ max_steps)
+    × (answer ≡ simulated (outcome p input) (tally hosts p input).stats (bytes_of log)))
+    ⊎ (HasTooManySteps hosts p input seed × (answer ≡ too_many_steps))
+
+-- a run on an input is simulated
+abbrev pub Simulates : Handed → (seed : ℕ) → Program → List ℕ → Wanted
+Simulates given seed p input = Started (missing_host given.count (constructs_in p.main)) p input (Drawn given.hosts p input seed)
+
+-- the verdict on a log
+abbrev pub Ruled : Hosts → Program → List ℕ → List (List logged.Step) → Wanted
+Ruled hosts p input log answer = (v : log_verdict.Verdict) × IsVerdictOn (expected hosts p input) (map seen_steps log) v × (answer ≡ judged v)
+
+-- a log is held against the runs of a program on an input
+abbrev pub Replays : Handed → Program → List ℕ → List (List logged.Step) → Wanted
+Replays given p input log = Started (missing_host given.count (constructs_in p.main)) p input (Ruled given.hosts p input log)
+
 -- ---- demos
 
 -- a demo's program, for blocks of 1,024 bytes
@@ -231,7 +284,7 @@ Demonstrates decoder seed size answer =
 abbrev pub WholeOf : Handed → Command → Course
 WholeOf given (Run program input options) =
     Fetches program max_program (λ text. Read text (λ p. Allowed options.plain p (RunsOn options given input p)))
-WholeOf given (Check program) = Fetches program max_program (λ text. Read text (λ p. CheckedBy p (Ends (Is accepted))))
+WholeOf given (Check program) = AcceptedIn program (λ p. Ends (Is accepted))
 WholeOf given (Explain program) = Fetches program max_program (λ text. Read text (λ p. Ends (Explained p)))
 WholeOf given (Print program) = Fetches program max_program (λ text. Read text (λ p. Ends (Is (printed p))))
 WholeOf given (Unpack input options) = Fetches input max_input (λ content. Ends (Unpacking options content))
@@ -242,8 +295,13 @@ WholeOf given (Lex machine input options) =
 WholeOf given (Show machine) =
     Fetches machine max_machine (λ table. WithLex1 table (λ states classes. Ends (Is (written (machine_text table)))))
 WholeOf given (Build text) = Fetches text max_text (λ bytes. WithMachine bytes (λ file. Ends (Is (written file))))
+WholeOf given (Sim program input seed) =
+    AcceptedIn program (λ p. Fetches input max_input (λ content. Ends (Simulates given seed p content)))
+WholeOf given (Replay program input log) =
+    AcceptedIn program (λ p. Fetches input max_input (λ content. Fetches log max_log (λ file.
+    WithLog file (λ sections. Ends (Replays given p content sections)))))
 WholeOf given (Batch program list workers) =
-    Fetches program max_program (λ text. Read text (λ p. CheckedBy p (BatchesOn given list p)))
+    AcceptedIn program (BatchesOn given list)
 WholeOf given (Demo decoder seed size workers) = Ends (Demonstrates decoder seed size)
 
 -- the words ask for no command

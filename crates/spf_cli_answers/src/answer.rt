@@ -39,6 +39,7 @@ use crate::message::{
     words_line,
 };
 use crate::reading::{Unread, read_program, refusal_line};
+use crate::replaying::{replay_files, sim_files};
 use crate::reply::{Reply, replied};
 use crate::status::Status;
 use crate::texts::{build_file, show_file};
@@ -103,7 +104,7 @@ impl From<AllocError> for Exit {
 }
 
 /// Adds a line to messages.
-fn push_line(messages: &mut Vec<Vec<u8>>, line: String) -> Result<(), AllocError>
+pub(crate) fn push_line(messages: &mut Vec<Vec<u8>>, line: String) -> Result<(), AllocError>
     ensures { IfOk result
         (λ _. lines_of messages.new.items ≡ lines_of messages.old.items ++ string_bytes line ∷ []) }
 {
@@ -566,6 +567,16 @@ impl<'a, R: Threads + Wait + Sync, G: Gate + Sync> Context<'a, R, G> {
             } => replied(self.lex_files(machine, input, options, files)),
             Command::Show { machine } => replied(show_file(self.alloc, machine, files)),
             Command::Build { text } => replied(build_file(self.alloc, text, files)),
+            Command::Sim {
+                program,
+                input,
+                seed,
+            } => replied(sim_files(self.alloc, program, input, seed, files, hosts)),
+            Command::Replay {
+                program,
+                input,
+                log,
+            } => replied(replay_files(self.alloc, program, input, log, files, hosts)),
             Command::Batch {
                 program,
                 list,

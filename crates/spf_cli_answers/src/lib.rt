@@ -11,6 +11,7 @@ mod decoding;
 pub mod laws;
 mod message;
 mod reading;
+mod replaying;
 mod reply;
 mod status;
 mod texts;

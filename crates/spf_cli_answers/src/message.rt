@@ -14,6 +14,9 @@ ghost use Rattle.spf_cli_answers.specs.Message.{not_huf1_line as not_huf1_line_o
 ghost use Rattle.spf_cli_answers.specs.Message.{not_lex1_line as not_lex1_line_of};
 ghost use Rattle.spf_cli_answers.specs.Message.{not_machine_line as not_machine_line_of};
 ghost use Rattle.spf_cli_answers.specs.Message.{not_name_line as not_name_line_of};
+ghost use Rattle.spf_cli_answers.specs.Message.{not_log_line as not_log_line_of};
+ghost use Rattle.spf_cli_answers.specs.Message.{steps_line as steps_line_of};
+ghost use Rattle.spf_cli_answers.specs.Message.{verdict_line as verdict_line_of};
 ghost use Rattle.spf_cli_answers.specs.Message.{files_line as files_line_of};
 ghost use Rattle.spf_cli_answers.specs.Message.{sum_line as sum_line_of, byte_line as byte_line_of};
 ghost use Rattle.spf_cli_answers.specs.Message.{fault_line as fault_line_of};
@@ -28,6 +31,8 @@ use spf_check::rule::Refusal;
 use spf_check::text::{push_range, rule_name};
 use spf_guess_statistics::stats::Stats;
 use spf_region::range::Range;
+use spf_replay::schedule::MAX_STEPS;
+use spf_replay::verdict::Verdict;
 use spf_types::TypeFault;
 use std::alloc::{AllocError, Global};
 
@@ -110,6 +115,30 @@ pub(crate) fn not_name_line(alloc: Global, number: u64) -> Result<String, AllocE
     ensures { IfOk result (λ text. string_bytes text ≡ not_name_line_of number) }
 {
     format!(in alloc; "list line {number}: not a name\n")
+}
+
+/// `log byte N: not SPL1`.
+pub(crate) fn not_log_line(alloc: Global, place: u64) -> Result<String, AllocError>
+    ensures { IfOk result (λ text. string_bytes text ≡ not_log_line_of place) }
+{
+    format!(in alloc; "log byte {place}: not SPL1\n")
+}
+
+/// `steps over LIMIT`.
+pub(crate) fn steps_line(alloc: Global) -> Result<String, AllocError>
+    ensures { IfOk result (λ text. string_bytes text ≡ steps_line_of) }
+{
+    format!(in alloc; "steps over {MAX_STEPS}\n")
+}
+
+/// `yes`, or `no section N`.
+pub(crate) fn verdict_line(alloc: Global, verdict: Verdict) -> Result<String, AllocError>
+    ensures { IfOk result (λ text. string_bytes text ≡ verdict_line_of verdict) }
+{
+    match verdict {
+        Verdict::Yes => String::from_str(alloc, "yes\n"),
+        Verdict::No { section } => format!(in alloc; "no section {section}\n"),
+    }
 }
 
 /// `sum S blocks B hits H misses M`.

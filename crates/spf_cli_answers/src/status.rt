@@ -26,8 +26,10 @@ pub enum Status {
     OverLimit = 7,
     /// Memory ran out.
     NoMemory = 8,
-    /// A file isn't of its format: HUF1, LEX1, a machine's text, or a list of names.
+    /// A file isn't of its format: HUF1, LEX1, a machine's text, a list of names, or a log.
     WrongFormat = 9,
+    /// A log isn't that of a speculative run.
+    WrongLog = 10,
 }
 
 impl From<AllocError> for Status {

@@ -2,7 +2,7 @@
 use Rattle.std.specs.Prelude.{◌≡◌, ℕ, List, [], ◌∷◌, codes}
 use Rattle.spf_cli_help.specs.declared.help.Page.{Page}
 use Rattle.spf_cli_help.specs.declared.help.Page.TheVariants as page
-use Rattle.spf_cli_help.specs.Texts.{help_text, version_text, run_text, check_text, explain_text, print_text, unpack_text, unhuff_text, lex_text, show_text, build_text, batch_text, demo_text}
+use Rattle.spf_cli_help.specs.Texts.{help_text, version_text, run_text, check_text, explain_text, print_text, unpack_text, unhuff_text, lex_text, show_text, build_text, batch_text, sim_text, replay_text, demo_text}
 
 -- the words that ask for a page
 abbrev pub words_of : Page → List (List ℕ)
@@ -18,6 +18,8 @@ words_of page.Lex = codes "lex" ∷ codes "--help" ∷ []
 words_of page.Show = codes "show" ∷ codes "--help" ∷ []
 words_of page.Build = codes "build" ∷ codes "--help" ∷ []
 words_of page.Batch = codes "batch" ∷ codes "--help" ∷ []
+words_of page.Sim = codes "sim" ∷ codes "--help" ∷ []
+words_of page.Replay = codes "replay" ∷ codes "--help" ∷ []
 words_of page.Demo = codes "demo" ∷ codes "--help" ∷ []
 
 -- the text of a page
@@ -34,6 +36,8 @@ text_of page.Lex = lex_text
 text_of page.Show = show_text
 text_of page.Build = build_text
 text_of page.Batch = batch_text
+text_of page.Sim = sim_text
+text_of page.Replay = replay_text
 text_of page.Demo = demo_text
 
 -- words are answered with this text

@@ -25,6 +25,8 @@ help_text = lines (
     ∷ codes "  show MACHINE                 Show a LEX1 machine as a text"
     ∷ codes "  build TEXT                   Build the LEX1 machine of a text"
     ∷ codes "  batch PROGRAM LIST           Run a program on each file of a list"
+    ∷ codes "  sim PROGRAM INPUT SEED       Simulate a run by blocks, and write its log"
+    ∷ codes "  replay PROGRAM INPUT LOG     Say whether a log is that of a run by blocks"
     ∷ codes "  demo KIND SEED SIZE WORKERS  Run a decoder on a generated input"
     ∷ []
     ∷ codes "Options after the words of run, unpack, unhuff, lex and batch, in this order:"
@@ -47,9 +49,10 @@ help_text = lines (
     ∷ codes "  4  The program breaks a rule"
     ∷ codes "  5  A file could not be read"
     ∷ codes "  6  The output could not be written"
-    ∷ codes "  7  A file or the arrays are too large, or a host is missing"
+    ∷ codes "  7  A file, a schedule or the arrays are too large, or a host is missing"
     ∷ codes "  8  Memory ran out"
-    ∷ codes "  9  A file is not of its format: HUF1, LEX1, the text of a machine, or a list of names"
+    ∷ codes "  9  A file is not of its format: HUF1, LEX1, SPL1, the text of a machine, or a list of names"
+    ∷ codes "  10 The log is not that of a run by blocks"
     ∷ []
     ∷ codes "Example:"
     ∷ codes "  spf run examples/doubling.spf examples/empty --stats"
@@ -208,6 +211,38 @@ batch_text = lines (
     ∷ []
     ∷ codes "Example:"
     ∷ codes "  spf --host vote batch examples/hosted.spf names.txt > answers"
+    ∷ [])
+
+-- the help of `sim`
+unfoldable pub sim_text : List ℕ
+sim_text = lines (
+    codes "Usage: spf sim PROGRAM INPUT SEED"
+    ∷ []
+    ∷ codes "Simulate a run by blocks of the program in the file PROGRAM on the file INPUT, and write its log."
+    ∷ codes "The schedule is drawn from the number SEED. The log goes to standard output, in the format SPL1."
+    ∷ codes "The output of the program is not written. How many guesses were right is shown on standard error."
+    ∷ []
+    ∷ codes "Arguments:"
+    ∷ codes "  SEED  A number below 2^64; the schedule that it gives may have 1000000 steps at most"
+    ∷ []
+    ∷ codes "Example:"
+    ∷ codes "  spf sim examples/quotes.spf examples/quotes.txt 7 > quotes.log"
+    ∷ [])
+
+-- the help of `replay`
+unfoldable pub replay_text : List ℕ
+replay_text = lines (
+    codes "Usage: spf replay PROGRAM INPUT LOG"
+    ∷ []
+    ∷ codes "Say whether the file LOG is the log of a run by blocks of the program in the file PROGRAM on the file INPUT."
+    ∷ codes "The command sim writes such logs. The predictors have to be the same."
+    ∷ codes "The answer goes to standard output:"
+    ∷ codes "  yes           It is"
+    ∷ codes "  no section N  It is not, and the exit status is 10"
+    ∷ codes "Section N, counted from 0, is the first that is not a run of its construct, is missing, or is one too many."
+    ∷ []
+    ∷ codes "Example:"
+    ∷ codes "  spf replay examples/quotes.spf examples/quotes.txt quotes.log"
     ∷ [])
 
 -- the help of `demo`

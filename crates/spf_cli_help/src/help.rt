@@ -31,6 +31,10 @@ pub enum Page {
     Build,
     /// The help of `batch`.
     Batch,
+    /// The help of `sim`.
+    Sim,
+    /// The help of `replay`.
+    Replay,
     /// The help of `demo`.
     Demo,
 }
@@ -53,6 +57,8 @@ impl Page {
             Page::Show => texts::SHOW,
             Page::Build => texts::BUILD,
             Page::Batch => texts::BATCH,
+            Page::Sim => texts::SIM,
+            Page::Replay => texts::REPLAY,
             Page::Demo => texts::DEMO,
         }
     }
@@ -91,6 +97,8 @@ fn command_page(name: &str, word: &str) -> Option<Page>
         "show" => Some(Page::Show),
         "build" => Some(Page::Build),
         "batch" => Some(Page::Batch),
+        "sim" => Some(Page::Sim),
+        "replay" => Some(Page::Replay),
         "demo" => Some(Page::Demo),
         _ => None,
     }

@@ -18,6 +18,8 @@ Commands:
   show MACHINE                 Show a LEX1 machine as a text
   build TEXT                   Build the LEX1 machine of a text
   batch PROGRAM LIST           Run a program on each file of a list
+  sim PROGRAM INPUT SEED       Simulate a run by blocks, and write its log
+  replay PROGRAM INPUT LOG     Say whether a log is that of a run by blocks
   demo KIND SEED SIZE WORKERS  Run a decoder on a generated input
 
 Options after the words of run, unpack, unhuff, lex and batch, in this order:
@@ -40,9 +42,10 @@ Exit status:
   4  The program breaks a rule
   5  A file could not be read
   6  The output could not be written
-  7  A file or the arrays are too large, or a host is missing
+  7  A file, a schedule or the arrays are too large, or a host is missing
   8  Memory ran out
-  9  A file is not of its format: HUF1, LEX1, the text of a machine, or a list of names
+  9  A file is not of its format: HUF1, LEX1, SPL1, the text of a machine, or a list of names
+  10 The log is not that of a run by blocks
 
 Example:
   spf run examples/doubling.spf examples/empty --stats
@@ -190,6 +193,36 @@ Options:
 
 Example:
   spf --host vote batch examples/hosted.spf names.txt > answers
+";
+
+/// The help of `sim`.
+pub(crate) const SIM: &str = "\
+Usage: spf sim PROGRAM INPUT SEED
+
+Simulate a run by blocks of the program in the file PROGRAM on the file INPUT, and write its log.
+The schedule is drawn from the number SEED. The log goes to standard output, in the format SPL1.
+The output of the program is not written. How many guesses were right is shown on standard error.
+
+Arguments:
+  SEED  A number below 2^64; the schedule that it gives may have 1000000 steps at most
+
+Example:
+  spf sim examples/quotes.spf examples/quotes.txt 7 > quotes.log
+";
+
+/// The help of `replay`.
+pub(crate) const REPLAY: &str = "\
+Usage: spf replay PROGRAM INPUT LOG
+
+Say whether the file LOG is the log of a run by blocks of the program in the file PROGRAM on the file INPUT.
+The command sim writes such logs. The predictors have to be the same.
+The answer goes to standard output:
+  yes           It is
+  no section N  It is not, and the exit status is 10
+Section N, counted from 0, is the first that is not a run of its construct, is missing, or is one too many.
+
+Example:
+  spf replay examples/quotes.spf examples/quotes.txt quotes.log
 ";
 
 /// The help of `demo`.

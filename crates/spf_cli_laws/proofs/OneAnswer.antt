@@ -1,14 +1,14 @@
 -- A list of words has at most one answer, and none is left without one.
-use Rattle.std.specs.Prelude.{Option, Some, None, Result, Ok, Err, if◌then◌else◌}
-use Rattle.std.specs.List.{AllByRecursion}
-use Rattle.std.proofs.Common.{◌≡◌, ◌⊎◌, ◌++◌, ◌≤◌, ◌<◌, ℕ, Bool, true, false, List, [], ◌∷◌, length, refl, sym, ap, ◌∙◌, subst, inl, inr, nat_le, arith}
+use Rattle.std.specs.Prelude.{Option, Some, None, Result, Ok, Err, if◌then◌else◌, bytes_eq, find, option_map}
+use Rattle.std.specs.List.{All, AllByRecursion}
+use Rattle.std.proofs.Common.{◌≡◌, ◌⊎◌, ◌++◌, ◌≤◌, ◌<◌, ℕ, zero, suc, Bool, true, false, List, [], ◌∷◌, length, map, refl, sym, ap, ◌∙◌, subst, inl, inr, nat_le, arith}
 use Rattle.spf_ast.specs.Syntax.{Program}
-use Rattle.spf_ast.specs.Program.{Outcome, cell_count_of, max_cells}
+use Rattle.spf_ast.specs.Program.{Outcome, outcome, cell_count_of, max_cells}
 use Rattle.spf_edge.specs.declared.files.FetchError.{FetchError}
 use Rattle.spf_edge.specs.declared.files.FetchError.TheVariants.{Missing, Failed, TooLong, OutOfMemory}
 use Rattle.spf_edge.specs.Entries.{Entry, lookup}
 use Rattle.spf_edge.specs.Fetches.{Fetch, Gives, IsGiven}
-use Rattle.spf_cli_answers.specs.Answer.{Answer, not_understood, accepted, printed, text_refused, rule_refused, explained, file_failed, file_too_long, host_missing, not_huf1, not_lex1, not_a_machine, not_a_name, written, ran, shown}
+use Rattle.spf_cli_answers.specs.Answer.{Answer, not_understood, accepted, printed, text_refused, rule_refused, explained, file_failed, file_too_long, host_missing, not_huf1, not_lex1, not_a_machine, not_a_name, not_a_log, too_many_steps, written, ran, simulated, judged, shown}
 use Rattle.spf_apps_formats.specs.declared.generate.Kind.{Kind}
 use Rattle.spf_apps_programs.specs.PackBits.{packbits_program}
 use Rattle.spf_apps_programs.specs.Huffman.{huffman_program}
@@ -20,23 +20,49 @@ use Rattle.spf_apps_machine_text.specs.MachineText.{machine_text}
 use Rattle.spf_apps_machine_text.specs.Laws.{MachinesHaveOneText}
 use Rattle.spf_guess_statistics.specs.declared.stats.Stats.{Stats}
 use Rattle.spf_guess_statistics.specs.Guess.{Hosts}
+use Rattle.spf_guess_statistics.specs.Statistics.{tally}
 use Rattle.spf_guess.specs.Missing.{missing_host}
+use Rattle.spf_speculation.specs.Steps.{Step}
+use Rattle.spf_replay_log.specs.declared.log.Step as logged
+use Rattle.spf_replay_log.specs.Log.{IsLog}
+use Rattle.spf_replay_log.specs.Refusals.{LogBreaksAt}
+use Rattle.spf_replay_log.specs.Laws.{BytesAreOneLog, LogsDoNotBreak, LogsBreakOnce, LogsAreOrBreak}
+use Rattle.spf_replay.specs.Limits.{max_steps}
+use Rattle.spf_replay.specs.SeenSteps.{seen_steps}
+use Rattle.spf_replay.specs.Deciding.{IsRun}
+use Rattle.spf_replay.specs.Expecting.{expected, IsSchedule, SchedulesOfRunsExist, SchedulesOfRunsAreOne}
+use Rattle.spf_replay.specs.declared.verdict.Verdict as log_verdict
+use Rattle.spf_replay.specs.declared.verdict.Verdict.TheVariants.{Yes, No}
+use Rattle.spf_replay.specs.Verdicts.{Expected, SectionFits, VerdictsAreOne}
+use Rattle.spf_replay.specs.Verdicts.{IsVerdict as IsVerdictOn}
+use Rattle.spf_replay_sim.specs.Bytes.{bytes_of}
+use Rattle.spf_replay_sim.specs.Drawing.{step_count, HasTooManySteps}
 use Rattle.spf_ast.specs.Construct.{constructs_in}
 use Rattle.spf_batch.specs.Batch.{max_input as file_limit}
 use Rattle.spf_batch_lists.specs.Lists.{AreNames, IsBadAt}
 use Rattle.spf_batch_lists.specs.Laws.{ListsHaveOneVerdict}
-use Rattle.spf_cli_words.specs.Command.{Command, Run, Check, Explain, Print, Unpack, Unhuff, Lex, Show, Build, Batch, Demo, Options, DecodeOptions, Asks}
+use Rattle.spf_cli_words.specs.Command.{Command, Run, Check, Explain, Print, Unpack, Unhuff, Lex, Show, Build, Sim, Replay, Batch, Demo, Options, DecodeOptions, Asks}
 use Rattle.spf_cli_words.specs.Only.{IsOnly}
 use Rattle.spf_cli_words.specs.Laws.{EachAsksForOneOrNone}
 use Rattle.spf_cli_answers.specs.Reading.{Verdict, Says, Refuses, IsVerdict}
 use Rattle.spf_cli_answers.specs.Decoded.{Unpacked, Unhuffed, Tokenized}
 use Rattle.spf_cli_answers.specs.Course.{Wanted, Is, Both, Either, Course, Ends, Chosen, Unfetched, After, FetchesOr, Fetches}
 use Rattle.spf_cli_answers.specs.Batched.{batch_done, FileUnfetched, RunsFiles}
-use Rattle.spf_cli_answers.specs.Whole.{Handed, handed, Judged, Read, CheckedBy, Allowed, Explained, WithHosts, host_wanted, RunsTo, Runs, RunsOn, Decodes, Unpacking, Unhuffing, Lexing, WithHuf1, WithLex1, WithMachine, WithNames, Batches, BatchesOn, Demonstrates, WholeOf, Whole, block_of, run_options, by_blocks, demo_program, demo_input, max_program, max_machine, max_text, max_list, max_input}
+use Rattle.spf_cli_answers.specs.Whole.{Handed, handed, Judged, Read, CheckedBy, AcceptedIn, Allowed, Explained, WithHosts, Started, host_wanted, RunsTo, WithLog, Drawn, Simulates, Ruled, Replays, Runs, RunsOn, Decodes, Unpacking, Unhuffing, Lexing, WithHuf1, WithLex1, WithMachine, WithNames, Batches, BatchesOn, Demonstrates, WholeOf, Whole, block_of, run_options, by_blocks, demo_program, demo_input, max_program, max_machine, max_text, max_list, max_log, max_input}
 use Rattle.spf_cli_answers.specs.Laws.{RuleLaws, DecoderLaws}
-use Rattle.spf_cli_laws.specs.Laws.{VerdictsAreTheSame, NoTextIsLeftUnjudged, Over}
+use Rattle.spf_cli_laws.specs.Laws.{VerdictsAreTheSame, NoTextIsLeftUnjudged, HoldBytes, Over}
 
 -- ---- formats
+
+-- what is known of logs, of schedules and of verdicts
+pub record LogLaws : Type 0 where
+  pub one : BytesAreOneLog
+  pub none : LogsDoNotBreak
+  pub place : LogsBreakOnce
+  pub some : LogsAreOrBreak
+  pub schedule : SchedulesOfRunsAreOne
+  pub scheduled : SchedulesOfRunsExist
+  pub verdict : VerdictsAreOne
 
 -- what is known of files, of generated inputs and of what decoders write
 pub record FormatLaws : Type 0 where
@@ -44,6 +70,7 @@ pub record FormatLaws : Type 0 where
   pub lex1 : Lex1HasOneVerdict
   pub machines : MachinesHaveOneText
   pub lists : ListsHaveOneVerdict
+  pub logs : LogLaws
   pub generated : EachInputIsGeneratedOnce
   pub decoders : DecoderLaws
 
@@ -166,9 +193,11 @@ same_hosts : (wanted : Option ℕ) (next : Wanted) → AtMostOne next → AtMost
 same_hosts None next f = f
 same_hosts (Some host) next f = same_said (host_missing host)
 
+same_started : (missing : Option ℕ) (p : Program) (input : List ℕ) (next : Wanted) → AtMostOne next → AtMostOne (Started missing p input next)
+same_started missing p input next f = same_either _ _ (nat_le (cell_count_of p (length input)) (max_cells p)) (same_hosts missing next f) (same_said _)
+
 same_runs : (said : Outcome → Stats → Answer) (options : Options) (given : Handed) (p : Program) (input : List ℕ) → AtMostOne (RunsTo said options given p input)
-same_runs said options given p input =
-    same_either _ _ (nat_le (cell_count_of p (length input)) (max_cells p)) (same_hosts (host_wanted options given p) _ (same_said _)) (same_said _)
+same_runs said options given p input = same_started (host_wanted options given p) p input (Is _) (same_said _)
 
 same_runs_on : (files : List Entry) (options : Options) (given : Handed) (input : List ℕ) (p : Program) → AtMostOne (Over files (RunsOn options given input p))
 same_runs_on files options given input p =
@@ -216,6 +245,28 @@ same_names laws files list next f a b x y = by x.2 y.2
     by (inr u) (inl v) = absurd (laws.apart list v.0 u.0 v.1 u.1)
     by (inr u) (inr v) = ends_said files (not_a_name u.0) x.0 a u.2 ∙ ap not_a_name (laws.one list u.0 v.0 u.1 v.1) ∙ sym (ends_said files (not_a_name v.0) y.0 b v.2)
 
+same_log : LogLaws → (files : List Entry) (file : List ℕ) (next : List (List logged.Step) → Course) → ((log : List (List logged.Step)) → AtMostOne (Over files (next log))) → AtMostOne (Over files (WithLog file next))
+same_log laws files file next f a b x y = by x.2 y.2
+  where
+    by : WithLog file next x.0 a → WithLog file next y.0 b → a ≡ b
+    by (inl u) (inl v) = f u.0 a b (x.0, x.1, u.2) (y.0, y.1, subst (λ log. next log y.0 b) (laws.one file v.0 u.0 v.1 u.1) v.2)
+    by (inl u) (inr v) = absurd (laws.none file u.0 v.0 u.1 v.1)
+    by (inr u) (inl v) = absurd (laws.none file v.0 u.0 v.1 u.1)
+    by (inr u) (inr v) = ends_said files (not_a_log u.0) x.0 a u.2 ∙ ap not_a_log (laws.place file u.0 v.0 u.1 v.1) ∙ sym (ends_said files (not_a_log v.0) y.0 b v.2)
+
+same_drawn : LogLaws → (hosts : Hosts) (p : Program) (input : List ℕ) (seed : ℕ) → AtMostOne (Drawn hosts p input seed)
+same_drawn laws hosts p input seed a b x y = by x y
+  where
+    by : Drawn hosts p input seed a → Drawn hosts p input seed b → a ≡ b
+    by (inl u) (inl v) =
+        u.3 ∙ ap (λ log. simulated (outcome p input) (tally hosts p input).stats (bytes_of log)) (laws.schedule (expected hosts p input) seed u.0 v.0 u.1 v.1) ∙ sym v.3
+    by (inl u) (inr v) = let many = v.0 u.0 u.1 in let few = u.2 in absurd (omega (arith, many, few))
+    by (inr u) (inl v) = let many = u.0 v.0 v.1 in let few = v.2 in absurd (omega (arith, many, few))
+    by (inr u) (inr v) = u.1 ∙ sym v.1
+
+same_ruled : LogLaws → (hosts : Hosts) (p : Program) (input : List ℕ) (log : List (List logged.Step)) → AtMostOne (Ruled hosts p input log)
+same_ruled laws hosts p input log a b x y = x.2 ∙ ap judged (laws.verdict (expected hosts p input) (map seen_steps log) x.0 y.0 x.1 y.1) ∙ sym y.2
+
 same_left : (p : Program) (done : List Entry) (name : List ℕ) (error : FetchError) → AtMostOne (FileUnfetched p done name error)
 same_left p done name Missing a b e f = e ∙ sym f
 same_left p done name Failed a b e f = e ∙ sym f
@@ -249,12 +300,16 @@ same_demo laws decoder seed size a b x y =
     same_runs shown by_blocks (handed []) (demo_program decoder) (demo_input decoder x.0) a b x.3
     (subst (λ file. RunsTo shown by_blocks (handed []) (demo_program decoder) (demo_input decoder file) b) same y.3)
 
+same_accepted : RuleLaws → VerdictsAreTheSame → (files : List Entry) (name : List ℕ) (next : Program → Course) → ((p : Program) → AtMostOne (Over files (next p))) → AtMostOne (Over files (AcceptedIn name next))
+same_accepted laws one files name next f =
+    same_fetches files name max_program _ (λ text. same_read one files text (λ p. CheckedBy p (next p)) (λ p. same_checked laws files p (next p) (f p)))
+
 command_same : RuleLaws → VerdictsAreTheSame → FormatLaws → (given : Handed) (command : Command) (files : List Entry) → AtMostOne (Over files (WholeOf given command))
 command_same laws one formats given (Run program input options) files =
     same_fetches files program max_program _ (λ text. same_read one files text (λ p. Allowed options.plain p (RunsOn options given input p)) (λ p.
     same_allowed laws files options.plain p (RunsOn options given input p) (same_runs_on files options given input p)))
 command_same laws one formats given (Check program) files =
-    same_fetches files program max_program _ (λ text. same_read one files text (λ p. CheckedBy p (Ends (Is accepted))) (λ p. same_checked laws files p (Ends (Is accepted)) (same_ends files (Is accepted) (same_said accepted))))
+    same_accepted laws one files program (λ p. Ends (Is accepted)) (λ p. same_ends files (Is accepted) (same_said accepted))
 command_same laws one formats given (Explain program) files =
     same_fetches files program max_program _ (λ text. same_read one files text (λ p. Ends (Explained p)) (λ p. same_ends files (Explained p) (same_explained laws p)))
 command_same laws one formats given (Print program) files =
@@ -282,9 +337,20 @@ command_same laws one formats given (Show machine) files =
 command_same laws one formats given (Build text) files =
     same_fetches files text max_text _ (λ bytes.
     same_machine formats.machines files bytes (λ file. Ends (Is (written file))) (λ file. same_ends files (Is (written file)) (same_said (written file))))
+command_same laws one formats given (Sim program input seed) files =
+    same_accepted laws one files program (λ p. Fetches input max_input (λ content. Ends (Simulates given seed p content))) (λ p.
+    same_fetches files input max_input (λ content. Ends (Simulates given seed p content)) (λ content.
+    same_ends files (Simulates given seed p content)
+    (same_started (missing_host given.count (constructs_in p.main)) p content (Drawn given.hosts p content seed) (same_drawn formats.logs given.hosts p content seed))))
+command_same laws one formats given (Replay program input log) files =
+    same_accepted laws one files program (λ p. Fetches input max_input (λ content. Fetches log max_log (λ file. WithLog file (λ sections. Ends (Replays given p content sections))))) (λ p.
+    same_fetches files input max_input _ (λ content.
+    same_fetches files log max_log _ (λ file.
+    same_log formats.logs files file (λ sections. Ends (Replays given p content sections)) (λ sections.
+    same_ends files (Replays given p content sections)
+    (same_started (missing_host given.count (constructs_in p.main)) p content (Ruled given.hosts p content sections) (same_ruled formats.logs given.hosts p content sections))))))
 command_same laws one formats given (Batch program list workers) files =
-    same_fetches files program max_program _ (λ text. same_read one files text (λ p. CheckedBy p (BatchesOn given list p)) (λ p.
-    same_checked laws files p (BatchesOn given list p) (same_batch formats.lists files given list p)))
+    same_accepted laws one files program (BatchesOn given list) (same_batch formats.lists files given list)
 command_same laws one formats given (Demo decoder seed size workers) files =
     same_ends files (Demonstrates decoder seed size) (same_demo formats.generated decoder seed size)
 
@@ -304,6 +370,20 @@ answers_same laws one formats asks given words files a b x y = by_command (asks 
     by_command (inr none) (inr u) (inr v) = ends_said files not_understood x.0 a u.1 ∙ sym (ends_said files not_understood y.0 b v.1)
 
 -- ---- some answer
+
+-- what a file holds is bytes
+held_bytes : (files : List Entry) (name content : List ℕ) → HoldBytes files → lookup files name ≡ Some content → All (λ b. b < 256) content
+held_bytes [] name content bytes held = cc
+held_bytes (file ∷ files) name content bytes held =
+    by (bytes_eq file.name name) (λ e. held_bytes files name content (λ k d l. bytes (suc k) d (omega (arith, l))) e) held
+  where
+    same : (one other : List ℕ) → Some one ≡ Some other → one ≡ other
+    same one other e = cc
+
+    by : (b : Bool) → (option_map (λ (entry : Entry). entry.content) (find (λ (entry : Entry). bytes_eq entry.name name) files) ≡ Some content → All (λ b. b < 256) content)
+        → option_map (λ (entry : Entry). entry.content) (if b then Some file else find (λ (entry : Entry). bytes_eq entry.name name) files) ≡ Some content → All (λ b. b < 256) content
+    by true later e = subst (All (λ b. b < 256)) (same file.content content e) (bytes 0 file (omega arith))
+    by false later e = later e
 
 -- there is an answer
 abbrev HasOne : Wanted → Type 0
@@ -364,9 +444,11 @@ some_hosts : (wanted : Option ℕ) (next : Wanted) → HasOne next → HasOne (W
 some_hosts None next one = one
 some_hosts (Some host) next one = (host_missing host, refl)
 
+some_started : (missing : Option ℕ) (p : Program) (input : List ℕ) (next : Wanted) → HasOne next → HasOne (Started missing p input next)
+some_started missing p input next one = some_either _ _ (nat_le (cell_count_of p (length input)) (max_cells p)) (some_hosts missing next one) (_, refl)
+
 some_runs : (said : Outcome → Stats → Answer) (options : Options) (given : Handed) (p : Program) (input : List ℕ) → HasOne (RunsTo said options given p input)
-some_runs said options given p input =
-    some_either _ _ (nat_le (cell_count_of p (length input)) (max_cells p)) (some_hosts (host_wanted options given p) _ (_, refl)) (_, refl)
+some_runs said options given p input = some_started (host_wanted options given p) p input (Is _) (_, refl)
 
 some_run : (files : List Entry) (options : Options) (given : Handed) (input : List ℕ) (p : Program) → HasOne (Over files (RunsOn options given input p))
 some_run files options given input p =
@@ -432,6 +514,20 @@ some_batch files given list p listed =
     some_names files bytes (λ names. Batches given p names (missing_host given.count (constructs_in p.main))) (listed bytes e) (λ names.
     some_batches files given p names (missing_host given.count (constructs_in p.main))))
 
+some_drawn : LogLaws → (hosts : Hosts) (p : Program) (input : List ℕ) (seed : ℕ) → HasOne (Drawn hosts p input seed)
+some_drawn laws hosts p input seed =
+    let log = laws.scheduled (expected hosts p input) seed in
+    elim (compare (step_count log.0) max_steps) [
+      | inl few ↦ (_, inl (log.0, log.1, few, refl))
+      | inr many ↦ (too_many_steps, inr ((λ other is. subst (λ l. max_steps < step_count l) (laws.schedule (expected hosts p input) seed log.0 other log.1 is) many), refl))
+    ]
+
+some_sim : LogLaws → (files : List Entry) (given : Handed) (input : List ℕ) (seed : ℕ) (p : Program) → HasOne (Over files (Fetches input max_input (λ content. Ends (Simulates given seed p content))))
+some_sim laws files given input seed p =
+    some_fetches files input max_input (λ content. Ends (Simulates given seed p content)) (λ content e.
+    some_ends files (Simulates given seed p content)
+    (some_started (missing_host given.count (constructs_in p.main)) p content (Drawn given.hosts p content seed) (some_drawn laws given.hosts p content seed)))
+
 some_demo : EachInputIsGeneratedOnce → (decoder : Kind) (seed size : ℕ) → HasOne (Demonstrates decoder seed size)
 some_demo laws decoder seed size =
     let file = laws.some decoder seed size in
@@ -444,6 +540,8 @@ program_of (Run program input options) = program
 program_of (Check program) = program
 program_of (Explain program) = program
 program_of (Print program) = program
+program_of (Sim program input seed) = program
+program_of (Replay program input log) = program
 program_of (Batch program list workers) = program
 program_of other = []
 
@@ -452,30 +550,35 @@ abbrev list_of : Command → List ℕ
 list_of (Batch program list workers) = list
 list_of other = []
 
-some_command : RuleLaws → FormatLaws → (given : Handed) (command : Command) (files : List Entry) → ((text : List ℕ) → lookup files (program_of command) ≡ Some text → HasVerdict text)
+-- it is another command than `replay`
+abbrev IsNoReplay : Command → Type 0
+IsNoReplay (Replay program input log) = ⊥
+IsNoReplay other = Unit {0}
+
+some_command : RuleLaws → FormatLaws → (given : Handed) (command : Command) (files : List Entry) → IsNoReplay command → ((text : List ℕ) → lookup files (program_of command) ≡ Some text → HasVerdict text)
     → ((bytes : List ℕ) → lookup files (list_of command) ≡ Some bytes → IsListed bytes) → HasOne (Over files (WholeOf given command))
-some_command laws formats given (Run program input options) files judged listed =
+some_command laws formats given (Run program input options) files other judged listed =
     some_fetches files program max_program _ (λ text e. some_read files text (λ p. Allowed options.plain p (RunsOn options given input p)) (judged text e) (λ p.
     some_allowed laws files options.plain p (RunsOn options given input p) (some_run files options given input p)))
-some_command laws formats given (Check program) files judged listed =
+some_command laws formats given (Check program) files other judged listed =
     some_fetches files program max_program _ (λ text e. some_read files text (λ p. CheckedBy p (Ends (Is accepted))) (judged text e) (λ p.
     some_checked laws files p (Ends (Is accepted)) (some_ends files (Is accepted) (accepted, refl))))
-some_command laws formats given (Explain program) files judged listed =
+some_command laws formats given (Explain program) files other judged listed =
     some_fetches files program max_program _ (λ text e. some_read files text (λ p. Ends (Explained p)) (judged text e) (λ p. some_ends files (Explained p) (some_explained laws p)))
-some_command laws formats given (Print program) files judged listed =
+some_command laws formats given (Print program) files other judged listed =
     some_fetches files program max_program _ (λ text e. some_read files text (λ p. Ends (Is (printed p))) (judged text e) (λ p. some_ends files (Is (printed p)) (printed p, refl)))
-some_command laws formats given (Unpack input options) files judged listed =
+some_command laws formats given (Unpack input options) files other judged listed =
     let p = packbits_program (block_of options) in
     some_fetches files input max_input (λ content. Ends (Unpacking options content)) (λ content e.
     some_ends files (Unpacking options content)
     (some_both (Decodes options p content) (Unpacked (block_of options) content) (formats.decoders.unpacked options content) (some_decoded options p content)))
-some_command laws formats given (Unhuff input options) files judged listed =
+some_command laws formats given (Unhuff input options) files other judged listed =
     let p = huffman_program (block_of options) in
     some_fetches files input max_input (λ content. WithHuf1 content (Ends (Unhuffing options content))) (λ content e.
     some_huf1 formats.huf1 files content (Ends (Unhuffing options content)) (λ huf1.
     some_ends files (Unhuffing options content)
     (some_both (Decodes options p content) (Unhuffed (block_of options) content) (λ a. formats.decoders.unhuffed options content a huf1) (some_decoded options p content))))
-some_command laws formats given (Lex machine input options) files judged listed =
+some_command laws formats given (Lex machine input options) files other judged listed =
     some_fetches files machine max_machine _ (λ table e.
     some_lex1 formats.lex1 files table (λ states classes. Fetches input max_input (λ content. Ends (Lexing options table states classes content))) (λ states classes lex1.
     let p = lexer_program (block_of options) states classes in
@@ -483,43 +586,143 @@ some_command laws formats given (Lex machine input options) files judged listed 
     some_ends files (Lexing options table states classes content)
     (some_both (Decodes options p (table ++ content)) (Tokenized (block_of options) table content)
     (λ a. formats.decoders.tokenized options states classes table content a lex1) (some_decoded options p (table ++ content))))))
-some_command laws formats given (Show machine) files judged listed =
+some_command laws formats given (Show machine) files other judged listed =
     some_fetches files machine max_machine _ (λ table e.
     some_lex1 formats.lex1 files table (λ states classes. Ends (Is (written (machine_text table)))) (λ states classes lex1.
     some_ends files (Is (written (machine_text table))) (written (machine_text table), refl)))
-some_command laws formats given (Build text) files judged listed =
+some_command laws formats given (Build text) files other judged listed =
     some_fetches files text max_text _ (λ bytes e.
     some_machine formats.machines files bytes (λ file. Ends (Is (written file))) (λ file. some_ends files (Is (written file)) (written file, refl)))
-some_command laws formats given (Batch program list workers) files judged listed =
+some_command laws formats given (Sim program input seed) files other judged listed =
+    some_fetches files program max_program _ (λ text e.
+    some_read files text (λ p. CheckedBy p (Fetches input max_input (λ content. Ends (Simulates given seed p content)))) (judged text e) (λ p.
+    some_checked laws files p (Fetches input max_input (λ content. Ends (Simulates given seed p content))) (some_sim formats.logs files given input seed p)))
+some_command laws formats given (Replay program input log) files other judged listed = absurd other
+some_command laws formats given (Batch program list workers) files other judged listed =
     some_fetches files program max_program _ (λ text e. some_read files text (λ p. CheckedBy p (BatchesOn given list p)) (judged text e) (λ p.
     some_checked laws files p (BatchesOn given list p) (some_batch files given list p listed)))
-some_command laws formats given (Demo decoder seed size workers) files judged listed =
+some_command laws formats given (Demo decoder seed size workers) files other judged listed =
     some_ends files (Demonstrates decoder seed size) (some_demo formats.generated decoder seed size)
 
+-- ---- an answer that isn't denied
+
+-- it isn't so that there is none
+abbrev Undenied : Type 0 → Type 0
+Undenied A = (A → ⊥) → ⊥
+
+-- there is one
+told : {A : Type 0} → A → Undenied A
+told a never = never a
+
+-- what follows from what isn't denied
+with_it : {A B : Type 0} → Undenied A → (A → Undenied B) → Undenied B
+with_it some f never = some (λ a. f a never)
+
+undenied_fetches : (files : List Entry) (name : List ℕ) (limit : ℕ) (next : List ℕ → Course) → ((content : List ℕ) → lookup files name ≡ Some content → Undenied (HasOne (Over files (next content))))
+    → Undenied (HasOne (Over files (Fetches name limit next)))
+undenied_fetches files name limit next f = by (lookup files name) refl
+  where
+    by : (held : Option (List ℕ)) → lookup files name ≡ held → Undenied (HasOne (Over files (Fetches name limit next)))
+    by None e = told (file_failed name, (record { name = name; limit = limit; gave = Err Missing } ∷ [], (e, tt), (refl, refl, refl)))
+    by (Some content) e = elim (compare (length content) limit) [
+      | inl l ↦ with_it (f content e) (λ one. told
+          (one.0, (record { name = name; limit = limit; gave = Ok content } ∷ one.1.0, ((e, l), one.1.1), (refl, refl, one.1.2))))
+      | inr l ↦ told (file_too_long name limit, (record { name = name; limit = limit; gave = Err TooLong } ∷ [], ((content, e, l), tt), (refl, refl, refl)))
+    ]
+
+undenied_read : NoTextIsLeftUnjudged → (files : List Entry) (text : List ℕ) (next : Program → Course) → ((p : Program) → Undenied (HasOne (Over files (next p)))) → Undenied (HasOne (Over files (Read text next)))
+undenied_read left files text next f never = left text (λ v is. by v (λ one. never (one.0, (one.1.0, one.1.1, (v, is, one.1.2)))))
+  where
+    by : (w : Verdict) → Undenied (HasOne (Over files (Judged w next)))
+    by (Says p) = f p
+    by (Refuses refusal) = told (some_ends files (Is (text_refused refusal)) (text_refused refusal, refl))
+
+undenied_checked : RuleLaws → (files : List Entry) (p : Program) (next : Course) → Undenied (HasOne (Over files next)) → Undenied (HasOne (Over files (CheckedBy p next)))
+undenied_checked laws files p next f =
+    elim (laws.some p) [
+      | inl accepted ↦ with_it f (λ one. told (one.0, (one.1.0, one.1.1, inl (accepted, one.1.2))))
+      | inr r ↦ told (rule_refused p r.0 r.1 r.2, ([], tt, inr (r.0, r.1, r.2, r.3, refl)))
+    ]
+
+undenied_log : LogLaws → (files : List Entry) (file : List ℕ) (next : List (List logged.Step) → Course) → All (λ b. b < 256) file → ((log : List (List logged.Step)) → Undenied (HasOne (Over files (next log))))
+    → Undenied (HasOne (Over files (WithLog file next)))
+undenied_log laws files file next bytes f =
+    elim (laws.some file bytes) [
+      | inl h ↦ with_it (f h.0) (λ one. told (one.0, (one.1.0, one.1.1, inl (h.0, h.1, one.1.2))))
+      | inr r ↦ told (not_a_log r.0, ([], tt, inr (r.0, r.1, refl)))
+    ]
+
+-- a verdict with a section more that is as expected
+later_verdict : (x : Expected) (xs : List Expected) (steps : List Step) (log : List (List Step)) → IsRun x.entry x.guess steps
+    → (v : log_verdict.Verdict) × IsVerdictOn xs log v → (v : log_verdict.Verdict) × IsVerdictOn (x ∷ xs) (steps ∷ log) v
+later_verdict x xs steps log run h = by h.0 h.1
+  where
+    by : (v : log_verdict.Verdict) → IsVerdictOn xs log v → (w : log_verdict.Verdict) × IsVerdictOn (x ∷ xs) (steps ∷ log) w
+    by Yes all = (Yes, λ n. at n)
+      where
+        at : (n : ℕ) → SectionFits (x ∷ xs) (steps ∷ log) n
+        at zero = run
+        at (suc n) = all n
+    by (No section) first = (No (suc section), ((λ n below. at n below), first.1))
+      where
+        at : (n : ℕ) → n < suc section → SectionFits (x ∷ xs) (steps ∷ log) n
+        at zero below = run
+        at (suc n) below = first.0 n (omega (arith, below))
+
+no_first : (xs : List Expected) (log : List (List Step)) → (SectionFits xs log 0 → ⊥) → IsVerdictOn xs log (No 0)
+no_first xs log wrong = ((λ n below. absurd (omega (arith, below))), wrong)
+
+undenied_verdict : (xs : List Expected) (log : List (List Step)) → Undenied ((v : log_verdict.Verdict) × IsVerdictOn xs log v)
+undenied_verdict [] [] = told (Yes, λ n. tt)
+undenied_verdict [] (steps ∷ log) = told (No 0, no_first [] (steps ∷ log) (λ none. none))
+undenied_verdict (x ∷ xs) [] = told (No 0, no_first (x ∷ xs) [] (λ none. none))
+undenied_verdict (x ∷ xs) (steps ∷ log) = λ never.
+    let wrong : IsRun x.entry x.guess steps → ⊥ = λ run. undenied_verdict xs log (λ v. never (later_verdict x xs steps log run v)) in
+    never (No 0, no_first (x ∷ xs) (steps ∷ log) wrong)
+
+undenied_replay : RuleLaws → NoTextIsLeftUnjudged → LogLaws → (given : Handed) (program input log : List ℕ) (files : List Entry) → HoldBytes files → Undenied (HasOne (Over files (WholeOf given (Replay program input log))))
+undenied_replay laws left logs given program input log files bytes =
+    undenied_fetches files program max_program _ (λ text e.
+    undenied_read left files text (λ p. CheckedBy p (Fetches input max_input (λ content. Fetches log max_log (λ file. WithLog file (λ sections. Ends (Replays given p content sections)))))) (λ p.
+    undenied_checked laws files p _ (
+    undenied_fetches files input max_input _ (λ content e.
+    undenied_fetches files log max_log _ (λ file held.
+    undenied_log logs files file (λ sections. Ends (Replays given p content sections)) (held_bytes files log file bytes held) (λ sections.
+    with_it (undenied_verdict (expected given.hosts p content) (map seen_steps sections)) (λ v. told
+    (some_ends files (Replays given p content sections)
+    (some_started (missing_host given.count (constructs_in p.main)) p content (Ruled given.hosts p content sections) (judged v.0, (v.0, v.1, refl)))))))))))
+
 -- no list of words is left without an answer
-pub none_unanswered : RuleLaws → NoTextIsLeftUnjudged → FormatLaws → EachAsksForOneOrNone → (given : Handed) (words : List (List ℕ)) (files : List Entry) → ((answer : Answer) → Over files (Whole given words) answer → ⊥) → ⊥
-none_unanswered laws left formats asks given words files never =
+pub none_unanswered : RuleLaws → NoTextIsLeftUnjudged → FormatLaws → EachAsksForOneOrNone → (given : Handed) (words : List (List ℕ)) (files : List Entry) → HoldBytes files → ((answer : Answer) → Over files (Whole given words) answer → ⊥) → ⊥
+none_unanswered laws left formats asks given words files bytes never =
     elim (asks words) [
-      | inl c ↦ by_file c.0 (lookup files (program_of c.0)) refl (λ a w. never a (w.0, w.1, inl (c.0, c.1.is, w.2)))
+      | inl c ↦ by_command c.0 (λ a w. never a (w.0, w.1, inl (c.0, c.1.is, w.2)))
       | inr none ↦ never not_understood ([], tt, inr (none, refl))
     ]
   where
     same_text : (text other : List ℕ) → Some text ≡ Some other → text ≡ other
     same_text text other e = cc
 
-    by_list : (command : Command) → ((text : List ℕ) → lookup files (program_of command) ≡ Some text → HasVerdict text) → (held : Option (List ℕ)) → lookup files (list_of command) ≡ held
+    by_list : (command : Command) → IsNoReplay command → ((text : List ℕ) → lookup files (program_of command) ≡ Some text → HasVerdict text) → (held : Option (List ℕ)) → lookup files (list_of command) ≡ held
         → ((answer : Answer) → Over files (WholeOf given command) answer → ⊥) → ⊥
-    by_list command judged None e unanswered =
-        let one = some_command laws formats given command files judged (λ bytes is. let none : None ≡ Some bytes = sym e ∙ is in absurd (cc)) in
+    by_list command other judged None e unanswered =
+        let one = some_command laws formats given command files other judged (λ bytes is. let none : None ≡ Some bytes = sym e ∙ is in absurd (cc)) in
         unanswered one.0 one.1
-    by_list command judged (Some bytes) e unanswered =
+    by_list command other judged (Some bytes) e unanswered =
         let with_list = λ (listed : IsListed bytes).
-        let one = some_command laws formats given command files judged (λ other is. subst IsListed (same_text bytes other (sym e ∙ is)) listed) in
+        let one = some_command laws formats given command files other judged (λ text is. subst IsListed (same_text bytes text (sym e ∙ is)) listed) in
         unanswered one.0 one.1 in
         formats.lists.some bytes (λ names are. with_list (inl (names, are))) (λ number bad. with_list (inr (number, bad)))
 
-    by_file : (command : Command) (held : Option (List ℕ)) → lookup files (program_of command) ≡ held → ((answer : Answer) → Over files (WholeOf given command) answer → ⊥) → ⊥
-    by_file command None e unanswered =
-        by_list command (λ text is. let none : None ≡ Some text = sym e ∙ is in absurd (cc)) (lookup files (list_of command)) refl unanswered
-    by_file command (Some text) e unanswered =
-        left text (λ v h. by_list command (λ other is. subst HasVerdict (same_text text other (sym e ∙ is)) (v, h)) (lookup files (list_of command)) refl unanswered)
+    by_file : (command : Command) → IsNoReplay command → (held : Option (List ℕ)) → lookup files (program_of command) ≡ held → ((answer : Answer) → Over files (WholeOf given command) answer → ⊥) → ⊥
+    by_file command other None e unanswered =
+        by_list command other (λ text is. let none : None ≡ Some text = sym e ∙ is in absurd (cc)) (lookup files (list_of command)) refl unanswered
+    by_file command other (Some text) e unanswered =
+        left text (λ v h. by_list command other (λ also is. subst HasVerdict (same_text text also (sym e ∙ is)) (v, h)) (lookup files (list_of command)) refl unanswered)
+
+    at_file : (command : Command) → IsNoReplay command → ((answer : Answer) → Over files (WholeOf given command) answer → ⊥) → ⊥
+    at_file command other unanswered = by_file command other (lookup files (program_of command)) refl unanswered
+
+    by_command : (command : Command) → ((answer : Answer) → Over files (WholeOf given command) answer → ⊥) → ⊥
+    by_command (Replay program input log) unanswered = undenied_replay laws left formats.logs given program input log files bytes (λ one. unanswered one.0 one.1)
+    by_command command unanswered = at_file command tt unanswered

@@ -1,6 +1,6 @@
 -- Laws about the answers of the program.
-use Rattle.std.specs.Prelude.{◌≡◌, ℕ, List, Some}
-use Rattle.std.specs.List.{AllByRecursion}
+use Rattle.std.specs.Prelude.{◌≡◌, ◌<◌, ℕ, List, Some}
+use Rattle.std.specs.List.{All, AllByRecursion}
 use Rattle.spf_edge.specs.Entries.{Entry}
 use Rattle.spf_edge.specs.Fetches.{Fetch, IsGiven}
 use Rattle.spf_cli_answers.specs.Answer.{Answer}
@@ -29,6 +29,10 @@ abbrev pub NoneHasTwoAnswers : Type 0
 NoneHasTwoAnswers = (handed : Handed) (words : List (List ℕ)) (files : List Entry) (one other : Answer)
     → Over files (Whole handed words) one → Over files (Whole handed words) other → one ≡ other
 
--- no list of words is left without an answer: there is none, whatever is supplied and whatever the files are, to which no answer is the whole one
+-- the files hold bytes
+abbrev pub HoldBytes : List Entry → Type 0
+HoldBytes files = All (λ file. All (λ b. b < 256) file.content) files
+
+-- no list of words is left without an answer: there is none, whatever is supplied and whatever bytes the files hold, to which no answer is the whole one
 abbrev pub NoneIsLeftUnanswered : Type 0
-NoneIsLeftUnanswered = (handed : Handed) (words : List (List ℕ)) (files : List Entry) → ((answer : Answer) → Over files (Whole handed words) answer → ⊥) → ⊥
+NoneIsLeftUnanswered = (handed : Handed) (words : List (List ℕ)) (files : List Entry) → HoldBytes files → ((answer : Answer) → Over files (Whole handed words) answer → ⊥) → ⊥

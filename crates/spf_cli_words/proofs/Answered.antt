@@ -6,11 +6,11 @@ use Rattle.std.proofs.Common.{◌≡◌, ◌⊎◌, inl, inr, ◌≤◌, subst, 
 use Rattle.clap.specs.Words.{App, HasMatchesOf, Row, Text, app_of, first_of, is_simple, subcommand_of, subcommand_rows_of, takes}
 use Rattle.clap.specs.declared.builder.command.Command.{Command as ClapCommand}
 use Rattle.clap.specs.declared.parser.matches.ArgMatches.{ArgMatches}
-use Rattle.spf_cli_words.specs.Command.{DecodeOptions, words_of, IsUpTo, HasDecodeNumbers, HasNumbers, IsFileName, HasFileNames, Command, Run, Check, Explain, Print, Unpack, Unhuff, Lex, Show, Build, Batch, Demo, Asks}
+use Rattle.spf_cli_words.specs.Command.{DecodeOptions, words_of, IsUpTo, HasDecodeNumbers, HasNumbers, IsFileName, HasFileNames, Command, Run, Check, Explain, Print, Unpack, Unhuff, Lex, Show, Build, Batch, Sim, Replay, Demo, Asks}
 use Rattle.spf_apps_formats.specs.declared.generate.Kind.{Kind}
 use Rattle.spf_cli_words.specs.Only.{IsOnly}
 use Rattle.spf_cli_words.specs.Line.{IsLine, line}
-use Rattle.spf_cli_words.specs.Matched.{is_name, name_in, number_in, kind_in, name_of, number_of, given_number, option_of, options_with, options_of, decode_options_with, block_with, decode_options_of, run_with, run_on, run_from, run_of, program_with, program_of, decoding_with, decoding_on, decoding_of, lex_from, lex_of, demo_with, demo_sized, demo_seeded, demo_from, demo_of, named, command_in, file_of, batch_with, batch_on, batch_from, batch_of}
+use Rattle.spf_cli_words.specs.Matched.{is_name, name_in, number_in, kind_in, name_of, number_of, given_number, option_of, options_with, options_of, decode_options_with, block_with, decode_options_of, run_with, run_on, run_from, run_of, program_with, program_of, decoding_with, decoding_on, decoding_of, lex_from, lex_of, demo_with, demo_sized, demo_seeded, demo_from, demo_of, named, command_in, file_of, batch_with, batch_on, batch_from, batch_of, sim_with, sim_on, sim_from, sim_of, replay_with, replay_on, replay_from, replay_of}
 use Rattle.spf_cli_words.proofs.Numbers.{number-is}
 use Rattle.spf_cli_words.proofs.Names.{name-is}
 use Rattle.spf_cli_words.proofs.Canonical.{is-read}
@@ -95,6 +95,28 @@ batch-fits rows d e =
       option-fits 64 (first_of (codes "workers") rows) w.from w.was,
     )
 
+sim-fit : (program input : Text) (seed : ℕ) (d : Command) → Some (Sim program input seed) ≡ Some d → IsFileName program → IsFileName input
+    → seed ≤ 2 ^ 64 - 1 → Fits d
+sim-fit program input seed d e p i small = subst Fits (some-same (Sim program input seed) d e) ((p, i), omega (arith, small))
+
+sim-fits : (rows : List Row) (d : Command) → sim_of rows ≡ Some d → Fits d
+sim-fits rows d e =
+    let p = came (sim_from rows) (name_of (codes "program") rows) d e in
+    let i = came (sim_on rows p.from) (name_of (codes "input") rows) d p.gave in
+    let s = came (sim_with p.from i.from) (number_of (codes "seed") 0 (2 ^ 64 - 1) rows) d i.gave in
+    let seed = number-fits (codes "seed") 0 (2 ^ 64 - 1) rows s.from s.was in
+    sim-fit p.from i.from s.from d s.gave (name-fits (codes "program") rows p.from p.was) (name-fits (codes "input") rows i.from i.was) seed.1
+
+replay-fits : (rows : List Row) (d : Command) → replay_of rows ≡ Some d → Fits d
+replay-fits rows d e =
+    let p = came (replay_from rows) (name_of (codes "program") rows) d e in
+    let i = came (replay_on rows p.from) (name_of (codes "input") rows) d p.gave in
+    let l = came (replay_with p.from i.from) (name_of (codes "log") rows) d i.gave in
+    subst Fits (some-same (Replay p.from i.from l.from) d l.gave) (
+      (name-fits (codes "program") rows p.from p.was, name-fits (codes "input") rows i.from i.was, name-fits (codes "log") rows l.from l.was),
+      tt,
+    )
+
 decode_options-fit : (rows : List Row) (o : DecodeOptions) → decode_options_of rows ≡ Some o → HasDecodeNumbers o
 decode_options-fit rows o e =
     let b = came (block_with rows) (option_of (codes "block") 65536 rows) o e in
@@ -152,7 +174,9 @@ named-fits name rows d =
     (either (bytes_eq name (codes "demo")) (demo_of rows) _ d (demo-fits rows d)
     (either (bytes_eq name (codes "show")) (file_of (codes "machine") Show rows) _ d (file-fits (codes "machine") Show (λ file f. (f, tt)) rows d)
     (either (bytes_eq name (codes "build")) (file_of (codes "text") Build rows) _ d (file-fits (codes "text") Build (λ file f. (f, tt)) rows d)
-    (either (bytes_eq name (codes "batch")) (batch_of rows) None d (batch-fits rows d) (λ e. absurd (none-some d e))))))))))))
+    (either (bytes_eq name (codes "batch")) (batch_of rows) _ d (batch-fits rows d)
+    (either (bytes_eq name (codes "sim")) (sim_of rows) _ d (sim-fits rows d)
+    (either (bytes_eq name (codes "replay")) (replay_of rows) None d (replay-fits rows d) (λ e. absurd (none-some d e))))))))))))))
 
 command-fits : (subcommand : Option (Text × List Row)) (d : Command) → command_in subcommand ≡ Some d → Fits d
 command-fits None d e = absurd (none-some d e)

@@ -7,13 +7,13 @@ use Rattle.clap.specs.Walk.{nothing_held, rows_after, walk_from}
 use Rattle.clap.specs.Simple.{names_of}
 use Rattle.clap.specs.Takes.{level_passes}
 use Rattle.clap.proofs.OnLiterals.{clap_on_literals}
-use Rattle.spf_cli_words.specs.Command.{Options, DecodeOptions, option_words, decode_words, kind_word, number_words, words_of, IsFileName, HasFileNames, IsUpTo, HasDecodeNumbers, HasNumbers, Command, Run, Check, Explain, Print, Unpack, Unhuff, Lex, Show, Build, Batch, Demo}
-use Rattle.spf_cli_words.specs.Line.{line, run_app, program_app, decoder_app, lex_app, demo_app, file_app, batch_app}
-use Rattle.spf_cli_words.specs.Matched.{number_in, kind_in, number_of, given_number, option_of, options_with, decode_options_with, block_with, run_with, run_on, run_from, run_of, program_with, program_of, decoding_with, decoding_on, decoding_of, lex_from, lex_of, demo_with, demo_sized, demo_seeded, demo_from, demo_of, file_of, batch_with, batch_on, batch_from, batch_of, command_in}
+use Rattle.spf_cli_words.specs.Command.{Options, DecodeOptions, option_words, decode_words, kind_word, number_words, words_of, IsFileName, HasFileNames, IsUpTo, HasDecodeNumbers, HasNumbers, Command, Run, Check, Explain, Print, Unpack, Unhuff, Lex, Show, Build, Batch, Sim, Replay, Demo}
+use Rattle.spf_cli_words.specs.Line.{line, run_app, program_app, decoder_app, lex_app, demo_app, file_app, batch_app, input_app}
+use Rattle.spf_cli_words.specs.Matched.{number_in, kind_in, number_of, given_number, option_of, options_with, decode_options_with, block_with, run_with, run_on, run_from, run_of, program_with, program_of, decoding_with, decoding_on, decoding_of, lex_from, lex_of, demo_with, demo_sized, demo_seeded, demo_from, demo_of, file_of, batch_with, batch_on, batch_from, batch_of, sim_with, sim_on, sim_from, sim_of, replay_with, replay_on, replay_from, replay_of, command_in}
 use Rattle.spf_cli_words.proofs.Numbers.{number-of, decimal-begins}
 use Rattle.spf_cli_words.proofs.Matching.{name-given}
 use Rattle.spf_cli_words.proofs.Walk.{IsPlain, plain, kept, kept-passes, whole}
-use Rattle.spf_cli_words.proofs.Subcommands.{leaf, IsPlainNumber, HasRun, HasProgram, HasDecoding, HasLex, HasDemo, HasFile, HasBatch, show-reads, build-reads, batch-reads, run-reads, program-reads, decoder-reads, lex-reads, demo-reads}
+use Rattle.spf_cli_words.proofs.Subcommands.{leaf, IsPlainNumber, HasRun, HasProgram, HasDecoding, HasLex, HasDemo, HasFile, HasBatch, HasSim, HasReplay, show-reads, build-reads, batch-reads, sim-reads, replay-reads, run-reads, program-reads, decoder-reads, lex-reads, demo-reads}
 use Rattle.spf_apps_formats.specs.declared.generate.Kind.{Kind}
 use Rattle.spf_apps_formats.specs.declared.generate.Kind.TheVariants as kind
 
@@ -74,6 +74,20 @@ batch-given rows program list workers has p l within =
     ap (option_and_then (batch_from rows)) (name-given (codes "program") rows program has.0 p)
     ∙ ap (option_and_then (batch_on rows program)) (name-given (codes "list") rows list has.1 l)
     ∙ ap (option_and_then (batch_with program list)) (option-given (codes "workers") 64 rows workers (omega arith) has.2 within)
+
+sim-given : (rows : List Row) (program input : Text) (seed : ℕ) → HasSim program input seed rows → IsFileName program → IsFileName input → seed < 2 ^ 64
+    → sim_of rows ≡ Some (Sim program input seed)
+sim-given rows program input seed has p i small =
+    ap (option_and_then (sim_from rows)) (name-given (codes "program") rows program has.0 p)
+    ∙ ap (option_and_then (sim_on rows program)) (name-given (codes "input") rows input has.1 i)
+    ∙ ap (option_and_then (sim_with program input)) (number-given (codes "seed") 0 (2 ^ 64 - 1) rows seed has.2 (omega arith) (omega (arith, small)) small)
+
+replay-given : (rows : List Row) (program input log : Text) → HasReplay program input log rows → IsFileName program → IsFileName input → IsFileName log
+    → replay_of rows ≡ Some (Replay program input log)
+replay-given rows program input log has p i l =
+    ap (option_and_then (replay_from rows)) (name-given (codes "program") rows program has.0 p)
+    ∙ ap (option_and_then (replay_on rows program)) (name-given (codes "input") rows input has.1 i)
+    ∙ ap (option_and_then (replay_with program input)) (name-given (codes "log") rows log has.2 l)
 
 kind-given : (decoder : Kind) → kind_in (kind_word decoder) ≡ Some decoder
 kind-given kind.Unpack = refl
@@ -182,6 +196,22 @@ batch-enters words passes =
     let past = kept-passes (built line).top (names_of (built line)) (walk_from nothing_held) (codes "batch") [] words in
     record { taken = rw (after, past, passes) refl; given = rw after refl }
 
+sim-enters : (words : List Text) → level_passes (leaf (input_app (codes "sim") (codes "seed"))) [] nothing_held words false ≡ true
+    → Enters (codes "sim") (leaf (input_app (codes "sim") (codes "seed"))) words
+unfolding clap_on_literals
+sim-enters words passes =
+    let after = kept (built line).top.rules (names_of (built line)) (walk_from nothing_held) (codes "sim") [] words in
+    let past = kept-passes (built line).top (names_of (built line)) (walk_from nothing_held) (codes "sim") [] words in
+    record { taken = rw (after, past, passes) refl; given = rw after refl }
+
+replay-enters : (words : List Text) → level_passes (leaf (input_app (codes "replay") (codes "log"))) [] nothing_held words false ≡ true
+    → Enters (codes "replay") (leaf (input_app (codes "replay") (codes "log"))) words
+unfolding clap_on_literals
+replay-enters words passes =
+    let after = kept (built line).top.rules (names_of (built line)) (walk_from nothing_held) (codes "replay") [] words in
+    let past = kept-passes (built line).top (names_of (built line)) (walk_from nothing_held) (codes "replay") [] words in
+    record { taken = rw (after, past, passes) refl; given = rw after refl }
+
 -- ---- the words of a command
 
 -- the text of a number is no flag
@@ -266,6 +296,18 @@ is-read (Batch program list workers) files numbers =
     let enters = batch-enters words (whole (leaf batch_app) words (HasBatch program list workers) reads) in
     let rows = rows_after (leaf batch_app).rules [] words in
     record { taken = enters.taken; given = ap command_in enters.given ∙ batch-given rows program list workers reads.has files.0 files.1 numbers }
+is-read (Sim program input seed) files numbers =
+    let words = program ∷ input ∷ decimal seed ∷ [] in
+    let reads = sim-reads program input seed (plain program files.0) (plain input files.1) (number seed numbers) in
+    let enters = sim-enters words (whole (leaf (input_app (codes "sim") (codes "seed"))) words (HasSim program input seed) reads) in
+    let rows = rows_after (leaf (input_app (codes "sim") (codes "seed"))).rules [] words in
+    record { taken = enters.taken; given = ap command_in enters.given ∙ sim-given rows program input seed reads.has files.0 files.1 numbers }
+is-read (Replay program input log) files numbers =
+    let words = program ∷ input ∷ log ∷ [] in
+    let reads = replay-reads program input log (plain program files.0) (plain input files.1) (plain log files.2) in
+    let enters = replay-enters words (whole (leaf (input_app (codes "replay") (codes "log"))) words (HasReplay program input log) reads) in
+    let rows = rows_after (leaf (input_app (codes "replay") (codes "log"))).rules [] words in
+    record { taken = enters.taken; given = ap command_in enters.given ∙ replay-given rows program input log reads.has files.0 files.1 files.2 }
 is-read (Demo decoder seed size workers) files numbers =
     let size_high = numbers.1.1 in
     let workers_high = numbers.2.1 in

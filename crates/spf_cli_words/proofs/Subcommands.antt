@@ -7,7 +7,7 @@ use Rattle.clap.specs.Walk.{nothing_held, walk_from}
 use Rattle.clap.specs.Simple.{built_leaf, inherited}
 use Rattle.clap.proofs.OnLiterals.{clap_on_literals}
 use Rattle.spf_cli_words.specs.Command.{Options, DecodeOptions, option, number_words, kind_word}
-use Rattle.spf_cli_words.specs.Line.{bare_line, run_app, program_app, decoder_app, lex_app, demo_app, file_app, batch_app}
+use Rattle.spf_cli_words.specs.Line.{bare_line, run_app, program_app, decoder_app, lex_app, demo_app, file_app, batch_app, input_app}
 use Rattle.spf_cli_words.specs.Matched.{flag_of}
 use Rattle.spf_cli_words.proofs.Walk.{IsPlain, Gives, by, on, over}
 use Rattle.spf_apps_formats.specs.declared.generate.Kind.{Kind}
@@ -63,6 +63,16 @@ HasFile argument file rows = first_of argument rows ≡ Some file
 abbrev pub HasBatch : Text → Text → Option ℕ → List Row → Type 0
 HasBatch program list workers rows =
     (first_of (codes "program") rows ≡ Some program) × (first_of (codes "list") rows ≡ Some list) × (first_of (codes "workers") rows ≡ option_map decimal workers)
+
+-- the matches of a simulation
+abbrev pub HasSim : Text → Text → ℕ → List Row → Type 0
+HasSim program input seed rows =
+    (first_of (codes "program") rows ≡ Some program) × (first_of (codes "input") rows ≡ Some input) × (first_of (codes "seed") rows ≡ Some (decimal seed))
+
+-- the matches of a log's check
+abbrev pub HasReplay : Text → Text → Text → List Row → Type 0
+HasReplay program input log rows =
+    (first_of (codes "program") rows ≡ Some program) × (first_of (codes "input") rows ≡ Some input) × (first_of (codes "log") rows ≡ Some log)
 
 -- ---- runs
 
@@ -133,6 +143,20 @@ batch-reads program list p l (Some n) w =
     by p refl refl refl refl (by l refl refl refl refl (on refl (by w refl refl refl refl (over refl refl (refl, refl, refl)))))
 batch-reads program list p l None w =
     by p refl refl refl refl (by l refl refl refl refl (over refl refl (refl, refl, refl)))
+
+-- ---- logs
+
+pub sim-reads : (program input : Text) (seed : ℕ) → IsPlain program → IsPlain input → IsPlain (decimal seed)
+    → Reads (input_app (codes "sim") (codes "seed")) (program ∷ input ∷ decimal seed ∷ []) (HasSim program input seed)
+unfolding clap_on_literals
+sim-reads program input seed p i s =
+    by p refl refl refl refl (by i refl refl refl refl (by s refl refl refl refl (over refl refl (refl, refl, refl))))
+
+pub replay-reads : (program input log : Text) → IsPlain program → IsPlain input → IsPlain log
+    → Reads (input_app (codes "replay") (codes "log")) (program ∷ input ∷ log ∷ []) (HasReplay program input log)
+unfolding clap_on_literals
+replay-reads program input log p i l =
+    by p refl refl refl refl (by i refl refl refl refl (by l refl refl refl refl (over refl refl (refl, refl, refl))))
 
 -- ---- decoders
 

@@ -25,4 +25,6 @@ seen_command (command.Lex machine input options) = asked.Lex machine.now input.n
 seen_command (command.Show machine) = asked.Show machine.now
 seen_command (command.Build text) = asked.Build text.now
 seen_command (command.Batch program list workers) = asked.Batch program.now list.now workers
+seen_command (command.Sim program input seed) = asked.Sim program.now input.now seed
+seen_command (command.Replay program input log) = asked.Replay program.now input.now log.now
 seen_command (command.Demo kind seed size workers) = asked.Demo kind seed size workers

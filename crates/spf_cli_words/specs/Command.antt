@@ -32,6 +32,10 @@ pub data Command : Type 0 where
   Build : List ℕ → Command
   -- the program's file stands before the list's; how many workers, where that is said
   Batch : List ℕ → List ℕ → Option ℕ → Command
+  -- the program's file, the input's, and the seed
+  Sim : List ℕ → List ℕ → ℕ → Command
+  -- the program's file, the input's, and the log's
+  Replay : List ℕ → List ℕ → List ℕ → Command
   -- the seed, the size and the number of workers
   Demo : Kind → ℕ → ℕ → ℕ → Command
 
@@ -72,6 +76,8 @@ words_of (Lex machine input options) = codes "lex" ∷ machine ∷ input ∷ dec
 words_of (Show machine) = codes "show" ∷ machine ∷ []
 words_of (Build text) = codes "build" ∷ text ∷ []
 words_of (Batch program list workers) = codes "batch" ∷ program ∷ list ∷ number_words (codes "--workers") workers
+words_of (Sim program input seed) = codes "sim" ∷ program ∷ input ∷ decimal seed ∷ []
+words_of (Replay program input log) = codes "replay" ∷ program ∷ input ∷ log ∷ []
 words_of (Demo decoder seed size workers) = codes "demo" ∷ kind_word decoder ∷ decimal seed ∷ decimal size ∷ decimal workers ∷ []
 
 -- a file's name isn't empty and doesn't begin with `-`
@@ -91,6 +97,8 @@ HasFileNames (Lex machine input options) = IsFileName machine × IsFileName inpu
 HasFileNames (Show machine) = IsFileName machine
 HasFileNames (Build text) = IsFileName text
 HasFileNames (Batch program list workers) = IsFileName program × IsFileName list
+HasFileNames (Sim program input seed) = IsFileName program × IsFileName input
+HasFileNames (Replay program input log) = IsFileName program × IsFileName input × IsFileName log
 HasFileNames (Demo decoder seed size workers) = Unit {0}
 
 -- a number stands from 1 to `most`, where it is said
@@ -109,6 +117,7 @@ HasNumbers (Unpack input options) = HasDecodeNumbers options
 HasNumbers (Unhuff input options) = HasDecodeNumbers options
 HasNumbers (Lex machine input options) = HasDecodeNumbers options
 HasNumbers (Batch program list workers) = IsUpTo max_workers workers
+HasNumbers (Sim program input seed) = seed < 2 ^ 64
 HasNumbers (Demo decoder seed size workers) = (seed < 2 ^ 64) × IsUpTo 1000000 (Some size) × IsUpTo max_workers (Some workers)
 HasNumbers _ = Unit {0}
 

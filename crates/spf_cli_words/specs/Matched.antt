@@ -4,7 +4,7 @@ use Rattle.std.specs.Option.{option_map_or}
 use Rattle.std.specs.Str.Parse.{digits_value}
 use Rattle.std.specs.Fmt.{decimal}
 use Rattle.clap.specs.Words.{Row, first_of, one_of}
-use Rattle.spf_cli_words.specs.Command.{Options, DecodeOptions, Command, Run, Check, Explain, Print, Unpack, Unhuff, Lex, Show, Build, Batch, Demo}
+use Rattle.spf_cli_words.specs.Command.{Options, DecodeOptions, Command, Run, Check, Explain, Print, Unpack, Unhuff, Lex, Show, Build, Batch, Sim, Replay, Demo}
 use Rattle.spf_apps_formats.specs.declared.generate.Kind.{Kind}
 use Rattle.spf_apps_formats.specs.declared.generate.Kind.TheVariants as kind
 
@@ -43,6 +43,10 @@ name_of argument rows = option_and_then name_in (first_of argument rows)
 -- the number that an argument has
 abbrev pub number_of : List ℕ → ℕ → ℕ → List Row → Option ℕ
 number_of argument least most rows = option_and_then (number_in least most) (first_of argument rows)
+
+-- the seed
+abbrev pub seed_of : List Row → Option ℕ
+seed_of rows = number_of (codes "seed") 0 (2 ^ 64 - 1) rows
 
 -- the number that an option has where it is given
 abbrev pub given_number : ℕ → Option (List ℕ) → Option (Option ℕ)
@@ -113,6 +117,32 @@ batch_from rows program = option_and_then (batch_on rows program) (name_of (code
 abbrev pub batch_of : List Row → Option Command
 batch_of rows = option_and_then (batch_from rows) (name_of (codes "program") rows)
 
+-- a simulation
+abbrev pub sim_with : List ℕ → List ℕ → ℕ → Option Command
+sim_with program input seed = Some (Sim program input seed)
+
+abbrev pub sim_on : List Row → List ℕ → List ℕ → Option Command
+sim_on rows program input = option_and_then (sim_with program input) (seed_of rows)
+
+abbrev pub sim_from : List Row → List ℕ → Option Command
+sim_from rows program = option_and_then (sim_on rows program) (name_of (codes "input") rows)
+
+abbrev pub sim_of : List Row → Option Command
+sim_of rows = option_and_then (sim_from rows) (name_of (codes "program") rows)
+
+-- the check of a log
+abbrev pub replay_with : List ℕ → List ℕ → List ℕ → Option Command
+replay_with program input log = Some (Replay program input log)
+
+abbrev pub replay_on : List Row → List ℕ → List ℕ → Option Command
+replay_on rows program input = option_and_then (replay_with program input) (name_of (codes "log") rows)
+
+abbrev pub replay_from : List Row → List ℕ → Option Command
+replay_from rows program = option_and_then (replay_on rows program) (name_of (codes "input") rows)
+
+abbrev pub replay_of : List Row → Option Command
+replay_of rows = option_and_then (replay_from rows) (name_of (codes "program") rows)
+
 -- a decoder's command on one input
 abbrev pub decoding_with : (List ℕ → DecodeOptions → Command) → List ℕ → DecodeOptions → Option Command
 decoding_with command input options = Some (command input options)
@@ -141,7 +171,7 @@ abbrev pub demo_seeded : List Row → Kind → ℕ → Option Command
 demo_seeded rows decoder seed = option_and_then (demo_sized rows decoder seed) (number_of (codes "size") 1 1000000 rows)
 
 abbrev pub demo_from : List Row → Kind → Option Command
-demo_from rows decoder = option_and_then (demo_seeded rows decoder) (number_of (codes "seed") 0 (2 ^ 64 - 1) rows)
+demo_from rows decoder = option_and_then (demo_seeded rows decoder) (seed_of rows)
 
 abbrev pub demo_of : List Row → Option Command
 demo_of rows = option_and_then (demo_from rows) (option_and_then kind_in (first_of (codes "kind") rows))
@@ -160,7 +190,9 @@ named name rows =
     else (if bytes_eq name (codes "show") then file_of (codes "machine") Show rows
     else (if bytes_eq name (codes "build") then file_of (codes "text") Build rows
     else (if bytes_eq name (codes "batch") then batch_of rows
-    else None))))))))))
+    else (if bytes_eq name (codes "sim") then sim_of rows
+    else (if bytes_eq name (codes "replay") then replay_of rows
+    else None))))))))))))
 
 abbrev pub named_by : List ℕ × List Row → Option Command
 named_by subcommand = named subcommand.0 subcommand.1

@@ -92,6 +92,18 @@ pub enum Command<'a> {
         list: &'a str,
         workers: Option<u64>,
     },
+    /// A run by blocks is simulated, on a schedule that is drawn from a seed.
+    Sim {
+        program: &'a str,
+        input: &'a str,
+        seed: u64,
+    },
+    /// The log of a run by blocks is checked.
+    Replay {
+        program: &'a str,
+        input: &'a str,
+        log: &'a str,
+    },
     /// A decoder runs on an input that is generated from a seed.
     Demo {
         kind: Kind,
@@ -155,6 +167,7 @@ impl From<clap::Error> for WordsError {
 /// - `lex MACHINE INPUT [--block B] [--workers N] [--stats]`,
 /// - `show MACHINE` or `build TEXT`,
 /// - `batch PROGRAM LIST [--workers N]`,
+/// - `sim PROGRAM INPUT SEED` or `replay PROGRAM INPUT LOG`,
 /// - `demo KIND SEED SIZE WORKERS`, where KIND is `unpack`, `unhuff` or `lex`.
 ///
 /// The name of a file isn't empty and doesn't begin with `-`. Numbers are decimal, without a sign

@@ -7,7 +7,8 @@ ghost use Rattle.spf_cli_words.specs.Line.{with_run_options as with_run_rules};
 ghost use Rattle.spf_cli_words.specs.Line.{with_decode_options as with_decode_rules, run_app};
 ghost use Rattle.spf_cli_words.specs.Line.{program_app, decoder_app, lex_app, demo_app};
 ghost use Rattle.spf_cli_words.specs.Line.{bare_line as bare_app, programs as programs_app};
-ghost use Rattle.spf_cli_words.specs.Line.{file_app, batch_app, decoders as decoders_app, line as whole_line};
+ghost use Rattle.spf_cli_words.specs.Line.{file_app, batch_app, input_app, decoders as decoders_app};
+ghost use Rattle.spf_cli_words.specs.Line.{texts as texts_app, line as whole_line};
 
 use clap::{Arg, ArgAction, Command};
 use std::alloc::{AllocError, Global};
@@ -134,6 +135,15 @@ fn batch_line<'a>(alloc: Global) -> Result<Command<'a>, AllocError>
     add_argument(command, valued(alloc, "workers"))
 }
 
+/// `NAME PROGRAM INPUT LAST`, where the last argument has this name.
+fn input_line<'a>(alloc: Global, name: &'a str, last: &'a str) -> Result<Command<'a>, AllocError>
+    ensures { IfOk result (IsLine (input_app name.now last.now)) }
+{
+    let command = Command::new(alloc, name).arg(positional(alloc, "program"));
+    let command = add_argument(command, positional(alloc, "input"));
+    add_argument(command, positional(alloc, last))
+}
+
 /// `demo KIND SEED SIZE WORKERS`.
 fn demo_line<'a>(alloc: Global) -> Result<Command<'a>, AllocError>
     ensures { IfOk result (IsLine demo_app) }
@@ -175,11 +185,19 @@ fn decoder_lines<'a>(alloc: Global) -> Result<Command<'a>, AllocError>
     add_command(line, demo_line(alloc))
 }
 
-/// The whole command line: those, and the commands on machines' texts and on lists.
+/// The line with those, and the commands on machines' texts.
+fn text_lines<'a>(alloc: Global) -> Result<Command<'a>, AllocError>
+    ensures { IfOk result (IsLine texts_app) }
+{
+    let line = add_command(decoder_lines(alloc), file_line(alloc, "show", "machine"));
+    add_command(line, file_line(alloc, "build", "text"))
+}
+
+/// The whole command line: those, and the commands on lists and logs.
 pub(crate) fn command_line<'a>(alloc: Global) -> Result<Command<'a>, AllocError>
     ensures { IfOk result (IsLine whole_line) }
 {
-    let line = add_command(decoder_lines(alloc), file_line(alloc, "show", "machine"));
-    let line = add_command(line, file_line(alloc, "build", "text"));
-    add_command(line, batch_line(alloc))
+    let line = add_command(text_lines(alloc), batch_line(alloc));
+    let line = add_command(line, input_line(alloc, "sim", "seed"));
+    add_command(line, input_line(alloc, "replay", "log"))
 }

@@ -7,9 +7,10 @@ ghost use Rattle.spf_cli_words.specs.Asked.{seen_command, seen_options, seen_dec
 ghost use Rattle.spf_cli_words.specs.Matched.{number_in, kind_in, name_of as name_from};
 ghost use Rattle.spf_cli_words.specs.Matched.{number_of as number_from, option_of as option_from};
 ghost use Rattle.spf_cli_words.specs.Matched.{flag_of as flag_from, options_of as options_from};
+ghost use Rattle.spf_cli_words.specs.Matched.{seed_of as seed_from};
 ghost use Rattle.spf_cli_words.specs.Matched.{decode_options_of as decode_options_from, run_of};
 ghost use Rattle.spf_cli_words.specs.Matched.{program_of, decoding_of, lex_of, demo_of, named};
-ghost use Rattle.spf_cli_words.specs.Matched.{command_in, file_of, batch_of};
+ghost use Rattle.spf_cli_words.specs.Matched.{command_in, file_of, batch_of, sim_of, replay_of};
 
 use crate::command::{Command, DecodeOptions, Options};
 use clap::ArgMatches;
@@ -92,6 +93,13 @@ fn number_of(matches: &ArgMatches, argument: &str, most: u64) -> Option<u64>
     ensures { result ≡ number_from argument.now 1 most (rows_of (found_of matches.now)) }
 {
     read_number(word_of(matches, argument)?, most)
+}
+
+/// The seed.
+fn seed_of(matches: &ArgMatches) -> Option<u64>
+    ensures { result ≡ seed_from (rows_of (found_of matches.now)) }
+{
+    read_seed(word_of(matches, "seed")?)
 }
 
 /// The number from 1 to `most` that an option has, where it is given.
@@ -180,7 +188,7 @@ fn read_demo<'a>(matches: &ArgMatches<'a>) -> Option<Command<'a>>
         (λ command. demo_of (rows_of (found_of matches.now)) ≡ Some (seen_command command)) }
 {
     let kind = read_kind(word_of(matches, "kind")?)?;
-    let seed = read_seed(word_of(matches, "seed")?)?;
+    let seed = seed_of(matches)?;
     let size = number_of(matches, "size", MOST_SIZE)?;
     let workers = number_of(matches, "workers", MOST_WORKERS)?;
     Some(Command::Demo {
@@ -204,6 +212,38 @@ fn read_batch<'a>(matches: &ArgMatches<'a>) -> Option<Command<'a>>
         program,
         list,
         workers,
+    })
+}
+
+/// A simulation.
+fn read_sim<'a>(matches: &ArgMatches<'a>) -> Option<Command<'a>>
+    ensures { MatchOption result
+        (sim_of (rows_of (found_of matches.now)) ≡ None)
+        (λ command. sim_of (rows_of (found_of matches.now)) ≡ Some (seen_command command)) }
+{
+    let program = name_of(matches, "program")?;
+    let input = name_of(matches, "input")?;
+    let seed = seed_of(matches)?;
+    Some(Command::Sim {
+        program,
+        input,
+        seed,
+    })
+}
+
+/// The check of a log.
+fn read_replay<'a>(matches: &ArgMatches<'a>) -> Option<Command<'a>>
+    ensures { MatchOption result
+        (replay_of (rows_of (found_of matches.now)) ≡ None)
+        (λ command. replay_of (rows_of (found_of matches.now)) ≡ Some (seen_command command)) }
+{
+    let program = name_of(matches, "program")?;
+    let input = name_of(matches, "input")?;
+    let log = name_of(matches, "log")?;
+    Some(Command::Replay {
+        program,
+        input,
+        log,
     })
 }
 
@@ -248,6 +288,8 @@ fn read_named<'a>(name: &str, matches: &ArgMatches<'a>) -> Option<Command<'a>>
             Some(Command::Build { text })
         }
         "batch" => read_batch(matches),
+        "sim" => read_sim(matches),
+        "replay" => read_replay(matches),
         _ => None,
     }
 }

@@ -2,7 +2,7 @@
 ghost use Rattle.std.specs.Prelude.{◌≡◌, ◌++◌, ◌∷◌, [], codes, map, string_bytes, IfOk, OnOk};
 ghost use Rattle.std.specs.Fmt.{decimal};
 ghost use Rattle.spf_cli_words.specs.Command.{option, number_words, option_words, decode_words};
-ghost use Rattle.spf_cli_words.specs.Command.{kind_word, words_of, Run, Lex, Batch, Demo};
+ghost use Rattle.spf_cli_words.specs.Command.{kind_word, words_of, Run, Lex, Batch, Sim, Replay, Demo};
 ghost use Rattle.spf_cli_words.specs.Asked.{seen_command, seen_options, seen_decode_options};
 
 use crate::command::{Command, DecodeOptions, Options};
@@ -126,6 +126,38 @@ fn write_batch(
     Ok(words)
 }
 
+/// A simulation.
+fn write_sim(
+    alloc: Global,
+    program: &str,
+    input: &str,
+    seed: u64,
+) -> Result<Vec<String>, AllocError>
+    ensures { IfOk result
+        (λ words. map string_bytes words.items ≡ words_of (Sim program.now input.now seed)) }
+{
+    let mut words = write_program(alloc, "sim", program)?;
+    push_word(alloc, &mut words, input)?;
+    push_number(alloc, &mut words, seed)?;
+    Ok(words)
+}
+
+/// The check of a log.
+fn write_replay(
+    alloc: Global,
+    program: &str,
+    input: &str,
+    log: &str,
+) -> Result<Vec<String>, AllocError>
+    ensures { IfOk result
+        (λ words. map string_bytes words.items ≡ words_of (Replay program.now input.now log.now)) }
+{
+    let mut words = write_program(alloc, "replay", program)?;
+    push_word(alloc, &mut words, input)?;
+    push_word(alloc, &mut words, log)?;
+    Ok(words)
+}
+
 /// A decoder's command on one input.
 fn write_decoding(
     alloc: Global,
@@ -220,6 +252,16 @@ pub(crate) fn write_words(alloc: Global, command: Command) -> Result<Vec<String>
             list,
             workers,
         } => write_batch(alloc, program, list, workers),
+        Command::Sim {
+            program,
+            input,
+            seed,
+        } => write_sim(alloc, program, input, seed),
+        Command::Replay {
+            program,
+            input,
+            log,
+        } => write_replay(alloc, program, input, log),
         Command::Demo {
             kind,
             seed,

@@ -1,5 +1,5 @@
 -- A construct that a walk passes: its guesses, its real rows, and what its section is read with.
-use Rattle.std.proofs.Common.{◌≡◌, ℕ, zero, suc, ◌+◌, ◌≤◌, ◌<◌, List, [], ◌∷◌, length, map, drop, ℤ, pos, ◌+ℤ◌, refl, sym, ap, ◌∙◌, subst, arith}
+use Rattle.std.proofs.Common.{◌≡◌, ℕ, zero, suc, ◌+◌, ◌-◌, ◌≤◌, ◌<◌, List, [], ◌∷◌, length, map, drop, ℤ, pos, ◌+ℤ◌, refl, sym, ap, ◌∙◌, subst, arith}
 use Rattle.std.specs.Prelude.{Some, slice_get, ◌≤ℤ◌}
 use Rattle.std.specs.List.{All}
 use Rattle.std.specs.Global.{Vec}
@@ -33,11 +33,13 @@ use Rattle.spf_check.specs.Checking.{IsFree}
 use Rattle.spf_check.specs.Plans.{AreBlocksOf, IsPlanOf}
 use Rattle.spf_guess_statistics.specs.declared.guess.Guess as code_guess
 use Rattle.spf_guess_statistics.specs.Guess.{Guess}
-use Rattle.spf_engine_construct.specs.Guesses.{seen_guess, guesses_from}
+use Rattle.spf_guess_statistics.specs.Statistics.{statistics_with}
+use Rattle.spf_engine_construct.proofs.Counting.{counts-are}
+use Rattle.spf_engine_construct.specs.Guesses.{seen_guess, guesses_from, paired, counts_of}
 use Rattle.spf_speculation_entry.specs.Entry.{Entry, HasItsBlocks, plain_blocks}
 use Rattle.spf_replay.specs.declared.entered.EnteredConstruct.{EnteredConstruct}
 use Rattle.spf_replay.specs.Entered.{entry_of, IsEntered}
-use Rattle.spf_replay_walk.specs.Walking.{AreGuesses}
+use Rattle.spf_replay_walk.specs.Visiting.{AreGuesses}
 
 -- ---- guesses
 
@@ -79,6 +81,14 @@ pub few-reals : (e : Entry) (reals : List Carried) → reals ≡ (plain_blocks e
 few-reals e reals is =
     subst (λ (l : List Carried). length l ≤ e.header.blocks) (sym is)
     (few-values (environment_of e.program e.input) e.construct e.slots 0 e.header.blocks e.header.low e.header.start e.memory)
+
+-- they are counted beside their guesses
+pub counted-are : (guess : ℕ → Guess) (guesses : List code_guess.Guess) (reals : List Carried) (e : Entry) → map seen_guess guesses ≡ guesses_from guess 1 (e.header.blocks - 1)
+    → reals ≡ (plain_blocks e).values → 1 ≤ e.header.blocks
+    → counts_of (length reals) (paired (map seen_guess guesses) (drop 1 reals)) ≡ statistics_with guess (plain_blocks e).values
+counted-are guess guesses reals e taken is some =
+    let few = few-reals e reals is in
+    ap (λ l. counts_of (length reals) (paired l (drop 1 reals))) taken ∙ counts-are guess (e.header.blocks - 1) reals (omega (arith, few, some)) ∙ ap (statistics_with guess) is
 
 -- ---- what a section is read with
 

@@ -10,6 +10,7 @@ use Rattle.spf_replay_log.specs.Log.{sections_of}
 use Rattle.spf_replay.specs.SeenSteps.{seen_steps}
 use Rattle.spf_replay.specs.declared.verdict.Verdict.TheVariants.{Yes}
 use Rattle.spf_replay.specs.Verdicts.{Expected, Fits, IsVerdict}
+use Rattle.spf_replay_walk.specs.declared.judging.Judge.{Judge}
 use Rattle.spf_replay_walk.specs.declared.judging.Judged.{Judged}
 
 -- the sections of a log as plain data
@@ -32,3 +33,8 @@ IsAfterRun log n e guess (Some next) = (next ≡ n + 1) × Fits (Some (record { 
 pub record HasJudged (passed : List PassedConstruct) (log : List (List Step)) (judged : Judged) : Type 0 where
   pub verdict : IsVerdict (expected_of_all passed) (take (length passed) log) judged.verdict
   pub next : judged.verdict ≡ Yes → judged.next ≡ length passed
+
+-- a judge, which began as the first, has judged the sections of its log so far
+pub record HasJudgedLog (first : Judge) (passed : List PassedConstruct) (now : Judge) : Type 0 where
+  pub same_log : now.log.now ≡ first.log.now
+  pub judged : HasJudged passed (seen_log first.log.now) now.judged

@@ -7,8 +7,10 @@ ghost use Rattle.spf_replay.specs.declared.verdict.Verdict.TheVariants.{Yes, No}
 ghost use Rattle.spf_replay.specs.SeenSteps.{seen_steps};
 ghost use Rattle.spf_replay.specs.Entered.{entry_of, IsEntered, HasGuesses};
 ghost use Rattle.spf_replay.specs.Verdicts.{IsVerdict};
-ghost use Rattle.spf_replay_walk.specs.Judging.{seen_log, expected_of_all, HasJudged, IsAfterRun};
+ghost use Rattle.spf_replay_walk.specs.Judging.{seen_log, expected_of_all, HasJudged};
+ghost use Rattle.spf_replay_walk.specs.Judging.{HasJudgedLog, IsAfterRun};
 
+use crate::visitor::Visitor;
 use spf_replay::Step;
 use spf_replay::entered::EnteredConstruct;
 use spf_replay::section::is_speculative_run;
@@ -146,5 +148,45 @@ pub(crate) fn judge_end(log: &[Vec<Step>], judged: Judged) -> Verdict
     match judged.verdict {
         Verdict::No { .. } => judged.verdict,
         Verdict::Yes => end_verdict(log, judged.next),
+    }
+}
+
+/// Judges a log: each construct that it visits is held against the log's next section.
+#[derive(Drop)]
+pub(crate) struct Judge<'a> {
+    pub(crate) log: &'a [Vec<Step>],
+    pub(crate) judged: Judged,
+}
+
+impl<'a> Judge<'a> {
+    /// One that has visited nothing.
+    pub(crate) fn new(log: &'a [Vec<Step>]) -> Judge<'a>
+        ensures log { result.log.now ≡ log.now }
+        ensures judged { HasJudgedLog result [] result }
+    {
+        Judge {
+            log,
+            judged: nothing_judged(),
+        }
+    }
+
+    /// The verdict on the log, where no further construct is visited.
+    pub(crate) fn verdict(&self) -> Verdict
+        ensures { (first : Judge) (passed : List PassedConstruct)
+            → HasJudgedLog first passed self.now
+            → IsVerdict (expected_of_all passed) (seen_log first.log.now) result }
+    {
+        judge_end(self.log, self.judged)
+    }
+}
+
+impl<'a> Visitor for Judge<'a> {
+    ghost use Rattle.spf_replay_walk.specs.Judging.{HasJudgedLog};
+
+    ghost has_visited = { λ first passed now. HasJudgedLog first passed now };
+
+    fn visit(&mut self, alloc: Global, entered: &EnteredConstruct) -> Result<(), AllocError> {
+        self.judged = judge_section(alloc, self.log, entered, self.judged)?;
+        Ok(())
     }
 }

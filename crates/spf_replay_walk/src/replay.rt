@@ -13,13 +13,11 @@ ghost use Rattle.spf_replay.specs.Expecting.{expected};
 ghost use Rattle.spf_replay.specs.Verdicts.{IsVerdict};
 ghost use Rattle.spf_replay_walk.specs.Judging.{seen_log};
 
-use crate::judging::{judge_end, nothing_judged};
-use crate::walker::Walker;
+use crate::judging::Judge;
+use crate::walk::walk;
 use spf_check::checked::Checked;
 use spf_engine::error::EngineError;
 use spf_engine::run::lay_out;
-use spf_engine::step::Step;
-use spf_exec::pieces::Run;
 use spf_exec_instance::instance::Instance;
 use spf_guess::Predictor;
 use spf_guess::missing::first_missing;
@@ -54,28 +52,13 @@ pub fn replay_instance(
         instance.now.input (supplied answer hosts.new.items)) }
     ensures count { length hosts.new.items ≡ length hosts.old.items }
 {
-    // Law: a run in pieces goes on as the plain run does.
-    spf_engine_laws::runs_in_pieces_go_on();
     // Law: what is expected matters by its speculative runs alone.
     spf_replay::verdict::verdicts_are_exact();
     // Law: a speculative run depends on the visible slots alone.
     spf_replay::laws::runs_look_alike();
-    let _program = checked.program();
-    let walker = Walker {
-        alloc,
-        checked,
-        instance,
-        log,
-    };
-    let mut run = Run::start(alloc, instance)?;
-    let mut judged = nothing_judged();
-    loop {
-        match walker.take_step(&mut run, &mut judged, hosts)? {
-            Step::Next => {}
-            Step::Finished => return Ok(judge_end(log, judged)),
-            Step::Trapped(_) => return Ok(judge_end(log, judged)),
-        }
-    }
+    let mut judge = Judge::new(log);
+    walk(alloc, checked, instance, hosts, &mut judge)?;
+    Ok(judge.verdict())
 }
 
 /// Whether a log is one of the program's speculative runs on this input: it is where it has one

@@ -42,6 +42,8 @@ fn each_command_has_its_help(rt: HostRuntime) {
         ("unpack", "Usage: spf unpack INPUT ["),
         ("unhuff", "Usage: spf unhuff INPUT ["),
         ("lex", "Usage: spf lex MACHINE INPUT ["),
+        ("sim", "Usage: spf sim PROGRAM INPUT SEED\n"),
+        ("replay", "Usage: spf replay PROGRAM INPUT LOG\n"),
         ("demo", "Usage: spf demo KIND SEED SIZE WORKERS\n"),
     ];
     for (name, begin) in rows {

@@ -11,6 +11,15 @@ returns c =
       lex1 = c.files_have_one_verdict.ensures.lex1;
       machines = c.machines_have_one_text.ensures;
       lists = c.lists_have_one_verdict.ensures;
+      logs = record {
+        one = c.bytes_have_one_reading.ensures.one;
+        none = c.bytes_have_one_reading.ensures.none;
+        place = c.bytes_have_one_reading.ensures.place;
+        some = c.bytes_have_one_reading.ensures.some;
+        schedule = c.each_run_has_one_schedule.ensures.one;
+        scheduled = c.each_run_has_one_schedule.ensures.some;
+        verdict = c.verdicts_are_exact.ensures.one;
+      };
       generated = c.each_demo_input_is_generated_once.ensures;
       decoders = c.decoders_keep_their_formats.ensures;
     } in

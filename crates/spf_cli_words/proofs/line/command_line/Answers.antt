@@ -1,16 +1,16 @@
 use Rattle.std.proofs.Common.{codes}
 use Rattle.clap.specs.Words.{App, with_subcommand}
-use Rattle.spf_cli_words.specs.Line.{decoders, file_app, batch_app}
+use Rattle.spf_cli_words.specs.Line.{texts, batch_app, input_app}
 use Rattle.spf_cli_words.proofs.line.command_line.Goals as goal
 
-abbrev show : App
-show = with_subcommand decoders (file_app (codes "show") (codes "machine")).top
+abbrev batch : App
+batch = with_subcommand texts batch_app.top
 
-abbrev build : App
-build = with_subcommand show (file_app (codes "build") (codes "text")).top
+abbrev sim : App
+sim = with_subcommand batch (input_app (codes "sim") (codes "seed")).top
 
 pub returns : goal.returns
 returns c =
-    let a = c.add_command-line.ensures decoders (file_app (codes "show") (codes "machine")) c.decoder_lines.ensures c.file_line.ensures in
-    let b = c.add_command-line-2.ensures show (file_app (codes "build") (codes "text")) a c.file_line-2.ensures in
-    c.add_command.ensures build batch_app b c.batch_line.ensures
+    let a = c.add_command-line.ensures texts batch_app c.text_lines.ensures c.batch_line.ensures in
+    let b = c.add_command-line-2.ensures batch (input_app (codes "sim") (codes "seed")) a c.input_line.ensures in
+    c.add_command.ensures sim (input_app (codes "replay") (codes "log")) b c.input_line-2.ensures

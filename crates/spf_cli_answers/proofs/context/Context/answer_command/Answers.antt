@@ -1,4 +1,3 @@
-use Rattle.std.specs.Prelude.{Err}
 use Rattle.std.proofs.Common.{rules, ◌≡◌, length, map, ◌∙◌}
 use Rattle.std.proofs.lemmas.List.{length-map}
 use Rattle.std.proofs.lemmas.Result.{err_from_is_err_and}
@@ -50,6 +49,14 @@ pub returns-in-Build-clause-reply : goal.returns-in-Build-clause-reply
 returns-in-Build-clause-reply g c =
     let given = (handed (map (λ h. (goal.Predictor-dyn g (h.vtable, h.value)).answer h.value) c.args.hosts.now.items)) in
     rw c.in-Build.is (replied_so given _ _ _ c.build_file.result c.replied-in-Build.result c.replied-in-Build.ensures.reply (c.build_file.ensures given))
+
+pub returns-in-Sim-clause-reply : goal.returns-in-Sim-clause-reply
+returns-in-Sim-clause-reply g c =
+    rw c.in-Sim.is (replied_so (handed (map (λ h. (goal.Predictor-dyn g (h.vtable, h.value)).answer h.value) c.args.hosts.now.items)) _ _ _ c.sim_files.result c.replied-in-Sim.result c.replied-in-Sim.ensures.reply c.sim_files.ensures)
+
+pub returns-in-Replay-clause-reply : goal.returns-in-Replay-clause-reply
+returns-in-Replay-clause-reply g c =
+    rw c.in-Replay.is (replied_so (handed (map (λ h. (goal.Predictor-dyn g (h.vtable, h.value)).answer h.value) c.args.hosts.now.items)) _ _ _ c.replay_files.result c.replied-in-Replay.result c.replied-in-Replay.ensures.reply c.replay_files.ensures)
 
 pub returns-in_err-batch-in-Batch-clause-reply : goal.returns-in_err-batch-in-Batch-clause-reply
 returns-in_err-batch-in-Batch-clause-reply g c =

@@ -6,7 +6,7 @@ use Rattle.spf_ast.specs.Construct.{constructs_in}
 use Rattle.spf_ast.specs.View.{program}
 use Rattle.spf_guess.specs.Missing.{missing_host}
 use Rattle.spf_cli_answers.specs.Answering.{seen_answer}
-use Rattle.spf_cli_answers.specs.Course.{Course, Fetches}
+use Rattle.spf_cli_answers.specs.Course.{Course}
 use Rattle.spf_cli_answers.specs.Whole.{Handed, Read, CheckedBy, WithNames, Batches, BatchesOn, max_program, max_list}
 use Rattle.spf_cli_answers.proofs.Steps.{answers_fetch, fetch_left, answers_read, read_left, answers_accepted, rule_left}
 use Rattle.spf_cli_answers.proofs.Batches.{ready, ready_fetch, ready_read, ready_accepted, ready_names, list_left, host_left, followed_names}

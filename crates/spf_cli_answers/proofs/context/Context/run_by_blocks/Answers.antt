@@ -1,11 +1,10 @@
-use Rattle.std.proofs.Common.{rules, ◌≡◌, ◌<◌, ◌≤◌, subst, length, ◌∙◌, sym, ap, map}
+use Rattle.std.proofs.Common.{◌≡◌, ◌<◌, ◌≤◌, subst, length, ◌∙◌, sym, ap, map}
 use Rattle.std.proofs.lemmas.List.{length-map}
 use Rattle.std.specs.Prelude.{if◌then◌else◌, None}
 use Rattle.spf_ast.specs.View.{program as seen_program}
 use Rattle.spf_ast.specs.Program.{cell_count_of, max_cells}
 use Rattle.spf_ast.specs.Construct.{constructs_in}
 use Rattle.spf_guess_statistics.specs.Statistics.{none, tally}
-use Rattle.spf_guess.specs.Answers.{supplied}
 use Rattle.spf_guess.specs.Missing.{missing_host}
 use Rattle.spf_engine.specs.Errors.{IsMissing}
 use Rattle.spf_cli_answers.specs.Answer.{ran}

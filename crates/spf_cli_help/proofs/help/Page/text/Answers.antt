@@ -1,6 +1,6 @@
 use Rattle.std.proofs.Common.{sym, ap}
 use Rattle.spf_cli_help.specs.Pages.{text_of}
-use Rattle.spf_cli_help.specs.Texts.{help_text, version_text, run_text, check_text, explain_text, print_text, unpack_text, unhuff_text, lex_text, show_text, build_text, batch_text, demo_text}
+use Rattle.spf_cli_help.specs.Texts.{help_text, version_text, run_text, check_text, explain_text, print_text, unpack_text, unhuff_text, lex_text, show_text, build_text, batch_text, sim_text, replay_text, demo_text}
 use Rattle.spf_cli_help.proofs.help.Page.text.Goals as goal
 
 pub returns-in-Help : goal.returns-in-Help
@@ -50,6 +50,14 @@ returns-in-Build c = sym (ap text_of c.in-Build.is)
 pub returns-in-Batch : goal.returns-in-Batch
 unfolding batch_text
 returns-in-Batch c = sym (ap text_of c.in-Batch.is)
+
+pub returns-in-Sim : goal.returns-in-Sim
+unfolding sim_text
+returns-in-Sim c = sym (ap text_of c.in-Sim.is)
+
+pub returns-in-Replay : goal.returns-in-Replay
+unfolding replay_text
+returns-in-Replay c = sym (ap text_of c.in-Replay.is)
 
 pub returns-in-Demo : goal.returns-in-Demo
 unfolding demo_text

@@ -8,10 +8,10 @@ use Rattle.spf_check.specs.Accepting.{IsAccepted}
 use Rattle.spf_exec_instance.specs.Instance.{program_of}
 use Rattle.spf_engine_laws.proofs.Constructs.{emits-none}
 use Rattle.spf_replay_walk.proofs.Passing.{is-entered}
-use Rattle.spf_replay_walk.proofs.walker.Walker.judge.Goals as goal
+use Rattle.spf_replay_walk.proofs.walker.Walker.hand_over.Goals as goal
 
-pub judge_section-requires : goal.judge_section-requires
-judge_section-requires c =
+pub visit-requires : goal.visit-requires
+visit-requires g c =
     let i = c.args.at.instance.now in
     let h = c.args.header.now in
     let p = program_of i in

@@ -1,21 +1,24 @@
-use Rattle.std.proofs.Common.{◌≡◌, length, map}
+use Rattle.std.proofs.Common.{◌≡◌, [], length, map}
 use Rattle.spf_ast.specs.Pieces.{statement_count}
 use Rattle.spf_exec_instance.specs.Instance.{program_of}
 use Rattle.spf_exec.specs.Pieces.{IsRunOf, ahead}
 use Rattle.spf_guess.specs.Answers.{handed_in, WereTold}
 use Rattle.spf_engine_laws.specs.Progress.{Progress, GoesOn}
-use Rattle.spf_replay_walk.specs.Judging.{seen_log, HasJudged}
-use Rattle.spf_replay_walk.proofs.replay.replay_instance.Given as goal
+use Rattle.spf_engine.specs.Runs.{AreFew}
+use Rattle.spf_replay_walk.specs.Visiting.{VisitsFrom}
+use Rattle.spf_replay_walk.proofs.walk.walk.Given as goal
 
--- the run goes on, with progress whose constructs were judged and of which hosts were told
+-- the run goes on, with progress whose constructs the visitor took, whose statistics were counted, and of which hosts were told
 abbrev pub invariant-loop-run : goal.invariant-loop-run
 invariant-loop-run g l = record {
   run : IsRunOf (program_of l.fn.instance) (length l.fn.instance.input) l.run;
   count : length l.hosts.items ≡ length l.initial.hosts.items;
   progress : Progress;
-  verdict : HasJudged progress.passed (seen_log l.fn.log) l.judged;
+  visited : VisitsFrom g.V.Visitor.has_visited [] l.initial.visitor progress.passed l.visitor;
+  stats_are : l.stats ≡ progress.stats;
   told : WereTold (handed_in (map (λ h. (goal.Predictor-dyn g (h.vtable, h.value)).answer h.value) l.initial.hosts.items)) progress.telling (handed_in (map (λ h. (goal.Predictor-dyn g (h.vtable, h.value)).answer h.value) l.hosts.items));
   goes : GoesOn (handed_in (map (λ h. (goal.Predictor-dyn g (h.vtable, h.value)).answer h.value) l.initial.hosts.items)) (program_of l.fn.instance) l.fn.instance.input l.run progress;
+  few : AreFew (program_of l.fn.instance) l.run l.stats;
 }
 
 abbrev pub decreases-loop-run : goal.decreases-loop-run

@@ -1,0 +1,7 @@
+use Rattle.spf_cli_answers.proofs.Logs.{no_log}
+use Rattle.spf_cli_answers.proofs.replaying.fetch_log.Goals as goal
+
+pub returns-clause-left : goal.returns-clause-left
+returns-clause-left g c =
+    no_log (g.F.Files.state c.args.files.now) (g.F.Files.state c.fetch.new.files) c.args.name.now c.in_ok-content.content.items c.log_of.result c.in_ok-content.ensures.content
+    (rw c.deref.ensures.value at c.log_of.ensures.left)

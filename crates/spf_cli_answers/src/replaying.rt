@@ -1,0 +1,262 @@
+// The answers of `sim` and `replay`: logs of runs.
+
+ghost use Rattle.std.specs.Prelude.{◌≡◌, ◌<◌, ◌≤◌, ◌++◌, length, map, None, IfOk, IfErr};
+ghost use Rattle.std.specs.Prelude.{IsErrAnd};
+ghost use Rattle.spf_ast.specs.View.{program as seen_program};
+ghost use Rattle.spf_ast.specs.Construct.{constructs_in};
+ghost use Rattle.spf_ast.specs.Program.{seen_outcome, cell_count_of, max_cells};
+ghost use Rattle.spf_exec_instance.specs.Instance.{program_of};
+ghost use Rattle.spf_guess.specs.Missing.{missing_host};
+ghost use Rattle.spf_engine.specs.Errors.{AreTooMany, IsMissing};
+ghost use Rattle.spf_replay_log.specs.Log.{IsLog, sections_of};
+ghost use Rattle.spf_replay_sim.specs.Bytes.{bytes_of};
+ghost use Rattle.spf_replay_sim.specs.Drawing.{AreOfFewBlocks};
+ghost use Rattle.spf_replay_walk.specs.Judging.{seen_log};
+ghost use Rattle.spf_cli_words.specs.Command.{Sim as sim_command, Replay as replay_command};
+ghost use Rattle.spf_cli_words.specs.Only.{IsOnly};
+ghost use Rattle.spf_cli_answers.specs.Answer.{not_a_log as not_a_log_answer};
+ghost use Rattle.spf_cli_answers.specs.Answer.{too_many_steps as too_many_steps_answer};
+ghost use Rattle.spf_cli_answers.specs.Answer.{simulated as simulated_answer};
+ghost use Rattle.spf_cli_answers.specs.Answer.{end_status, trap_lines};
+ghost use Rattle.spf_cli_answers.specs.Answer.{judged as judged_answer};
+ghost use Rattle.spf_cli_answers.specs.Answering.{lines_of, seen_answer, AnswersWith, IsFollowed};
+ghost use Rattle.spf_cli_answers.specs.Logs.{IsFetchedAccepted, IsNoneAccepted};
+ghost use Rattle.spf_cli_answers.specs.Logs.{IsLogExit, IsReadLog, IsNoLog};
+ghost use Rattle.spf_cli_answers.specs.Status.{status_number};
+ghost use Rattle.spf_cli_answers.specs.Whole.{handed, Replays, Simulates, WholeOf};
+
+use crate::answer::{
+    Answer, Exit, MAX_INPUT, MAX_PROGRAM, accept, fetch, push_line, read, refused, unfinished,
+};
+use crate::message::{not_log_line, stats_line, steps_line, trap_line, verdict_line};
+use crate::status::Status;
+use spf_ast::outcome::Outcome;
+use spf_ast::syntax::Program;
+use spf_check::checked::Checked;
+use spf_edge::Files;
+use spf_engine::error::EngineError;
+use spf_engine::run::lay_out;
+use spf_exec_instance::instance::Instance;
+use spf_guess::Predictor;
+use spf_guess::missing::first_missing;
+use spf_replay::verdict::Verdict;
+use spf_replay::{LogError, Step, read_log, write_log};
+use spf_replay_sim::{Simulated, simulate_instance};
+use spf_replay_walk::replay::replay_instance;
+use std::alloc::{AllocError, Global};
+
+/// How many bytes the file of a log may have.
+const MAX_LOG: u64 = 20_971_520;
+
+/// The instance of an accepted program that runs on an input, where so many hosts are supplied.
+fn set_up<'a>(
+    alloc: Global,
+    checked: &'a Checked,
+    input: &'a [u8],
+    hosts: u64,
+) -> Result<Instance<'a>, EngineError>
+    ensures program { IfOk result (λ i. program_of i ≡ seen_program checked.now) }
+    ensures input { IfOk result (λ i. i.input ≡ input.now) }
+    ensures few { IfOk result (λ i. cell_count_of (seen_program checked.now) (length input.now)
+        ≤ max_cells (seen_program checked.now)) }
+    ensures complete { IfOk result
+        (λ i. missing_host hosts (constructs_in (seen_program checked.now).main) ≡ None) }
+    ensures too_many { max_cells (seen_program checked.now)
+        < cell_count_of (seen_program checked.now) (length input.now) → IsErrAnd result
+        (AreTooMany (cell_count_of (seen_program checked.now) (length input.now))) }
+    ensures missing { cell_count_of (seen_program checked.now) (length input.now)
+        ≤ max_cells (seen_program checked.now) → IfErr result
+        (IsMissing (missing_host hosts (constructs_in (seen_program checked.now).main))) }
+{
+    let instance = lay_out(alloc, checked, input)?;
+    if let Some(number) = first_missing(checked.program(), hosts) {
+        return Err(EngineError::NoHost { number });
+    }
+    Ok(instance)
+}
+
+/// Adds the line of a run's trap, where it trapped, and gives the status of the run.
+fn push_trap(
+    alloc: Global,
+    messages: &mut Vec<Vec<u8>>,
+    outcome: &Outcome,
+) -> Result<Status, AllocError>
+    ensures status { IfOk result (λ s. status_number s ≡ end_status (seen_outcome outcome.now)) }
+    ensures lines { IfOk result (λ _. lines_of messages.new.items
+        ≡ lines_of messages.old.items ++ trap_lines (seen_outcome outcome.now)) }
+{
+    match outcome {
+        Outcome::Done { .. } => Ok(Status::Done),
+        Outcome::Trapped { trap, .. } => {
+            push_line(messages, trap_line(alloc, *trap)?)?;
+            Ok(Status::Trapped)
+        }
+    }
+}
+
+/// The answer where a run was simulated.
+fn simulated(alloc: Global, made: &Simulated) -> Result<Answer, AllocError>
+    requires { AreOfFewBlocks (sections_of made.now.log.items) }
+    ensures { IfOk result (λ a. seen_answer a ≡ simulated_answer (seen_outcome made.now.outcome)
+        made.now.stats (bytes_of (seen_log made.now.log.items))) }
+{
+    let mut messages = Vec::new(alloc);
+    let status = push_trap(alloc, &mut messages, &made.outcome)?;
+    let stats = made.stats;
+    let line = stats_line(alloc, stats.blocks, stats.hits, stats.misses, stats.blind)?;
+    push_line(&mut messages, line)?;
+    Ok(Answer {
+        status,
+        output: write_log(alloc, &made.log)?,
+        messages,
+    })
+}
+
+/// The answer where a schedule has too many steps.
+fn too_many_steps(alloc: Global) -> Result<Answer, AllocError>
+    ensures { IfOk result (λ a. seen_answer a ≡ too_many_steps_answer) }
+{
+    refused(alloc, Status::OverLimit, steps_line(alloc)?)
+}
+
+/// The answer of a simulation of an accepted program on an input.
+fn simulate(
+    alloc: Global,
+    checked: &Checked,
+    input: &[u8],
+    seed: u64,
+    hosts: &mut Vec<Box<dyn Predictor>>,
+) -> Result<Answer, Exit>
+    ensures { AnswersWith (IsOnly (Simulates (handed (map (λ h. answer h) hosts.old.items)) seed
+        (seen_program checked.now) input.now)) result }
+{
+    // Law: a run has exactly one schedule from each seed.
+    spf_replay::laws::each_run_has_one_schedule();
+    let instance = match set_up(alloc, checked, input, hosts.len() as u64) {
+        Ok(instance) => instance,
+        Err(error) => return unfinished(alloc, checked.program(), error),
+    };
+    match simulate_instance(alloc, checked, &instance, hosts, seed)? {
+        Some(made) => Ok(simulated(alloc, &made)?),
+        None => Ok(too_many_steps(alloc)?),
+    }
+}
+
+/// The answer where a file is no log.
+fn not_a_log(alloc: Global, place: u64) -> Result<Answer, AllocError>
+    ensures { IfOk result (λ a. seen_answer a ≡ not_a_log_answer place) }
+{
+    refused(alloc, Status::WrongFormat, not_log_line(alloc, place)?)
+}
+
+/// The log that a file is.
+fn log_of(alloc: Global, file: &[u8]) -> Result<Vec<Vec<Step>>, Exit>
+    ensures log { IfOk result (λ log. IsLog (sections_of log.items) file.now) }
+    ensures left { IfErr result (IsLogExit file.now) }
+{
+    match read_log(alloc, file) {
+        Ok(log) => Ok(log),
+        Err(LogError::NotLog { at }) => Err(Exit::Answered(not_a_log(alloc, at)?)),
+        Err(LogError::OutOfMemory) => Err(Exit::NoMemory),
+    }
+}
+
+/// The log that the file of this name is.
+fn fetch_log<F: Files>(alloc: Global, name: &str, files: &mut F) -> Result<Vec<Vec<Step>>, Exit>
+    ensures log { IfOk result (λ log. IsReadLog (F.state files.old) (F.state files.new) name.now
+        (sections_of log.items)) }
+    ensures left { IfErr result (IsNoLog (F.state files.old) (F.state files.new) name.now) }
+{
+    let content = fetch(alloc, files, name, MAX_LOG)?;
+    log_of(alloc, &content)
+}
+
+/// The answer with the verdict on a log.
+fn judged(alloc: Global, verdict: Verdict) -> Result<Answer, AllocError>
+    ensures { IfOk result (λ a. seen_answer a ≡ judged_answer verdict) }
+{
+    let status = match verdict {
+        Verdict::Yes => Status::Done,
+        Verdict::No { .. } => Status::WrongLog,
+    };
+    Ok(Answer {
+        status,
+        output: verdict_line(alloc, verdict)?.into_bytes(),
+        messages: Vec::new(alloc),
+    })
+}
+
+/// The answer to a log that is held against the runs of an accepted program on an input.
+fn judge(
+    alloc: Global,
+    checked: &Checked,
+    input: &[u8],
+    log: &[Vec<Step>],
+    hosts: &mut Vec<Box<dyn Predictor>>,
+) -> Result<Answer, Exit>
+    ensures { AnswersWith (IsOnly (Replays (handed (map (λ h. answer h) hosts.old.items))
+        (seen_program checked.now) input.now (sections_of log.now))) result }
+{
+    // Law: a log has one verdict.
+    spf_replay::verdict::verdicts_are_exact();
+    let instance = match set_up(alloc, checked, input, hosts.len() as u64) {
+        Ok(instance) => instance,
+        Err(error) => return unfinished(alloc, checked.program(), error),
+    };
+    let verdict = replay_instance(alloc, checked, &instance, hosts, log)?;
+    Ok(judged(alloc, verdict)?)
+}
+
+/// The program in a file, where the rules accept it.
+fn fetch_accepted<F: Files>(alloc: Global, name: &str, files: &mut F) -> Result<Checked, Exit>
+    ensures program { IfOk result (λ checked. IsFetchedAccepted (F.state files.old)
+        (F.state files.new) name.now (seen_program checked)) }
+    ensures left { IfErr result (IsNoneAccepted (F.state files.old) (F.state files.new) name.now) }
+{
+    let text = fetch(alloc, files, name, MAX_PROGRAM)?;
+    let parsed = read(alloc, &text)?;
+    accept(alloc, parsed)
+}
+
+/// The answer of `sim` over two files.
+pub(crate) fn sim_files<F: Files>(
+    alloc: Global,
+    program: &str,
+    input: &str,
+    seed: u64,
+    files: &mut F,
+    hosts: &mut Vec<Box<dyn Predictor>>,
+) -> Result<Answer, Exit>
+    ensures { AnswersWith (IsFollowed (WholeOf (handed (map (λ h. answer h) hosts.old.items))
+        (sim_command program.now input.now seed)) (F.state files.old) (F.state files.new))
+        result }
+{
+    // Law: a program has one verdict and one explanation.
+    crate::laws::rules_say_one_thing();
+    let checked = fetch_accepted(alloc, program, files)?;
+    let content = fetch(alloc, files, input, MAX_INPUT)?;
+    simulate(alloc, &checked, &content, seed, hosts)
+}
+
+/// The answer of `replay` over three files.
+pub(crate) fn replay_files<F: Files>(
+    alloc: Global,
+    program: &str,
+    input: &str,
+    log: &str,
+    files: &mut F,
+    hosts: &mut Vec<Box<dyn Predictor>>,
+) -> Result<Answer, Exit>
+    ensures { AnswersWith (IsFollowed (WholeOf (handed (map (λ h. answer h) hosts.old.items))
+        (replay_command program.now input.now log.now)) (F.state files.old)
+        (F.state files.new)) result }
+{
+    // Law: a program has one verdict and one explanation.
+    crate::laws::rules_say_one_thing();
+    // Law: bytes are one log at most, and break at one place at most.
+    spf_replay_log::laws::bytes_have_one_reading();
+    let checked = fetch_accepted(alloc, program, files)?;
+    let content = fetch(alloc, files, input, MAX_INPUT)?;
+    let sections = fetch_log(alloc, log, files)?;
+    judge(alloc, &checked, &content, &sections, hosts)
+}

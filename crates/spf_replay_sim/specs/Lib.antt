@@ -1,0 +1,4 @@
+pub mod Bytes
+pub mod Drawing
+pub mod Errors
+pub mod Simulating
