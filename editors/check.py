@@ -31,7 +31,8 @@ MESSAGE = text("crates", "spf_cli_answers", "specs", "Message.antt")
 KEYWORDS = need(codes(TOKENS, "word_spelling"), "keywords")
 SIGNS = need(codes(TOKENS, "sign_spelling"), "signs")
 RULES = need(codes(text("crates", "spf_check", "specs", "Text.antt"), "rule_name"), "rules")
-TRAPS = [name.strip() for name in need(codes(MESSAGE, r"kind_name (?:trap\.|\(trap\.)\w+"), "kinds of traps")]
+KIND_NAMES = text("crates", "spf_batch", "specs", "Text.antt")
+TRAPS = [name.strip() for name in need(codes(KIND_NAMES, r"kind_name (?:trap\.|\(trap\.)\w+"), "kinds of traps")]
 FAULTS = need(codes(MESSAGE, r"fault_name fault\.\w+"), "faults")
 COMMANDS = need(re.findall(r'^words_of \(.*?= codes "(\w+)"', text("crates", "spf_cli_words", "specs", "Command.antt"), re.M), "commands")
 OPTIONS = need(re.findall(r'codes "(--\w+)"', text("crates", "spf_cli_words", "specs", "Command.antt")), "options")

@@ -1,9 +1,10 @@
 #!/usr/bin/env python3
 """Runs programs that strain the runtime, at its limits and one past them, on 1, 2 and 64 workers.
 
-Each must give its answer, in any case the same on all numbers of workers, within SECONDS and MEBIBYTES of memory. Needs the built program
-(`./spf --build`); the first word may name it in the place of crates/spf/out/spf. Prints the longest time and the most memory of each
-program's runs, and ends with status 1 where an answer is another one or a bound is exceeded.
+Each must give its answer, in any case the same on all numbers of workers, within two seconds and 128 MiB of memory. Needs the built program
+(`./spf --build`); the first word may name it in the place of crates/spf/out/spf, and the second and third may be other bounds, for a machine
+that is slow or busy. Prints the longest time and the most memory of each program's runs, and ends with status 1 where an answer is another
+one or a bound is exceeded.
 """
 
 import os
@@ -15,7 +16,8 @@ import time
 HERE = os.path.dirname(os.path.abspath(__file__))
 SPF = sys.argv[1] if len(sys.argv) > 1 else os.path.join(HERE, "..", "crates", "spf", "out", "spf")
 WORKERS = ["1", "2", "64"]
-SECONDS, MEBIBYTES = 30, 400
+SECONDS = float(sys.argv[2]) if len(sys.argv) > 2 else 2
+MEBIBYTES = float(sys.argv[3]) if len(sys.argv) > 3 else 128
 
 
 def stats(blocks, hits, misses, blind=0):
