@@ -290,7 +290,7 @@ def of_format(run, at, format_name):
     """A file is not of its format."""
     index = 3 if run.command == "replay" else 1
     data = run.file(index)
-    wrong = {"HUF1": files.not_huf1, "LEX1": files.not_lex1}.get(format_name)
+    wrong = {"HUF1": files.not_huf1, "LEX1": files.not_lex1, "SPL1": files.not_spl1}.get(format_name)
     if data is not None and wrong:
         yield f"{run.words[index]}: byte {at}: {wrong(at, data)}"
     yield "docs/FORMATS.md has the format"

@@ -75,6 +75,12 @@ def not_lex1(at, data):
     return f"an entry has {data[at]} as its next state, and the states are below {states}"
 
 
+def not_spl1(at, data):
+    if at == 0:
+        return "a log begins with the bytes `SPL1`"
+    return "the file ends within a section" if at == len(data) else "the kind, the block or the cell of a step is wrong"
+
+
 def not_a_machine(data):
     """The first line of a machine's text that is not one, and what it should be."""
     if data.startswith(b"LEX1"):
