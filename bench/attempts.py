@@ -1,5 +1,5 @@
 #!/usr/bin/env python3
-"""Times folds by blocks on one worker, from right guesses, beside their plain runs, and prints two tables.
+"""Times folds by blocks on one worker, from right guesses, compared with plain runs, and prints two tables.
 
 The first has nanoseconds an iteration of programs with two blocks, which are loops. The second has seconds of decoders of examples/ that
 guess a constant, which is right on their inputs, so that guesses cost nothing. The time of an empty program is taken off. In rounds

@@ -1,5 +1,5 @@
 #!/usr/bin/env python3
-"""Times the steps of lanes beside bare sequentially consistent accesses, and prints a table of nanoseconds a step.
+"""Times the steps of lanes, compared with bare sequentially consistent accesses, and prints a table of nanoseconds a step.
 
 A lane of `spf_cells` steps on its own words of a table that all lanes share. The program in cells/program makes these steps: it is proved and
 built by `rt` in a temporary folder, over copies of the crates that it stands on (its files end in .txt, since the gate refuses any other place for them).

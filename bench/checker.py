@@ -2,7 +2,7 @@
 """Times `spf check` over programs near the limit of 65,536 statements and expressions, calls unfolded, and prints a table of seconds.
 
 The first word may name the program that is timed in the place of crates/spf/out/spf. Each check is timed three times, and the least
-time counts, beside that of `spf print`, which reads the program and doesn't check it.
+time counts, compared with that of `spf print`, which reads the program and doesn't check it.
 """
 
 import os

@@ -1,5 +1,5 @@
 #!/usr/bin/env python3
-"""Times `unpack`, `unhuff` and `lex` on 1, 2 and 4 workers beside the same decoders in CPython and in C, and prints a table.
+"""Times `unpack`, `unhuff` and `lex` on 1, 2 and 4 workers, compared with the same decoders in CPython and in C, and prints a table.
 
 The inputs are drawn from a seed as those of `spf demo` are, in SIZE and in twice SIZE. Megabytes of input a second, from the least wall-clock
 time of RUNS whole runs; all outputs are compared. Last, the seconds of `demo lex 7 1000000 8`. Needs the built program (`./spf --build`), a C

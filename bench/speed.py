@@ -1,5 +1,5 @@
 #!/usr/bin/env python3
-"""Times the decoders of examples/ on 1, 2 and 4 workers beside a plain run, prints a table, and draws it as bench/speed.svg.
+"""Times the decoders of examples/ on 1, 2 and 4 workers compared with a plain run, prints a table, and draws it as bench/speed.svg.
 
 The inputs are those of the examples, repeated up to about SIZE bytes. Wall-clock times of whole runs, in rounds (rounds.py). The first word
 may name the program that is timed in the place of crates/spf/out/spf. Needs the built program (`./spf --build`) and idle cores.

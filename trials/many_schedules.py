@@ -1,7 +1,7 @@
 #!/usr/bin/env python3
 """Runs programs many times on many workers and compares each answer with that of one worker.
 
-The programs store to arrays in each block, and their predictions are often wrong, so blocks are cancelled and run again in ever other orders.
+The programs store to arrays in each block, and their predictions are often wrong, so blocks are cancelled and run again in always different orders.
 Output, messages and status must be the same each time. Needs the built program (`./spf --build`). The first word says how often each program
 is run (1,000 if left out), the second may name the program that is tried in the place of crates/spf/out/spf. Ends with status 1 where an
 answer is another one. The workers are eight, 64, and eight that share one core (by `taskset`).

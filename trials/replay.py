@@ -8,7 +8,7 @@ no code with the program, and is as slow as it is plain. Three things are tried 
 2. `sim` writes the reference's log for each of these seeds, byte for byte, with the statistics, and `replay` of it answers `yes`; so it is with the
    longest run and the longest file that there may be, and the next longer ones are refused.
 3. Logs are damaged: a byte or a word changed, steps or sections exchanged, dropped or doubled, and others (trials/reference/damages.py). Of each
-   `replay` must say what the reference says: `yes`, the first section that is wrong, or the byte at which it is no log.
+   `replay` must say what the reference says: `yes`, the first section that is wrong, or the byte at which it is not a log.
 
 Needs the built program (`./spf --build`). The first word says how many logs are damaged (100,000 if left out), the second may name the program
 that is tried in the place of crates/spf/out/spf. What is damaged how follows from the log's number, so each run tries the same. As many
@@ -122,7 +122,7 @@ def tell(what, tried, data, wanted, got):
     print(f"WRONG: {what}, {tried.name}")
     print(f"  wanted status {wanted[0]}, {wanted[1][:200]!r}, {wanted[2]!r}")
     print(f"  got    status {got[0]}, {got[1][:200]!r}, {got[2]!r}")
-    print(f"  the log, or its begin: {data[:2000].hex()}")
+    print(f"  the log, or its start: {data[:2000].hex()}")
     try:
         print("\n".join(f"  {line}" for line in list(shown(read_log(data)))[:100]))
     except NotLog as error:

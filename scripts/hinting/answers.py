@@ -231,7 +231,7 @@ def of_decoder(run, kind, line):
     size = files.size_of(run.words[2 if decoder == "lex" else 1]) if run.command != "demo" else None
     yield f"line {line} is in the built-in program of `{decoder}`"
     if kind == "fail 1" and decoder == "unhuff":
-        yield "the file has fewer symbols than it says: it is cut off, or has bits that are no code word"
+        yield "the file has fewer symbols than it says: it is cut off, or has bits that are not a code word"
     elif kind == "blocks":
         needed = "" if size is None else f": use `--block {-(-(size - HEADERS[decoder]) // 4096)}` or more"
         yield f"a run has at most 4,096 blocks, too few for blocks of {run.option('--block', 1024)} bytes{needed}"

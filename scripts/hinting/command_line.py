@@ -1,4 +1,4 @@
-"""Says why words are no command, and which command is near. What commands there are is read from the help (crates/spf_cli_help)."""
+"""Says why words are not a command, and which command is near. What commands there are is read from the help (crates/spf_cli_help)."""
 
 import difflib
 import os

@@ -19,7 +19,7 @@ STATEMENTS = {"name", "let", "fill", "emit", "fail", "if", "for", "while", "spec
 
 
 class Fault(Exception):
-    """A fault at a byte, over so many bytes: what `spf` calls it, on which line it stands for `spf`, and what to say of it."""
+    """A fault at a byte, over so many bytes: what `spf` calls it, which line `spf` names, and what to say of it."""
 
     def __init__(self, at, size, name, line, advice):
         super().__init__(name)
@@ -354,7 +354,7 @@ class Reader:
 
 
 def inner_constructs(program):
-    """The folds and pairs that are no direct statements of `main`: of each its token, and what it stands in."""
+    """The folds and pairs that are not direct statements of `main`: of each its token, and what it is inside."""
     said = {"if": "an `if`", "for": "a `for`", "while": "a `while`", "specfold": "a fold", "spec": "a pair"}
 
     def of(statements, within):

@@ -138,7 +138,7 @@ def turns_number_changed(draws, log):
 
 
 def stopped_at_a_turn(draws, log):
-    """A turn polls 1, and so many of the block's steps after it are left out."""
+    """A turn polls 1, and that many of the block's steps after it are left out."""
     turns = [(section, n) for section, steps in enumerate(log) for n, (_, event) in enumerate(steps) if event.kind == TURN]
     if not turns:
         return None

@@ -1,6 +1,6 @@
 """What each form of the language means: what it asks of the memory, and how it ends (docs/LANGUAGE.md).
 
-A form is a generator. It yields what it asks: `Load cell` (and is sent the word), `Store cell word`, or `Turn`, which stands at the begin
+A form is a generator. It yields what it asks: `Load cell` (and is sent the word), `Store cell word`, or `Turn`, which comes at the start
 of each iteration of a loop. It returns a value, or raises `Trap`. So the same form can be performed on a memory, or along a log.
 """
 

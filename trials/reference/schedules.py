@@ -54,7 +54,7 @@ class Attempt:
             self.asked = None
 
     def piece(self, flag):
-        """The events up to and including the next turn, or up to the end. Loads of cells that aren't the block's own are no events."""
+        """The events up to and including the next turn, or up to the end. Loads of cells that aren't the block's own are not events."""
         events = []
         while self.asked is not None:
             kind, cell, content = self.asked
@@ -131,7 +131,7 @@ class Situation:
 
 
 def schedule_of(x, draws, room=MAX_STEPS):
-    """The steps of a construct's schedule, which are at most so many."""
+    """The steps of a construct's schedule, which are at most that many."""
     situation = Situation(x)
     while running := situation.running():
         situation.advance(running[draws.below(len(running))])
