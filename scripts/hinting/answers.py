@@ -307,6 +307,18 @@ def notes(run):
         yield f"{run.program}:{token.line}: this {what} is inside {within}, so it runs in order; only statements of `main` itself run by blocks"
 
 
+def of_statistics(run, blocks, hits, misses, blind):
+    """What the statistics of a run by blocks may mean: nothing was run by blocks, or more was predicted wrong than right."""
+    if blocks == 0 and run.text:
+        yield from notes(run)
+    if misses > hits:
+        section = 4 if run.command in DECODERS else 6
+        yield (f"{misses} of {hits + misses} predictions {'was' if misses == 1 else 'were'} wrong: each such block ran again, in order "
+               f"(docs/WRITING.md, section {section})")
+    if blind > 0:
+        yield f"{blind} {'guess' if blind == 1 else 'guesses'} had a part that trapped, which is then 0 (docs/WRITING.md, section 4)"
+
+
 def hints(status, lines, words, output):
     """The hints on the answer to these words: its status, and its lines on standard error. `output` is the descriptor of standard output."""
     run, said = Run(words), "\n".join(lines)
@@ -316,6 +328,9 @@ def hints(status, lines, words, output):
 
     if status == 0 and run.command in ("check", "explain") and len(run.words) > 1:
         yield from notes(run)
+    elif status == 0 and (run.command == "run" or run.command in DECODERS) and "--stats" in words and "--plain" not in words:
+        found = match(r"blocks (\d+) hits (\d+) misses (\d+) blind (\d+)")
+        yield from of_statistics(run, *map(int, found.groups())) if found else ()
     elif status == 1 and (found := match(r"trap (\S+(?: \d+)?) line (\d+)")):
         yield from of_trap(run, *found.groups())
     elif status == 2:
