@@ -103,7 +103,9 @@ impl<T: Item<K>, K> Hand<T, K> {
     /// `Empty` comes only where each deque was seen empty in this call: at a look as many items
     /// were taken from it as were given. `Again` comes only where there are two hands or more, and
     /// each deque was looked at in this call and seen empty, or busy: an item was given to it that
-    /// wasn't counted as taken.
+    /// wasn't counted as taken. It may be on its way into the deque or out of it, given after this
+    /// hand tried, or missed since another hand was at the front just then. No clause says which; a
+    /// caller that may wait calls again.
     pub fn next(&mut self) -> Next<T>
         ensures next { MatchNext result (T.meets self.old.key) (SeenAllEmpty self.old self.new)
             (SeenAllEmptyOrBusy self.old self.new) }

@@ -105,7 +105,12 @@ impl<T: Item<K>, K> Side<T, K> {
         }
     }
 
-    /// Takes the parcel at the front.
+    /// Takes the parcel at the front. It tries once.
+    ///
+    /// `None` comes also where the deque says `Retry`. The clause for that answer says that a
+    /// parcel left since the pass last looked, or only what the pass would learn of an empty deque,
+    /// which is nothing. So no number is known to fall with each try, and a loop of tries is not
+    /// known to end. Whether items are left is told by the look at the ledger that follows.
     pub(crate) fn take(&mut self) -> Option<Parcel<T, K>>
         requires side { IsSide self.old }
         requires stage { (t : Tag K) × knows_tag t (stage self.old) }
