@@ -1,5 +1,5 @@
 -- Lists of mates, and of hands.
-use Rattle.std.proofs.Common.{◌≡◌, ℕ, zero, suc, ◌+◌, ◌<◌, true, List, [], ◌∷◌, ◌++◌, length, length-append, length-set, get_or, remove, set, replicate, false, ◌≢◌, sym, refl, ap, ◌∙◌, subst, ⊎_elim, arith}
+use Rattle.std.proofs.Common.{◌≡◌, ℕ, zero, suc, ◌+◌, ◌<◌, ◌≤◌, true, List, [], ◌∷◌, ◌++◌, length, length-append, length-set, get_or, remove, set, replicate, false, ◌≢◌, sym, refl, ap, ◌∙◌, subst, ⊎_elim, arith}
 use Rattle.std.specs.List.{All}
 use mathlib.Core.Option.{some, some-injective}
 use lib.ListN.{get_elem?, length-replicate}
@@ -8,7 +8,7 @@ use Rattle.spf_pool.specs.Hands.{HandValue}
 use Rattle.spf_crew.specs.declared.view.CrewSetting.{CrewSetting}
 use Rattle.spf_crew.specs.Values.{CrewValue, PlaceValue}
 use Rattle.spf_crew.specs.Mates.{MateValue, IsMateOf}
-use Rattle.spf_crew.specs.Crews.{IsNumbered, AreFirstMates, AreAllMates, HaveRead, dealt, IsDealtTo, AreDealt, IsNewMate}
+use Rattle.spf_crew.specs.Crews.{IsNumbered, AreFirstMates, AreAllMates, HaveRead, dealt, capacities_for, IsDealtTo, AreDealt, IsNewMate}
 use Rattle.spf_crew.specs.declared.held.Held.TheVariants as held
 use Rattle.spf_pool.specs.Made.{new_hand, AreNewHands}
 use Rattle.atomic_table.specs.Seated.{TableId}
@@ -72,11 +72,33 @@ nothing-given (suc n) (suc i) = nothing-given n i
 pub new-dealt : (k : CrewSetting) (capacity : ℕ) (deques : List TableId) (own : ℕ) (h : HandValue CrewSetting) → h ≡ new_hand k capacity deques own → IsDealtTo k 0 h
 new-dealt k capacity deques own h is = subst (IsDealtTo k 0) (sym is) (record { key = refl; given = nothing-given (length deques) own })
 
+-- what hands may give where the first may give all tickets
+pub capacities-count : (workers tickets : ℕ) → length (capacities_for workers tickets) ≡ workers
+capacities-count workers tickets = length-set (replicate workers 0) 0 tickets ∙ length-replicate {A = ℕ} workers 0
+
+first-capacity : (workers tickets : ℕ) → 0 < workers → get_or (capacities_for workers tickets) 0 0 ≡ tickets
+first-capacity zero tickets more = absurd (omega (arith, more))
+first-capacity (suc n) tickets more = refl
+
+none-above : (n k d : ℕ) → k < n → ◌≡◌ {A = ℕ} (get_or (replicate n 0) k d) 0
+none-above zero k d low = absurd (omega (arith, low))
+none-above (suc n) zero d low = refl
+none-above (suc n) (suc k) d low = none-above n k d (omega (arith, low))
+
+pub capacities-low : (workers tickets : ℕ) → tickets ≤ 8192 → All (λ c. c ≤ 8192) (capacities_for workers tickets)
+capacities-low zero tickets few k d low = absurd (omega (arith, low))
+capacities-low (suc n) tickets few zero d low = few
+capacities-low (suc n) tickets few (suc k) d low = let size = length-replicate {A = ℕ} n 0 in let e = none-above n k d (omega (arith, low, size)) in omega (arith, e)
+
+-- there is a hand for each worker
+pub hands-count : (k : CrewSetting) (capacity workers : ℕ) (hands : List (HandValue CrewSetting)) → AreNewHands k (capacities_for workers capacity) hands → length hands ≡ workers
+hands-count k capacity workers hands new = new.count ∙ capacities-count workers capacity
+
 -- the first hand has all tickets, and the others have none
-pub all-dealt : (k : CrewSetting) (capacity workers tickets : ℕ) (hands : List (HandValue CrewSetting)) (first : HandValue CrewSetting) → AreNewHands k capacity workers hands → IsDealtTo k tickets first → AreDealt k tickets 0 (set hands 0 first)
+pub all-dealt : (k : CrewSetting) (capacity workers tickets : ℕ) (hands : List (HandValue CrewSetting)) (first : HandValue CrewSetting) → AreNewHands k (capacities_for workers capacity) hands → IsDealtTo k tickets first → AreDealt k tickets 0 (set hands 0 first)
 all-dealt k capacity workers tickets hands first new deal = λ i h at. ⊎_elim
     (λ (t : (i ≡ 0) × (first ≡ h)). subst (λ (y : ℕ × HandValue CrewSetting). IsDealtTo k (dealt tickets (0 + y.0)) y.1) (λ j. (sym t.0 j, t.1 j)) deal)
-    (λ (t : (i ≢ 0) × (get_elem? hands i ≡ some h)). other i h t.0 (new-dealt k capacity new.deques i h (new.each i h t.1)))
+    (λ (t : (i ≢ 0) × (get_elem? hands i ≡ some h)). other i h t.0 (new-dealt k (get_or (capacities_for workers capacity) i 0) new.deques i h (new.each i h t.1)))
     (at_set hands 0 i first h at)
   where
     other : (i : ℕ) (h : HandValue CrewSetting) → i ≢ 0 → IsDealtTo k 0 h → IsDealtTo k (dealt tickets (0 + i)) h
@@ -90,11 +112,11 @@ pub record CanTakeAll (k : CrewSetting) (capacity : ℕ) (h : HandValue CrewSett
   pub own : h.own < length h.given
   pub given : get_or h.given h.own 0 ≡ 0
 
-pub first-hand : (k : CrewSetting) (capacity workers : ℕ) (hands : List (HandValue CrewSetting)) (h : HandValue CrewSetting) → AreNewHands k capacity workers hands → 0 < workers → get_elem? hands 0 ≡ some h → CanTakeAll k capacity h
+pub first-hand : (k : CrewSetting) (capacity workers : ℕ) (hands : List (HandValue CrewSetting)) (h : HandValue CrewSetting) → AreNewHands k (capacities_for workers capacity) hands → 0 < workers → get_elem? hands 0 ≡ some h → CanTakeAll k capacity h
 first-hand k capacity workers hands h new more at = subst (CanTakeAll k capacity) (sym (new.each 0 h at)) (record {
   key = refl;
-  capacity_is = refl;
-  own = (let n = new.size in omega (arith, more, n, length-replicate {A = ℕ} (length new.deques) 0));
+  capacity_is = first-capacity workers capacity more;
+  own = (let n = new.size ∙ capacities-count workers capacity in omega (arith, more, n, length-replicate {A = ℕ} (length new.deques) 0));
   given = nothing-given (length new.deques) 0;
 })
 

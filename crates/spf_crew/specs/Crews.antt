@@ -1,5 +1,5 @@
 -- The mates of a crew.
-use Rattle.std.specs.Prelude.{◌≡◌, ℕ, zero, suc, ◌+◌, true, false, List, length, slice_index}
+use Rattle.std.specs.Prelude.{◌≡◌, ℕ, zero, suc, ◌+◌, true, false, List, length, replicate, slice_index, slice_set}
 use mathlib.Core.Option.{some}
 use lib.ListN.{get_elem?}
 use Rattle.spf_pool.specs.Hands.{HandValue}
@@ -33,6 +33,10 @@ pub record AreAllMates (c : CrewValue) (mates : List MateValue) : Type 0 where
 abbrev pub dealt : ℕ → ℕ → ℕ
 dealt tickets zero = tickets
 dealt tickets (suc i) = 0
+
+-- so many tickets may be given by the first of so many hands, and none by the others
+abbrev pub capacities_for : ℕ → ℕ → List ℕ
+capacities_for workers tickets = slice_set (replicate workers 0) 0 tickets
 
 -- a hand of this crew whose own deque was given so many tickets
 pub record IsDealtTo (k : CrewSetting) (tickets : ℕ) (h : HandValue CrewSetting) : Type 0 where

@@ -8,7 +8,7 @@ ghost use Rattle.spf_pool.specs.Hands.{after_giving};
 ghost use Rattle.spf_pool.specs.Made.{AreNewHands};
 ghost use Rattle.spf_crew.specs.Tickets.{IsFreshOf};
 ghost use Rattle.spf_crew.specs.Values.{setting_of};
-ghost use Rattle.spf_crew.specs.Crews.{AreAllMates, AreNewMates, IsDealtTo};
+ghost use Rattle.spf_crew.specs.Crews.{AreAllMates, AreNewMates, IsDealtTo, capacities_for};
 
 use crate::crew::Crew;
 use crate::mate::Mate;
@@ -22,7 +22,7 @@ use spf_pool::pool::Pool;
 use spf_ticket::ticket::Ticket;
 use std::alloc::{AllocError, Global};
 
-// The hands of a pool, each of which may give so many tickets.
+// The hands of a pool. The first may give so many tickets, and the others none.
 fn hands_of(
     alloc: Global,
     chain: &Chain,
@@ -32,10 +32,13 @@ fn hands_of(
     requires workers { (0 < workers) × (workers ≤ max_workers) }
     requires capacity { capacity ≤ max_capacity }
     ensures { IfOk result
-        (λ v. AreNewHands (setting_of chain.now workers) capacity workers v.items) }
+        (λ v. AreNewHands (setting_of chain.now workers) (capacities_for workers capacity)
+        v.items) }
 {
     let key = key_of(chain, workers);
-    Pool::make::<Ticket, CrewSetting>(alloc, &key, workers, capacity)
+    let mut capacities = Vec::from_elem(alloc, 0, workers as usize)?;
+    capacities[0] = capacity;
+    Pool::make::<Ticket, CrewSetting>(alloc, &key, capacities.as_slice())
 }
 
 // A ticket goes to the back of the hand's own deque.
@@ -65,8 +68,8 @@ fn give_all(hand: &mut Hand<Ticket, CrewSetting>, tickets: Vec<Ticket>)
 
 impl Crew {
     /// A crew of 1 to 64 mates over a chain that has just started, with its cells and its tickets.
-    /// All tickets go into the first mate's deque, in their order, and the chain into its slot. All
-    /// memory of the crew is taken here.
+    /// All tickets go into the first mate's deque, in their order, and the chain into its slot. The
+    /// other mates' deques have room for none. All memory of the crew is taken here.
     ///
     /// # Errors
     ///

@@ -1,5 +1,6 @@
 //! A pool is made, with its hands.
-ghost use Rattle.std.specs.Prelude.{◌≡◌, ◌+◌, ◌<◌, ◌≤◌, true, false, length, map, replicate, IfOk};
+ghost use Rattle.std.specs.Prelude.{◌≡◌, ◌+◌, ◌<◌, ◌≤◌, true, false, [], ◌∷◌, length, map, IfOk};
+ghost use Rattle.std.specs.List.{All};
 ghost use Rattle.spf_pool.specs.Limits.{max_capacity};
 ghost use Rattle.spf_ast_lemmas.specs.Limits.{max_workers};
 ghost use mathlib.Core.Option.{some};
@@ -8,7 +9,7 @@ ghost use Rattle.spf_pool.specs.Ends.{EndValue};
 ghost use Rattle.spf_pool.specs.Counter.{ledger_of};
 ghost use Rattle.spf_pool.specs.Deque.{tag_of};
 ghost use Rattle.spf_pool.specs.Made.{new_end, new_hand, as_guest, AreOpen, AreNewEnds, AreRows};
-ghost use Rattle.spf_pool.specs.Made.{IsLoneHand, AreNewHands};
+ghost use Rattle.spf_pool.specs.Made.{IsLoneHand, AreNewHands, capacities_of};
 
 use crate::counter::Counter;
 use crate::end::End;
@@ -60,16 +61,15 @@ fn deck<T: Item<K>, K>(
 fn decks<T: Item<K>, K>(
     alloc: Global,
     key: &GhostKey<K>,
-    workers: u64,
-    capacity: u64,
+    capacities: &[u64],
 ) -> Result<Vec<End<T, K>>, AllocError>
-    requires { capacity ≤ max_capacity }
-    ensures { IfOk result
-        (λ v. (length v.items ≡ workers) × AreNewEnds key.now.value capacity true v.items) }
+    requires { All (λ c. c ≤ max_capacity) capacities.now }
+    ensures { IfOk result (λ v. (capacities_of v.items ≡ capacities.now)
+        × AreNewEnds key.now.value true v.items) }
 {
     let mut owners = Vec::new(alloc);
-    for _ in 0..workers {
-        let mut owner = deck::<T, K>(alloc, key, capacity)?;
+    for capacity in capacities {
+        let mut owner = deck::<T, K>(alloc, key, *capacity)?;
         owner.open();
         owners.push(owner)?;
     }
@@ -77,6 +77,12 @@ fn decks<T: Item<K>, K>(
 }
 
 impl<T: Item<K>, K> End<T, K> {
+    fn capacity(&self) -> u64
+        ensures { result ≡ self.now.capacity }
+    {
+        self.capacity
+    }
+
     // From now on other hands may have ends of the deque.
     fn open(&mut self)
         requires { self.old.owner ≡ true }
@@ -125,15 +131,16 @@ fn hand_of<T: Item<K>, K>(
     owner: End<T, K>,
     mut ends: Vec<End<T, K>>,
     own: usize,
-    capacity: u64,
 ) -> Hand<T, K>
     requires size { (own < length ends.items) × (1 < length ends.items)
-        × (capacity ≤ max_capacity) }
-    requires owner { owner ≡ new_end key.now.value owner.deque capacity true false }
-    requires ends { AreNewEnds key.now.value capacity false ends.items }
+        × (owner.capacity ≤ max_capacity) }
+    requires owner { owner ≡ new_end key.now.value owner.deque owner.capacity true false }
+    requires ends { AreNewEnds key.now.value false ends.items }
     requires same { (e : EndValue K) → get_elem? ends.items own ≡ some e → owner.deque ≡ e.deque }
-    ensures { result ≡ new_hand key.now.value capacity (map (λ e. e.deque) ends.items) own }
+    ensures { result
+        ≡ new_hand key.now.value owner.capacity (map (λ e. e.deque) ends.items) own }
 {
+    let capacity = owner.capacity();
     ends[own] = owner;
     Hand {
         key: key.again(),
@@ -148,7 +155,7 @@ fn hand_of<T: Item<K>, K>(
 fn rows<T: Item<K>, K>(
     alloc: Global,
     owners: &mut [End<T, K>],
-    workers: u64,
+    workers: usize,
 ) -> Result<Vec<Vec<End<T, K>>>, AllocError>
     requires { AreOpen owners.old }
     ensures same { owners.new ≡ owners.old }
@@ -167,19 +174,18 @@ fn hands_of<T: Item<K>, K>(
     key: &GhostKey<K>,
     owners: Vec<End<T, K>>,
     mut rows: Vec<Vec<End<T, K>>>,
-    capacity: u64,
 ) -> Result<Vec<Hand<T, K>>, AllocError>
-    requires size { (1 < length owners.items) × (length rows.items ≡ length owners.items)
-        × (capacity ≤ max_capacity) }
-    requires owners { AreNewEnds key.now.value capacity true owners.items }
+    requires size { (1 < length owners.items) × (length rows.items ≡ length owners.items) }
+    requires capacities { All (λ c. c ≤ max_capacity) (capacities_of owners.items) }
+    requires owners { AreNewEnds key.now.value true owners.items }
     requires rows { AreRows owners.items rows.items }
-    ensures { IfOk result (λ v. AreNewHands key.now.value capacity (length owners.items) v.items) }
+    ensures { IfOk result (λ v. AreNewHands key.now.value (capacities_of owners.items) v.items) }
 {
     let mut hands = Vec::new(alloc);
     for owner in owners {
         let ends = rows.pop().unwrap();
         let own = hands.len();
-        hands.push(hand_of(key, owner, ends, own, capacity))?;
+        hands.push(hand_of(key, owner, ends, own))?;
     }
     Ok(hands)
 }
@@ -188,16 +194,15 @@ fn hands_of<T: Item<K>, K>(
 fn many<T: Item<K>, K>(
     alloc: Global,
     key: &GhostKey<K>,
-    workers: u64,
-    capacity: u64,
+    capacities: &[u64],
 ) -> Result<Vec<Hand<T, K>>, AllocError>
-    requires workers { 1 < workers }
-    requires capacity { capacity ≤ max_capacity }
-    ensures { IfOk result (λ v. AreNewHands key.now.value capacity workers v.items) }
+    requires size { 1 < length capacities.now }
+    requires capacities { All (λ c. c ≤ max_capacity) capacities.now }
+    ensures { IfOk result (λ v. AreNewHands key.now.value capacities.now v.items) }
 {
-    let mut owners = decks::<T, K>(alloc, key, workers, capacity)?;
-    let rows = rows(alloc, owners.as_mut_slice(), workers)?;
-    hands_of(alloc, key, owners, rows, capacity)
+    let mut owners = decks::<T, K>(alloc, key, capacities)?;
+    let rows = rows(alloc, owners.as_mut_slice(), capacities.len())?;
+    hands_of(alloc, key, owners, rows)
 }
 
 // The only hand.
@@ -227,7 +232,7 @@ fn one<T: Item<K>, K>(
     capacity: u64,
 ) -> Result<Vec<Hand<T, K>>, AllocError>
     requires { capacity ≤ max_capacity }
-    ensures { IfOk result (λ v. AreNewHands key.now.value capacity 1 v.items) }
+    ensures { IfOk result (λ v. AreNewHands key.now.value (capacity ∷ []) v.items) }
 {
     let mut hands = Vec::new(alloc);
     hands.push(alone(alloc, key, capacity)?)?;
@@ -238,10 +243,10 @@ fn one<T: Item<K>, K>(
 pub struct Pool;
 
 impl Pool {
-    /// The hands of a new pool, one for each of 1 to 64 workers. Each has a deque of its own, to
-    /// which it can give `capacity` items, at most 8,192, and takes from all deques. Nothing is
-    /// given yet. Contracts compare items with the key's value. All memory of the pool is taken
-    /// here.
+    /// The hands of a new pool, one for each of 1 to 64 capacities. A hand can give as many items
+    /// as its capacity says, at most 8,192, to a deque of its own, and takes from all deques.
+    /// Nothing is given yet. Contracts compare items with the key's value. All memory of the pool
+    /// is taken here.
     ///
     /// # Errors
     ///
@@ -249,16 +254,15 @@ impl Pool {
     pub fn make<T: Item<K>, K>(
         alloc: Global,
         key: &GhostKey<K>,
-        workers: u64,
-        capacity: u64,
+        capacities: &[u64],
     ) -> Result<Vec<Hand<T, K>>, AllocError>
-        requires workers { (0 < workers) × (workers ≤ max_workers) }
-        requires capacity { capacity ≤ max_capacity }
-        ensures made { IfOk result (λ v. AreNewHands key.now.value capacity workers v.items) }
+        requires workers { (0 < length capacities.now) × (length capacities.now ≤ max_workers) }
+        requires capacities { All (λ c. c ≤ max_capacity) capacities.now }
+        ensures made { IfOk result (λ v. AreNewHands key.now.value capacities.now v.items) }
     {
-        if workers == 1 {
-            return one(alloc, key, capacity);
+        if capacities.len() == 1 {
+            return one(alloc, key, capacities[0]);
         }
-        many(alloc, key, workers, capacity)
+        many(alloc, key, capacities)
     }
 }

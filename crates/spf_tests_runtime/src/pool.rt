@@ -1,6 +1,7 @@
 //! One hand, two in turn, and four in threads, where all items were given by one, and where each
 //! gives its own.
-ghost use Rattle.std.specs.Prelude.{◌<◌, ◌≤◌};
+ghost use Rattle.std.specs.Prelude.{◌<◌, ◌≤◌, length};
+ghost use Rattle.std.specs.List.{All};
 ghost use Rattle.spf_pool.specs.Limits.{max_capacity};
 ghost use Rattle.spf_ast_lemmas.specs.Limits.{max_workers};
 
@@ -33,12 +34,12 @@ struct Busy {
     sum: u64,
 }
 
-fn hands(alloc: Global, workers: u64, capacity: u64) -> Result<Vec<Busy>, AllocError>
-    requires workers { (0 < workers) × (workers ≤ max_workers) }
-    requires capacity { capacity ≤ max_capacity }
+fn hands(alloc: Global, capacities: &[u64]) -> Result<Vec<Busy>, AllocError>
+    requires workers { (0 < length capacities.now) × (length capacities.now ≤ max_workers) }
+    requires capacities { All (λ c. c ≤ max_capacity) capacities.now }
 {
     let key: GhostKey<()> = ghost_key::<()>();
-    let hands = Pool::make::<Numbered, ()>(alloc, &key, workers, capacity)?;
+    let hands = Pool::make::<Numbered, ()>(alloc, &key, capacities)?;
     let mut all = Vec::new(alloc);
     for hand in hands {
         all.push(Busy {
@@ -94,14 +95,13 @@ fn answer(all: &mut [Busy], call: Call) -> u64 {
 /// new pool are called one after another.
 fn first_wrong(
     alloc: Global,
-    workers: u64,
-    capacity: u64,
+    capacities: &[u64],
     calls: &[(Call, u64)],
 ) -> Result<Option<(usize, u64)>, AllocError>
-    requires workers { (0 < workers) × (workers ≤ max_workers) }
-    requires capacity { capacity ≤ max_capacity }
+    requires workers { (0 < length capacities.now) × (length capacities.now ≤ max_workers) }
+    requires capacities { All (λ c. c ≤ max_capacity) capacities.now }
 {
-    let mut all = hands(alloc, workers, capacity)?;
+    let mut all = hands(alloc, capacities)?;
     for (place, (call, wanted)) in calls.iter().enumerate() {
         let found = answer(&mut all, *call);
         if found != *wanted {
@@ -175,15 +175,18 @@ fn totals(all: &[Busy]) -> (u64, u64) {
 /// next.
 type Left = (usize, (u64, u64), [(u64, u64); 4]);
 
-/// What four threads leave, where the first hand gave so many items before, and each hand gives so
-/// many.
+/// What four threads leave, whose hands have these capacities, where the first hand gave so many
+/// items before, and each hand gives so many.
 fn in_four<R: Threads + Sync>(
     rt: &R,
     alloc: Global,
+    capacities: [u64; 4],
     by_first: u64,
     by_each: u64,
-) -> Result<Left, AllocError> {
-    let mut all = hands(alloc, 4, 8192)?;
+) -> Result<Left, AllocError>
+    requires { All (λ c. c ≤ max_capacity) capacities }
+{
+    let mut all = hands(alloc, &capacities)?;
     if let Some(first) = all.first_mut() {
         give_below(first, by_first);
     }
@@ -211,8 +214,9 @@ fn hands_answer_in_turn(rt: HostRuntime) {
         (Call::Give(0, 5), 5),
         (Call::Next(1), 3000),
     ];
-    // a thief takes the oldest item
+    // a thief takes the oldest item, and can give none
     let thief = [
+        (Call::Give(1, 71), 71),
         (Call::Give(0, 1), 0),
         (Call::Give(0, 2), 0),
         (Call::Give(0, 3), 0),
@@ -224,13 +228,15 @@ fn hands_answer_in_turn(rt: HostRuntime) {
         (Call::Give(0, 5), 5),
         (Call::Next(2), 3000),
     ];
-    // the own deque comes first
+    // the own deque comes first, and each has a capacity of its own
     let own_first = [
         (Call::Next(1), 1000),
         (Call::Give(0, 1), 0),
         (Call::Give(1, 71), 0),
         (Call::Give(0, 2), 0),
+        (Call::Give(0, 3), 3),
         (Call::Give(1, 72), 0),
+        (Call::Give(2, 91), 91),
         (Call::Next(1), 71),
         (Call::Next(0), 1),
         (Call::Next(2), 2),
@@ -241,9 +247,9 @@ fn hands_answer_in_turn(rt: HostRuntime) {
     ];
     assert_eq!(rt;
         [
-            first_wrong(alloc, 1, 3, &alone),
-            first_wrong(alloc, 2, 3, &thief),
-            first_wrong(alloc, 3, 8, &own_first),
+            first_wrong(alloc, &[3], &alone),
+            first_wrong(alloc, &[3, 0], &thief),
+            first_wrong(alloc, &[2, 3, 0], &own_first),
         ],
         [Ok(None), Ok(None), Ok(None)]
     );
@@ -254,10 +260,10 @@ fn four_threads_take_each_item_once(rt: HostRuntime) {
     let alloc = rt.alloc();
     assert_eq!(rt;
         [
-            // the items of one deque
-            in_four(&rt, alloc, 8192, 0),
+            // the items of one deque; the other hands can give none
+            in_four(&rt, alloc, [8192, 0, 0, 0], 8192, 0),
             // each gives and takes; the last 8 items of each come back to it
-            in_four(&rt, alloc, 0, 8200),
+            in_four(&rt, alloc, [8192; 4], 0, 8200),
         ],
         [
             Ok((4, (8192, 8192 * 8191 / 2), [(0, 1000); 4])),

@@ -1,7 +1,7 @@
-use Rattle.std.proofs.Common.{◌≡◌, true, length}
-use Rattle.spf_pool.specs.Made.{AreNewEnds}
+use Rattle.std.proofs.Common.{◌≡◌, true, take}
+use Rattle.spf_pool.specs.Made.{AreNewEnds, capacities_of}
 use Rattle.spf_pool.proofs.pool.decks.Given as goal
 
--- so many decks so far
-abbrev pub invariant-loop : goal.invariant-loop
-invariant-loop g l = (length l.owners.items ≡ l.counter) × AreNewEnds l.key.value l.fn.capacity true l.owners.items
+-- a deck for each capacity so far
+abbrev pub invariant-loop-capacity : goal.invariant-loop-capacity
+invariant-loop-capacity g l = (capacities_of l.owners.items ≡ take l.capacity-index l.capacities) × AreNewEnds l.key.value true l.owners.items

@@ -1,13 +1,13 @@
-use Rattle.std.proofs.Common.{◌≡◌, ℕ, ◌+◌, ◌<◌, false, List, [], ◌∷◌, ◌++◌, length, length-append, append_assoc, map, refl, sym, ap, ◌∙◌, subst, arith, option_to_list}
+use Rattle.std.proofs.Common.{◌≡◌, ℕ, ◌+◌, ◌<◌, false, List, [], ◌∷◌, ◌++◌, length, length-append, append_assoc, map, get_or, refl, sym, ap, ◌∙◌, subst, arith, option_to_list}
 use Rattle.std.proofs.lemmas.List.{append-nil}
 use mathlib.Core.Option.{some}
 use lib.ListN.{get_elem?, length-map}
 use Rattle.atomic_table.proofs.Lists.{at_last, at_longer}
 use Rattle.spf_pool.specs.Ends.{EndValue}
 use Rattle.spf_pool.specs.Hands.{HandValue}
-use Rattle.spf_pool.specs.Made.{new_hand, as_guest, AreNewEnds}
+use Rattle.spf_pool.specs.Made.{new_hand, as_guest, AreNewEnds, capacities_of}
 use Rattle.spf_pool.proofs.Hands.{deques_of}
-use Rattle.spf_pool.proofs.Made.{at_next, numbered-snoc, guests_of, same_deque, guest_deques}
+use Rattle.spf_pool.proofs.Made.{at_next, numbered-snoc, guests_of, same_deque, guest_deques, capacity_at, capacity_low}
 use Rattle.spf_pool.proofs.pool.hands_of.Goals as goal
 
 no-rest : {A : Type 0} (n : ℕ) (l : List A) → n ≡ 0 → n ≡ length l → l ≡ []
@@ -55,10 +55,10 @@ hand_of-requires g c =
     let two = c.requires.size.0 in
     let here : get_elem? owners c.len-own.result ≡ some c.in-Some.owner = ap (get_elem? owners) own ∙ n.at in
     record {
-      size = (omega (arith, long, own, size), omega (arith, long, two), c.requires.size.2);
+      size = (omega (arith, long, own, size), omega (arith, long, two), capacity_low owners c.len-own.result c.in-Some.owner c.requires.capacities here (omega (arith, own, size)));
       owner = c.requires.owners c.len-own.result c.in-Some.owner here;
-      ends = subst (AreNewEnds c.args.key.now.value c.args.capacity false) (sym is) (guests_of c.args.key.now.value c.args.capacity owners c.requires.owners);
-      same = λ e there. same_deque c.args.key.now.value c.args.capacity c.len-own.result owners c.in-Some.owner e c.requires.owners here (ap (λ l. get_elem? l c.len-own.result) (sym is) ∙ there);
+      ends = subst (AreNewEnds c.args.key.now.value false) (sym is) (guests_of c.args.key.now.value owners c.requires.owners);
+      same = λ e there. same_deque c.args.key.now.value c.len-own.result owners c.in-Some.owner e c.requires.owners here (ap (λ l. get_elem? l c.len-own.result) (sym is) ∙ there);
     }
 
 pub loop-owner-init : goal.loop-owner-init
@@ -88,8 +88,10 @@ loop-owner-preserved g c =
     let fewer : length c.loop-owner.rows.items ≡ length c.pop.new.self.items + 1 = ap length rows ∙ length-append c.pop.new.self.items (c.unwrap-ends.result ∷ []) in
     let h : HandValue K = c.hand_of.result in
     let own : c.len-own.result ≡ length c.loop-owner.hands.items = c.len-own.ensures ∙ c.loop-owner.hands.ok.0 in
-    let made : h ≡ new_hand c.args.key.now.value c.args.capacity (deques_of owners) (length c.loop-owner.hands.items) =
-    c.hand_of.ensures ∙ (λ t. new_hand c.args.key.now.value c.args.capacity ((ap deques_of is ∙ guest_deques owners) t) (own t)) in
+    let all : owners ≡ c.loop-owner.yielded ++ c.in-Some.owner ∷ c.next.new.self.rest.items = all-left _ _ _ _ _ _ c.into_iter-owner-iterator.ensures.into_iter_gives.0 i.left steps.0 in
+    let here : get_elem? owners (length c.loop-owner.hands.items) ≡ some c.in-Some.owner = ap (get_elem? owners) i.made ∙ (next-owner owners c.loop-owner.yielded c.next.new.self.rest.items c.in-Some.owner all).at in
+    let made : h ≡ new_hand c.args.key.now.value (get_or (capacities_of owners) (length c.loop-owner.hands.items) 0) (deques_of owners) (length c.loop-owner.hands.items) =
+    c.hand_of.ensures ∙ (λ t. new_hand c.args.key.now.value (sym (capacity_at owners (length c.loop-owner.hands.items) c.in-Some.owner here) t) ((ap deques_of is ∙ guest_deques owners) t) (own t)) in
     let grown : c.push.new.self.items ≡ c.loop-owner.hands.items ++ h ∷ [] = c.in_ok-push.ensures.items in
     let longer : length c.push.new.self.items ≡ length c.loop-owner.hands.items + 1 = ap length grown ∙ length-append c.loop-owner.hands.items (h ∷ []) in
     let more : length (c.loop-owner.yielded ++ c.in-Some.owner ∷ []) ≡ length c.loop-owner.yielded + 1 = length-append c.loop-owner.yielded (c.in-Some.owner ∷ []) in
@@ -103,7 +105,7 @@ loop-owner-preserved g c =
       rows = λ j v e. i.rows j v (ap (λ l. get_elem? l j) rows ∙ at_longer c.pop.new.self.items (c.unwrap-ends.result ∷ []) j v e);
       count = omega (arith, fewer, more, count);
       made = omega (arith, longer, more, same);
-      hands = λ j x e. numbered-snoc (λ n (y : HandValue K). y ≡ new_hand c.args.key.now.value c.args.capacity (deques_of owners) n) c.loop-owner.hands.items h i.hands made j x (ap (λ (l : List (HandValue K)). get_elem? l j) (sym grown) ∙ e);
+      hands = λ j x e. numbered-snoc (λ n (y : HandValue K). y ≡ new_hand c.args.key.now.value (get_or (capacities_of owners) n 0) (deques_of owners) n) c.loop-owner.hands.items h i.hands made j x (ap (λ (l : List (HandValue K)). get_elem? l j) (sym grown) ∙ e);
     }
 
 pub returns : goal.returns
@@ -115,7 +117,7 @@ returns g c =
     let all : c.loop-owner.yielded ≡ owners = sym (sym c.into_iter-owner-iterator.ensures.into_iter_gives.0 ∙ (i.left ∙ (ap (λ (x : List (EndValue K)). c.loop-owner.yielded ++ x) none ∙ append-nil c.loop-owner.yielded))) in
     record {
       deques = deques_of owners;
-      size = length-map owners (λ (e : EndValue K). e.deque);
-      count = i.made ∙ ap length all;
+      size = length-map owners (λ (e : EndValue K). e.deque) ∙ sym (length-map owners (λ (e : EndValue K). e.capacity));
+      count = i.made ∙ (ap length all ∙ sym (length-map owners (λ (e : EndValue K). e.capacity)));
       each = i.hands;
     }

@@ -1,8 +1,8 @@
-use Rattle.std.proofs.Common.{◌≡◌, ◌+◌, ◌++◌, ℕ, length}
+use Rattle.std.proofs.Common.{◌≡◌, ◌+◌, ◌++◌, ℕ, length, get_or}
 use mathlib.Core.Option.{some}
 use lib.ListN.{get_elem?}
 use Rattle.spf_pool.specs.Hands.{HandValue}
-use Rattle.spf_pool.specs.Made.{AreRows, new_hand}
+use Rattle.spf_pool.specs.Made.{AreRows, new_hand, capacities_of}
 use Rattle.spf_pool.proofs.Hands.{deques_of}
 use Rattle.spf_pool.proofs.pool.hands_of.Given as goal
 
@@ -16,5 +16,5 @@ invariant-loop-owner g l = record {
   rows : AreRows l.fn.owners.items l.rows.items;
   count : length l.rows.items + length l.yielded ≡ length l.fn.owners.items;
   made : length l.hands.items ≡ length l.yielded;
-  hands : (i : ℕ) (h : HandValue g.row.K.Denot) → get_elem? l.hands.items i ≡ some h → h ≡ new_hand l.key.value l.capacity (deques_of l.fn.owners.items) i;
+  hands : (i : ℕ) (h : HandValue g.row.K.Denot) → get_elem? l.hands.items i ≡ some h → h ≡ new_hand l.key.value (get_or (capacities_of l.fn.owners.items) i 0) (deques_of l.fn.owners.items) i;
 }

@@ -10,10 +10,10 @@ use Rattle.spf_pool.specs.Made.{AreNewHands}
 use Rattle.spf_ticket.specs.Tickets.{IsFresh}
 use Rattle.spf_ticket.specs.declared.ticket.Ticket.{Ticket}
 use Rattle.spf_crew.specs.declared.view.CrewSetting.{CrewSetting}
-use Rattle.spf_crew.specs.Crews.{AreDealt, IsDealtTo, AreNewMates}
+use Rattle.spf_crew.specs.Crews.{capacities_for, AreDealt, IsDealtTo, AreNewMates}
 use Rattle.spf_crew.specs.Tickets.{IsFreshOf}
 use Rattle.spf_crew.specs.Values.{setting_of}
-use Rattle.spf_crew.proofs.Crews.{first_of, first-hand, all-dealt, CanTakeAll}
+use Rattle.spf_crew.proofs.Crews.{first_of, first-hand, hands-count, all-dealt, CanTakeAll}
 use Rattle.spf_crew.proofs.crew.Crew.make.Goals as goal
 
 -- all tickets of a chain that has just started are fresh ones of its crew
@@ -27,8 +27,8 @@ few c cells tickets n s is = let f = s.ground.few in let count = s.count in omeg
 pub hands_of-requires-clause-capacity : goal.hands_of-requires-clause-capacity
 hands_of-requires-clause-capacity c = few c.args.chain c.args.cells c.args.tickets.items c.len-count.result c.requires.started (c.len-count.ensures ∙ c.args.tickets.ok.0)
 
-first : (k : CrewSetting) (capacity workers : ℕ) (hands : List (HandValue CrewSetting)) (h : HandValue CrewSetting) → AreNewHands k capacity workers hands → 0 < workers → h ≡ get_or hands 0 h → CanTakeAll k capacity h
-first k capacity workers hands h new more is = first-hand k capacity workers hands h new more (first_of hands h (let n = new.count in omega (arith, n, more)) is)
+first : (k : CrewSetting) (capacity workers : ℕ) (hands : List (HandValue CrewSetting)) (h : HandValue CrewSetting) → AreNewHands k (capacities_for workers capacity) hands → 0 < workers → h ≡ get_or hands 0 h → CanTakeAll k capacity h
+first k capacity workers hands h new more is = first-hand k capacity workers hands h new more (first_of hands h (let n = hands-count k capacity workers hands new in omega (arith, n, more)) is)
 
 pub give_all-requires : goal.give_all-requires
 give_all-requires c =
@@ -61,7 +61,7 @@ enlist_all-requires c =
     record {
       new = c.in_ok-crew.ensures.place;
       hands = subst (λ x. AreDealt x c.len-count.result 0 (set c.in_ok-hands.hands.items 0 c.give_all.new.hand)) (sym c.in_ok-crew.ensures.setting) dealt;
-      count = sized c.args.workers c.in_ok-crew.crew.setting.mates c.in_ok-hands.hands.items (set c.in_ok-hands.hands.items 0 c.give_all.new.hand) c.requires.workers.0 c.in_ok-hands.ensures.count
+      count = sized c.args.workers c.in_ok-crew.crew.setting.mates c.in_ok-hands.hands.items (set c.in_ok-hands.hands.items 0 c.give_all.new.hand) c.requires.workers.0 (hands-count k c.len-count.result c.args.workers c.in_ok-hands.hands.items c.in_ok-hands.ensures)
           (ap (λ (x : CrewSetting). x.mates) c.in_ok-crew.ensures.setting) (length-set c.in_ok-hands.hands.items 0 c.give_all.new.hand);
     }
 
