@@ -14,6 +14,7 @@ use Rattle.std.specs.Prelude.{
   List,
   ◌++◌,
   length,
+  map,
   slice_get,
   slice_index,
   slice_set,
@@ -37,7 +38,8 @@ use Rattle.spf_chain.specs.declared.chain.Filed.TheVariants.{Rerun, Waiting, End
 use Rattle.spf_speculation_entry.specs.declared.site.Site.{Site}
 use Rattle.spf_speculation_entry.specs.Sites.{entry_at, guess_at}
 use Rattle.spf_ast.specs.Carried as carried
-use Rattle.spf_chain.specs.Homes.{known_in}
+use Rattle.spf_chain.specs.Homes.{known_in, log_in}
+use Rattle.spf_chain.specs.Standing.{StandsAt}
 
 -- the site, the warden, the reports that are home, whether the second attempt of the next block to be validated is
 -- out, the validated blocks, the real row of the next block or the trap of the last one, and how many reports were
@@ -136,11 +138,16 @@ came_home c r = record c {
 abbrev pub sent_again : ChainValue → ChainValue
 sent_again c = record c { homes = slice_set c.homes (next_block c) None; again = true }
 
+-- the validated blocks are a prefix of the plain run, at their real rows; it goes on with this row, or its last block trapped
+abbrev pub IsPrefix : ChainValue → Type 0
+IsPrefix c = StandsAt (entry_at c.site) (guess_at c.site) (log_in c.homes) (next_block c) (map (λ b. b.real) c.history) c.settled
+
 -- blocks that are home and were run at their real rows are validated in order, and no further block can be
 pub record Validates (before after : ChainValue) : Type 0 where
   pub same : after ≡ record before { history = after.history; settled = after.settled }
   pub more : List Validated
   pub grown : after.history ≡ before.history ++ more
+  pub prefix : IsPrefix after
   pub done : (v : carried.Carried) → after.settled ≡ Carried v → known_in v (slice_get after.homes (next_block after)) ≡ None
 
 -- the ticket runs the next block again, at its real row

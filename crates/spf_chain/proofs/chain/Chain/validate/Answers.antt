@@ -1,8 +1,8 @@
 use Rattle.std.proofs.Common.{◌≡◌, ◌∙◌, ◌≤◌, ◌++◌, arith, sym, ap, length, slice_get, subst}
 use Rattle.std.proofs.lemmas.List.{length-take-le}
 use Rattle.spf_speculation_entry.specs.Sites.{entry_at, guess_at}
-use Rattle.spf_chain.specs.Homes.{AreHomes, known_in}
-use Rattle.spf_chain.specs.Standing.{StandsOver, history_of}
+use Rattle.spf_chain.specs.Homes.{AreHomes, known_in, log_in}
+use Rattle.spf_chain.specs.Standing.{reals, StandsAt, StandsOver, history_of}
 use Rattle.spf_chain.specs.Chains.{ChainValue}
 use Rattle.spf_chain.specs.Kept.{cells_inside}
 use Rattle.spf_chain.proofs.Lists.{take-grown}
@@ -67,10 +67,16 @@ returns-clause-validates c =
     let size : length x.blocks.items ≡ length a.homes.items = c.advance.ensures.size ∙ ap length c.deref.ensures.value in
     let within : x.count ≤ length a.homes.items = subst (λ l. x.count ≤ length l) c.deref.ensures.value c.advance.ensures.within in
     let count : length (history_of x) ≡ x.count = length-take-le x.count x.blocks.items (omega (arith, size, within)) in
+    let e = entry_at a.site.value in
+    let g = guess_at a.site.value in
+    let homes : c.deref.result.now ≡ a.homes.items = c.deref.ensures.value in
+    let stands : StandsOver e g a.homes.items x =
+    subst (λ l. AreHomes e g (cells_inside a) l → StandsOver e g l a.validation → StandsOver e g l x) homes (c.advance.ensures.stands e g (cells_inside a) h.ground.entry) h.homes h.stands in
     record {
       same = ap (λ (w : ChainValue). let v : ChainValue = record w { history = history_of x; settled = x.settled } in v) c.self.view_is;
       more = more.0;
       grown = more.1 ∙ ap (λ (w : ChainValue). w.history ++ more.0) c.self.view_is;
+      prefix = subst (λ (n : ℕ). StandsAt e g (log_in a.homes.items) n (reals x.count x.blocks.items) x.settled) (sym count) stands.stands;
       done = λ v is. ap (λ n. known_in v (slice_get a.homes.items n)) count ∙ ap (λ l. known_in v (slice_get l x.count)) (sym c.deref.ensures.value) ∙ c.advance.ensures.done v is;
     }
 
