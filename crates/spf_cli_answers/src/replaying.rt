@@ -1,13 +1,8 @@
 // The answers of `sim` and `replay`: logs of runs.
 
-ghost use Rattle.std.specs.Prelude.{◌≡◌, ◌<◌, ◌≤◌, ◌++◌, length, map, None, IfOk, IfErr};
-ghost use Rattle.std.specs.Prelude.{IsErrAnd};
+ghost use Rattle.std.specs.Prelude.{◌≡◌, ◌<◌, ◌≤◌, ◌++◌, map, None, IfOk, IfErr};
 ghost use Rattle.spf_ast.specs.View.{program as seen_program};
-ghost use Rattle.spf_ast.specs.Construct.{constructs_in};
-ghost use Rattle.spf_ast.specs.Program.{seen_outcome, cell_count_of, max_cells};
-ghost use Rattle.spf_exec_instance.specs.Instance.{program_of};
-ghost use Rattle.spf_guess.specs.Missing.{missing_host};
-ghost use Rattle.spf_engine.specs.Errors.{AreTooMany, IsMissing};
+ghost use Rattle.spf_ast.specs.Program.{seen_outcome};
 ghost use Rattle.spf_replay_log.specs.Log.{IsLog, sections_of};
 ghost use Rattle.spf_replay_sim.specs.Bytes.{bytes_of};
 ghost use Rattle.spf_replay_sim.specs.Drawing.{AreOfFewBlocks};
@@ -31,14 +26,10 @@ use crate::answer::{
 use crate::message::{not_log_line, stats_line, steps_line, trap_line, verdict_line};
 use crate::status::Status;
 use spf_ast::outcome::Outcome;
-use spf_ast::syntax::Program;
 use spf_check::checked::Checked;
 use spf_edge::Files;
-use spf_engine::error::EngineError;
-use spf_engine::run::lay_out;
-use spf_exec_instance::instance::Instance;
+use spf_engine::run::set_up;
 use spf_guess::Predictor;
-use spf_guess::missing::first_missing;
 use spf_replay::verdict::Verdict;
 use spf_replay::{LogError, Step, read_log, write_log};
 use spf_replay_sim::{Simulated, simulate_instance};
@@ -47,33 +38,6 @@ use std::alloc::{AllocError, Global};
 
 /// How many bytes the file of a log may have.
 const MAX_LOG: u64 = 20_971_520;
-
-/// The instance of an accepted program that runs on an input, where so many hosts are supplied.
-fn set_up<'a>(
-    alloc: Global,
-    checked: &'a Checked,
-    input: &'a [u8],
-    hosts: u64,
-) -> Result<Instance<'a>, EngineError>
-    ensures program { IfOk result (λ i. program_of i ≡ seen_program checked.now) }
-    ensures input { IfOk result (λ i. i.input ≡ input.now) }
-    ensures few { IfOk result (λ i. cell_count_of (seen_program checked.now) (length input.now)
-        ≤ max_cells (seen_program checked.now)) }
-    ensures complete { IfOk result
-        (λ i. missing_host hosts (constructs_in (seen_program checked.now).main) ≡ None) }
-    ensures too_many { max_cells (seen_program checked.now)
-        < cell_count_of (seen_program checked.now) (length input.now) → IsErrAnd result
-        (AreTooMany (cell_count_of (seen_program checked.now) (length input.now))) }
-    ensures missing { cell_count_of (seen_program checked.now) (length input.now)
-        ≤ max_cells (seen_program checked.now) → IfErr result
-        (IsMissing (missing_host hosts (constructs_in (seen_program checked.now).main))) }
-{
-    let instance = lay_out(alloc, checked, input)?;
-    if let Some(number) = first_missing(checked.program(), hosts) {
-        return Err(EngineError::NoHost { number });
-    }
-    Ok(instance)
-}
 
 /// Adds the line of a run's trap, where it trapped, and gives the status of the run.
 fn push_trap(

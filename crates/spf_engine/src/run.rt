@@ -138,7 +138,7 @@ pub fn run_instance<R: Threads + Wait + Sync, G: Gate + Sync>(
 ///
 /// `TooManyCells` where the arrays have more cells than a run of the program's version may have, and
 /// `OutOfMemory`.
-pub fn lay_out<'a>(
+fn lay_out<'a>(
     alloc: Global,
     checked: &'a Checked,
     input: &'a [u8],
@@ -162,6 +162,39 @@ pub fn lay_out<'a>(
         Err(RunError::TooManyCells { count }) => Err(EngineError::TooManyCells { count }),
         Err(RunError::OutOfMemory) => Err(EngineError::OutOfMemory),
     }
+}
+
+/// The instance of an accepted program that runs on an input, where so many hosts are supplied.
+///
+/// # Errors
+///
+/// `TooManyCells` where the arrays have more cells than a run of the program's version may have;
+/// `NoHost` where the program names a host that isn't supplied; and `OutOfMemory`.
+pub fn set_up<'a>(
+    alloc: Global,
+    checked: &'a Checked,
+    input: &'a [u8],
+    hosts: u64,
+) -> Result<Instance<'a>, EngineError>
+    ensures program { IfOk result (λ i. program_of i ≡ seen_program checked.now) }
+    ensures input { IfOk result (λ i. i.input ≡ input.now) }
+    ensures few { IfOk result (λ i. cell_count_of (seen_program checked.now) (length input.now)
+        ≤ max_cells (seen_program checked.now)) }
+    ensures complete { IfOk result
+        (λ i. missing_host hosts (constructs_in (seen_program checked.now).main) ≡ None) }
+    ensures too_many { max_cells (seen_program checked.now)
+        < cell_count_of (seen_program checked.now) (length input.now)
+        → IsErrAnd result
+        (AreTooMany (cell_count_of (seen_program checked.now) (length input.now))) }
+    ensures missing { cell_count_of (seen_program checked.now) (length input.now)
+        ≤ max_cells (seen_program checked.now) → IfErr result
+        (IsMissing (missing_host hosts (constructs_in (seen_program checked.now).main))) }
+{
+    let instance = lay_out(alloc, checked, input)?;
+    if let Some(number) = first_missing(checked.program(), hosts) {
+        return Err(EngineError::NoHost { number });
+    }
+    Ok(instance)
 }
 
 /// Runs an accepted program on an input by blocks, each from its guess, and those again whose
@@ -228,10 +261,7 @@ pub fn run_whole<'a, R: Threads + Wait + Sync, G: Gate + Sync>(
     ensures bounded { IfOk result (λ r. AreAtMost r.1.stats most_counted) }
     ensures count { length hosts.new.items ≡ length hosts.old.items }
 {
-    let instance = lay_out(alloc, checked, input)?;
-    if let Some(number) = first_missing(checked.program(), hosts.len() as u64) {
-        return Err(EngineError::NoHost { number });
-    }
+    let instance = set_up(alloc, checked, input, hosts.len() as u64)?;
     let report = run_instance(rt, alloc, checked, &instance, workers, hosts, gate)?;
     Ok((instance, report))
 }
