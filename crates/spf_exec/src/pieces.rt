@@ -44,6 +44,7 @@ use spf_exec_memory::primitives::{are_too_many, block_count};
 use spf_exec_memory::quiet::Quiet;
 use std::alloc::{AllocError, Global};
 use std::marker::Model;
+use std::mem;
 
 /// A top construct whose header is done.
 #[derive(Clone, Copy, PartialEq, Eq, Debug)]
@@ -510,6 +511,15 @@ impl Run {
         ensures value { result.now ≡ self.old.cells }
     {
         self.memory.cells.as_mut_slice()
+    }
+
+    /// Exchanges the word of each cell for those of a vector, so that who settles a construct can
+    /// keep the cells in a memory of its own meanwhile.
+    pub fn swap_cells(&mut self, cells: &mut Vec<i64>)
+        ensures run { self.new ≡ record self.old { cells = cells.old.items } }
+        ensures cells { cells.new.items ≡ self.old.cells }
+    {
+        mem::swap(&mut self.memory.cells, cells);
     }
 
     /// Ends the run: its cells and what it emitted.

@@ -17,7 +17,9 @@ mod Again
 mod Recorded
 mod Prefixes
 mod Picking
-mod Restored
+pub mod Copies
+pub mod Planned
+pub mod Consistent
 mod Apart
 mod Pieces
 mod Growing

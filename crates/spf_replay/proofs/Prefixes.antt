@@ -21,7 +21,7 @@ use Rattle.spf_region.specs.declared.span.Span.{Span}
 use Rattle.spf_region.specs.Cells.{in_spans}
 use Rattle.spf_replay_log.specs.declared.log.Event as logged
 use Rattle.spf_replay.proofs.Performing.{is-decided, reads-all}
-use Rattle.spf_replay.specs.Recording.{InRecord, in_record, recorded, IsRecorded, FillsAt, RecordsAll, LeadsInRecord, IsFrontOf, AreEventsOf, IsRecordOf}
+use Rattle.spf_replay.specs.Recording.{InRecord, in_record, recorded, IsRecorded, FillsAt, RecordsAll, Shows, StoresWithin, LeadsInRecord, IsFrontOf, AreEventsOf, IsRecordOf}
 use Rattle.spf_replay.specs.Schedule.{piece, after_piece}
 
 -- the test was passed
@@ -187,11 +187,12 @@ fills-or-all : {A : Type 0} (cells : ℕ → Bool) (room : ℕ) (t : Interaction
 fills-or-all cells room t m es now true h con fills = (fills.size, front-recorded cells room t m es now h con fills)
 fills-or-all cells room t m es now false h con all = (all-recorded cells t m es now h con all).1
 
-pub recorded-so : (spans : List Span) (cells : List ℤ) (room : List logged.Event) (t : Interaction (Ending Carried)) (s : Stop) (es : List Event) (slots : List ℤ) (b : InRecord)
+pub recorded-so : (spans : List Span) (cells entry : List ℤ) (room : List logged.Event) (m : List ℤ) (t : Interaction (Ending Carried)) (s : Stop) (es : List Event) (slots : List ℤ) (b : InRecord)
     → (IsDecided (stop_result s) → (rest : List Event) → perform every_cell [] (Some 1) t (es ++ rest) ≡ performed_as (stop_result s) (state slots []) rest)
-    → LeadsInRecord es (in_record spans cells room 0 false) b
-    → IsRecordOf (on_cells (in_spans spans) (plain_events t cells)) (length room) b.full (recorded b)
-recorded-so spans cells room t s es slots b performed led =
+    → LeadsInRecord es (in_record spans cells entry room 0 false) b
+    → StoresWithin (in_spans spans) es → Shows (in_record spans cells entry room 0 false) m
+    → IsRecordOf (on_cells (in_spans spans) (plain_events t m)) (length room) b.full (recorded b)
+recorded-so spans cells entry room m t s es slots b performed led within shows =
     let ends : perform every_cell [] (Some 1) t es ≡ performed_as (stop_result s) (state slots []) [] =
     ap (perform every_cell [] (Some 1) t) (sym (append-nil es)) ∙ performed (is-decided s) [] in
-    fills-or-all (in_spans spans) (length room) t cells es (recorded b) b.full (subst HasReadAll (sym ends) (reads-all s slots)) led.consistent led.record_is
+    fills-or-all (in_spans spans) (length room) t m es (recorded b) b.full (subst HasReadAll (sym ends) (reads-all s slots)) (led.made m within shows).1 led.record_is

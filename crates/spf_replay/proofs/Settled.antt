@@ -1,19 +1,18 @@
 -- What becomes of the blocks when an attempt is filed.
 use Rattle.std.proofs.Common.{◌≡◌, ◌≢◌, ◌⊎◌, inl, inr, ℕ, zero, suc, ◌+◌, ◌-◌, ◌<◌, ◌≤◌, Bool, true, false, List, [], ◌∷◌, ◌++◌, Option, Some, None, length, map, get_or, take, drop, refl, append-nil, sym, ap, ◌∙◌, subst, arith}
-use Rattle.std.specs.Prelude.{if◌then◌else◌, ◌==◌, ◌&&◌, not, slice_get, slice_set}
+use Rattle.std.specs.Prelude.{if◌then◌else◌, ◌==◌, slice_get, slice_set}
 use Rattle.std.proofs.lemmas.Bool.Decides.{Decides-eqb}
 use Rattle.std.proofs.lemmas.Option.{slice_get-get_or, slice_get_within}
 use Rattle.spf_ast_lemmas.proofs.Members.{cases, some_is}
 use Rattle.spf_ast.specs.Carried.{Carried, same_carried}
 use Rattle.spf_ast.specs.Event.{Event}
-use Rattle.spf_speculation_entry.specs.Entry.{Entry, plain_blocks, begins_at}
-use Rattle.spf_speculation.specs.Steps.{log_of}
+use Rattle.spf_speculation_entry.specs.Entry.{Entry, begins_at}
 use Rattle.spf_speculation.proofs.Within.{alike, true-or-false}
 use Rattle.spf_speculation.proofs.Trees.{chose-true, chose-false}
 use Rattle.spf_replay.specs.declared.runner.Runner.{Runner}
 use Rattle.spf_replay.specs.Reading.{event_of}
 use Rattle.spf_replay.specs.Runners.{HasSeen, seen_by, status_of, IsRunner, IsBlockOf, AreBlocksOf, RunsAgainOnEntry, after_going_on}
-use Rattle.spf_replay.specs.Schedule.{attempt_events, Status, Running, Filed, Situation, is_running, is_valid, is_valid_in, leading, front, is_useless, is_to_raise, flag_after, rerun, status_after, after_filing, beginning, running_blocks}
+use Rattle.spf_replay.specs.Schedule.{attempt_events, Running, Filed, Situation, is_running, leading, front, is_to_raise, rerun, status_after, after_filing, beginning, running_blocks}
 use Rattle.spf_replay.proofs.Scheduled.{real, status_after-front, status_after-else}
 
 -- ---- lists of blocks

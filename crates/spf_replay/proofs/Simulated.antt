@@ -2,12 +2,11 @@
 use Rattle.std.proofs.Common.{◌≡◌, ◌≢◌, ◌⊎◌, inl, inr, ℕ, zero, suc, ◌+◌, ◌-◌, ◌%◌, ◌<◌, ◌≤◌, Bool, true, false, List, [], ◌∷◌, ◌++◌, Option, Some, None, length, length-append, append-nil, get_or, take, drop, refl, sym, ap, ◌∙◌, subst, arith}
 use Rattle.std.specs.Prelude.{if◌then◌else◌, nat_le, slice_get, slice_set}
 use Rattle.std.proofs.lemmas.List.{length-set, take_all}
-use Rattle.std.proofs.lemmas.Option.{slice_get_within}
 use Rattle.spf_ast_lemmas.proofs.Members.{cases}
 use Rattle.spf_apps_formats.specs.Draws.{next_state, given_by}
 use Rattle.spf_ast.specs.Carried.{Carried, same_carried}
 use Rattle.spf_ast.specs.Event.{Event, Load, Store, Turn}
-use Rattle.spf_speculation_entry.specs.Entry.{Entry, IsEntry, plain_blocks}
+use Rattle.spf_speculation_entry.specs.Entry.{Entry, IsEntry}
 use Rattle.spf_speculation.specs.Steps.{Step, steps_of, log_of}
 use Rattle.spf_speculation.proofs.Within.{true-or-false}
 use Rattle.spf_speculation.proofs.Trees.{chose-true, chose-false}
@@ -18,7 +17,7 @@ use Rattle.spf_replay.specs.declared.entered.EnteredConstruct.{EnteredConstruct}
 use Rattle.spf_replay.specs.declared.runner.Runner.{Runner}
 use Rattle.spf_replay.specs.Entered.{HasGuesses}
 use Rattle.spf_replay.specs.Runners.{status_of, next_status, IsRunner, IsBlockOf, AreBlocksOf, RunsAgainOnEntry, after_going_on}
-use Rattle.spf_replay.specs.SeenSteps.{seen_step, seen_steps}
+use Rattle.spf_replay.specs.SeenSteps.{seen_steps}
 use Rattle.spf_replay.specs.Schedule.{attempt_events, piece, after_piece, Status, Running, Filed, Situation, is_running, front, rerun, status_after, after_filing, replace_at, arrive, advance, running_below, IsPicked, RunsTo, none_running, one_more, beginning, IsScheduled, running_blocks}
 use Rattle.spf_replay.proofs.Scheduled.{real, Stands, Loose, Kept, begins-kept, end-stands, stop-stands, on-stands, placed, advance-keeps, any-state, replace_at-here, replace_at-else, status_after-front, status_after-else}
 use Rattle.spf_replay.proofs.Going.{goes, goes-once, sum, sum-same, sum-one, off, out-home, out-out, same-self, inside-or-not}

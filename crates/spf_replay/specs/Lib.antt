@@ -14,3 +14,4 @@ pub mod RecordingLaws
 pub mod Expecting
 pub mod Limits
 pub mod Runners
+pub mod Copying

@@ -1,6 +1,6 @@
 -- A memory that records what is done to some of its cells.
 use Rattle.std.specs.Prelude.{◌≡◌, ℕ, Bool, true, false, List, [], ◌∷◌, ◌++◌, length, map, take, MatchBool, ℤ}
-use Rattle.spf_ast.specs.Event.{Event, Load, Store, Turn, after, IsConsistent, IsUnpolled}
+use Rattle.spf_ast.specs.Event.{Event, Load, Store, Turn, word_at, after, IsConsistent, IsUnpolled}
 use Rattle.spf_region.specs.declared.span.Span.{Span}
 use Rattle.spf_region.specs.Cells.{in_spans}
 use Rattle.spf_ast.specs.Interaction.{Interaction, Performed, Ended}
@@ -9,16 +9,30 @@ use Rattle.spf_speculation_entry.specs.Attempts.{on_cells}
 use Rattle.spf_replay_log.specs.declared.log.Event as logged
 use Rattle.spf_replay.specs.Reading.{event_of}
 
--- the cells whose loads are recorded, the words of all cells, the record's room, how much of it is taken, and whether an event had no room
+-- the cells whose loads are recorded, their words, the words of all other cells, the record's room, how much of it is taken, and whether an event had no room
 pub record InRecord : Type 0 where
   pub spans : List Span
   pub cells : List ℤ
+  pub entry : List ℤ
   pub room : List logged.Event
   pub count : ℕ
   pub full : Bool
 
-abbrev pub in_record : List Span → List ℤ → List logged.Event → ℕ → Bool → InRecord
-in_record spans cells room count full = record { spans = spans; cells = cells; room = room; count = count; full = full }
+abbrev pub in_record : List Span → List ℤ → List ℤ → List logged.Event → ℕ → Bool → InRecord
+in_record spans cells entry room count full = record { spans = spans; cells = cells; entry = entry; room = room; count = count; full = full }
+
+-- the memory that is seen: it has the words of the cells whose loads are recorded, and those of the entry elsewhere
+pub record Shows (a : InRecord) (memory : List ℤ) : Type 0 where
+  pub size : length a.cells ≡ length memory
+  pub inside : (cell : ℕ) → in_spans a.spans cell ≡ true → word_at a.cells cell ≡ word_at memory cell
+  pub outside : (cell : ℕ) → in_spans a.spans cell ≡ false → word_at a.entry cell ≡ word_at memory cell
+
+-- each store is of one of these cells
+abbrev pub StoresWithin : (ℕ → Bool) → List Event → Type 0
+StoresWithin cells [] = Unit {0}
+StoresWithin cells (Load cell word ∷ events) = StoresWithin cells events
+StoresWithin cells (Store cell word ∷ events) = (cells cell ≡ true) × StoresWithin cells events
+StoresWithin cells (Turn number ∷ events) = StoresWithin cells events
 
 -- what is recorded
 abbrev pub recorded : InRecord → List Event
@@ -46,12 +60,14 @@ pub record RecordsAll (cells : ℕ → Bool) (seen : List Event) (events : List 
   pub all : now ≡ seen ++ on_cells cells events
   pub unpolled : IsUnpolled events
 
--- these events lead from the first state to the second
+-- these events lead from the first state to the second; where they store only cells whose loads are recorded, they are consistent with the memory that is seen, and make theirs of it
 pub record LeadsInRecord (events : List Event) (a b : InRecord) : Type 0 where
   pub spans : b.spans ≡ a.spans
+  pub entry : b.entry ≡ a.entry
   pub room : length b.room ≡ length a.room
-  pub made : b.cells ≡ after events a.cells
-  pub consistent : IsConsistent events a.cells
+  pub size : length b.cells ≡ length a.cells
+  pub kept : (cell : ℕ) → in_spans a.spans cell ≡ false → StoresWithin (in_spans a.spans) events → word_at b.cells cell ≡ word_at a.cells cell
+  pub made : (memory : List ℤ) → StoresWithin (in_spans a.spans) events → Shows a memory → Shows b (after events memory) × IsConsistent events memory
   pub record_is : MatchBool a.full ((b.full ≡ true) × (recorded b ≡ recorded a))
       (MatchBool b.full (FillsAt (in_spans a.spans) (length a.room) (recorded a) events (recorded b)) (RecordsAll (in_spans a.spans) (recorded a) events (recorded b)))
 

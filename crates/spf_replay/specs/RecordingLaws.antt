@@ -1,14 +1,13 @@
 -- A memory that records keeps the laws of memories.
-use Rattle.std.specs.Prelude.{◌≡◌, ℕ, Bool, true, false, MatchBool, List, [], ◌∷◌, ◌++◌, length, Some, ℤ, refl, if◌then◌else◌, slice_set}
+use Rattle.std.specs.Prelude.{◌≡◌, ℕ, Bool, true, false, MatchBool, List, [], ◌∷◌, ◌++◌, length, Some, refl, if◌then◌else◌}
 use Rattle.std.proofs.Common.{sym, ap, ◌∙◌, subst, append_assoc, append-nil}
-use Rattle.std.proofs.Math.ListN.{length-set}
-use Rattle.spf_ast.specs.Event.{Event, Load, Store, Turn, after, IsConsistent}
+use Rattle.spf_ast.specs.Event.{Event, Load, Store, Turn, after}
 use Rattle.spf_ast.proofs.PlainRuns.{consistent_on, after_on, unpolled_on}
 use Rattle.spf_speculation_entry.specs.Attempts.{on_cells}
 use Rattle.spf_region.specs.declared.span.Span.{Span}
 use Rattle.spf_region.specs.Cells.{in_spans}
 use Rattle.spf_exec_memory.specs.MemoryLaws.{Laws}
-use Rattle.spf_replay.specs.Recording.{InRecord, recorded, FillsAt, RecordsAll, LeadsInRecord}
+use Rattle.spf_replay.specs.Recording.{InRecord, recorded, FillsAt, RecordsAll, Shows, StoresWithin, LeadsInRecord}
 
 choice-append : (c : Bool) (x : Event) (es fs : List Event) → (if c then x ∷ (es ++ fs) else (es ++ fs)) ≡ (if c then x ∷ es else es) ++ fs
 choice-append true x es fs = refl
@@ -51,15 +50,15 @@ fills-later cells room a b c es fs p q = record {
   size = q.size;
 }
 
--- events keep the number of cells
-after-length : (es : List Event) (m : List ℤ) → length (after es m) ≡ length m
-after-length [] m = refl
-after-length (Load c w ∷ es) m = after-length es m
-after-length (Store c w ∷ es) m = after-length es (slice_set m c w) ∙ length-set m c w
-after-length (Turn n ∷ es) m = after-length es m
-
 pub same_count : (es : List Event) (a b : InRecord) → LeadsInRecord es a b → length b.cells ≡ length a.cells
-same_count es a b p = ap length p.made ∙ after-length es a.cells
+same_count es a b p = p.size
+
+-- each part of a list stores only these cells
+split-stores : (cells : ℕ → Bool) (es fs : List Event) → StoresWithin cells (es ++ fs) → StoresWithin cells es × StoresWithin cells fs
+split-stores cells [] fs h = (tt, h)
+split-stores cells (Load c w ∷ es) fs h = split-stores cells es fs h
+split-stores cells (Store c w ∷ es) fs h = let p = split-stores cells es fs h.1 in ((h.0, p.0), p.1)
+split-stores cells (Turn n ∷ es) fs h = split-stores cells es fs h
 
 -- one after the other
 records-on : (cells : ℕ → Bool) (room : ℕ) (f g h : Bool) (a b c : List Event) (es fs : List Event)
@@ -86,9 +85,17 @@ nothing-recorded cells room false a = record { all = sym (append-nil a); unpolle
 joined-record : (es fs : List Event) (a b c : InRecord) → LeadsInRecord es a b → LeadsInRecord fs b c → LeadsInRecord (es ++ fs) a c
 joined-record es fs a b c p q = record {
   spans = q.spans ∙ p.spans;
+  entry = q.entry ∙ p.entry;
   room = q.room ∙ p.room;
-  made = q.made ∙ ap (after fs) p.made ∙ sym (after_on es fs a.cells);
-  consistent = consistent_on es fs a.cells p.consistent (subst (IsConsistent fs) p.made q.consistent);
+  size = q.size ∙ p.size;
+  kept = λ cell out within.
+      let parts = split-stores (in_spans a.spans) es fs within in
+      q.kept cell (subst (λ s. in_spans s cell ≡ false) (sym p.spans) out) (subst (λ s. StoresWithin (in_spans s) fs) (sym p.spans) parts.1) ∙ p.kept cell out parts.0;
+  made = λ m within shows.
+      let parts = split-stores (in_spans a.spans) es fs within in
+      let first = p.made m parts.0 shows in
+      let second = q.made (after es m) (subst (λ s. StoresWithin (in_spans s) fs) (sym p.spans) parts.1) first.0 in
+      (subst (Shows c) (sym (after_on es fs m)) second.0, consistent_on es fs m first.1 second.1);
   record_is = records-on (in_spans a.spans) (length a.room) a.full b.full c.full (recorded a) (recorded b) (recorded c) es fs p.record_is
       (subst (λ (x : List Span × ℕ). MatchBool b.full ((c.full ≡ true) × (recorded c ≡ recorded b)) (MatchBool c.full (FillsAt (in_spans x.0) x.1 (recorded b) fs (recorded c)) (RecordsAll (in_spans x.0) (recorded b) fs (recorded c))))
       (λ i. (p.spans i, p.room i)) q.record_is);
@@ -96,7 +103,7 @@ joined-record es fs a b c p q = record {
 
 pub record_laws : {S : Type 0} (at : S → InRecord) → Laws {M = S} (λ es a b. LeadsInRecord es (at a) (at b)) (λ s. Some 1)
 record_laws at = record {
-  empty = λ m. record { spans = refl; room = refl; made = refl; consistent = tt; record_is = nothing-recorded (in_spans (at m).spans) (length (at m).room) (at m).full (recorded (at m)) };
+  empty = λ m. record { spans = refl; entry = refl; room = refl; size = refl; kept = λ cell out within. refl; made = λ memory within shows. (shows, tt); record_is = nothing-recorded (in_spans (at m).spans) (length (at m).room) (at m).full (recorded (at m)) };
   joined = λ es fs a b c p q. joined-record es fs (at a) (at b) (at c) p q;
   keeps_stop = λ es a b p. refl;
 }

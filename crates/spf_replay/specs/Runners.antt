@@ -1,11 +1,12 @@
 -- Blocks of a schedule, as the code keeps them: an attempt's first events are recorded, and taken piece by piece.
-use Rattle.std.specs.Prelude.{◌≡◌, ◌≢◌, ◌≤◌, ◌<◌, ℕ, Bool, true, false, if◌then◌else◌, nat_le, List, [], ◌++◌, length, map, take, drop, slice_get, Option, Some, None}
+use Rattle.std.specs.Prelude.{◌≡◌, ◌≢◌, ◌≤◌, ◌<◌, ℕ, Bool, true, false, if◌then◌else◌, nat_le, List, [], ◌++◌, length, map, take, drop, slice_get, Option, Some, None, ℤ}
 use Rattle.spf_ast.specs.Carried.{Carried}
-use Rattle.spf_ast.specs.Event.{Event}
-use Rattle.spf_speculation_entry.specs.Entry.{Entry, plain_blocks}
+use Rattle.spf_ast.specs.Event.{Event, word_at}
+use Rattle.spf_speculation_entry.specs.Entry.{Entry, own, plain_blocks}
 use Rattle.spf_replay.specs.declared.entered.EnteredConstruct.{EnteredConstruct}
 use Rattle.spf_replay.specs.declared.runner.Runner.{Runner}
 use Rattle.spf_replay.specs.declared.scratch.Scratch.{Scratch}
+use Rattle.spf_replay.specs.Entered.{entry_of}
 use Rattle.spf_replay.specs.Reading.{event_of}
 use Rattle.spf_replay.specs.Schedule.{Status, Running, Filed, Situation, is_running, attempt_events, after_piece, front, rerun, after_filing}
 
@@ -39,10 +40,19 @@ next_status flag attempt row (Some rest) = if nat_le attempt flag then Filed row
 
 -- ---- records that grow
 
--- the words of the entry, and a frame of the program's size
-pub record IsScratch (c : EnteredConstruct) (scratch : Scratch) : Type 0 where
-  pub cells : scratch.cells.items ≡ c.cells.now
+-- the cells of each block have their words of the entry
+abbrev pub AreOwnWords : EnteredConstruct → List ℤ → Type 0
+AreOwnWords c cells = (n cell : ℕ) → n < c.header.blocks → own (entry_of c) n cell ≡ true → word_at cells cell ≡ word_at c.cells.now cell
+
+-- as many words as cells, and a frame of the program's size
+pub record HasRoom (c : EnteredConstruct) (scratch : Scratch) : Type 0 where
+  pub cells : length scratch.cells.items ≡ length c.cells.now
   pub work : length scratch.work ≡ length c.frame.now
+
+-- there is room, and the cells of each block have their words of the entry
+pub record IsScratch (c : EnteredConstruct) (scratch : Scratch) : Type 0 where
+  pub room : HasRoom c scratch
+  pub words : AreOwnWords c scratch.cells.items
 
 -- a block with another one's record
 abbrev pub with_record_of : Runner → Runner → Runner

@@ -9,6 +9,7 @@
 mod attempt;
 mod block;
 mod context;
+pub mod copying;
 pub mod entered;
 mod filing;
 pub mod laws;
@@ -22,10 +23,9 @@ mod record;
 mod recording;
 mod runner;
 pub mod schedule;
-mod scratch;
+pub mod scratch;
 pub mod section;
 mod steps;
-mod undo;
 pub mod verdict;
 
 pub use spf_replay_log::log::{Event, LogError, Step};

@@ -10,12 +10,15 @@ use spf_exec_memory::memory::{Emitted, Memory};
 use spf_region::span::Span;
 use spf_replay_log::log::Event;
 
-/// Cells, and a record of the loads of cells of the spans, of all stores, and of the turns, which
-/// poll 0. Where an event has no room, the record is full, and the next turn stops.
+/// The cells of the spans, and a record of the loads of these cells, of all stores, and of the turns,
+/// which poll 0. A load of another cell gives its word at the entry. Where an event has no room, the
+/// record is full, and the next turn stops.
 #[derive(Drop)]
 pub(crate) struct RecordMemory<'a> {
     pub(crate) spans: &'a [Span],
+    /// The words of the cells of the spans, each at its cell. What lies elsewhere makes no difference.
     pub(crate) cells: Vec<i64>,
+    pub(crate) entry: &'a [i64],
     pub(crate) room: Vec<Event>,
     /// How many events are recorded.
     pub(crate) count: usize,
@@ -28,6 +31,7 @@ impl<'a> RecordMemory<'a> {
     /// Records an event, where there is room.
     fn add(&mut self, event: Event)
         ensures spans { self.new.spans ≡ self.old.spans }
+        ensures entry { self.new.entry ≡ self.old.entry }
         ensures cells { self.new.cells ≡ self.old.cells }
         ensures room { length self.new.room.items ≡ length self.old.room.items }
         ensures record { Adds (event_of event) (length self.old.room.items)
@@ -53,8 +57,8 @@ impl<'a> Memory for RecordMemory<'a> {
     ghost use Rattle.spf_replay.specs.RecordingLaws.{record_laws, same_count};
 
     ghost leads = { λ es a b. LeadsInRecord es
-        (in_record a.spans.now a.cells.items a.room.items a.count a.full)
-        (in_record b.spans.now b.cells.items b.room.items b.count b.full) };
+        (in_record a.spans.now a.cells.items a.entry.now a.room.items a.count a.full)
+        (in_record b.spans.now b.cells.items b.entry.now b.room.items b.count b.full) };
 
     ghost stop = { λ m. Some 1 };
 
@@ -65,17 +69,18 @@ impl<'a> Memory for RecordMemory<'a> {
     ghost may_lack_memory = { ⊥ };
 
     ghost laws = { record_laws
-        (λ m. in_record m.spans.now m.cells.items m.room.items m.count m.full) };
+        (λ m. in_record m.spans.now m.cells.items m.entry.now m.room.items m.count m.full) };
 
     ghost keeps_cells = { λ es a b l. same_count es
-        (in_record a.spans.now a.cells.items a.room.items a.count a.full)
-        (in_record b.spans.now b.cells.items b.room.items b.count b.full) l };
+        (in_record a.spans.now a.cells.items a.entry.now a.room.items a.count a.full)
+        (in_record b.spans.now b.cells.items b.entry.now b.room.items b.count b.full) l };
 
     fn load(&mut self, cell: u64) -> i64 {
-        let word = word_of(&self.cells, cell);
-        if is_in(self.spans, cell) {
-            self.add(Event::Load { cell, word });
+        if !is_in(self.spans, cell) {
+            return word_of(self.entry, cell);
         }
+        let word = word_of(&self.cells, cell);
+        self.add(Event::Load { cell, word });
         word
     }
 

@@ -1,18 +1,12 @@
 // Attempts that are recorded.
-ghost use Rattle.std.specs.Prelude.{◌≡◌, ◌≤◌, ℕ, false, map, take, length};
-ghost use Rattle.spf_ast.specs.BlockRun.{block_setup, part_asks};
-ghost use Rattle.spf_ast.specs.ConstructView.{construct as seen_construct};
+ghost use Rattle.std.specs.Prelude.{◌≡◌, ◌≤◌, ℕ, [], true, false, map, take, length};
 ghost use Rattle.spf_ast.specs.Event.{word_at};
-ghost use Rattle.spf_ast.specs.Plain.{plain_events};
-ghost use Rattle.spf_ast.specs.Program.{cell_count_of};
-ghost use Rattle.spf_speculation_entry.specs.Attempts.{on_cells};
-ghost use Rattle.spf_speculation_entry.specs.Entry.{Entry, IsEntry, own};
-ghost use Rattle.spf_exec_instance.specs.Frame.{main_slots};
-ghost use Rattle.spf_exec_instance.specs.Instance.{program_of};
+ghost use Rattle.spf_speculation_entry.specs.Entry.{Entry, IsEntry};
 ghost use Rattle.spf_region.specs.Cells.{in_spans};
 ghost use Rattle.spf_replay.specs.Contexts.{CanRun, IsContextOf};
 ghost use Rattle.spf_replay.specs.Reading.{event_of};
 ghost use Rattle.spf_replay.specs.Recording.{IsRecordOf};
+ghost use Rattle.spf_replay.specs.Schedule.{attempt_events};
 
 use crate::context::BlockContext;
 use crate::record::RecordMemory;
@@ -33,8 +27,9 @@ pub(crate) struct Record {
     pub(crate) full: bool,
 }
 
-/// Runs an attempt of a block over these cells, and records its events in a room. It changes only
-/// cells of the block. What the working frame holds makes no difference.
+/// Runs an attempt of a block, and records its events in a room. The cells have the words of the
+/// entry in the spans of the block; there the attempt changes them. What the working frame holds makes
+/// no difference.
 pub(crate) fn record_attempt(
     context: BlockContext,
     block: &Block,
@@ -43,18 +38,15 @@ pub(crate) fn record_attempt(
     work: &mut Frame,
 ) -> Record
     requires can { CanRun context block.now }
-    requires cells { length cells.items
-        ≡ cell_count_of (program_of context.instance.now) (length context.instance.now.input) }
+    requires cells { length cells.items ≡ length context.entry.now }
+    requires words { (cell : ℕ) → in_spans context.spans.now cell ≡ true
+        → word_at cells.items cell ≡ word_at context.entry.now cell }
     requires work { length work.old ≡ length context.frame.now }
-    ensures record { IsRecordOf (on_cells (in_spans context.entry.spans.now)
-        (plain_events (part_asks (program_of context.entry.instance.now)
-        (seen_construct block.now.construct) block.now.part
-        (block_setup context.entry.instance.now.input
-        (main_slots (program_of context.entry.instance.now) context.entry.frame.now)
-        block.now.number block.now.value)) cells.items))
-        (length room.items) result.full (map event_of (take result.count result.room.items)) }
+    ensures record { (e : Entry) (n : ℕ) → IsEntry e → IsContextOf e n context.entry block.now
+        → IsRecordOf (attempt_events e n block.now.value []) (length room.items) result.full
+        (map event_of (take result.count result.room.items)) }
     ensures outside { (e : Entry) (n : ℕ) → IsEntry e → IsContextOf e n context.entry block.now
-        → (cell : ℕ) → own e n cell ≡ false
+        → (cell : ℕ) → in_spans context.entry.spans.now cell ≡ false
         → word_at result.cells.items cell ≡ word_at cells.items cell }
     ensures room { length result.room.items ≡ length room.items }
     ensures inside { result.count ≤ length result.room.items }
@@ -65,6 +57,7 @@ pub(crate) fn record_attempt(
     let mut memory = RecordMemory {
         spans: context.spans,
         cells,
+        entry: context.entry,
         room,
         count: 0,
         full: false,

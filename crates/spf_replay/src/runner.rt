@@ -7,13 +7,14 @@ ghost use Rattle.spf_replay.specs.Entered.{entry_of, IsEntered};
 ghost use Rattle.spf_replay.specs.Reading.{event_of};
 ghost use Rattle.spf_replay.specs.Recording.{IsRecordOf};
 ghost use Rattle.spf_replay.specs.Runners.{status_of, seen_by, next_status, IsRunner, HasPiece};
+ghost use Rattle.spf_replay.specs.Runners.{AreOwnWords};
 ghost use Rattle.spf_replay.specs.Schedule.{attempt_events, piece, after_piece};
 ghost use Rattle.spf_replay.specs.SeenSteps.{seen_steps};
 
+use crate::copying::copy_spans;
 use crate::entered::{EnteredConstruct, context_of, number_at};
 use crate::piece::{piece_end, push_piece};
 use crate::recording::{Record, record_attempt};
-use crate::undo::undo;
 use spf_ast::row::Row;
 use spf_exec::block_run::Block;
 use spf_exec::frame::Frame;
@@ -43,8 +44,8 @@ pub(crate) struct Runner {
     pub(crate) taken: usize,
 }
 
-/// Records a block's attempt at a row in a room, over cells that have the words of the entry, and
-/// have them again after it.
+/// Records a block's attempt at a row in a room. The cells of each block have the words of the entry,
+/// and have them again after it.
 pub(crate) fn record_block(
     entered: &EnteredConstruct,
     n: u64,
@@ -55,13 +56,15 @@ pub(crate) fn record_block(
 ) -> Record
     requires is { IsEntered entered.now }
     requires block { n < entered.now.header.blocks }
-    requires cells { cells.items ≡ entered.now.cells.now }
+    requires cells { length cells.items ≡ length entered.now.cells.now }
+    requires words { AreOwnWords entered.now cells.items }
     requires work { length work.old ≡ length entered.now.frame.now }
     ensures record { IsRecordOf (attempt_events (entry_of entered.now) n row []) (length room.items)
         result.full (map event_of (take result.count result.room.items)) }
     ensures room { length result.room.items ≡ length room.items }
     ensures inside { result.count ≤ length result.room.items }
-    ensures cells { result.cells.items ≡ entered.now.cells.now }
+    ensures cells { length result.cells.items ≡ length cells.items }
+    ensures words { AreOwnWords entered.now result.cells.items }
     ensures work { length work.new ≡ length work.old }
 {
     let context = context_of(entered, n);
@@ -73,7 +76,7 @@ pub(crate) fn record_block(
         value: row,
     };
     let mut record = record_attempt(context, &block, cells, room, work);
-    undo(&mut record.cells, entered.cells, context.spans);
+    copy_spans(&mut record.cells, entered.cells, context.spans);
     record
 }
 

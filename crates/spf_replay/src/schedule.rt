@@ -7,7 +7,7 @@ ghost use Rattle.spf_replay.specs.declared.schedule.ScheduleError.TheVariants.{O
 ghost use Rattle.spf_replay.specs.declared.schedule.ScheduleError.TheVariants.{TooManySteps};
 ghost use Rattle.spf_replay.specs.Entered.{entry_of, IsEntered, HasGuesses};
 ghost use Rattle.spf_replay.specs.Limits.{max_steps};
-ghost use Rattle.spf_replay.specs.Runners.{status_of, next_status, IsRunner, IsScratch};
+ghost use Rattle.spf_replay.specs.Runners.{status_of, next_status, IsRunner, HasRoom, IsScratch};
 ghost use Rattle.spf_replay.specs.Runners.{IsBlockOf, AreBlocksOf};
 ghost use Rattle.spf_replay.specs.Schedule.{attempt_events, piece, after_piece, beginning};
 ghost use Rattle.spf_replay.specs.Schedule.{IsScheduled};
@@ -17,7 +17,7 @@ use crate::entered::{EnteredConstruct, first_row};
 use crate::filing::{follow, running_of};
 use crate::pick::pick;
 use crate::runner::{Runner, take_piece};
-use crate::scratch::{Scratch, extend_record, scratch_of};
+use crate::scratch::{Scratch, extend_record};
 use spf_apps_formats::generate::Draws;
 use spf_ast::laws::each_form_has_one_plain_run;
 use spf_check_rules::laws::blocks_overwrite;
@@ -136,7 +136,7 @@ fn go_on(
 }
 
 /// The schedule of a construct from a state of the generator, where so many steps of the run were
-/// counted before it.
+/// counted before it. The attempts are made over a scratch.
 ///
 /// # Errors
 ///
@@ -146,9 +146,11 @@ pub fn schedule_of(
     entered: &EnteredConstruct,
     state: u64,
     counted: usize,
+    scratch: &mut Scratch,
 ) -> Result<Schedule, ScheduleError>
     requires is { IsEntered entered.now }
     requires counted { counted ≤ max_steps }
+    requires scratch { IsScratch entered.now scratch.old }
     ensures scheduled { (guess : ℕ → Carried) → HasGuesses entered.now guess
         → IfOk result (λ made.
         IsScheduled (entry_of entered.now) guess state (seen_steps made.steps.items) made.state) }
@@ -157,11 +159,11 @@ pub fn schedule_of(
         → IfErr result (λ why. why ≡ TooManySteps → (steps : List Taken) (last : ℕ)
         → IsScheduled (entry_of entered.now) guess state steps last
         → max_steps < counted + length steps) }
+    ensures room { HasRoom entered.now scratch.new }
 {
     each_form_has_one_plain_run();
     blocks_overwrite();
     let limit = MAX_STEPS - counted;
-    let mut scratch = scratch_of(alloc, entered)?;
     let mut runners = first_runners(alloc, entered)?;
     let mut running = running_of(alloc, &runners)?;
     let mut steps = Vec::new(alloc);
@@ -169,7 +171,7 @@ pub fn schedule_of(
     while !running.is_empty() {
         let n = pick(&running, draws.next());
         let runner = &mut runners[n as usize];
-        go_on(alloc, entered, n, runner, &mut steps, limit, &mut scratch)?;
+        go_on(alloc, entered, n, runner, &mut steps, limit, scratch)?;
         follow(alloc, entered, n, &mut runners, &mut running)?;
     }
     Ok(Schedule {

@@ -15,23 +15,13 @@ use std::mem;
 /// The room of a block's first record.
 const FIRST_ROOM: usize = 1024;
 
-/// What attempts are recorded over.
+/// What attempts are made over.
 #[derive(Drop)]
-pub(crate) struct Scratch {
-    /// The word of each cell at the entry.
-    pub(crate) cells: Vec<i64>,
+pub struct Scratch {
+    /// The words of the cells of the blocks, each at its cell. What lies elsewhere makes no difference.
+    pub cells: Vec<i64>,
     /// A frame, whatever its registers hold.
-    pub(crate) work: Frame,
-}
-
-/// What attempts of a construct's blocks are recorded over.
-pub(crate) fn scratch_of(alloc: Global, entered: &EnteredConstruct) -> Result<Scratch, AllocError>
-    ensures { IfOk result (λ scratch. IsScratch entered.now scratch) }
-{
-    let mut cells = Vec::with_capacity(alloc, entered.cells.len())?;
-    cells.extend_from_slice(entered.cells)?;
-    let work = entered.frame.copy(alloc)?;
-    Ok(Scratch { cells, work })
+    pub work: Frame,
 }
 
 /// Records a block's attempt from its begin, in a new room.

@@ -5,11 +5,13 @@ ghost use Rattle.spf_replay.specs.Reading.{event_of};
 ghost use Rattle.spf_replay.specs.Deciding.{IsLogAt, IsRun};
 ghost use Rattle.spf_replay.specs.SeenSteps.{seen_steps};
 ghost use Rattle.spf_replay.specs.Entered.{entry_of, IsEntered, HasGuesses};
+ghost use Rattle.spf_replay.specs.Runners.{HasRoom, IsScratch};
 
 use crate::block::{is_guessed_log, is_real_log};
 use crate::entered::{EnteredConstruct, context_of, first_row, number_at, real_row};
 use crate::laws::runs_have_their_logs;
 use crate::logs::{log_in, logs_of};
+use crate::scratch::Scratch;
 use crate::steps::{are_below, are_consistent};
 use spf_exec::block_run::Block;
 use spf_exec::frame::Frame;
@@ -40,7 +42,8 @@ fn is_log(entered: &EnteredConstruct, n: u64, log: &[Event], work: &mut Frame) -
     }
 }
 
-/// Whether the steps are a speculative run of the construct's blocks from their guesses.
+/// Whether the steps are a speculative run of the construct's blocks from their guesses. The steps
+/// are made over a scratch, and leave it with any words.
 ///
 /// # Errors
 ///
@@ -49,27 +52,24 @@ pub fn is_speculative_run(
     alloc: Global,
     entered: &EnteredConstruct,
     steps: &[Step],
+    scratch: &mut Scratch,
 ) -> Result<bool, AllocError>
     requires is { IsEntered entered.now }
-    ensures { (guess : ℕ → Carried) → HasGuesses entered.now guess
+    requires scratch { IsScratch entered.now scratch.old }
+    ensures run { (guess : ℕ → Carried) → HasGuesses entered.now guess
         → IfOk result
         (λ is. IsTrue is ↔ IsRun (entry_of entered.now) guess (seen_steps steps.now)) }
+    ensures room { HasRoom entered.now scratch.new }
 {
     runs_have_their_logs();
     if !are_below(steps, entered.header.blocks) {
         return Ok(false);
     }
-    let mut memory = Vec::with_capacity(alloc, entered.cells.len())?;
-    memory.extend_from_slice(entered.cells)?;
-    if !are_consistent(&mut memory, steps) {
-        return Ok(false);
-    }
-    let mut work = entered.frame.copy(alloc)?;
     let logs = logs_of(alloc, steps, entered.header.blocks)?;
     for n in 0..entered.header.blocks {
-        if !is_log(entered, n, log_in(&logs, n), &mut work) {
+        if !is_log(entered, n, log_in(&logs, n), &mut scratch.work) {
             return Ok(false);
         }
     }
-    Ok(true)
+    Ok(are_consistent(&mut scratch.cells, steps))
 }

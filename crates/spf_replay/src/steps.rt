@@ -1,5 +1,5 @@
 // Steps of a section on one memory.
-ghost use Rattle.std.specs.Prelude.{◌≡◌, ◌↔◌, IsTrue, List, ◌∷◌, slice_set};
+ghost use Rattle.std.specs.Prelude.{◌≡◌, ◌↔◌, IsTrue, List, ◌∷◌, length, slice_set};
 ghost use Rattle.spf_ast.specs.Event.{Event as AskedEvent, word_at, IsConsistent};
 ghost use Rattle.spf_speculation.specs.Steps.{events_of, AreBelow};
 ghost use Rattle.spf_replay.specs.Reading.{event_of};
@@ -26,8 +26,9 @@ pub(crate) fn set_word(memory: &mut [i64], cell: u64, word: i64)
 
 /// Makes an event on a memory. Tells whether the memory gives what the event says.
 fn is_next(memory: &mut [i64], event: Event) -> bool
-    ensures { (rest : List AskedEvent) → IsConsistent (event_of event ∷ rest) memory.old
+    ensures next { (rest : List AskedEvent) → IsConsistent (event_of event ∷ rest) memory.old
         ↔ (IsTrue result × IsConsistent rest memory.new) }
+    ensures size { length memory.new ≡ length memory.old }
 {
     match event {
         Event::Load { cell, word } => word_of(memory, cell) == word,
@@ -41,7 +42,9 @@ fn is_next(memory: &mut [i64], event: Event) -> bool
 
 /// Makes the steps on a memory. Tells whether the memory gives what they say.
 pub(crate) fn are_consistent(memory: &mut [i64], steps: &[Step]) -> bool
-    ensures { IsTrue result ↔ IsConsistent (events_of (seen_steps steps.now)) memory.old }
+    ensures consistent { IsTrue result
+        ↔ IsConsistent (events_of (seen_steps steps.now)) memory.old }
+    ensures size { length memory.new ≡ length memory.old }
 {
     for step in steps {
         if !is_next(memory, step.event) {

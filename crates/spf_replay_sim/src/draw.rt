@@ -7,6 +7,7 @@ ghost use Rattle.spf_replay_sim.specs.Drawing.{HasDrawn};
 use crate::drawn::Drawn;
 use spf_replay::entered::EnteredConstruct;
 use spf_replay::schedule::{Schedule, ScheduleError, schedule_of};
+use spf_replay::scratch::Scratch;
 use spf_replay_walk::visitor::Visitor;
 use std::alloc::{AllocError, Global};
 
@@ -45,7 +46,12 @@ impl Visitor for Drawn {
 
     ghost has_visited = { λ first passed now. HasDrawn first.state passed now };
 
-    fn visit(&mut self, alloc: Global, entered: &EnteredConstruct) -> Result<(), AllocError> {
+    fn visit(
+        &mut self,
+        alloc: Global,
+        entered: &EnteredConstruct,
+        scratch: &mut Scratch,
+    ) -> Result<(), AllocError> {
         // Law: a construct has exactly one schedule from each state of the generator.
         spf_replay::laws::each_construct_has_one_schedule();
         // Law: the steps of a schedule are a speculative run.
@@ -53,7 +59,7 @@ impl Visitor for Drawn {
         if self.over {
             return Ok(());
         }
-        match schedule_of(alloc, entered, self.state, self.counted) {
+        match schedule_of(alloc, entered, self.state, self.counted, scratch) {
             Ok(schedule) => add(self, schedule),
             Err(ScheduleError::TooManySteps) => {
                 self.over = true;

@@ -30,10 +30,9 @@ use crate::error::SimError;
 use crate::laws::schedules_see_visible_slots_alone;
 use spf_ast::outcome::Outcome;
 use spf_check::checked::Checked;
-use spf_engine::run::lay_out;
+use spf_engine::run::set_up;
 use spf_exec_instance::instance::Instance;
 use spf_guess::Predictor;
-use spf_guess::missing::first_missing;
 use spf_guess_statistics::stats::Stats;
 use spf_replay::Step;
 use spf_replay_walk::walk::{Walked, walk};
@@ -163,10 +162,7 @@ pub fn sim(
         (supplied answer hosts.old.items) (supplied answer hosts.new.items)) }
     ensures count { length hosts.new.items ≡ length hosts.old.items }
 {
-    let instance = lay_out(alloc, checked, input)?;
-    if let Some(number) = first_missing(checked.program(), hosts.len() as u64) {
-        return Err(SimError::NoHost { number });
-    }
+    let instance = set_up(alloc, checked, input, hosts.len() as u64)?;
     match simulate_instance(alloc, checked, &instance, hosts, seed) {
         Ok(Some(report)) => Ok(report),
         Ok(None) => Err(SimError::TooManySteps),

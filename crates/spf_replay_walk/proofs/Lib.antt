@@ -1,3 +1,4 @@
+mod InPlace
 pub mod Sections
 pub mod Verdicts
 pub mod Passing

@@ -1,9 +1,8 @@
 -- A construct that a walk passes: its guesses, its real rows, and what its section is read with.
 use Rattle.std.proofs.Common.{◌≡◌, ℕ, zero, suc, ◌+◌, ◌-◌, ◌≤◌, ◌<◌, List, [], ◌∷◌, length, map, drop, ℤ, pos, ◌+ℤ◌, refl, sym, ap, ◌∙◌, subst, arith}
-use Rattle.std.specs.Prelude.{Some, slice_get, ◌≤ℤ◌}
+use Rattle.std.specs.Prelude.{Some, slice_get}
 use Rattle.std.specs.List.{All}
-use Rattle.std.specs.Global.{Vec}
-use Rattle.std.proofs.lemmas.List.{length-map, length-take-le}
+use Rattle.std.proofs.lemmas.List.{length-take-le}
 use Rattle.spf_ast.specs.declared.syntax.Program as code_program
 use Rattle.spf_ast.specs.Carried.{Carried}
 use Rattle.spf_ast.specs.Interaction.{Ending, Value, Trapped}
@@ -11,14 +10,13 @@ use Rattle.spf_ast.specs.Meaning.{Environment}
 use Rattle.spf_ast.specs.Syntax.{Program}
 use Rattle.spf_ast.specs.View.{program}
 use Rattle.spf_ast.specs.Plain.{plain_answer, plain_memory}
-use Rattle.spf_ast.specs.Program.{environment_of, cell_count_of}
+use Rattle.spf_ast.specs.Program.{environment_of}
 use Rattle.spf_ast.specs.Construct.{Construct, fold, pair, Header, constructs_in, part_of}
 use Rattle.spf_ast.specs.ConstructView.{construct as seen_construct}
-use Rattle.spf_ast.specs.Silence.{FunctionsAreSilent, PartIsSilent}
 use Rattle.spf_ast_laws.specs.Chained.{Chained, chained, chained_on, block_asks}
-use Rattle.spf_exec_instance.specs.Frame.{frame_size}
 use Rattle.spf_exec_instance.specs.Instance.{program_of}
 use Rattle.spf_exec_instance.specs.Layout.{LayoutValue, IsLayoutOf}
+use Rattle.spf_exec.specs.declared.pieces.Header as code_header
 use Rattle.spf_exec.specs.Pieces.{Stand, IsRunOf, seen_header}
 use Rattle.spf_chain.specs.declared.validated.Settled.{Settled}
 use Rattle.spf_chain.specs.Finishing.{result_as}
@@ -36,9 +34,10 @@ use Rattle.spf_guess_statistics.specs.Guess.{Guess}
 use Rattle.spf_guess_statistics.specs.Statistics.{statistics_with}
 use Rattle.spf_engine_construct.proofs.Counting.{counts-are}
 use Rattle.spf_engine_construct.specs.Guesses.{seen_guess, guesses_from, paired, counts_of}
-use Rattle.spf_speculation_entry.specs.Entry.{Entry, HasItsBlocks, plain_blocks}
-use Rattle.spf_replay.specs.declared.entered.EnteredConstruct.{EnteredConstruct}
-use Rattle.spf_replay.specs.Entered.{entry_of, IsEntered}
+use Rattle.spf_speculation_entry.specs.Entry.{Entry, IsEntry, HasItsBlocks, plain_blocks}
+use Rattle.spf_replay.specs.Copying.{HasOwnSpans}
+use Rattle.spf_replay_walk.specs.declared.place.Place.{Place}
+use Rattle.spf_replay_walk.specs.Places.{entry_at, IsPlaced}
 use Rattle.spf_replay_walk.specs.Visiting.{AreGuesses}
 
 -- ---- guesses
@@ -96,52 +95,34 @@ its-blocks : (c : Construct) (h : Header) → AreBlocksOf c h.blocks → HasItsB
 its-blocks (fold line head body) h b = tt
 its-blocks (pair line head producer consumer) h b = b
 
--- the parts of a construct that is entered, where the program is accepted
-pub record AreParts (checked : code_program.Program) (c : EnteredConstruct) : Type 0 where
-  pub program_is : program_of c.instance.now ≡ program checked
-  pub free : IsFree checked
-  pub bytes : All (λ b. b < 256) c.instance.now.input
-  pub top : slice_get (constructs_in (program_of c.instance.now).main) c.index ≡ Some (seen_construct c.construct)
-  pub blocks : AreBlocksOf (seen_construct c.construct) c.header.blocks
-  pub few : c.header.blocks ≤ 4096
-  pub numbers : (c.header.low +ℤ pos c.header.blocks) ≤ℤ pos 9223372036854775807
-  pub frame : length c.frame.now ≡ frame_size (program_of c.instance.now)
-  pub cells : length c.cells.now ≡ cell_count_of (program_of c.instance.now) (length c.instance.now.input)
-  pub silent : (n : ℕ) → PartIsSilent (seen_construct c.construct) (part_of (seen_construct c.construct) n)
-  pub functions_silent : FunctionsAreSilent (program_of c.instance.now).functions
-  pub guesses : length c.guesses.now + 1 ≡ c.header.blocks
-  pub reals : c.reals.now ≡ (plain_blocks (entry_of c)).values
-
--- with a plan of its blocks it can be judged
-pub is-entered : (checked : code_program.Program) (c : EnteredConstruct) (l : LayoutValue) (low : ℤ) → AreParts checked c → IsLayoutOf (program_of c.instance.now) (length c.instance.now.input) l → low ≡ c.header.low
-    → ((k : Construct) → slice_get (constructs_in (program checked).main) c.index ≡ Some k → IsPlanOf (program checked) k l.extents l.cells low c.header.blocks (map (λ (v : Vec Span). v.items) c.plan.now.blocks.items))
-    → IsEntered c
-is-entered checked c l low parts layout low-is planned =
-    let i = c.instance.now in
-    let k = seen_construct c.construct in
-    let mine : IsPlanOf (program_of i) k l.extents l.cells c.header.low c.header.blocks (map (λ (v : Vec Span). v.items) c.plan.now.blocks.items)
-    = subst (λ x. IsPlanOf (program_of i) k l.extents l.cells x c.header.blocks (map (λ (v : Vec Span). v.items) c.plan.now.blocks.items)) low-is
-    (subst (λ (q : Program). slice_get (constructs_in q.main) c.index ≡ Some k → IsPlanOf q k l.extents l.cells low c.header.blocks (map (λ (v : Vec Span). v.items) c.plan.now.blocks.items)) (sym parts.program_is) (planned k) parts.top) in
+-- where an accepted program stands at a construct with blocks, there is an entry
+pub is-entry : (checked : code_program.Program) (place : Place) (header : code_header.Header) (cells : List ℤ) → IsPlaced (program checked) place header cells → IsFree checked
+    → All (λ b. b < 256) place.instance.now.input → IsEntry (entry_at place header cells)
+is-entry checked place header cells there free bytes =
+    let p = program_of place.instance.now in
+    let k = seen_construct place.construct in
     record {
-      is_entry = record {
-        free = subst (λ (q : Program). slice_get (constructs_in q.main) c.index ≡ Some k → IsRollbackFree q k) (sym parts.program_is) (parts.free c.index k) parts.top;
-        bytes = parts.bytes;
-        slots = length-take-le (length (program_of i).slots) c.frame.now (let size = parts.frame in omega (arith, size));
-        blocks = its-blocks k (seen_header c.header) parts.blocks;
-      };
-      top = parts.top;
-      cells = parts.cells;
-      frame = parts.frame;
-      silent = parts.silent;
-      functions_silent = parts.functions_silent;
-      few = parts.few;
-      numbers = parts.numbers;
-      plan = sym (length-map c.plan.now.blocks.items (λ (v : Vec Span). v.items)) ∙ mine.count;
+      free = subst (λ (q : Program). slice_get (constructs_in q.main) place.index ≡ Some k → IsRollbackFree q k) (sym there.program) (free place.index k) there.construct;
+      bytes = bytes;
+      slots = length-take-le (length p.slots) place.frame.now (let size = there.frame in omega (arith, size));
+      blocks = its-blocks k (seen_header header) there.blocks;
+    }
+
+-- a plan of the construct's blocks has their spans
+pub own-spans : (checked : code_program.Program) (place : Place) (header : code_header.Header) (cells : List ℤ) (l : LayoutValue) (low : ℤ) → IsPlaced (program checked) place header cells
+    → IsLayoutOf (program_of place.instance.now) (length place.instance.now.input) l → low ≡ header.low → (blocks : List (List Span))
+    → IsPlanOf (program checked) (seen_construct place.construct) l.extents l.cells low header.blocks blocks
+    → HasOwnSpans (entry_at place header cells) blocks
+own-spans checked place header cells l low there layout low-is blocks planned =
+    let p = program_of place.instance.now in
+    let k = seen_construct place.construct in
+    let mine : IsPlanOf p k l.extents l.cells header.low header.blocks blocks
+    = subst (λ x. IsPlanOf p k l.extents l.cells x header.blocks blocks) low-is
+    (subst (λ (q : Program). IsPlanOf q k l.extents l.cells low header.blocks blocks) (sym there.program) planned) in
+    record {
+      count = mine.count;
       spans = λ n spans cell at.
-          (mine.spans n spans at).cells cell
-          ∙ ap (λ x. cells_at x (c.header.low +ℤ pos n) (may_write (program_of i) k (part_of k n)) cell) layout.extents;
-      guesses = parts.guesses;
-      reals = parts.reals;
+          (mine.spans n spans at).cells cell ∙ ap (λ x. cells_at x (header.low +ℤ pos n) (may_write p k (part_of k n)) cell) layout.extents;
     }
 
 -- ---- blocks that were run plainly

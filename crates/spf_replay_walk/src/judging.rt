@@ -6,6 +6,7 @@ ghost use Rattle.spf_speculation.specs.Steps.{Step as SeenStep};
 ghost use Rattle.spf_replay.specs.declared.verdict.Verdict.TheVariants.{Yes, No};
 ghost use Rattle.spf_replay.specs.SeenSteps.{seen_steps};
 ghost use Rattle.spf_replay.specs.Entered.{entry_of, IsEntered, HasGuesses};
+ghost use Rattle.spf_replay.specs.Runners.{HasRoom, IsScratch};
 ghost use Rattle.spf_replay.specs.Verdicts.{IsVerdict};
 ghost use Rattle.spf_replay_walk.specs.Judging.{seen_log, expected_of_all, HasJudged};
 ghost use Rattle.spf_replay_walk.specs.Judging.{HasJudgedLog, IsAfterRun};
@@ -13,6 +14,7 @@ ghost use Rattle.spf_replay_walk.specs.Judging.{HasJudgedLog, IsAfterRun};
 use crate::visitor::Visitor;
 use spf_replay::Step;
 use spf_replay::entered::EnteredConstruct;
+use spf_replay::scratch::Scratch;
 use spf_replay::section::is_speculative_run;
 use spf_replay::verdict::Verdict;
 use std::alloc::{AllocError, Global};
@@ -71,15 +73,18 @@ fn after_section(
     log: &[Vec<Step>],
     n: usize,
     entered: &EnteredConstruct,
+    scratch: &mut Scratch,
 ) -> Result<Option<usize>, AllocError>
     requires is { IsEntered entered.now }
-    ensures { (guess : ℕ → Carried) → HasGuesses entered.now guess
+    requires scratch { IsScratch entered.now scratch.old }
+    ensures after { (guess : ℕ → Carried) → HasGuesses entered.now guess
         → IfOk result (IsAfterRun (seen_log log.now) n (entry_of entered.now) guess) }
+    ensures room { HasRoom entered.now scratch.new }
 {
     if n >= log.len() {
         return Ok(None);
     }
-    if is_speculative_run(alloc, entered, section_at(log, n))? {
+    if is_speculative_run(alloc, entered, section_at(log, n), scratch)? {
         return Ok(Some(n + 1));
     }
     Ok(None)
@@ -91,14 +96,17 @@ fn judge_next(
     log: &[Vec<Step>],
     entered: &EnteredConstruct,
     judged: Judged,
+    scratch: &mut Scratch,
 ) -> Result<Judged, AllocError>
     requires is { IsEntered entered.now }
+    requires scratch { IsScratch entered.now scratch.old }
     requires right { judged.verdict ≡ Yes }
-    ensures { IfOk result (λ j. (passed : List PassedConstruct) (x : PassedConstruct)
+    ensures judged { IfOk result (λ j. (passed : List PassedConstruct) (x : PassedConstruct)
         → HasJudged passed (seen_log log.now) judged → x.entry ≡ entry_of entered.now
         → HasGuesses entered.now x.guess → HasJudged (passed ++ x ∷ []) (seen_log log.now) j) }
+    ensures room { HasRoom entered.now scratch.new }
 {
-    match after_section(alloc, log, judged.next, entered)? {
+    match after_section(alloc, log, judged.next, entered, scratch)? {
         Some(next) => Ok(Judged {
             next,
             verdict: Verdict::Yes,
@@ -117,15 +125,18 @@ pub(crate) fn judge_section(
     log: &[Vec<Step>],
     entered: &EnteredConstruct,
     judged: Judged,
+    scratch: &mut Scratch,
 ) -> Result<Judged, AllocError>
     requires is { IsEntered entered.now }
-    ensures { IfOk result (λ j. (passed : List PassedConstruct) (x : PassedConstruct)
+    requires scratch { IsScratch entered.now scratch.old }
+    ensures judged { IfOk result (λ j. (passed : List PassedConstruct) (x : PassedConstruct)
         → HasJudged passed (seen_log log.now) judged → x.entry ≡ entry_of entered.now
         → HasGuesses entered.now x.guess → HasJudged (passed ++ x ∷ []) (seen_log log.now) j) }
+    ensures room { HasRoom entered.now scratch.new }
 {
     match judged.verdict {
         Verdict::No { .. } => Ok(judged),
-        Verdict::Yes => judge_next(alloc, log, entered, judged),
+        Verdict::Yes => judge_next(alloc, log, entered, judged, scratch),
     }
 }
 
@@ -185,8 +196,13 @@ impl<'a> Visitor for Judge<'a> {
 
     ghost has_visited = { λ first passed now. HasJudgedLog first passed now };
 
-    fn visit(&mut self, alloc: Global, entered: &EnteredConstruct) -> Result<(), AllocError> {
-        self.judged = judge_section(alloc, self.log, entered, self.judged)?;
+    fn visit(
+        &mut self,
+        alloc: Global,
+        entered: &EnteredConstruct,
+        scratch: &mut Scratch,
+    ) -> Result<(), AllocError> {
+        self.judged = judge_section(alloc, self.log, entered, self.judged, scratch)?;
         Ok(())
     }
 }

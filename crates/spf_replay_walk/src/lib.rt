@@ -7,6 +7,7 @@
 #![tactic(auto)]
 
 mod judging;
+mod place;
 mod plainly;
 pub mod replay;
 pub mod visitor;

@@ -1,17 +1,21 @@
-//! The blocks of a construct, run plainly on a copy of a run's cells.
-ghost use Rattle.std.specs.Prelude.{◌≡◌, ◌≤◌, ◌+ℤ◌, ◌≤ℤ◌, length, pos, IfOk};
+//! The blocks of a construct, run plainly in place.
+ghost use Rattle.std.specs.Prelude.{◌≡◌, ℕ, true, IfOk, OnOk};
+ghost use Rattle.spf_ast.specs.Event.{word_at};
 ghost use Rattle.spf_ast.specs.View.{program as seen_program};
 ghost use Rattle.spf_chain.specs.Finishing.{result_as};
-ghost use Rattle.spf_engine_construct.specs.Coming.{IsAtConstruct, entry_of};
-ghost use Rattle.spf_replay.specs.Plainly.{AreRunPlainly};
+ghost use Rattle.spf_speculation_entry.specs.Entry.{IsEntry, plain_blocks};
+ghost use Rattle.spf_replay.specs.Copying.{in_plan, HasOwnSpans};
+ghost use Rattle.spf_replay_walk.specs.Places.{entry_at, spans_of, IsPlaced, IsSpare};
 
+use crate::place::{Place, Spare};
 use spf_ast::outcome::Trap;
 use spf_ast::row::Row;
 use spf_chain::validated::Settled;
 use spf_check::checked::Checked;
-use spf_engine_construct::guesses::Stand;
 use spf_exec::pieces::Header;
 use spf_exec_memory::plain::Plain;
+use spf_region::span::Plan;
+use spf_replay::copying::copy_plan;
 use spf_replay::plain::run_blocks;
 use std::alloc::{AllocError, Global};
 
@@ -22,7 +26,7 @@ pub(crate) struct PlainBlocks {
     pub(crate) reals: Vec<Row>,
     /// The row after the last block, or the trap.
     pub(crate) settled: Settled,
-    /// The word of each cell after them.
+    /// The words of all cells, which are those of the entry again.
     pub(crate) cells: Vec<i64>,
 }
 
@@ -36,20 +40,8 @@ fn settled_as(came: Result<Row, Trap>) -> Settled
     }
 }
 
-/// A memory of its own with these cells, and without output.
-fn copy_of(alloc: Global, cells: &[i64]) -> Result<Plain, AllocError>
-    ensures cells { IfOk result (λ m. m.cells.items ≡ cells.now) }
-{
-    let mut copy = Vec::with_capacity(alloc, cells.len())?;
-    copy.extend_from_slice(cells)?;
-    Ok(Plain {
-        cells: copy,
-        output: Vec::new(alloc),
-    })
-}
-
-/// Runs the blocks of the construct at which a run stands, one after another. The run's own cells
-/// stay as they are.
+/// Runs the blocks of the construct at which a run stands, one after another, in the run's cells.
+/// What they left in their cells is kept, and these cells get their words of the entry again.
 ///
 /// # Errors
 ///
@@ -57,30 +49,53 @@ fn copy_of(alloc: Global, cells: &[i64]) -> Result<Plain, AllocError>
 pub(crate) fn run_plainly(
     alloc: Global,
     checked: &Checked,
-    at: Stand,
+    place: Place,
     header: &Header,
+    cells: Vec<i64>,
+    plan: &Plan,
+    spare: &mut Spare,
 ) -> Result<PlainBlocks, AllocError>
-    requires there { IsAtConstruct (seen_program checked.now) at header.now }
-    requires fits { (header.now.low +ℤ pos header.now.blocks) ≤ℤ i64.MAX }
-    ensures plain { IfOk result (λ b. AreRunPlainly (entry_of at.entry header.now) b.reals.items
-        (result_as b.settled) b.cells.items) }
-    ensures size { IfOk result (λ b. length b.cells.items ≡ length at.entry.cells.now) }
+    requires there { IsPlaced (seen_program checked.now) place header.now cells.items }
+    requires entry { IsEntry (entry_at place header.now cells.items) }
+    requires plan { HasOwnSpans (entry_at place header.now cells.items) (spans_of plan.now) }
+    requires spare { IsSpare place.instance.now spare.old }
+    ensures reals { IfOk result (λ b. b.reals.items
+        ≡ (plain_blocks (entry_at place.entry header.now cells.items)).values) }
+    ensures result { IfOk result (λ b. result_as b.settled
+        ≡ (plain_blocks (entry_at place.entry header.now cells.items)).result) }
+    ensures cells { IfOk result (λ b. b.cells.items ≡ cells.items) }
+    ensures before { OnOk result ((cell : ℕ) → in_plan (spans_of plan.now) cell ≡ true
+        → word_at spare.new.scratch.cells.items cell ≡ word_at cells.items cell) }
+    ensures after { OnOk result ((cell : ℕ) → in_plan (spans_of plan.now) cell ≡ true
+        → word_at spare.new.after.items cell
+        ≡ word_at (plain_blocks (entry_at place.entry header.now cells.items)).memory cell) }
+    ensures spare { IsSpare place.entry.instance.now spare.new }
 {
     // Law: the blocks of an accepted program's constructs can be run as attempts.
     spf_chain::laws::accepted_constructs_can_run();
     // Law: functions emit nothing, and there are fewer than 2^32 top constructs.
     spf_ast::laws::lawful_programs_are_quiet_and_small();
+    // Law: a form has exactly one plain run on a memory.
+    spf_ast::laws::each_form_has_one_plain_run();
+    // Law: a block overwrites its cells, whatever they held.
+    spf_check_rules::laws::blocks_overwrite();
     let _program = checked.program();
-    let mut memory = copy_of(alloc, at.cells)?;
+    copy_plan(&mut spare.scratch.cells, &cells, plan);
+    let mut memory = Plain {
+        cells,
+        output: Vec::new(alloc),
+    };
     let (reals, result) = run_blocks(
         alloc,
-        at.instance,
-        at.construct,
-        at.index,
+        place.instance,
+        place.construct,
+        place.index,
         header,
-        at.frame,
+        place.frame,
         &mut memory,
     )?;
+    copy_plan(&mut spare.after, &memory.cells, plan);
+    copy_plan(&mut memory.cells, &spare.scratch.cells, plan);
     Ok(PlainBlocks {
         reals,
         settled: settled_as(result),

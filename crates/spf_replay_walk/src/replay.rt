@@ -17,10 +17,9 @@ use crate::judging::Judge;
 use crate::walk::walk;
 use spf_check::checked::Checked;
 use spf_engine::error::EngineError;
-use spf_engine::run::lay_out;
+use spf_engine::run::set_up;
 use spf_exec_instance::instance::Instance;
 use spf_guess::Predictor;
-use spf_guess::missing::first_missing;
 use spf_replay::Step as LogStep;
 use spf_replay::verdict::Verdict;
 use std::alloc::{AllocError, Global};
@@ -110,10 +109,7 @@ pub fn replay(
         (supplied answer hosts.old.items) (supplied answer hosts.new.items)) }
     ensures count { length hosts.new.items ≡ length hosts.old.items }
 {
-    let instance = lay_out(alloc, checked, input)?;
-    if let Some(number) = first_missing(checked.program(), hosts.len() as u64) {
-        return Err(EngineError::NoHost { number });
-    }
+    let instance = set_up(alloc, checked, input, hosts.len() as u64)?;
     let verdict = replay_instance(alloc, checked, &instance, hosts, log)?;
     Ok(verdict)
 }

@@ -8,17 +8,21 @@ ghost use Rattle.spf_guess_statistics.specs.Statistics.{tally};
 ghost use Rattle.spf_guess.specs.Answers.{supplied, WereTold};
 ghost use Rattle.spf_guess.specs.Missing.{missing_host};
 ghost use Rattle.spf_engine.specs.Runs.{WereToldFirst};
+ghost use Rattle.spf_replay_walk.specs.Places.{IsSpare};
 ghost use Rattle.spf_replay_walk.specs.Visiting.{VisitsAll};
 
+use crate::place::Spare;
 use crate::visitor::Visitor;
 use crate::walker::Walker;
 use spf_ast::outcome::{Outcome, Trap};
 use spf_check::checked::Checked;
 use spf_engine::step::Step;
+use spf_exec::frame::Frame;
 use spf_exec::pieces::Run;
 use spf_exec_instance::instance::Instance;
 use spf_guess::Predictor;
 use spf_guess_statistics::stats::Stats;
+use spf_replay::scratch::Scratch;
 use std::alloc::{AllocError, Global};
 
 /// How a walk ended.
@@ -44,6 +48,25 @@ fn trapped(run: Run, trap: Trap) -> Outcome
 {
     let (_, output) = run.finish();
     Outcome::Trapped { trap, output }
+}
+
+/// The memory of a walk beside the run's own.
+///
+/// # Errors
+///
+/// Fails where memory runs out.
+fn spare_for(alloc: Global, instance: &Instance) -> Result<Spare, AllocError>
+    ensures { IfOk result (IsSpare instance.now) }
+{
+    let count = instance.layout().cells() as usize;
+    let scratch = Scratch {
+        cells: vec![in alloc; 0i64; count]?,
+        work: Frame::make(alloc, instance)?,
+    };
+    Ok(Spare {
+        after: vec![in alloc; 0i64; count]?,
+        scratch,
+    })
 }
 
 /// Walks over an instance of an accepted program: runs it to its end, the blocks of each construct
@@ -88,9 +111,10 @@ pub fn walk<V: Visitor>(
         instance,
     };
     let mut run = Run::start(alloc, instance)?;
+    let mut spare = spare_for(alloc, instance)?;
     let mut stats = Stats::none();
     loop {
-        match walker.take_step(&mut run, visitor, &mut stats, hosts)? {
+        match walker.take_step(&mut run, &mut spare, visitor, &mut stats, hosts)? {
             Step::Next => {}
             Step::Finished => {
                 let outcome = finished(run);

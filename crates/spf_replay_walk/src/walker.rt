@@ -13,18 +13,19 @@ ghost use Rattle.spf_guess_statistics.specs.Guess.{Hosts, Telling, tells};
 ghost use Rattle.spf_guess_statistics.specs.Statistics.{statistics_with};
 ghost use Rattle.spf_guess.specs.Answers.{supplied, WereTold, WereToldNoMore};
 ghost use Rattle.spf_guess.specs.Missing.{missing_host};
-ghost use Rattle.spf_speculation_entry.specs.Entry.{plain_blocks};
-ghost use Rattle.spf_engine_construct.specs.Coming.{IsAtConstruct, entry_of};
-ghost use Rattle.spf_engine_construct.specs.Guesses.{block_guess, AreAtMost, IsHandedIn};
+ghost use Rattle.spf_speculation_entry.specs.Entry.{IsEntry, plain_blocks};
+ghost use Rattle.spf_engine_construct.specs.Guesses.{AreAtMost, IsHandedIn};
 ghost use Rattle.spf_engine.specs.Runs.{AreFew, GoesFurther, IsReadyAt, BreaksOff, BreaksOffAt};
 ghost use Rattle.spf_replay.specs.Plainly.{AreRunPlainly};
-ghost use Rattle.spf_replay_walk.specs.Visiting.{VisitsNext, VisitsBlocks};
+ghost use Rattle.spf_replay.specs.Copying.{HasOwnSpans};
+ghost use Rattle.spf_replay_walk.specs.Places.{entry_at, guess_at, spans_of, IsPlaced, IsSpare};
+ghost use Rattle.spf_replay_walk.specs.Visiting.{VisitsBlocks};
 ghost use Rattle.spf_replay_walk.specs.Walking.{Walks, WalksPast};
 
+use crate::place::{Place, Spare};
 use crate::plainly::run_plainly;
 use crate::visitor::Visitor;
 use spf_ast::construct::TopConstruct;
-use spf_ast::row::Row;
 use spf_chain::validated::Settled;
 use spf_check::checked::Checked;
 use spf_engine::step::{Arrival, Step, arrive, settle};
@@ -34,8 +35,9 @@ use spf_engine_construct::telling::tell_history;
 use spf_exec::pieces::{Header, Run};
 use spf_exec_instance::instance::Instance;
 use spf_guess::Predictor;
-use spf_guess_statistics::guess::Guess;
 use spf_guess_statistics::stats::Stats;
+use spf_region::span::Plan;
+use spf_replay::copying::copy_plan;
 use spf_replay::entered::EnteredConstruct;
 use std::alloc::{AllocError, Global};
 
@@ -76,107 +78,110 @@ fn are_bytes(input: &[u8])
     }
 }
 
-/// Puts these words into a run's cells.
-fn put_cells(run: &mut Run, cells: &[i64])
-    requires size { length cells.now ≡ length run.old.cells }
-    ensures { run.new ≡ record run.old { cells = cells.now } }
-{
-    run.cells_mut().copy_from_slice(cells);
-}
-
 impl<'a> Walker<'a> {
-    /// Hands the construct at which the run stands to a visitor.
-    fn hand_over<V: Visitor>(
-        &self,
-        at: Stand,
-        header: &Header,
-        guesses: &[Guess],
-        reals: &[Row],
-        visitor: &mut V,
-    ) -> Result<(), AllocError>
-        requires there { IsAtConstruct (seen_program self.now.checked.now) at header.now }
-        requires fits { (header.now.low +ℤ pos header.now.blocks) ≤ℤ i64.MAX }
-        requires guesses { length guesses.now + 1 ≡ header.now.blocks }
-        requires reals { reals.now ≡ (plain_blocks (entry_of at header.now)).values }
-        ensures { OnOk result (VisitsNext V.has_visited guesses.now (entry_of at.entry header.now)
-            visitor.old visitor.new) }
+    /// The spans of the blocks of the construct at which a run stands with these cells.
+    ///
+    /// # Errors
+    ///
+    /// Fails where memory runs out.
+    fn plan_of(&self, place: Place, header: &Header, cells: &[i64]) -> Result<Plan, AllocError>
+        requires there { IsPlaced (seen_program self.now.checked.now) place header.now cells.now }
+        ensures entry { IsEntry (entry_at place.entry header.now cells.now) }
+        ensures plan { IfOk result
+            (λ plan. HasOwnSpans (entry_at place.entry header.now cells.now) (spans_of plan)) }
     {
-        // Law: the blocks of an accepted program's constructs can be run as attempts.
-        spf_chain::laws::accepted_constructs_can_run();
-        // Law: functions emit nothing, and there are fewer than 2^32 top constructs.
-        spf_ast::laws::lawful_programs_are_quiet_and_small();
-        are_bytes(at.instance.input());
+        are_bytes(place.instance.input());
         let _program = self.checked.program();
-        let layout = at.instance.layout();
-        let plan = self
-            .checked
-            .plan(self.alloc, at.index, layout, header.low, header.blocks)?;
-        let entered = EnteredConstruct {
-            instance: at.instance,
-            construct: at.construct,
-            index: at.index,
-            header: *header,
-            frame: at.frame,
-            cells: at.cells,
-            plan: &plan,
-            guesses,
-            reals,
-        };
-        visitor.visit(self.alloc, &entered)
+        let _ = cells;
+        let layout = place.instance.layout();
+        self.checked
+            .plan(self.alloc, place.index, layout, header.low, header.blocks)
     }
 
-    /// Takes the guesses for the blocks of the construct at which the run stands, runs the blocks,
-    /// hands the construct over, and tells hosts the real rows.
+    /// Takes the guesses for the blocks of the construct at which a run stands with these cells, runs
+    /// the blocks, hands the construct over, and tells hosts the real rows.
     ///
     /// # Errors
     ///
     /// Fails where memory runs out; nothing was told then.
     fn examine<V: Visitor>(
         &self,
-        at: Stand,
+        place: Place,
         header: &Header,
+        cells: Vec<i64>,
+        spare: &mut Spare,
         visitor: &mut V,
         hosts: &mut Vec<Box<dyn Predictor>>,
     ) -> Result<Examined, AllocError>
-        requires there { IsAtConstruct (seen_program self.now.checked.now) at header.now }
-        requires fits { (header.now.low +ℤ pos header.now.blocks) ≤ℤ i64.MAX }
-        requires host { IsHandedIn (length hosts.old.items) (seen_construct at.construct) }
-        ensures plain { IfOk result (λ r. AreRunPlainly (entry_of at.entry header.now)
-            (plain_blocks (entry_of at.entry header.now)).values (result_as r.settled)
-            r.cells.items) }
-        ensures size { IfOk result (λ r. length r.cells.items ≡ length at.entry.cells.now) }
+        requires there { IsPlaced (seen_program self.now.checked.now) place header.now cells.items }
+        requires spare { IsSpare place.instance.now spare.old }
+        requires host { IsHandedIn (length hosts.old.items) (seen_construct place.construct) }
+        ensures plain { IfOk result (λ r. AreRunPlainly (entry_at place.entry header.now cells.items)
+            (plain_blocks (entry_at place.entry header.now cells.items)).values
+            (result_as r.settled) r.cells.items) }
+        ensures size { IfOk result (λ r. length r.cells.items ≡ length cells.items) }
         ensures visited { IfOk result (λ r. (before : Hosts) (telling : List Telling)
             → WereTold before telling (supplied answer hosts.old.items)
-            → VisitsBlocks V.has_visited (entry_of at.entry header.now)
-            (block_guess before telling at.entry header.now) visitor.old visitor.new) }
+            → VisitsBlocks V.has_visited (entry_at place.entry header.now cells.items)
+            (guess_at before telling (entry_at place.entry header.now cells.items))
+            visitor.old visitor.new) }
         ensures statistics { IfOk result (λ r. (before : Hosts) (telling : List Telling)
             → WereTold before telling (supplied answer hosts.old.items)
-            → r.stats ≡ statistics_with (block_guess before telling at.entry header.now)
-            (plain_blocks (entry_of at.entry header.now)).values) }
+            → r.stats ≡ statistics_with
+            (guess_at before telling (entry_at place.entry header.now cells.items))
+            (plain_blocks (entry_at place.entry header.now cells.items)).values) }
         ensures few { IfOk result (λ r. AreAtMost r.stats max_blocks) }
         ensures told { IfOk result (λ r. (before : Hosts) (telling : List Telling)
             → WereTold before telling (supplied answer hosts.old.items)
             → WereTold before (telling
-            ++ tells (seen_construct at.entry.construct) (seen_header header.now)
-            (plain_blocks (entry_of at.entry header.now)).values)
+            ++ tells (seen_construct place.entry.construct) (seen_header header.now)
+            (plain_blocks (entry_at place.entry header.now cells.items)).values)
             (supplied answer hosts.new.items)) }
         ensures nothing_told { IfErr result (λ why.
             WereToldNoMore (supplied answer hosts.old.items) (supplied answer hosts.new.items)) }
         ensures count { length hosts.new.items ≡ length hosts.old.items }
+        ensures spare { IsSpare place.entry.instance.now spare.new }
     {
+        // Law: the blocks of an accepted program's constructs can be run as attempts.
+        spf_chain::laws::accepted_constructs_can_run();
         // Law: functions emit nothing, and there are fewer than 2^32 top constructs.
         spf_ast::laws::lawful_programs_are_quiet_and_small();
         // Law: no `break` of a lawful program leaves `main` or a part.
         spf_ast::laws::breaks_stay_in_their_loops();
+        // Law: a form has exactly one plain run on a memory.
+        spf_ast::laws::each_form_has_one_plain_run();
+        // Law: a block overwrites its cells, whatever they held.
+        spf_check_rules::laws::blocks_overwrite();
         let _program = self.checked.program();
+        let at = Stand {
+            instance: place.instance,
+            construct: place.construct,
+            index: place.index,
+            frame: place.frame,
+            cells: &cells,
+        };
         let guesses = take_guesses_alone(self.alloc, at, header, hosts)?;
-        let blocks = run_plainly(self.alloc, self.checked, at, header)?;
-        self.hand_over(at, header, &guesses, &blocks.reals, visitor)?;
+        let plan = self.plan_of(place, header, &cells)?;
+        let blocks = run_plainly(self.alloc, self.checked, place, header, cells, &plan, spare)?;
+        let mut cells = blocks.cells;
+        let entered = EnteredConstruct {
+            instance: place.instance,
+            construct: place.construct,
+            index: place.index,
+            header: *header,
+            frame: place.frame,
+            cells: &cells,
+            plan: &plan,
+            guesses: &guesses,
+            reals: &blocks.reals,
+        };
+        visitor.visit(self.alloc, &entered, &mut spare.scratch)?;
         let stats = count_blocks(&blocks.reals, &guesses);
-        tell_history(at.construct, header, &blocks.reals, hosts);
+        tell_history(place.construct, header, &blocks.reals, hosts);
+        copy_plan(&mut cells, &spare.after, &plan);
         Ok(Examined {
             settled: blocks.settled,
-            cells: blocks.cells,
+            cells,
             stats,
         })
     }
@@ -187,6 +192,7 @@ impl<'a> Walker<'a> {
         &self,
         site: &Site<'a>,
         run: &mut Run,
+        spare: &mut Spare,
         visitor: &mut V,
         stats: &mut Stats,
         hosts: &mut Vec<Box<dyn Predictor>>,
@@ -199,6 +205,7 @@ impl<'a> Walker<'a> {
         requires ready { IsReadyAt (program_of self.now.instance.now) site.now.number
             (seen_construct site.now.construct) site.now.header run.old }
         requires few { AreFew (program_of self.now.instance.now) run.old stats.old }
+        requires spare { IsSpare self.now.instance.now spare.old }
         ensures steps { IfOk result (λ s. WalksPast V.has_visited self.now.instance.now
             run.old visitor.old stats.old (supplied answer hosts.old.items)
             (seen_construct site.now.construct) (seen_header site.now.header)
@@ -207,8 +214,9 @@ impl<'a> Walker<'a> {
             (supplied answer hosts.old.items) (seen_construct site.now.construct)
             (seen_header site.now.header) (supplied answer hosts.new.items)) }
         ensures count { length hosts.new.items ≡ length hosts.old.items }
-        ensures run { IsRunOf (program_of self.now.instance.now)
-            (length self.now.instance.now.input) run.new }
+        ensures run { OnOk result (IsRunOf (program_of self.now.instance.now)
+            (length self.now.instance.now.input) run.new) }
+        ensures spare { IsSpare self.now.instance.now spare.new }
         ensures further { IfOk result (λ s.
             GoesFurther (program_of self.now.instance.now) s run.old run.new stats.new) }
     {
@@ -218,15 +226,16 @@ impl<'a> Walker<'a> {
         spf_ast::laws::lawful_programs_are_quiet_and_small();
         let _program = self.checked.program();
         let construct = site.construct;
-        let at = Stand {
+        let mut cells = Vec::new(self.alloc);
+        run.swap_cells(&mut cells);
+        let place = Place {
             instance: self.instance,
             construct,
             index: site.number,
             frame: run.frame(),
-            cells: run.cells(),
         };
-        let examined = self.examine(at, &site.header, visitor, hosts)?;
-        put_cells(run, &examined.cells);
+        let mut examined = self.examine(place, &site.header, cells, spare, visitor, hosts)?;
+        run.swap_cells(&mut examined.cells);
         *stats = stats.plus(examined.stats);
         Ok(settle(run, self.instance, construct, examined.settled))
     }
@@ -235,6 +244,7 @@ impl<'a> Walker<'a> {
     pub(crate) fn take_step<V: Visitor>(
         &self,
         run: &mut Run,
+        spare: &mut Spare,
         visitor: &mut V,
         stats: &mut Stats,
         hosts: &mut Vec<Box<dyn Predictor>>,
@@ -245,14 +255,16 @@ impl<'a> Walker<'a> {
         requires run { IsRunOf (program_of self.now.instance.now)
             (length self.now.instance.now.input) run.old }
         requires few { AreFew (program_of self.now.instance.now) run.old stats.old }
+        requires spare { IsSpare self.now.instance.now spare.old }
         ensures steps { IfOk result (λ s. Walks V.has_visited self.now.instance.now run.old
             visitor.old stats.old (supplied answer hosts.old.items)
             s run.new visitor.new stats.new (supplied answer hosts.new.items)) }
         ensures told_first { IfErr result (λ why. BreaksOff self.now.instance.now run.old
             (supplied answer hosts.old.items) (supplied answer hosts.new.items)) }
         ensures count { length hosts.new.items ≡ length hosts.old.items }
-        ensures run { IsRunOf (program_of self.now.instance.now)
-            (length self.now.instance.now.input) run.new }
+        ensures run { OnOk result (IsRunOf (program_of self.now.instance.now)
+            (length self.now.instance.now.input) run.new) }
+        ensures spare { IsSpare self.now.instance.now spare.new }
         ensures further { IfOk result (λ s.
             GoesFurther (program_of self.now.instance.now) s run.old run.new stats.new) }
     {
@@ -271,7 +283,7 @@ impl<'a> Walker<'a> {
                     construct,
                     header,
                 };
-                self.pass(&site, run, visitor, stats, hosts)
+                self.pass(&site, run, spare, visitor, stats, hosts)
             }
             Arrival::Over(step) => Ok(step),
         }

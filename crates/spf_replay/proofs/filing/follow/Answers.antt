@@ -1,4 +1,4 @@
-use Rattle.std.proofs.Common.{◌≡◌, get_or, refl, sym, ap, ◌∙◌, subst}
+use Rattle.std.proofs.Common.{get_or, refl, sym, ap, ◌∙◌, subst}
 use Rattle.spf_replay.specs.Entered.{entry_of}
 use Rattle.spf_replay.specs.Runners.{AreBlocksOf}
 use Rattle.spf_replay.specs.Schedule.{Situation, is_running, after_filing, running_blocks}

@@ -1,4 +1,4 @@
-use Rattle.std.proofs.Common.{◌≡◌, ◌+◌, length, get_or, refl, sym, ap, ◌∙◌, arith}
+use Rattle.std.proofs.Common.{◌≡◌, ◌+◌, get_or, refl, ap, ◌∙◌, arith}
 use Rattle.spf_replay.specs.Schedule.{running_blocks}
 use Rattle.spf_replay.proofs.Settled.{at-index, more-running, no-more-running}
 use Rattle.spf_replay.proofs.filing.running_of.Goals.{then-runners-n+in_ok-push, else-runners-n}

@@ -1,4 +1,3 @@
-use Rattle.std.proofs.Common.{◌≡◌, true, false}
 use Rattle.spf_replay.proofs.Pieces.{none-found, some-found}
 use Rattle.spf_replay.proofs.runner.has_piece.Goals as goal
 

@@ -1,4 +1,4 @@
-use Rattle.std.proofs.Common.{◌≡◌, ◌++◌, [], drop, ap, ◌∙◌, arith}
+use Rattle.std.proofs.Common.{◌++◌, [], drop, ap, ◌∙◌, arith}
 use Rattle.spf_speculation.specs.Steps.{steps_of}
 use Rattle.spf_replay.specs.declared.runner.Runner.{Runner}
 use Rattle.spf_replay.specs.Entered.{entry_of}

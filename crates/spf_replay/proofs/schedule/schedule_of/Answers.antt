@@ -1,4 +1,4 @@
-use Rattle.std.proofs.Common.{◌≡◌, ◌<◌, ◌+◌, ◌-◌, ℕ, List, [], length, drop, sym, ap, ◌∙◌, subst, arith}
+use Rattle.std.proofs.Common.{◌≡◌, ◌<◌, ◌+◌, ◌-◌, List, [], length, drop, sym, ap, ◌∙◌, subst, arith}
 use Rattle.std.specs.Prelude.{slice_set}
 use Rattle.std.proofs.lemmas.Grind.{common_steps}
 use Rattle.std.proofs.lemmas.List.{length-set}
@@ -23,7 +23,7 @@ loop-alloc-init c =
           (c.in_ok-running.ensures e (beginning e guess c.args.state) (subst (AreBlocksOf e (beginning e guess c.args.state)) (sym c.deref.ensures.value) blocks))
           (ap seen_steps c.new-steps.ensures.items);
       few = omega (arith, none);
-      scratch = c.in_ok-scratch.ensures;
+      scratch = c.requires.scratch;
     }
 
 pub index_mut-runner-requires : goal.index_mut-runner-requires

@@ -1,4 +1,4 @@
-use Rattle.std.proofs.Common.{ℕ, [], map, take, length, subst}
+use Rattle.std.proofs.Common.{ℕ, [], map, take, subst}
 use Rattle.spf_replay.specs.declared.runner.Runner.{Runner}
 use Rattle.spf_replay.specs.Entered.{entry_of}
 use Rattle.spf_replay.specs.Reading.{event_of}

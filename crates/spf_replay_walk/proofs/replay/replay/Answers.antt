@@ -1,9 +1,12 @@
-use Rattle.std.proofs.Common.{ℕ, List, map, subst}
+use Rattle.std.proofs.Common.{◌∙◌, ℕ, List, map, subst}
 use Rattle.spf_ast.specs.Syntax.{Program}
+use Rattle.spf_ast.specs.Construct.{constructs_in}
 use Rattle.spf_ast.specs.View.{program as seen_program}
 use Rattle.spf_guess.specs.Answers.{handed_in}
 use Rattle.std.proofs.lemmas.Result.{err_from_is_err_and}
-use Rattle.spf_engine.proofs.Causes.{not-laid-out}
+use Rattle.spf_guess.specs.Missing.{missing_host}
+use Rattle.spf_engine.specs.Errors.{IsMissing}
+use Rattle.spf_engine.proofs.Causes.{not-set-up}
 use Rattle.spf_engine.proofs.Stepping.{if-err, told-nothing, retold-as}
 use Rattle.spf_replay.specs.Expecting.{expected}
 use Rattle.spf_replay.specs.Verdicts.{IsVerdict}
@@ -16,10 +19,8 @@ returns-in_err-instance-clause-told_first g c = if-err _ (told-nothing _ (seen_p
 pub returns-in_err-instance-clause-not_run : goal.returns-in_err-instance-clause-not_run
 returns-in_err-instance-clause-not_run g c =
     let p = err_from_is_err_and c.from_residual.result c.from_residual.ensures.1 in
-    rw (p.1, p.2) (not-laid-out _ _ _ _ c.in_err-instance.field-0.0 c.in_err-instance.ensures.too_many c.in_err-instance.ensures.error)
-
-pub returns-in-Some-clause-told_first : goal.returns-in-Some-clause-told_first
-returns-in-Some-clause-told_first g c = told-nothing _ (seen_program c.args.checked.now) c.args.input.now
+    rw (p.1, p.2) (not-set-up _ _ _ _ c.in_err-instance.field-0.0 c.in_err-instance.ensures.too_many
+    (λ low. subst (λ (n : ℕ). IsMissing (missing_host n (constructs_in (seen_program c.args.checked.now).main)) c.in_err-instance.field-0.0) (c.len.ensures ∙ c.args.hosts.now.ok.0) (c.in_err-instance.ensures.missing low)))
 
 pub returns-clause-told : goal.returns-clause-told
 returns-clause-told g c =

@@ -5,13 +5,15 @@ use Rattle.spf_exec.specs.Pieces.{IsRunOf, ahead}
 use Rattle.spf_guess.specs.Answers.{handed_in, WereTold}
 use Rattle.spf_engine_laws.specs.Progress.{Progress, GoesOn}
 use Rattle.spf_engine.specs.Runs.{AreFew}
+use Rattle.spf_replay_walk.specs.Places.{IsSpare}
 use Rattle.spf_replay_walk.specs.Visiting.{VisitsFrom}
 use Rattle.spf_replay_walk.proofs.walk.walk.Given as goal
 
 -- the run goes on, with progress whose constructs the visitor took, whose statistics were counted, and of which hosts were told
-abbrev pub invariant-loop-run : goal.invariant-loop-run
-invariant-loop-run g l = record {
+abbrev pub invariant-loop-spare : goal.invariant-loop-spare
+invariant-loop-spare g l = record {
   run : IsRunOf (program_of l.fn.instance) (length l.fn.instance.input) l.run;
+  spare : IsSpare l.fn.instance l.spare;
   count : length l.hosts.items ≡ length l.initial.hosts.items;
   progress : Progress;
   visited : VisitsFrom g.V.Visitor.has_visited [] l.initial.visitor progress.passed l.visitor;
@@ -21,5 +23,5 @@ invariant-loop-run g l = record {
   few : AreFew (program_of l.fn.instance) l.run l.stats;
 }
 
-abbrev pub decreases-loop-run : goal.decreases-loop-run
-decreases-loop-run g l = statement_count (ahead (program_of l.fn.instance) l.run)
+abbrev pub decreases-loop-spare : goal.decreases-loop-spare
+decreases-loop-spare g l = statement_count (ahead (program_of l.fn.instance) l.run)

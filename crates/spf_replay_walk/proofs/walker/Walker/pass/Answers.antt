@@ -1,8 +1,7 @@
-use Rattle.std.proofs.Common.{◌∙◌, ◌++◌, List, length, sym, ap, subst, arith}
+use Rattle.std.proofs.Common.{◌≡◌, ◌∙◌, ◌++◌, List, length, sym, ap, subst, arith}
 use Rattle.spf_ast.specs.ConstructView.{construct as seen_construct}
 use Rattle.spf_ast.specs.Construct.{constructs_in}
 use Rattle.spf_ast.specs.Lawful.{IsLawful}
-use Rattle.spf_ast.specs.Pieces.{construct_first, rest_from}
 use Rattle.spf_check.specs.Accepting.{IsAccepted}
 use Rattle.spf_exec.specs.Pieces.{Stand, seen_header}
 use Rattle.spf_exec_instance.specs.Instance.{program_of}
@@ -27,30 +26,6 @@ pub examine-requires-clause-host : goal.examine-requires-clause-host
 examine-requires-clause-host g c =
     handed-in (length c.args.hosts.now.items) (constructs_in (program_of c.args.self.now.instance.now).main) c.args.site.now.number (seen_construct c.args.site.now.construct) c.requires.hosts c.requires.ready.construct
 
-pub examine-requires-clause-there : goal.examine-requires-clause-there
-examine-requires-clause-there g c = record {
-  program = c.requires.program;
-  construct = c.requires.ready.construct;
-  blocks = c.requires.ready.blocks;
-  some = c.requires.ready.some;
-  few = c.requires.ready.few;
-  frame = ap length c.frame.ensures ∙ c.requires.run.frame;
-  cells = ap length c.cells.ensures ∙ c.requires.run.cells;
-}
-
-pub put_cells-requires : goal.put_cells-requires
-put_cells-requires g c = record { size = ap length c.deref.ensures.value ∙ c.in_ok-examined.ensures.size ∙ ap length c.cells.ensures }
-
-pub settle-requires-clause-run : goal.settle-requires-clause-run
-settle-requires-clause-run g c =
-    put-run (program_of c.args.self.now.instance.now) (length c.args.self.now.instance.now.input) c.args.run.now c.put_cells.new.run c.deref.result.now c.requires.run c.put_cells.ensures
-    (ap length c.deref.ensures.value ∙ c.in_ok-examined.ensures.size ∙ ap length c.cells.ensures)
-
-pub settle-requires-clause-construct : goal.settle-requires-clause-construct
-settle-requires-clause-construct g c =
-    let p = program_of c.args.self.now.instance.now in
-    ap (λ (s : Stand). construct_first (rest_from s.place p.main)) c.put_cells.ensures ∙ c.requires.ready.next
-
 pub returns-in_err-examined-clause-told_first : goal.returns-in_err-examined-clause-told_first
 returns-in_err-examined-clause-told_first g c = if-err _
     (entered-told-first (program_of c.args.self.now.instance.now) c.args.self.now.instance.now.input (seen_construct c.args.site.now.construct) (seen_header c.args.site.now.header) c.args.run.now _ _ c.in_err-examined.ensures.nothing_told)
@@ -72,31 +47,37 @@ returns-clause-steps g c = λ before progress counted were entered.
     let e = entry_there p i construct header c.args.run.now in
     let guess = guess_there before progress.telling p i construct header c.args.run.now in
     let blocks = c.in_ok-examined.examined in
-    let put = c.put_cells.ensures in
-    let came = subst (λ (x : Entry). AreRunPlainly x (plain_blocks x).values (result_as blocks.settled) blocks.cells.items) (λ k. entry_with p i construct header (c.frame.ensures k) (c.cells.ensures k)) c.in_ok-examined.ensures.plain in
+    let put : c.swap_cells-2.new.self ≡ record c.args.run.now { cells = blocks.cells.items } =
+    c.swap_cells-2.ensures.run ∙ ap (λ (s : Stand). let t : Stand = record s { cells = blocks.cells.items } in t) c.swap_cells.ensures.run in
+    let frame = c.frame.ensures ∙ ap (λ (s : Stand). s.frame) c.swap_cells.ensures.run in
+    let cells = c.swap_cells.ensures.cells in
+    let came = subst (λ (x : Entry). AreRunPlainly x (plain_blocks x).values (result_as blocks.settled) blocks.cells.items) (λ k. entry_with p i construct header (frame k) (cells k)) c.in_ok-examined.ensures.plain in
     record {
       later = with_construct e guess progress;
       visited = subst (λ (l : List PassedConstruct). VisitsFrom g.V.Visitor.has_visited progress.passed c.args.visitor.now (progress.passed ++ l) c.examine.new.visitor)
-          (λ k. passed_from (entry_with p i construct header (c.frame.ensures k) (c.cells.ensures k)) (guess_with before progress.telling p i construct header (c.frame.ensures k) (c.cells.ensures k)))
+          (λ k. passed_from (entry_with p i construct header (frame k) (cells k)) (guess_with before progress.telling p i construct header (frame k) (cells k)))
           (c.in_ok-examined.ensures.visited before progress.telling were progress.passed);
       stats_are = c.plus.ensures ∙ (λ k. plus (counted k) (c.in_ok-examined.ensures.statistics before progress.telling were k))
-          ∙ (λ k. plus progress.stats (statistics_with (guess_with before progress.telling p i construct header (c.frame.ensures k) (c.cells.ensures k)) (plain_blocks (entry_with p i construct header (c.frame.ensures k) (c.cells.ensures k))).values));
+          ∙ (λ k. plus progress.stats (statistics_with (guess_with before progress.telling p i construct header (frame k) (cells k)) (plain_blocks (entry_with p i construct header (frame k) (cells k))).values));
       told = retold before _ _ _
-          (λ k. progress.telling ++ tells construct header (plain_blocks (entry_with p i construct header (c.frame.ensures k) (c.cells.ensures k))).values)
+          (λ k. progress.telling ++ tells construct header (plain_blocks (entry_with p i construct header (frame k) (cells k))).values)
           (c.in_ok-examined.ensures.told before progress.telling were);
-      there = goes-past-blocks c.runs_in_pieces_go_on.ensures.settle c.runs_in_pieces_go_on.ensures.blocks before p i c.args.run.now c.put_cells.new.run c.settle.new.run progress construct header
+      there = goes-past-blocks c.runs_in_pieces_go_on.ensures.settle c.runs_in_pieces_go_on.ensures.blocks before p i c.args.run.now c.swap_cells-2.new.self c.settle.new.run progress construct header
           blocks.settled c.settle.result entered
           (c.lawful_programs_are_quiet_and_small.ensures.functions p (subst IsLawful (sym c.requires.program) c.program-program.ensures.lawful))
           (subst IsAccepted (sym c.requires.program) c.program-program.ensures.accepted c.args.site.now.number construct c.requires.ready.construct)
           (record { frame = ap (λ (s : Stand). s.frame) put; output = ap (λ (s : Stand). s.output) put; place = ap (λ (s : Stand). s.place) put })
-          (plain-come e (plain_blocks e).values blocks.settled blocks.cells.items c.put_cells.new.run.cells came (ap (λ (s : Stand). s.cells) put ∙ c.deref.ensures.value)) c.settle.ensures.settled;
+          (plain-come e (plain_blocks e).values blocks.settled blocks.cells.items c.swap_cells-2.new.self.cells came (ap (λ (s : Stand). s.cells) put)) c.settle.ensures.settled;
     }
 
 pub returns-clause-further : goal.returns-clause-further
 returns-clause-further g c =
     let p = program_of c.args.self.now.instance.now in
-    let run = put-run p (length c.args.self.now.instance.now.input) c.args.run.now c.put_cells.new.run c.deref.result.now c.requires.run c.put_cells.ensures
-    (ap length c.deref.ensures.value ∙ c.in_ok-examined.ensures.size ∙ ap length c.cells.ensures) in
+    let blocks = c.in_ok-examined.examined in
+    let put : c.swap_cells-2.new.self ≡ record c.args.run.now { cells = blocks.cells.items } =
+    c.swap_cells-2.ensures.run ∙ ap (λ (s : Stand). let t : Stand = record s { cells = blocks.cells.items } in t) c.swap_cells.ensures.run in
+    let run = put-run p (length c.args.self.now.instance.now.input) c.args.run.now c.swap_cells-2.new.self blocks.cells.items c.requires.run put
+    (c.in_ok-examined.ensures.size ∙ ap length c.swap_cells.ensures.cells) in
     subst (λ (s : Stats). GoesFurther p c.settle.result c.args.run.now c.settle.new.run s) (sym c.plus.ensures)
-    (further-after p c.args.run.now c.put_cells.new.run c.settle.new.run (seen_construct c.args.site.now.construct) c.in_ok-examined.examined.settled c.settle.result
-    c.args.stats.now c.in_ok-examined.examined.stats c.requires.ready.next (ap (λ (s : Stand). s.place) c.put_cells.ensures) c.settle.ensures.settled run.passed c.requires.few c.in_ok-examined.ensures.few)
+    (further-after p c.args.run.now c.swap_cells-2.new.self c.settle.new.run (seen_construct c.args.site.now.construct) blocks.settled c.settle.result
+    c.args.stats.now blocks.stats c.requires.ready.next (ap (λ (s : Stand). s.place) put) c.settle.ensures.settled run.passed c.requires.few c.in_ok-examined.ensures.few)
