@@ -44,8 +44,7 @@ impl Model for Checked {
 }
 
 impl Checked {
-    /// Returns the program. It is lawful and accepted, and each of its top constructs is rollback
-    /// free.
+    /// The program. It is lawful and accepted, and each of its top constructs is rollback free.
     pub fn program(&self) -> &Program
         ensures program { result.now ≡ self.now }
         ensures lawful { IsLawful (seen_program self.now) }

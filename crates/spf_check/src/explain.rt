@@ -27,7 +27,7 @@ use spf_region::list::RangeList;
 use spf_region::range::Range;
 use std::alloc::{AllocError, Global};
 
-/// The name of a part.
+/// How a part is called.
 fn part_name(part: Part) -> &'static str
     ensures { result.now ≡ part_name part }
 {

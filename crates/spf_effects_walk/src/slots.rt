@@ -10,7 +10,7 @@ ghost use Rattle.spf_effects_walk.specs.SlotSets.{has_slot};
 use crate::slot_sets::SlotSet;
 use spf_ast::syntax::{Fold, Pair, Stmt, StmtKind};
 
-/// Returns whether one of these statements, or one within them, emits.
+/// Whether one of these statements, or one within them, emits.
 #[cycle(emits)]
 pub fn emits(statements: &[Stmt]) -> bool
     ensures { result ≡ emits (seen_block statements.now) }
@@ -23,7 +23,7 @@ pub fn emits(statements: &[Stmt]) -> bool
     false
 }
 
-/// Returns whether a statement, or one within it, emits.
+/// Whether a statement, or one within it, emits.
 #[cycle(emits)]
 fn statement_emits(kind: &StmtKind) -> bool
     ensures { result ≡ statement_emits (seen_statement kind.now) }
@@ -45,7 +45,7 @@ fn statement_emits(kind: &StmtKind) -> bool
     }
 }
 
-/// Returns whether the body of a fold emits.
+/// Whether the body of a fold emits.
 #[cycle(emits)]
 fn fold_emits(fold: &Fold) -> bool
     ensures { result ≡ emits (seen_block (out-Fold fold.now).body.items) }
@@ -53,7 +53,7 @@ fn fold_emits(fold: &Fold) -> bool
     emits(&fold.body)
 }
 
-/// Returns whether the producer or the consumer of a pair emits.
+/// Whether the producer or the consumer of a pair emits.
 #[cycle(emits)]
 fn pair_emits(pair: &Pair) -> bool
     ensures { result
@@ -63,8 +63,7 @@ fn pair_emits(pair: &Pair) -> bool
     emits(&pair.producer) || emits(&pair.consumer)
 }
 
-/// Returns whether one of these statements, or one within them, assigns a slot that isn't among
-/// these.
+/// Whether one of these statements, or one within them, assigns a slot that isn't among these.
 #[cycle(assigns)]
 pub fn assigns_other(statements: &[Stmt], declared: &SlotSet) -> bool
     ensures { result
@@ -78,7 +77,7 @@ pub fn assigns_other(statements: &[Stmt], declared: &SlotSet) -> bool
     false
 }
 
-/// Returns whether a statement, or one within it, assigns a slot that isn't among these.
+/// Whether a statement, or one within it, assigns a slot that isn't among these.
 #[cycle(assigns)]
 fn statement_assigns_other(kind: &StmtKind, declared: &SlotSet) -> bool
     ensures { result
@@ -103,7 +102,7 @@ fn statement_assigns_other(kind: &StmtKind, declared: &SlotSet) -> bool
     }
 }
 
-/// Returns whether the body of a fold assigns a slot that isn't among these.
+/// Whether the body of a fold assigns a slot that isn't among these.
 #[cycle(assigns)]
 fn fold_assigns_other(fold: &Fold, declared: &SlotSet) -> bool
     ensures { result
@@ -113,7 +112,7 @@ fn fold_assigns_other(fold: &Fold, declared: &SlotSet) -> bool
     assigns_other(&fold.body, declared)
 }
 
-/// Returns whether the producer or the consumer of a pair assigns a slot that isn't among these.
+/// Whether the producer or the consumer of a pair assigns a slot that isn't among these.
 #[cycle(assigns)]
 fn pair_assigns_other(pair: &Pair, declared: &SlotSet) -> bool
     ensures { result
@@ -125,7 +124,7 @@ fn pair_assigns_other(pair: &Pair, declared: &SlotSet) -> bool
     assigns_other(&pair.producer, declared) || assigns_other(&pair.consumer, declared)
 }
 
-/// Returns whether one of these statements is a `break` that ends a loop around them, or holds one.
+/// Whether one of these statements is a `break` that ends a loop around them, or holds one.
 #[cycle(breaks)]
 pub(crate) fn breaks(statements: &[Stmt]) -> bool
     ensures { result ≡ breaks (seen_block statements.now) }
@@ -138,8 +137,7 @@ pub(crate) fn breaks(statements: &[Stmt]) -> bool
     false
 }
 
-/// Returns whether a statement is a `break`, or holds one that isn't in a loop or a construct
-/// within it.
+/// Whether a statement is a `break`, or holds one that isn't in a loop or a construct within it.
 #[cycle(breaks)]
 fn statement_breaks(kind: &StmtKind) -> bool
     ensures { result ≡ statement_breaks (seen_statement kind.now) }

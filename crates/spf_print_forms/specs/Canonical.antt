@@ -46,8 +46,7 @@ deeper indent = indent ++ codes "  "
 
 -- ---- expressions
 
--- how tightly an operator binds, the loosest with 1: `||`, `&&`, comparisons, `|`, `^`, `&`, shifts, sums, products,
--- signs, and operands
+-- how tight an operator binds, the loosest with 1: `||`, `&&`, comparisons, `|`, `^`, `&`, shifts, sums, products, signs, and operands
 abbrev pub op_level : Op → ℕ
 op_level op.Or = 4
 op_level op.Xor = 5

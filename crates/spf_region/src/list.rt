@@ -15,9 +15,8 @@ use crate::span::Span;
 use std::alloc::{AllocError, Global};
 use std::marker::Model;
 
-/// A list of ranges in normal form: by array; for each array the whole array first, then by factor,
-/// then by offset, no range empty, and those of one array and factor with a gap between each and
-/// the next.
+/// A list of ranges in normal form: by array; in it the whole array first, then by factor, then by
+/// offset, no range empty, and those of one array and factor with a gap between each and the next.
 ///
 /// A set of offsets and whole arrays has one such list.
 #[derive(Drop)]
@@ -38,7 +37,7 @@ impl Model for RangeList {
 }
 
 impl RangeList {
-    /// Makes the empty list. It takes no memory.
+    /// The empty list. It takes no memory.
     pub fn new(alloc: Global) -> RangeList
         ensures empty { result ≡ [] }
     {
@@ -47,7 +46,7 @@ impl RangeList {
         }
     }
 
-    /// Adds a range. A range whose `from` is greater than its `to` adds nothing.
+    /// Joins a range in. A range whose `from` is over its `to` adds nothing.
     ///
     /// # Errors
     ///
@@ -70,7 +69,7 @@ impl RangeList {
         Ok(())
     }
 
-    /// Returns the list of what either of two lists has.
+    /// The list of what either of two lists has.
     ///
     /// # Errors
     ///
@@ -89,7 +88,7 @@ impl RangeList {
         })
     }
 
-    /// Returns the list of what both of two lists have.
+    /// The list of what both of two lists have.
     ///
     /// # Errors
     ///
@@ -106,22 +105,22 @@ impl RangeList {
         })
     }
 
-    /// Returns whether the range is affine, and each of its offsets stands in an affine range of
-    /// the same array and factor.
+    /// Whether the range is affine, and each of its offsets stands in an affine range of the same
+    /// array and factor.
     pub fn covers(&self, range: &Range) -> bool
         ensures covers { result ≡ covers (offsets_of self.now) range.now }
     {
         covers_offsets(&self.items, range)
     }
 
-    /// Returns whether some range has that array.
+    /// Whether some range has that array.
     pub fn touches(&self, array: u32) -> bool
         ensures touches { result ≡ has_array self.now array }
     {
         has_array(&self.items, array)
     }
 
-    /// Returns the ranges in their order.
+    /// The ranges in their order.
     pub fn ranges(&self) -> &[Range]
         ensures list { result.now ≡ self.now }
         ensures normal { IsNormal self.now }
@@ -129,22 +128,22 @@ impl RangeList {
         &self.items
     }
 
-    /// Returns the first range that isn't separate from each range of the list, itself included.
+    /// The first range that isn't separate from each range of the list, itself included.
     pub fn unseparated(&self) -> Option<Range>
         ensures first { result ≡ first_unseparated self.now }
     {
         first_unseparated(&self.items)
     }
 
-    /// Returns the first range that isn't disjoint from each range of the other list.
+    /// The first range that isn't disjoint from each range of the other list.
     pub fn meeting(&self, others: &RangeList) -> Option<Range>
         ensures first { result ≡ first_meeting self.now others.now }
     {
         first_meeting(&self.items, &others.items)
     }
 
-    /// Returns the cells of the ranges at block k, clipped to their arrays, as ascending spans,
-    /// none empty and with a gap between each and the next.
+    /// The cells of the ranges at block k, clipped to their arrays, as ascending spans, none empty
+    /// and with a gap between each and the next.
     ///
     /// `extents` has the base and the size of each array.
     ///

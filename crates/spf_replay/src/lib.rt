@@ -1,4 +1,4 @@
-//! Checks logs of speculative runs, and defines schedules of such runs.
+//! Logs of speculative runs are checked, and schedules of such runs are defined.
 //!
 //! A log has a section for each construct with blocks that a run reaches. A section is right where
 //! its steps are a speculative run of the construct's blocks, from the guesses for them. Whether

@@ -1,4 +1,4 @@
--- The result of a walk.
+-- What a walk comes to.
 use Rattle.std.proofs.Common.{◌≡◌, ◌↔◌, ℕ, zero, suc, List, [], ◌∷◌, ◌++◌, Option, Some, None, refl, sym, ap, ◌∙◌, subst}
 use Rattle.std.specs.Prelude.{slice_get}
 use Rattle.spf_ast.specs.Syntax.{Program}

@@ -1,4 +1,4 @@
-//! Statements and blocks, which lead to each other.
+// Statements and blocks, which lead to each other.
 
 ghost use Rattle.std.specs.Prelude.{◌≡◌, ◌∷◌, true, false, IfOk, None, length, map};
 ghost use Rattle.spf_ast.specs.declared.syntax.Fold.{out-Fold};
@@ -32,7 +32,7 @@ use spf_types_names::fault::TypeError;
 use spf_types_names::locals::{LocalTable, row_slots};
 use spf_types_names::names::{Here, declarable};
 
-/// Resolves statements one after another, whose locals may be used after them.
+/// Statements one after another, whose locals may be used after them.
 #[cycle(block)]
 pub fn block<'a>(
     here: &Here<'_, 'a>,
@@ -54,7 +54,7 @@ pub fn block<'a>(
     Ok(statements)
 }
 
-/// Resolves a block, whose locals may not be used after it.
+/// A block, whose locals may not be used after it.
 #[cycle(block)]
 fn inner<'a>(
     here: &Here<'_, 'a>,
@@ -73,7 +73,7 @@ fn inner<'a>(
     Ok(statements)
 }
 
-/// Resolves a statement's kind.
+/// What a statement is.
 #[cycle(block)]
 fn statement_kind<'a>(
     here: &Here<'_, 'a>,
@@ -109,7 +109,7 @@ fn statement_kind<'a>(
     }
 }
 
-/// Resolves an `if`.
+/// An `if`.
 #[cycle(block)]
 fn choice<'a>(
     here: &Here<'_, 'a>,
@@ -134,7 +134,7 @@ fn choice<'a>(
     Ok(StmtKind::If(Box::into_inner(test), first, second))
 }
 
-/// Resolves a `for`.
+/// A `for`.
 #[cycle(block)]
 fn counted<'a>(
     here: &Here<'_, 'a>,
@@ -166,7 +166,7 @@ fn counted<'a>(
     Ok(StmtKind::For(slot, Box::into_inner(low), Box::into_inner(high), body))
 }
 
-/// Resolves a `while`.
+/// A `while`.
 #[cycle(block)]
 fn repeated<'a>(
     here: &Here<'_, 'a>,
@@ -190,7 +190,7 @@ fn repeated<'a>(
     Ok(StmtKind::While(Box::into_inner(test), most, body))
 }
 
-/// Resolves statements, and then a number on a line. The locals may not be used after it.
+/// Statements, and then a number on a line. The locals may not be used after it.
 pub fn valued<'a>(
     here: &Here<'_, 'a>,
     locals: &mut LocalTable<'a>,
@@ -216,8 +216,7 @@ pub fn valued<'a>(
     Ok((statements, value))
 }
 
-/// Resolves statements of a construct's part, and then a row on a line. The locals may not be used
-/// after it.
+/// Statements of a construct's part, and then a row on a line. The locals may not be used after it.
 #[cycle(block)]
 fn rowed<'a>(
     here: &Here<'_, 'a>,
@@ -245,7 +244,7 @@ fn rowed<'a>(
     Ok((statements, parts))
 }
 
-/// Resolves the body of a fold and its `next`.
+/// The body of a fold and its `next`.
 #[cycle(block)]
 fn folded<'a>(
     here: &Here<'_, 'a>,
@@ -280,7 +279,7 @@ fn folded<'a>(
     Ok(answer)
 }
 
-/// Resolves a `specfold`.
+/// A `specfold`.
 #[cycle(block)]
 fn fold<'a>(
     here: &Here<'_, 'a>,
@@ -304,7 +303,7 @@ fn fold<'a>(
     Ok(StmtKind::Fold(Box::new(here.alloc, fold)?))
 }
 
-/// Resolves the consumer of a pair.
+/// The consumer of a pair.
 #[cycle(block)]
 fn consumed<'a>(
     here: &Here<'_, 'a>,
@@ -329,7 +328,7 @@ fn consumed<'a>(
     Ok(consumer)
 }
 
-/// Resolves a `spec`.
+/// A `spec`.
 #[cycle(block)]
 fn pair<'a>(
     here: &Here<'_, 'a>,
