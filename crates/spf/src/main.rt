@@ -1,4 +1,4 @@
-// The program `spf`: runs programs whose loops look sequential but whose state is easy to guess.
+//! The program `spf`: runs programs whose loops look sequential but whose state is easy to guess.
 #![tactic(auto)]
 
 use spf_cli_answers::{Status, number};
@@ -7,8 +7,8 @@ use spf_edge::{RealFiles, RealSink, StandardStream};
 use std::process::ExitCode;
 use std::{env, io};
 
-/// The words after the program's name. Words that are no text are no words of a command, so there
-/// are none then.
+/// The words after the program's name. Words that aren't text can't be those of a command, so the
+/// list is empty then.
 fn words(rt: &(impl env::Env + AllocGlobal)) -> io::Result<Vec<String>> {
     let mut words = Vec::new(rt.alloc());
     let args = match env::args(rt) {

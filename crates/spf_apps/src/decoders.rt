@@ -1,4 +1,4 @@
-// The three programs, with what the checker says of them.
+//! The three programs, with what the checker says of them.
 ghost use Rattle.std.specs.Prelude.{◌≡◌, ◌≤◌, IfOk};
 ghost use Rattle.spf_apps_programs.specs.Laws.{max_count};
 ghost use Rattle.spf_ast.specs.Lawful.{IsLawful};
@@ -11,8 +11,8 @@ ghost use Rattle.spf_apps_programs.specs.Lexer.{lexer_program};
 use spf_ast::syntax::Program;
 use std::alloc::{AllocError, Global};
 
-/// The program that unpacks PackBits by blocks of `block` bytes, 1 to 65,536. It is lawful and
-/// accepted.
+/// Builds the program that unpacks PackBits in blocks of `block` bytes, 1 to 65,536. It is lawful
+/// and accepted.
 pub fn packbits(alloc: Global, block: u64) -> Result<Program, AllocError>
     requires some { 1 ≤ block }
     requires few { block ≤ 65536 }
@@ -25,7 +25,7 @@ pub fn packbits(alloc: Global, block: u64) -> Result<Program, AllocError>
     spf_apps_programs::packbits::packbits(alloc, block)
 }
 
-/// The program that decodes HUF1 by blocks of `block` bytes, 1 to 65,536. It is lawful and
+/// Builds the program that decodes HUF1 in blocks of `block` bytes, 1 to 65,536. It is lawful and
 /// accepted.
 pub fn huffman(alloc: Global, block: u64) -> Result<Program, AllocError>
     requires some { 1 ≤ block }
@@ -39,8 +39,8 @@ pub fn huffman(alloc: Global, block: u64) -> Result<Program, AllocError>
     spf_apps_programs::huffman::huffman(alloc, block)
 }
 
-/// The program that runs LEX1 machines with so many states and classes, 1 to 64 each, by blocks of
-/// `block` bytes, 1 to 65,536. It is lawful and accepted.
+/// Builds the program that runs LEX1 machines with `states` states and `classes` classes, 1 to 64
+/// each, in blocks of `block` bytes, 1 to 65,536. It is lawful and accepted.
 pub fn lexer(alloc: Global, block: u64, states: u64, classes: u64) -> Result<Program, AllocError>
     requires some { 1 ≤ block }
     requires few { block ≤ 65536 }

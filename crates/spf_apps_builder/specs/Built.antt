@@ -34,7 +34,7 @@ one_word carried guess = record {
   next_line = carried.next_line;
 }
 
--- a fold with these rows over so many blocks, numbered from 0, with the slot of their numbers
+-- a fold with these rows over `count` blocks, numbered from 0, with the slot of their numbers
 abbrev pub head_of : RowsForm → (slot : ℕ) (count : Expression) → FoldHead
 head_of r slot count = record {
   carried = r.carried;

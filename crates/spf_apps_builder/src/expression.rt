@@ -1,4 +1,4 @@
-// Expressions and conditions.
+//! Expressions and conditions.
 ghost use Rattle.std.specs.Prelude.{◌≡◌, ◌<◌, ◌^◌, pos, IfOk};
 ghost use Rattle.spf_ast.specs.Syntax.{Expression, Number, Local, Len, Input, Load, Call, argument};
 ghost use Rattle.spf_ast.specs.Syntax.{no_more, Binary, Compare};
@@ -15,7 +15,7 @@ pub(crate) fn literal(value: u64) -> Expr
     Expr::Number(value as i64)
 }
 
-/// A number.
+/// Builds a number.
 pub fn number(value: u64) -> Result<Expr, AllocError>
     requires { value < 2 ^ 63 }
     ensures { IfOk result (λ e. expression e ≡ Number (pos value)) }
@@ -23,14 +23,14 @@ pub fn number(value: u64) -> Result<Expr, AllocError>
     Ok(literal(value))
 }
 
-/// The word in a slot.
+/// Builds a read of a slot.
 pub fn local(slot: u32) -> Result<Expr, AllocError>
     ensures { IfOk result (λ e. expression e ≡ Local slot) }
 {
     Ok(Expr::Local(slot))
 }
 
-/// The input's length.
+/// Builds the expression for the input's length.
 pub fn length() -> Result<Expr, AllocError>
     ensures { IfOk result (λ e. expression e ≡ Len) }
 {
@@ -45,7 +45,7 @@ fn boxed(alloc: Global, value: Result<Expr, AllocError>) -> Result<Box<Expr>, Al
     Ok(Box::new(alloc, value?)?)
 }
 
-/// An operator between two operands.
+/// Builds an operation on two operands.
 pub fn binary(
     alloc: Global,
     op: Op,
@@ -60,7 +60,7 @@ pub fn binary(
     Ok(Expr::Binary(op, left?, right))
 }
 
-/// A byte of the input.
+/// Builds a read of a byte of the input.
 pub fn input(alloc: Global, index: Result<Expr, AllocError>) -> Result<Expr, AllocError>
     ensures { (a : Expression) → IfOk index (λ e. expression e ≡ a)
         → IfOk result (λ e. expression e ≡ Input a) }
@@ -68,7 +68,7 @@ pub fn input(alloc: Global, index: Result<Expr, AllocError>) -> Result<Expr, All
     Ok(Expr::Input(boxed(alloc, index)?))
 }
 
-/// An element of an array.
+/// Builds a read of an element of an array.
 pub fn load(alloc: Global, array: u32, index: Result<Expr, AllocError>) -> Result<Expr, AllocError>
     ensures { (a : Expression) → IfOk index (λ e. expression e ≡ a)
         → IfOk result (λ e. expression e ≡ Load array a) }
@@ -76,7 +76,7 @@ pub fn load(alloc: Global, array: u32, index: Result<Expr, AllocError>) -> Resul
     Ok(Expr::Load(array, boxed(alloc, index)?))
 }
 
-/// A call of a function with one argument.
+/// Builds a call of a function with one argument.
 pub fn call(
     alloc: Global,
     function: u32,
@@ -88,7 +88,7 @@ pub fn call(
     Ok(Expr::Call(function, vec![in alloc; given?]?))
 }
 
-/// A call of a function with two arguments.
+/// Builds a call of a function with two arguments.
 pub fn call_with_two(
     alloc: Global,
     function: u32,
@@ -105,7 +105,7 @@ pub fn call_with_two(
     Ok(Expr::Call(function, given))
 }
 
-/// A comparison of two numbers.
+/// Builds a comparison of two numbers.
 pub fn compare(
     alloc: Global,
     test: Test,

@@ -1,7 +1,7 @@
 //! Builds programs form by form. Each function says what its form is as plain data.
 //!
-//! Parts are taken as results and given as results. Where there was no memory for a part there is
-//! none of the whole either, so a caller puts calls together and has no exit.
+//! Parts are taken as results and given as results. Where there was no memory for a part, the whole
+//! fails too, so a caller composes calls without an early return.
 #![tactic(auto)]
 
 pub mod expression;

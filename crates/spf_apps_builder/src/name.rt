@@ -1,4 +1,4 @@
-// Names and arrays.
+//! Names and arrays.
 ghost use Rattle.std.specs.Prelude.{◌≡◌, ◌<◌, ◌^◌, map, IfOk};
 ghost use Rattle.spf_ast.specs.View.{name as seen_name, array as seen_array};
 ghost use Rattle.spf_apps_builder.specs.Built.{array_form};
@@ -6,7 +6,7 @@ ghost use Rattle.spf_apps_builder.specs.Built.{array_form};
 use spf_ast::syntax::{Array, Name};
 use std::alloc::{AllocError, Global};
 
-/// A name.
+/// Builds a name.
 pub fn name(alloc: Global, text: &[u8]) -> Result<Name, AllocError>
     ensures { IfOk result (λ n. seen_name n ≡ text.now) }
 {
@@ -15,7 +15,7 @@ pub fn name(alloc: Global, text: &[u8]) -> Result<Name, AllocError>
     })
 }
 
-/// The names of slots.
+/// Builds the names of slots.
 pub fn names(alloc: Global, texts: &[&[u8]]) -> Result<Vec<Name>, AllocError>
     ensures { IfOk result (λ names. map seen_name names.items ≡ map (λ t. t.now) texts.now) }
 {
@@ -26,7 +26,7 @@ pub fn names(alloc: Global, texts: &[&[u8]]) -> Result<Vec<Name>, AllocError>
     Ok(names)
 }
 
-/// An array whose size is `factor` times the input's length, plus `offset`.
+/// Builds an array whose size is `factor` times the input's length, plus `offset`.
 pub fn sized_array(
     alloc: Global,
     text: &[u8],

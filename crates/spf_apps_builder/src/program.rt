@@ -1,4 +1,4 @@
-// Functions and programs.
+//! Functions and programs.
 ghost use Rattle.std.specs.Prelude.{◌≡◌, ℕ, [], ◌∷◌, List, map, IfOk};
 ghost use Rattle.spf_ast.specs.Syntax.{Block, Array as ArrayForm, Function as FunctionForm};
 ghost use Rattle.spf_ast.specs.View.{block, name as seen_name, array as seen_array};
@@ -18,7 +18,7 @@ pub struct Signature {
     pub answer_line: u32,
 }
 
-/// A function.
+/// Builds a function.
 pub fn function(
     signature: Signature,
     name: Result<Name, AllocError>,
@@ -42,7 +42,7 @@ pub fn function(
     })
 }
 
-/// A list of one array.
+/// Builds a list of one array.
 pub fn one_array(alloc: Global, first: Result<Array, AllocError>) -> Result<Vec<Array>, AllocError>
     ensures { (a : ArrayForm) → IfOk first (λ x. seen_array x ≡ a)
         → IfOk result (λ v. map seen_array v.items ≡ a ∷ []) }
@@ -50,7 +50,7 @@ pub fn one_array(alloc: Global, first: Result<Array, AllocError>) -> Result<Vec<
     Ok(vec![in alloc; first?]?)
 }
 
-/// A list of two arrays.
+/// Builds a list of two arrays.
 pub fn two_arrays(
     alloc: Global,
     first: Result<Array, AllocError>,
@@ -64,7 +64,7 @@ pub fn two_arrays(
     Ok(vec![in alloc; first, second?]?)
 }
 
-/// A list of one function.
+/// Builds a list of one function.
 pub fn one_function(
     alloc: Global,
     first: Result<Function, AllocError>,
@@ -75,7 +75,7 @@ pub fn one_function(
     Ok(vec![in alloc; first?]?)
 }
 
-/// A list of two functions.
+/// Builds a list of two functions.
 pub fn two_functions(
     alloc: Global,
     first: Result<Function, AllocError>,
@@ -89,7 +89,7 @@ pub fn two_functions(
     Ok(vec![in alloc; first, second?]?)
 }
 
-/// A program in this version of the language.
+/// Builds a program in this version of the language.
 pub fn program(
     version: u32,
     arrays: Result<Vec<Array>, AllocError>,

@@ -1,4 +1,4 @@
-// Statements and blocks.
+//! Statements and blocks.
 ghost use Rattle.std.specs.Prelude.{◌≡◌, ◌<◌, ◌^◌, IfOk};
 ghost use Rattle.spf_ast.specs.Syntax.{Expression, Condition, Statement, Block, Let, Assign, Store};
 ghost use Rattle.spf_ast.specs.Syntax.{Fill, Emit, Fail, If as if_form, For as for_form};
@@ -67,7 +67,7 @@ pub fn fail(code: u8) -> Result<StmtKind, AllocError>
     Ok(StmtKind::Fail(code))
 }
 
-/// A branch: what is done where the condition is true, and what else.
+/// Builds a branch: what is done where the condition is true, and what is done otherwise.
 pub fn choose(
     test: Result<Cond, AllocError>,
     first: Result<Vec<Stmt>, AllocError>,
@@ -82,7 +82,7 @@ pub fn choose(
     Ok(StmtKind::If(test?, first, second))
 }
 
-/// A block that is done only where the condition is true.
+/// Builds a block that is done only where the condition is true.
 pub fn when(
     alloc: Global,
     test: Result<Cond, AllocError>,
@@ -94,7 +94,7 @@ pub fn when(
     choose(test, body, Ok(Vec::new(alloc)))
 }
 
-/// A loop over numbers.
+/// Builds a loop over numbers.
 pub fn count(
     slot: u32,
     low: Result<Expr, AllocError>,
@@ -109,7 +109,7 @@ pub fn count(
     Ok(StmtKind::For(slot, low?, high?, body))
 }
 
-/// A block of one statement.
+/// Builds a block of one statement.
 pub fn only(
     alloc: Global,
     line: u32,
@@ -121,7 +121,7 @@ pub fn only(
     on_line(alloc, line, kind, Ok(Vec::new(alloc)))
 }
 
-/// A block that begins with a statement.
+/// Builds a block that begins with a statement.
 pub fn on_line(
     alloc: Global,
     line: u32,
@@ -158,7 +158,7 @@ pub struct Carried {
     pub next_line: u32,
 }
 
-/// Rows of one word that is guessed by an expression.
+/// Builds rows of one word that is guessed by an expression.
 pub fn rows_of_one(
     alloc: Global,
     carried: Carried,
@@ -181,7 +181,7 @@ pub fn rows_of_one(
     })
 }
 
-/// A fold whose blocks are numbered from 0, with the slot of the block's number.
+/// Builds a fold whose blocks are numbered from 0, with the slot of the block's number.
 pub fn fold(
     alloc: Global,
     rows: Result<Rows, AllocError>,

@@ -16,7 +16,7 @@ high_bits count n b h =
 low_bit : (n b : ℕ) → b < 2 → (n * 2 + b) / 2 ^ 0 % 2 ≡ b
 low_bit n b h = ap (λ m. m % 2) (div-one (n * 2 + b)) ∙ omega arith
 
--- a number with one bit more after it
+-- a number with one more bit after it
 pub bits-more : (count n b : ℕ) → b < 2 → bits (suc count) (n * 2 + b) ≡ bits count n ++ (b == 1) ∷ []
 bits-more zero n b h = ap (λ m. (m == 1) ∷ []) (low_bit n b h)
 bits-more (suc count) n b h = λ i. (high_bits count n b h i % 2 == 1) ∷ bits-more count n b h i
@@ -35,7 +35,7 @@ zeros-more xs k = append_assoc xs (replicate k false) (false ∷ []) ∙ ap (λ 
 zero_below : 0 < 2
 zero_below = omega arith
 
--- a number that is moved up
+-- a number that is shifted up
 pub bits-zeros : (k count n : ℕ) → bits (k + count) (n * 2 ^ k) ≡ bits count n ++ replicate k false
 bits-zeros zero count n = (λ i. bits (zero_add count i) (mul-one n i)) ∙ sym (append-nil (bits count n))
   where
@@ -57,7 +57,7 @@ bit_below : (bit : Bool) (b : ℕ) → b ≡ (if bit then 1 else 0) → b < 2
 bit_below true b e = omega (arith, e)
 bit_below false b e = omega (arith, e)
 
--- a bit after those of a byte that is begun
+-- a bit after those of a partial byte
 pub partial_more : (bytes : List ℕ) (count partial b : ℕ) (bit : Bool) → b ≡ (if bit then 1 else 0) → bits_of bytes ++ bits (suc count) (partial * 2 + b) ≡ (bits_of bytes ++ bits count partial) ++ bit ∷ []
 partial_more bytes count partial b bit e =
     ap (λ r. bits_of bytes ++ r) (bits-more count partial b (bit_below bit b e) ∙ ap (λ x. bits count partial ++ x ∷ []) (bit_is bit b e))
@@ -72,13 +72,13 @@ whole_more bytes new count partial b bit full e pushed =
     ∙ ap (λ k. bits_of bytes ++ bits (suc k) (partial * 2 + b)) (sym full)
     ∙ partial_more bytes count partial b bit e
 
--- moved up, the bits of a byte that is begun fit a byte
+-- shifted up, the bits of a partial byte fit in a byte
 pub fits_byte : (count partial : ℕ) → count < 8 → partial < 2 ^ count → partial * 2 ^ (8 - count) < 2 ^ 8
 fits_byte count partial few fits =
     let whole : 8 ≡ count + (8 - count) = omega arith in
     subst (λ m. partial * 2 ^ (8 - count) < m) (sym (ap (λ k. 2 ^ k) whole ∙ pow-add 2 count (8 - count))) (mul-lt-mul_of_pos_right fits (pow_pos (8 - count)))
 
--- so moving them up in 32 bits loses none
+-- so shifting them up in 32 bits loses none
 pub moved_whole : (count partial : ℕ) → count < 8 → partial < 2 ^ count → partial * 2 ^ (8 - count) % 2 ^ 32 ≡ partial * 2 ^ (8 - count)
 moved_whole count partial few fits = mod-eq_of_lt (omega (arith, fits_byte count partial few fits))
 
@@ -105,7 +105,7 @@ padded bytes new count partial some few pushed =
           ∙ sym (append_assoc (bits_of bytes) (bits count partial) (replicate (8 - count) false));
     }
 
--- with no byte begun, nothing is padded
+-- without a partial byte, nothing is padded
 pub unpadded : (bytes : List ℕ) (count partial : ℕ) → count ≡ 0 → Holds (bits_of bytes ++ bits count partial) bytes
 unpadded bytes count partial none = record {
   padding = 0;

@@ -1,4 +1,4 @@
--- One draw more.
+-- One more draw.
 use Rattle.std.proofs.Common.{◌≡◌, ℕ, suc, List, [], ◌∷◌, ◌++◌, map, ap, sym, ◌∙◌, append_assoc}
 use Rattle.spf_apps_formats.specs.Draws.{next_state, given_by, draws, state_after}
 

@@ -29,7 +29,7 @@ bytes-after (x ∷ xs) ys h = bytes-after xs ys (All-tail IsByte x (xs ++ ys) h)
 
 -- ---- bits in bytes
 
--- whole bytes, and the bits of one that is begun
+-- whole bytes, and the bits of a partial one
 record Stands (l : List Bool) : Type 0 where
   bytes : List ℕ
   count : ℕ
@@ -181,7 +181,7 @@ packets-reach zero x = omega arith
 packets-reach (suc n) x =
     omega (arith, packets-reach n x, (packet-bytes (given_by (next_state (packets n x).1)) (next_state (packets n x).1)).1, length-append (packets n x).0 (packet_from (packets n x).1).0)
 
--- the least number at which a function comes to a size
+-- the least number at which a function reaches a size
 record Least (f : ℕ → ℕ) (size : ℕ) : Type 0 where
   count : ℕ
   reaches : size ≤ f count

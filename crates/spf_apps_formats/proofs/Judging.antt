@@ -34,13 +34,13 @@ same_byte_or_not (Some a) (Some b) =
     inside : (a b : ℕ) → Some a ≡ Some b → a ≡ b
     inside a b e = cc
 
--- the first of so many numbers that isn't so
+-- the first of the numbers below n for which this doesn't hold
 record IsFirstOther (P : ℕ → Type 0) (n k : ℕ) : Type 0 where
   inside : k < n
   before : (j : ℕ) → j < k → P j
   other : P k → ⊥
 
--- all of so many numbers are so, or there is a first one that isn't
+-- this holds for all numbers below n, or there is a first one for which it doesn't
 all_or_first : (P : ℕ → Type 0) → ((k : ℕ) → Decided (P k)) → (n : ℕ) → ((k : ℕ) → k < n → P k) ⊎ ((k : ℕ) × IsFirstOther P n k)
 all_or_first P decided zero = inl (λ k l. absurd (omega (arith, l)))
 all_or_first P decided (suc n) = by_before (all_or_first P decided n)
@@ -85,7 +85,7 @@ short_or_long lengths =
       | inr f ↦ inr (f.0, record { inside = f.1.inside; before = f.1.before; long = (let n = f.1.other in grind (arith, n)) })
     ]
 
--- there is room for so many symbols' code words, or there is a first one for which there isn't
+-- there is room for the code words of the first n symbols, or there is a first one for which there isn't
 room_or_full : (lengths : List ℕ) → AreShort (length lengths) lengths → (n : ℕ) → n ≤ length lengths → (space (take n lengths) ≤ 2 ^ 15) ⊎ ((symbol : ℕ) × IsOversubscribedAt lengths symbol)
 room_or_full lengths short zero within = inl (omega arith)
 room_or_full lengths short (suc n) within = by_before (room_or_full lengths short n (omega (arith, within)))

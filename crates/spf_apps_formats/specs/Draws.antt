@@ -36,12 +36,12 @@ next_state x = (x * 6364136223846793005 + 1442695040888963407) % 2 ^ 64
 abbrev pub given_by : ℕ → ℕ
 given_by x = x / 2 ^ 32
 
--- the state after so many draws
+-- the state after this many draws
 abbrev pub state_after : ℕ → ℕ → ℕ
 state_after zero x = x
 state_after (suc n) x = state_after n (next_state x)
 
--- that many draws
+-- this many draws
 abbrev pub draws : ℕ → ℕ → List ℕ
 draws zero x = []
 draws (suc n) x = given_by (next_state x) ∷ draws n (next_state x)
@@ -72,7 +72,7 @@ packet_of d x = if d % 2 == 0 then literal (d / 2 % 128) x else repeat (2 + d / 
 abbrev pub packet_from : ℕ → List ℕ × ℕ
 packet_from x = packet_of (given_by (next_state x)) (next_state x)
 
--- so many packets, and the state after them
+-- this many packets, and the state after them
 abbrev pub packets : ℕ → ℕ → List ℕ × ℕ
 packets zero x = ([], x)
 packets (suc n) x =
@@ -80,7 +80,7 @@ packets (suc n) x =
     let next = packet_from before.1 in
     (before.0 ++ next.0, next.1)
 
--- packets from this seed, as few as have together the size
+-- packets from this seed: the fewest that together have the size
 pub record IsPacked (seed size : ℕ) (file : List ℕ) : Type 0 where
   pub count : ℕ
   pub file_is : file ≡ (packets count seed).0

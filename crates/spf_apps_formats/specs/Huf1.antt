@@ -31,13 +31,13 @@ pub record HasBadLengths (file : List ℕ) (place : ℕ) : Type 0 where
   pub refused : AreRefusedAt (lengths_of file) symbol
   pub place_is : place ≡ 4 + symbol
 
--- the file is no HUF1, for what stands, or is missing, at this place
+-- the file isn't HUF1, because of what stands, or is missing, at this place
 abbrev pub IsNoHuf1At : List ℕ → ℕ → Type 0
 IsNoHuf1At file place = DepartsAt signature file place ⊎ (EndsInHeader file place ⊎ HasBadLengths file place)
 
 -- ---- encoded symbols
 
--- a header with these lengths, for so many symbols
+-- a header with these lengths, for `count` symbols
 abbrev pub header : List ℕ → ℕ → List ℕ
 header lengths count = signature ++ lengths ++ to_be_bytes w32 count
 

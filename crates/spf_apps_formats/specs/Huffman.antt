@@ -13,7 +13,7 @@ share (suc n) = 2 ^ (15 - suc n)
 abbrev pub space : List ℕ → ℕ
 space lengths = sum_by share lengths
 
--- none of the first lengths, as many as `count`, is over 15
+-- none of the first `count` lengths is over 15
 abbrev pub AreShort : ℕ → List ℕ → Type 0
 AreShort count lengths = (k : ℕ) → k < count → slice_index lengths k ≤ 15
 
@@ -41,7 +41,7 @@ AreRefusedAt lengths symbol = IsTooLongAt lengths symbol ⊎ IsOversubscribedAt 
 
 -- ---- code words
 
--- the lowest bits of a number, as many as `count`, the highest of them first
+-- the lowest `count` bits of a number, the highest of them first
 abbrev pub bits : ℕ → ℕ → List Bool
 bits zero n = []
 bits (suc count) n = ((n / 2 ^ count) % 2 == 1) ∷ bits count n
@@ -73,7 +73,7 @@ code_words lengths symbols = flat_map (code_word lengths) symbols
 abbrev pub bits_of : List ℕ → List Bool
 bits_of bytes = flat_map (bits 8) bytes
 
--- each of the first symbols, as many as `count`, has a code word
+-- each of the first `count` symbols has a code word
 abbrev pub HaveWords : List ℕ → ℕ → List ℕ → Type 0
 HaveWords lengths count symbols = (k : ℕ) → k < count → 0 < slice_index lengths (slice_index symbols k)
 

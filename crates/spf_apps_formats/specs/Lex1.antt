@@ -43,7 +43,7 @@ pub record HasClasses (file : List ℕ) (states classes : ℕ) : Type 0 where
   pub sized : HasSize file states classes
   pub below : AreBelow class_at 256 classes file
 
--- the file is a machine with so many states and classes: and each next state is one of the states
+-- the file is a machine with these numbers of states and classes: and each next state is one of the states
 pub record IsLex1 (file : List ℕ) (states classes : ℕ) : Type 0 where
   pub classed : HasClasses file states classes
   pub below : AreBelow next_at (states * classes) states file
@@ -72,21 +72,21 @@ pub record HasOtherSize (file : List ℕ) (place : ℕ) : Type 0 where
   pub size : length file ≢ size_of states classes
   pub place_is : place ≡ min (length file) (size_of states classes)
 
--- a class that there isn't
+-- a class that doesn't exist
 pub record HasBadClass (file : List ℕ) (place : ℕ) : Type 0 where
   pub states : ℕ
   pub classes : ℕ
   pub sized : HasSize file states classes
   pub first : IsFirstPast class_at 256 classes file place
 
--- a state that there isn't
+-- a state that doesn't exist
 pub record HasBadNext (file : List ℕ) (place : ℕ) : Type 0 where
   pub states : ℕ
   pub classes : ℕ
   pub classed : HasClasses file states classes
   pub first : IsFirstPast next_at (states * classes) states file place
 
--- the file is no LEX1, for what stands, or is missing, at this place
+-- the file isn't LEX1, because of what stands, or is missing, at this place
 abbrev pub IsNoLex1At : List ℕ → ℕ → Type 0
 IsNoLex1At file place =
     DepartsAt signature file place

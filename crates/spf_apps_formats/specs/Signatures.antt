@@ -15,7 +15,7 @@ pub record DepartsAt (text file : List ℕ) (place : ℕ) : Type 0 where
   pub before : AgreesBelow place text file
   pub differs : slice_get file place ≢ slice_get text place
 
--- each of so many bytes, the k-th of which stands at `at k`, is below the limit
+-- each of `count` bytes, the k-th of which stands at `at k`, is below the limit
 abbrev pub AreBelow : (ℕ → ℕ) → ℕ → ℕ → List ℕ → Type 0
 AreBelow at count limit file = (k : ℕ) → k < count → slice_index file (at k) < limit
 

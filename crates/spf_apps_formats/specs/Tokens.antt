@@ -3,7 +3,7 @@ use Rattle.std.specs.Prelude.{ℕ, zero, suc, ◌+◌, ◌*◌, List, [], ◌∷
 use Rattle.std.specs.Int.{to_be_bytes, w32}
 use Rattle.spf_apps_formats.specs.Lex1.{class_at, next_at}
 
--- where the entry stands of a state and a byte
+-- where the entry of a state and a byte stands
 abbrev pub entry_of : List ℕ → ℕ → ℕ → ℕ
 entry_of machine state byte = next_at (state * slice_index machine 5 + slice_index machine (class_at byte))
 
@@ -20,7 +20,7 @@ abbrev pub token : ℕ → ℕ → List ℕ
 token zero place = []
 token (suc kind) place = suc kind ∷ to_be_bytes w32 place
 
--- the tokens of the bytes from a place on, which the machine comes to in a state
+-- the tokens of the bytes from a place on, which the machine reaches in a state
 abbrev pub tokens_from : List ℕ → ℕ → ℕ → List ℕ → List ℕ
 tokens_from machine state place [] = []
 tokens_from machine state place (byte ∷ content) =

@@ -9,7 +9,7 @@ ghost use Rattle.spf_apps_formats.specs.Huf1.{Encodes};
 use crate::encoder::encode;
 use std::alloc::{AllocError, Global};
 
-/// For which decoder an input is.
+/// The decoder that an input is for.
 #[derive(Clone, Copy, PartialEq, Eq, Debug)]
 pub enum Kind {
     /// A PackBits file.
@@ -34,7 +34,7 @@ pub struct Draws {
 }
 
 impl Draws {
-    /// The next draw.
+    /// Returns the next draw.
     pub fn next(&mut self) -> u32
         ensures state { self.new.state ≡ next_state self.old.state }
         ensures draw { result ≡ given_by (next_state self.old.state) }
@@ -59,8 +59,8 @@ fn push_drawn(file: &mut Vec<u8>, draws: &mut Draws, count: u32) -> Result<(), A
     Ok(())
 }
 
-/// Adds a packet of PackBits that is drawn: bytes to be copied where the draw is even, else a byte
-/// to be repeated.
+/// Adds a packet of PackBits that is drawn: bytes to be copied where the draw is even, otherwise a
+/// byte to be repeated.
 fn push_packet(file: &mut Vec<u8>, draws: &mut Draws) -> Result<(), AllocError>
     ensures file { OnOk result
         (file.new.items ≡ file.old.items ++ (packet_from draws.old.state).0) }
@@ -78,7 +78,7 @@ fn push_packet(file: &mut Vec<u8>, draws: &mut Draws) -> Result<(), AllocError>
     }
 }
 
-/// Packets of PackBits, as few as have together the size.
+/// Packets of PackBits: the fewest that together have the size.
 fn packed(alloc: Global, seed: u64, size: u64) -> Result<Vec<u8>, AllocError>
     ensures { IfOk result (λ file. IsPacked seed size file.items) }
 {
@@ -127,8 +127,8 @@ fn huffman_coded(alloc: Global, seed: u64, size: u64) -> Result<Vec<u8>, AllocEr
     encode(alloc, &five_lengths_array(), &symbols)
 }
 
-/// An input for a decoder, drawn from a seed: for `Unpack` packets that have together at least
-/// `size` bytes, for `Unhuff` a file of `size` symbols, for `Lex` `size` bytes.
+/// Generates an input for a decoder, drawn from a seed: for `Unpack` packets that have together at
+/// least `size` bytes, for `Unhuff` a file of `size` symbols, for `Lex` `size` bytes.
 pub fn generate(alloc: Global, kind: Kind, seed: u64, size: u64) -> Result<Vec<u8>, AllocError>
     requires some { 1 ≤ size }
     requires few { size ≤ 1000000 }

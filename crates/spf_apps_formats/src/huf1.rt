@@ -80,9 +80,9 @@ pub(crate) fn check_lengths(lengths: &[u8]) -> Result<(), usize>
 ///
 /// # Errors
 ///
-/// The place of what is wrong first: the first byte of the signature that is another one or
-/// missing; else the file's length where it ends within the header; else the first length over 15;
-/// else the first length for whose code word the ones before it leave no room.
+/// The place of the first fault: the first byte of the signature that differs or is missing;
+/// otherwise the file's length where it ends within the header; otherwise the first length over 15;
+/// otherwise the first length for whose code word the ones before it leave no room.
 pub fn huf1_check(file: &[u8]) -> Result<(), u64>
     ensures { MatchResult result (λ _. IsHuf1 file.now) (IsNoHuf1At file.now) }
 {

@@ -1,4 +1,4 @@
-// Laws about formats. Each is the contract of a function that does nothing.
+//! Laws about formats. Each is the contract of a function that does nothing.
 ghost use Rattle.spf_apps_formats.specs.Laws.{Huf1HasOneVerdict, Lex1HasOneVerdict};
 ghost use Rattle.spf_apps_formats.specs.Laws.{PackBitsIsCutOnce, Huf1IsDecodedOnce};
 ghost use Rattle.spf_apps_formats.specs.Laws.{CodeWordsArePrefixFree, EncodedFilesDecode};

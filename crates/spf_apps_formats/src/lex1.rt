@@ -2,8 +2,8 @@
 //!
 //! Bytes 0 to 3 are `LEX1`, byte 4 is the number of states, byte 5 the number of classes. Byte 6 +
 //! b is the class of byte b. For state q and class c the two bytes at 262 + 2 * (q * classes + c)
-//! are the next state and the mark: 0 where no token begins, else the kind of the token that begins
-//! there. A machine starts in state 0.
+//! are the next state and the mark: 0 where no token begins, otherwise the kind of the token that
+//! begins there. A machine starts in state 0.
 ghost use Rattle.std.specs.Prelude.{◌≡◌, ◌≤◌, ◌<◌, ◌+◌, ◌*◌, ◌++◌, length, MatchOption};
 ghost use Rattle.std.specs.Prelude.{MatchResult, IfOk};
 ghost use Rattle.spf_apps_formats.specs.Signatures.{AreBelow, IsFirstPast};
@@ -36,7 +36,7 @@ fn count_at(file: &[u8], place: usize) -> Option<usize>
     Some(count as usize)
 }
 
-/// The place of the first byte that has no class.
+/// The place of the first byte whose class doesn't exist.
 fn bad_class(file: &[u8], classes: usize) -> Option<usize>
     requires header { 262 ≤ length file.now }
     ensures { MatchOption result (AreBelow class_at 256 classes file.now)
@@ -66,7 +66,7 @@ fn bad_next(file: &[u8], entries: usize, states: usize) -> Option<usize>
     None
 }
 
-/// Checks the classes and the next states of a file that has the size that its counts say.
+/// Checks the classes and the next states of a file that has the size given by its counts.
 fn check_entries(file: &[u8], states: usize, classes: usize) -> Result<(), usize>
     requires sized { HasSize file.now states classes }
     ensures { MatchResult result (λ _. IsLex1 file.now states classes) (IsNoLex1At file.now) }
@@ -84,10 +84,10 @@ fn check_entries(file: &[u8], states: usize, classes: usize) -> Result<(), usize
 ///
 /// # Errors
 ///
-/// The place of what is wrong first: the first byte of the signature that is another one or
-/// missing; else byte 4, and else byte 5, where it is missing or isn't 1 to 64; else the end of the
-/// file where it is too short, or the end that it should have where it is too long; else the first
-/// class that there isn't; else the first next state that there isn't.
+/// The place of the first fault: the first byte of the signature that differs or is missing;
+/// otherwise byte 4, and then byte 5, where it is missing or isn't 1 to 64; otherwise the end of
+/// the file where it is too short, or the end that it should have where it is too long; otherwise
+/// the first class that doesn't exist; otherwise the first next state that doesn't exist.
 pub fn lex1_check(file: &[u8]) -> Result<(u64, u64), u64>
     ensures { MatchResult result (λ counts. IsLex1 file.now counts.0 counts.1)
         (IsNoLex1At file.now) }
@@ -111,7 +111,7 @@ pub fn lex1_check(file: &[u8]) -> Result<(u64, u64), u64>
     }
 }
 
-/// The input of a lexer: its machine, followed by the content that it reads.
+/// Returns the input of a lexer: its machine, followed by the content that it reads.
 pub fn lex_input(alloc: Global, machine: &[u8], content: &[u8]) -> Result<Vec<u8>, AllocError>
     ensures joined { IfOk result (λ input. input.items ≡ machine.now ++ content.now) }
 {

@@ -1,4 +1,4 @@
-// Signatures of files.
+//! Signatures of files.
 ghost use Rattle.std.specs.Prelude.{MatchOption};
 ghost use Rattle.spf_apps_formats.specs.Signatures.{BeginsWith, DepartsAt};
 

@@ -50,8 +50,8 @@ fn push_entries(file: &mut Vec<u8>) -> Result<(), AllocError>
     Ok(())
 }
 
-/// The file of the toy machine, 334 bytes: a word has kind 1, a string 2, a slash or a comment 3,
-/// any other sign 4.
+/// Returns the file of the toy machine, 334 bytes: a word has kind 1, a string 2, a slash or a
+/// comment 3, any other sign 4.
 pub fn toy_machine(alloc: Global) -> Result<Vec<u8>, AllocError>
     ensures machine { IfOk result (λ file. file.items ≡ machine) }
 {

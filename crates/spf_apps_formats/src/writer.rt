@@ -1,4 +1,4 @@
-// Writes bits.
+//! Writes bits.
 ghost use Rattle.std.specs.Prelude.{◌≡◌, ◌<◌, [], ◌∷◌, ◌++◌, if◌then◌else◌, IfOk, OnOk};
 ghost use Rattle.spf_apps_formats.specs.Huffman.{bits};
 ghost use Rattle.spf_apps_formats.specs.Huf1.{Holds};
@@ -42,7 +42,7 @@ impl BitWriter {
         Ok(())
     }
 
-    /// Writes the lowest bits of a number, as many as `length`, the highest of them first.
+    /// Writes the lowest `length` bits of a number, the highest of them first.
     pub(crate) fn push_bits(&mut self, number: u32, length: u32) -> Result<(), AllocError>
         requires { length < 32 }
         ensures { OnOk result (written self.new ≡ written self.old ++ bits length number) }

@@ -136,7 +136,7 @@ is_long = Compare Gt (Local 5) (number 65535)
 abbrev too_long : Block
 too_long = only 39 (Assign 5 (number 0))
 
--- the number with one bit more
+-- the number with one more bit
 long-comes : (g : Environment) (size room : ℕ) → Arrays g room → (v t y c : ℤ) (k i j n : ℕ) (b : ℤ) (m : List ℤ) (code : List ℕ) → Inside size k i j room → ((q : ℕ) → q < 65536 → slice_index_or m q (pos 0) ≡ pos (slice_index code q)) → (holds : Bool) → nat_lt 65535 n ≡ holds
     → Comes (statement_means g 39 (If is_long too_long (word_end size))) (at v t y c (pos k) (pos n) (pos i) b (pos j)) m
     (Value Onward (at v t y c (pos k) (pos (if holds then 0 else kept (slice_index code n) n)) (pos i) b (pos j))) (stored (if holds then 0 else slice_index code n) (bit_place size k i j) m)

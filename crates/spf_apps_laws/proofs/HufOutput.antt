@@ -93,7 +93,7 @@ entry_from code (suc h) b y e = by_test (nat_lt 65535 (grown (suc h) b)) e
     by_test true k = absurd (omega (arith, k))
     by_test false k = (grown (suc h) b, k)
 
--- the state with a symbol more
+-- the state with one more symbol
 abbrev wrote : ℕ → State → State
 wrote y s = record { slots = slice_set s.slots 10 (pos (suc (length s.output))); output = s.output ++ y ∷ [] }
 

@@ -151,7 +151,7 @@ pub record IsTable (lengths code : List ℕ) : Type 0 where
   pub words : (y : ℕ) → HasWord lengths y → slice_index code (place_of lengths y) ≡ suc y
   pub only : (n y : ℕ) → slice_index code n ≡ suc y → HasWord lengths y × (n ≡ place_of lengths y)
 
--- with one bit more
+-- with one more bit
 abbrev pub grown : ℕ → Bool → ℕ
 grown h b = h * 2 + bit b
 
@@ -160,7 +160,7 @@ abbrev pub kept : ℕ → ℕ → ℕ
 kept zero n = n
 kept (suc y) n = 1
 
--- the number after a bit, or 0 where no code word has so many bits
+-- the number after a bit, or 0 where no code word has this many bits
 abbrev pub next_number : List ℕ → ℕ → Bool → ℕ
 next_number code zero b = 0
 next_number code (suc h) b = if nat_lt 65535 (grown (suc h) b) then 0 else kept (slice_index code (grown (suc h) b)) (grown (suc h) b)
@@ -259,7 +259,7 @@ found_words lengths code (y ∷ symbols) rest a t h =
     ∙ found_word lengths code y [] (code_word lengths y) (code_words lengths symbols ++ rest) a t has refl (omega (arith, some, long))
     ∙ ap (λ l. y ∷ l) (found_words lengths code symbols rest a t (λ k less. h (suc k) (omega (arith, less))))
 
--- a symbol more
+-- one more symbol
 more_words : (lengths symbols : List ℕ) (y : ℕ) → HaveWords lengths (length symbols) symbols → 0 < slice_index lengths y → HaveWords lengths (length (symbols ++ y ∷ [])) (symbols ++ y ∷ [])
 more_words lengths [] y h some zero less = some
 more_words lengths [] y h some (suc k) less = absurd (omega (arith, less))

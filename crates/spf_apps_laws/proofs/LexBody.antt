@@ -54,7 +54,7 @@ sum_ok a b h = let sum : pos a +ℤ pos b ≡ pos (a + b) = omega (arith, ints) 
 pub product_ok : (a b : ℕ) → a * b < 2 ^ 63 → binary_words Mul (pos a) (pos b) ≡ Ok (pos (a * b))
 product_ok a b h = word-ok (a * b) h
 
--- the entry of the state in a slot for the byte at the place in a slot
+-- the entry for the state in one slot and the byte at the place in another slot
 gives-entry : (g : Environment) (size states classes : ℕ) (machine content : List ℕ) → Lexes g size states classes machine content → (line slot place q p : ℕ) (s : State) (m : List ℤ) → slice_index_or s.slots slot (pos 0) ≡ pos q → slice_index_or s.slots place (pos 0) ≡ pos p → q < states → p < length content
     → Gives g line (entry_at classes (length machine) slot place) s m (pos (262 + 2 * entry_number machine classes q (slice_index content p)))
 gives-entry g size states classes machine content d line slot place q p s m q_is p_is inside there =

@@ -43,7 +43,7 @@ repeated_split : (n r b : ℕ) → replicate (n + r) b ≡ replicate n b ++ repl
 repeated_split zero r b = ap (λ k. replicate k b) (let e : 0 + r ≡ r = omega arith in e)
 repeated_split (suc n) r b = ap (λ k. replicate k b) (let e : suc n + r ≡ suc (n + r) = omega arith in e) ∙ ap (λ l. b ∷ l) (repeated_split n r b)
 
--- what is written is the begin of what the input stands for
+-- what is written is a prefix of what the input stands for
 written_begins : (input : List ℕ) (p n : ℕ) → p < length input → n ≤ times_of (left_at input p) → (rest : List ℕ) × (read_on (pos 0) input ≡ (written_before input p ++ replicate n (slice_index input p)) ++ rest)
 written_begins input p n there few =
     let left = left_at input p in

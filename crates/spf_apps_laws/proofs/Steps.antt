@@ -130,7 +130,7 @@ turns-reach body others P Q s m r f =
     let q = f r.state r.memory r.holds in
     record { state = q.state; memory = q.memory; comes = comes-then (unless_ended others) r.comes q.comes; holds = q.holds }
 
--- a form that comes to a state reaches it
+-- a form that ends in a state reaches it
 pub reached : (form : Meaning Flow) (P : State → List ℤ → Type 0) (s t : State) (m x : List ℤ) → Comes form s m (Value Onward t) x → P t x → Reaches form P s m
 reached form P s t m x c h = record { state = t; memory = x; comes = c; holds = h }
 
@@ -261,7 +261,7 @@ fold-yields block carried body values P from (suc count) step s m h =
 
 -- ---- forms that end in some way
 
--- a form comes to an ending and a memory that pass a test
+-- a form has an ending and a memory that pass a test
 pub record Ends (form : Meaning Flow) (Q : Ending Flow → List ℤ → Type 0) (s : State) (m : List ℤ) : Type 0 where
   pub ending : Ending Flow
   pub memory : List ℤ

@@ -92,7 +92,7 @@ begins_no_other a b more h k l = no_true (begins (byte_text a) (byte_text b ++ m
 abbrev members_text : List ℕ → (class count byte : ℕ) → List ℕ
 members_text file class count byte = flat_map (member_text file class) (range_with_len byte count)
 
--- what the text of the bytes of a class begins with, where the line ends behind it
+-- what the text of the bytes of a class begins with, where the line ends after it
 members_behind : (file more : List ℕ) (class count byte earlier : ℕ) → byte + count ≤ 256 → earlier < byte
     → begins (byte_text earlier) (members_text file class count byte ++ 10 ∷ more) ≡ false
 members_behind file more class zero byte earlier h l = refl
@@ -122,7 +122,7 @@ members_end file more class (suc count) byte = by_class (class_of file byte == c
 abbrev known : List ℕ → ℕ → (ℕ → ℕ) → ℕ → ℕ
 known file class before byte = if class_of file byte == class then class else before byte
 
--- one byte more, by whether the text has it
+-- one more byte, by whether the text has it
 abbrev step : (class byte old : ℕ) (table : List ℕ) → Bool → List ℕ → List ℕ × List ℕ
 step class byte old table has text =
     if has then in_front class (bytes_read class (byte + 1) table (drop 3 text)) else in_front old (bytes_read class (byte + 1) table text)
@@ -147,7 +147,7 @@ bytes_again file more before class (suc count) byte h =
         ap (λ b. step class byte (before byte) (map before (range_with_len (byte + 1) count)) b (members_text file class count (byte + 1) ++ 10 ∷ more)) (members_behind file more class count (byte + 1) byte (omega arith) (omega arith))
         ∙ ap (in_front (before byte)) later
 
--- the line of a class, with so many bytes
+-- the line of a class, over the bytes below `count`
 line_again : (file more members : List ℕ) (before : ℕ → ℕ) (class count : ℕ) → class < 256 → count ≤ 256 → members ≡ members_text file class count 0
     → bytes_read class 0 (map before (range_with_len 0 count)) (number_at ((decimal class ++ (members ++ 10 ∷ [])) ++ more)).1
     ≡ (map (known file class before) (range_with_len 0 count), 10 ∷ more)
@@ -157,11 +157,11 @@ line_again file more members before class count h few m =
     ∙ ap (λ r. bytes_read class 0 (map before (range_with_len 0 count)) r.1) (number_again class (members_text file class count 0 ++ 10 ∷ more) h (members_end file more class count 0))
     ∙ bytes_again file more before class count 0 (omega arith)
 
--- the lines of so many classes from one on
+-- the lines of `count` classes from one on
 abbrev class_lines : List ℕ → (count class : ℕ) → List ℕ
 class_lines file count class = flat_map (class_line file) (range_with_len class count)
 
--- the classes of the bytes, once those of so many classes are known
+-- the classes of the bytes, once those of `count` classes are known
 after : List ℕ → (count class : ℕ) → (ℕ → ℕ) → ℕ → ℕ
 after file zero class before = before
 after file (suc count) class before = after file count (class + 1) (known file class before)
@@ -197,7 +197,7 @@ map_same f g (suc count) first h =
 
 -- ---- entries
 
--- the bytes of so many entries from one on
+-- the bytes of `count` entries from one on
 entry_bytes : List ℕ → (count entry : ℕ) → List ℕ
 entry_bytes file zero entry = []
 entry_bytes file (suc count) entry = slice_index file (next_at entry) ∷ slice_index file (next_at entry + 1) ∷ entry_bytes file count (entry + 1)
@@ -206,7 +206,7 @@ entry_bytes file (suc count) entry = slice_index file (next_at entry) ∷ slice_
 abbrev EachByte : List ℕ → Type 0
 EachByte file = (place : ℕ) → slice_index file place < 256
 
--- the entries of a state, for so many classes from one on
+-- the entries of a state, for `count` classes from one on
 abbrev entries_text : List ℕ → (state count class : ℕ) → List ℕ
 entries_text file state count class = flat_map (entry_text file state) (range_with_len class count)
 
@@ -247,7 +247,7 @@ state_again file more bytes state h =
     ∙ ap (λ r. entries_read (classes_of file) r.1) (number_again state (entries ++ 10 ∷ more) h (entries_end file more state (classes_of file) 0))
     ∙ entries_again file more bytes state (classes_of file) 0 (state * classes_of file) (omega arith)
 
--- the lines of so many states from one on, and the bytes of their entries
+-- the lines of `count` states from one on, and the bytes of their entries
 abbrev state_lines : List ℕ → (count state : ℕ) → List ℕ
 state_lines file count state = flat_map (state_line file) (range_with_len state count)
 

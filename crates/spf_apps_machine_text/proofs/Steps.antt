@@ -37,7 +37,7 @@ digits_all value place text l = ap (number_from value) (drop_all place text l) �
 
 -- ---- pieces of a text that are appended one by one
 
--- one piece more
+-- one more piece
 pub one_more : (piece : ℕ → List ℕ) (front next : List ℕ) (count fewer first after : ℕ) → count ≡ suc fewer → after ≡ first + 1 → next ≡ front ++ piece first
     → next ++ flat_map piece (range_with_len after fewer) ≡ front ++ flat_map piece (range_with_len first count)
 one_more piece front next count fewer first after e a n =

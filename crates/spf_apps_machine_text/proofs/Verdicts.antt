@@ -1,4 +1,4 @@
--- Each text is a machine's or none's.
+-- Each text is that of a machine or of none.
 use Rattle.std.proofs.Common.{◌≡◌, ◌⊎◌, inl, inr, ℕ, zero, suc, ◌<◌, ◌≤◌, List, [], ◌∷◌, length, get_or, refl, ap, sym, ◌∙◌, subst, arith}
 use Rattle.spf_apps_formats.specs.Laws.{AreBytes, Lex1HasOneVerdict}
 use Rattle.spf_apps_formats.specs.Lex1.{IsNoLex1At}

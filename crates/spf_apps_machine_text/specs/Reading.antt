@@ -32,11 +32,11 @@ bytes_read class byte (old ∷ table) text =
     if begins (byte_text byte) text then in_front class (bytes_read class (byte + 1) table (drop 3 text))
     else in_front old (bytes_read class (byte + 1) table text)
 
--- the same for all bytes, from the start of the line
+-- the classes and what comes after, for all bytes, from the start of the line
 abbrev pub line_read : ℕ → (table text : List ℕ) → List ℕ × List ℕ
 line_read class table text = bytes_read class 0 table (number_at (drop 6 text)).1
 
--- the same after the lines of so many classes from one on
+-- the classes and what comes after, past the lines of `count` classes from one on
 abbrev pub classes_read : (count class : ℕ) → List ℕ × List ℕ → List ℕ × List ℕ
 classes_read zero class read = read
 classes_read (suc count) class read = classes_read count (class + 1) ((line_read class read.0 read.1).0, drop 1 (line_read class read.0 read.1).1)
@@ -48,11 +48,11 @@ next_read text = number_at (drop 1 text)
 abbrev pub mark_read : List ℕ → ℕ × List ℕ
 mark_read text = number_at (drop 1 (next_read text).1)
 
--- what was read before, and what is read behind it
+-- what was read before, and what is read after it
 abbrev pub behind : List ℕ → List ℕ × List ℕ → List ℕ × List ℕ
 behind first read = (first ++ read.0, read.1)
 
--- the bytes of so many entries
+-- the bytes of this many entries
 abbrev pub entries_read : ℕ → List ℕ → List ℕ × List ℕ
 entries_read zero text = ([], text)
 entries_read (suc count) text =
@@ -62,7 +62,7 @@ entries_read (suc count) text =
 abbrev pub state_read : ℕ → List ℕ → List ℕ × List ℕ
 state_read classes text = entries_read classes (number_at (drop 6 text)).1
 
--- the bytes of the entries of so many states
+-- the bytes of the entries of `count` states
 abbrev pub states_read : (classes count : ℕ) → List ℕ → List ℕ × List ℕ
 states_read classes zero text = ([], text)
 states_read classes (suc count) text =

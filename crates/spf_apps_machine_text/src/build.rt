@@ -32,7 +32,7 @@ impl From<AllocError> for BuildError {
     }
 }
 
-/// Whether a file is a machine.
+/// Returns whether a file is a machine.
 fn is_machine(file: &[u8]) -> bool
     ensures yes { result ≡ true → IsMachine file.now }
     ensures no { result ≡ false → IsMachine file.now → ⊥ }
@@ -44,7 +44,7 @@ fn is_machine(file: &[u8]) -> bool
     }
 }
 
-/// Whether a text is that of a machine.
+/// Returns whether a text is that of a machine.
 fn is_text_of(alloc: Global, text: &[u8], file: &[u8]) -> Result<bool, AllocError>
     requires { IsMachine file.now }
     ensures yes { IfOk result (λ same. same ≡ true → IsTextOf text.now file.now) }
@@ -54,7 +54,7 @@ fn is_text_of(alloc: Global, text: &[u8], file: &[u8]) -> Result<bool, AllocErro
     Ok(shown.as_slice() == text)
 }
 
-/// The machine that has this text, as a LEX1 file.
+/// Builds the machine that has this text, as a LEX1 file.
 ///
 /// # Errors
 ///

@@ -1,4 +1,4 @@
-// Laws about machines' texts. Each is the contract of a function that does nothing.
+//! Laws about machines' texts. Each is the contract of a function that does nothing.
 ghost use Rattle.spf_apps_machine_text.specs.Laws.{MachinesHaveOneText};
 
 use spf_apps_formats::laws::files_have_one_verdict;

@@ -1,5 +1,5 @@
-// Reads the file of a machine from its text. Nothing is checked here: any text gives some file, and
-// whether the text is that file's is for the caller to find out.
+//! Reads the file of a machine from its text. Nothing is checked here: any text gives some file,
+//! and it is up to the caller to check whether the text is that file's.
 ghost use Rattle.std.specs.Prelude.{◌≡◌, ◌≤◌, ◌<◌, ◌+◌, ◌-◌, ◌++◌, length, drop, true, false, IfOk, MatchOption};
 ghost use Rattle.spf_apps_machine_text.specs.MachineText.{byte_text as byte_text_of};
 ghost use Rattle.spf_apps_machine_text.specs.Reading.{
@@ -20,7 +20,7 @@ ghost use Rattle.spf_apps_machine_text.specs.Reading.{
 use crate::show::byte_text;
 use std::alloc::{AllocError, Global};
 
-/// Whether a byte is a decimal digit.
+/// Returns whether a byte is a decimal digit.
 fn is_digit(byte: u8) -> bool
     ensures { result ≡ is_digit_test byte }
 {
@@ -86,7 +86,7 @@ fn read_classes<'a>(text: &'a [u8], classes: u8, table: &mut [u8]) -> &'a [u8]
     rest
 }
 
-/// Appends the bytes of as many entries as `count`.
+/// Appends the bytes of `count` entries.
 fn read_entries<'a>(file: &mut Vec<u8>, text: &'a [u8], count: u8) -> Result<&'a [u8], AllocError>
     ensures file { IfOk result (λ _. file.new.items
         ≡ file.old.items ++ (entries_read count text.now).0) }
@@ -103,7 +103,7 @@ fn read_entries<'a>(file: &mut Vec<u8>, text: &'a [u8], count: u8) -> Result<&'a
     Ok(rest)
 }
 
-/// Appends the bytes of the entries of as many states as `count`.
+/// Appends the bytes of the entries of `count` states.
 fn read_states(file: &mut Vec<u8>, text: &[u8], classes: u8, count: u8) -> Result<(), AllocError>
     ensures file { IfOk result (λ _. file.new.items
         ≡ file.old.items ++ (states_read classes count text.now).0) }

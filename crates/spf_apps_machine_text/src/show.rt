@@ -155,7 +155,7 @@ fn push_states(alloc: Global, text: &mut Vec<u8>, file: &[u8]) -> Result<(), All
     Ok(())
 }
 
-/// The text of a machine, whose file is given.
+/// Returns the text of a machine, whose file is given.
 ///
 /// # Errors
 ///

@@ -1,4 +1,4 @@
--- The program that decodes HUF1 by blocks of a size.
+-- The program that decodes HUF1 in blocks of a size.
 --
 -- The carried word is a 1 followed by the bits that were read since the last whole code word, or since the start where there is
 -- none, or 0 once 16 bits were read without a whole code word. The predictor decodes the 16 bytes before the block.

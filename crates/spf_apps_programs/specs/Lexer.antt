@@ -1,4 +1,4 @@
--- The program that runs a LEX1 machine over the bytes after it, by blocks of a size.
+-- The program that runs a LEX1 machine over the bytes after it, in blocks of a size.
 --
 -- The carried word is the state. The predictor runs the machine over the 32 bytes before the block, from state 0. CLASSES is the
 -- number of classes, MACHINE the length of the machine's file.
@@ -69,7 +69,7 @@ use Rattle.spf_apps_programs.specs.Writing.{number, plus, minus, times, shifted_
 abbrev pub machine_length : ℕ → ℕ → ℕ
 machine_length states classes = 262 + 2 * (states * classes)
 
--- where the entry stands of the state in a slot for the byte at the place in a slot
+-- the place of the entry for the state in one slot and the byte at the place in another slot
 abbrev pub entry_at : (classes machine state place : ℕ) → Expression
 entry_at classes machine state place =
     plus (number 262) (times (number 2) (plus (times (Local state) (number classes)) (Input (plus (number 6) (Input (plus (number machine) (Local place)))))))
@@ -135,7 +135,7 @@ head size machine = record {
   next_line = 20;
 }
 
--- a byte of the place, by how many bits it is moved
+-- a byte of the place, by how many bits it is shifted
 abbrev pub place_byte : ℕ → Statement
 place_byte places = Emit (masked (shifted_right (Local 5) (number places)) (number 255))
 
@@ -161,6 +161,6 @@ program_for size classes machine = record {
   main = on_line 10 (Fold (head size machine) (body size classes machine)) (only 22 (output machine));
 }
 
--- the program for machines with so many states and classes
+-- the program for machines with these numbers of states and classes
 abbrev pub lexer_program : (size states classes : ℕ) → Program
 lexer_program size states classes = program_for size classes (machine_length states classes)

@@ -1,4 +1,4 @@
--- The program that unpacks PackBits by blocks of a size.
+-- The program that unpacks PackBits in blocks of a size.
 --
 -- The carried word is 0 where a header comes next, n > 0 where n bytes are to be copied, and -n where the next byte is repeated
 -- n times. Cell i of `rep` says how often input byte i is written.

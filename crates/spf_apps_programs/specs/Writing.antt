@@ -28,6 +28,6 @@ masked a b = Binary And a b
 abbrev pub only : ℕ → Statement → Block
 only line s = on_line line s end
 
--- (count + SIZE-1) / SIZE: how many blocks of a size there are for so many bytes
+-- (count + SIZE-1) / SIZE: how many blocks of a size there are for `count` bytes
 abbrev pub blocks_for : Expression → ℕ → Expression
 blocks_for count size = over (plus count (number (size - 1))) (number size)

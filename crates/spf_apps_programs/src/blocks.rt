@@ -1,4 +1,4 @@
-// How many blocks there are.
+//! How many blocks there are.
 ghost use Rattle.std.specs.Prelude.{◌≡◌, ◌≤◌, IfOk};
 ghost use Rattle.spf_ast.specs.Syntax.{Expression};
 ghost use Rattle.spf_ast.specs.View.{expression};
@@ -8,7 +8,7 @@ use spf_apps_builder::expression::{binary, number};
 use spf_ast::syntax::{Expr, Op};
 use std::alloc::{AllocError, Global};
 
-/// How many blocks of a size there are for so many bytes.
+/// How many blocks of `size` bytes each there are for `bytes` bytes.
 pub(crate) fn blocks_for(
     alloc: Global,
     bytes: Result<Expr, AllocError>,

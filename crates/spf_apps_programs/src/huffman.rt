@@ -1,4 +1,4 @@
-//! HUF1, decoded by blocks.
+//! HUF1, decoded in blocks.
 ghost use Rattle.std.specs.Prelude.{◌≡◌, ◌≤◌, ◌<◌, ◌*◌, ◌^◌, IfOk};
 ghost use Rattle.spf_ast.specs.Lawful.{IsLawful};
 ghost use Rattle.spf_ast.specs.declared.syntax.Test.TheVariants.{Ne};
@@ -101,7 +101,7 @@ fn with_bit(alloc: Global, state: u32, byte: u32, bit: u32) -> Result<Expr, Allo
     binary(alloc, Op::Add, moved, lowest)
 }
 
-/// Whether a code word is whole, by the state in a slot.
+/// Returns whether a code word is whole, by the state in a slot.
 fn is_whole(alloc: Global, state: u32) -> Result<Cond, AllocError>
     ensures { IfOk result (λ c. condition c ≡ Compare Ne (Load 0 (Local state)) (number_form 0)) }
 {
@@ -109,7 +109,7 @@ fn is_whole(alloc: Global, state: u32) -> Result<Cond, AllocError>
     compare(alloc, Test::Ne, found, number(0))
 }
 
-/// `bite` begins anew where a code word is whole.
+/// Builds the part of `bite` that starts over where a code word is whole.
 fn bite_whole(alloc: Global) -> Result<Vec<Stmt>, AllocError>
     ensures { IfOk result (λ v. seen_block v.items ≡ bite_whole_form) }
 {
@@ -426,7 +426,7 @@ fn build(alloc: Global, size: u64) -> Result<Program, AllocError>
     program(1, arrays, functions, slots, statements(alloc, size))
 }
 
-/// The program that decodes HUF1 by blocks of this size.
+/// Builds the program that decodes HUF1 in blocks of this size.
 pub fn huffman(alloc: Global, size: u64) -> Result<Program, AllocError>
     requires some { 1 ≤ size }
     requires few { size ≤ 65536 }

@@ -1,4 +1,4 @@
-//! LEX1 machines, run by blocks.
+//! LEX1 machines, run in blocks.
 ghost use Rattle.std.specs.Prelude.{◌≡◌, ◌≤◌, ◌<◌, ◌^◌, IfOk};
 ghost use Rattle.spf_apps_programs.specs.Laws.{max_count};
 ghost use Rattle.spf_ast.specs.Lawful.{IsLawful};
@@ -50,7 +50,7 @@ const ENTRY: u32 = 4;
 
 const OUT_PLACE: u32 = 5;
 
-/// What a program is made for: blocks of a size, and machines with so many classes, whose files
+/// What a program is made for: blocks of a size, and machines with a number of classes, whose files
 /// have this length.
 #[derive(Clone, Copy)]
 struct Sizes {
@@ -63,7 +63,7 @@ struct Sizes {
     ghost short: { machine ≤ 65536 },
 }
 
-/// Where the entry stands of the state in a slot for the byte at the place in a slot.
+/// The place of the entry for the state in one slot and the byte at the place in another slot.
 fn entry_at(alloc: Global, sizes: Sizes, state: u32, place: u32) -> Result<Expr, AllocError>
     ensures { IfOk result (λ e. expression e ≡ entry_form sizes.classes sizes.machine state place) }
 {
@@ -245,8 +245,8 @@ fn program_for(alloc: Global, sizes: Sizes) -> Result<Program, AllocError>
     program(1, arrays, functions, slots, statements(alloc, sizes))
 }
 
-/// The program that runs machines with so many states and classes over the bytes after them, by
-/// blocks of this size.
+/// Builds the program that runs machines with `states` states and `classes` classes over the bytes
+/// after them, in blocks of `size` bytes.
 pub fn lexer(alloc: Global, size: u64, states: u64, classes: u64) -> Result<Program, AllocError>
     requires some { 1 ≤ size }
     requires few { size ≤ 65536 }

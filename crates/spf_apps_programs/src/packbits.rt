@@ -1,4 +1,4 @@
-//! PackBits, unpacked by blocks.
+//! PackBits, unpacked in blocks.
 ghost use Rattle.std.specs.Prelude.{◌≡◌, ◌≤◌, IfOk};
 ghost use Rattle.spf_ast.specs.Lawful.{IsLawful};
 ghost use Rattle.spf_ast.specs.Syntax.{Fold};
@@ -192,7 +192,7 @@ fn build(alloc: Global, size: u64) -> Result<Program, AllocError>
     )
 }
 
-/// The program that unpacks PackBits by blocks of this size.
+/// Builds the program that unpacks PackBits in blocks of this size.
 pub fn packbits(alloc: Global, size: u64) -> Result<Program, AllocError>
     requires some { 1 ≤ size }
     requires few { size ≤ 65536 }

@@ -32,7 +32,8 @@ LexerIsItsText =
 
 -- ---- what the texts say
 
--- the text says the program, lines apart, and if it is the text of a raw program that stands for one, then for this one
+-- the text says the program, apart from line numbers, and if it is the text of a raw program that stands for one, then
+-- for this one
 pub record IsTextOf (text : List ℕ) (p : Program) : Type 0 where
   pub says : SaysButForLines text (spelled 0 p)
   pub alone : (raw : RawProgram) (q : Program) → IsProgramOf text raw → IsResolved raw q → AreSameButForLines p q

@@ -168,7 +168,7 @@ lexer_lines size one_less classes machine =
     ∷ codes "}"
     ∷ []
 
--- ---- the texts, for a block size, and for so many states and classes
+-- ---- the texts, for a block size, and for numbers of states and classes
 
 abbrev pub packbits_text : ℕ → List ℕ
 packbits_text size = lines (packbits_lines (decimal size) (decimal (size - 1)))

@@ -15,8 +15,8 @@ pub fn built_programs_are_their_texts()
     ensures lexer { LexerIsItsText }
 {}
 
-/// Each of these texts says its program, lines apart, and where the reader takes it, what it gives
-/// is that program.
+/// Each of these texts says its program, apart from line numbers, and where the reader takes it,
+/// what it gives is that program.
 pub fn texts_say_the_built_programs()
     ensures packbits { PackBitsTextSaysIt }
     ensures huffman { HuffmanTextSaysIt }

@@ -44,8 +44,8 @@ guess_asks p construct place input slots number =
     guess_part_means (environment_of p input) construct place number (record { slots = slots; output = [] })
 
 -- What the guess of a part that is an expression comes to for a block number: its value or its trap, from the slots and
--- the memory at the entry of its construct. No cell is shared: a load gives the entry's word, also after a store. One
--- that is supplied comes to no value.
+-- the memory at the entry of its construct. No cell is shared: a load gives the entry's word, also after a store. A
+-- predictor that is supplied gives no value here.
 abbrev pub predicts : Program → List ℕ → Construct → List ℤ → List ℤ → ℤ → ℕ → Result ℤ Trap
 predicts p input construct slots memory number place =
     result_of (unshared_answer (guess_asks p construct place input slots number) memory)

@@ -6,7 +6,7 @@ use Rattle.std.specs.Ordering.{int_eq}
 abbrev pub Carried : Type 0
 Carried = List ℤ
 
--- the row of so many zeros, with which a producer starts
+-- the row of `width` zeros, with which a producer starts
 abbrev pub no_row : ℕ → Carried
 no_row width = replicate width (pos 0)
 

@@ -158,7 +158,7 @@ abbrev pub begun_at : Carried → Ending Carried → (Carried → State → Real
 begun_at value (Value next state) others = record { values = value ∷ (others next state).values; trapped = (others next state).trapped }
 begun_at value (Trapped trap output) others = record { values = value ∷ []; trapped = true }
 
--- so many blocks from an index on, with block number b and at value v
+-- a count of blocks from an index on, with block number b and at value v
 abbrev pub blocks_from : Environment → Construct → ℕ → ℕ → ℤ → Carried → Moment → RealValues
 blocks_from g construct place zero b v m = record { values = []; trapped = false }
 blocks_from g construct place (suc count) b v m =

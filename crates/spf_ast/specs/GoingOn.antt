@@ -32,7 +32,7 @@ abbrev mutual
       PairHasOneWidth head × (breaks producer ≡ false) × (breaks consumer ≡ false) × BlockIsOrderly producer × BlockIsOrderly consumer
   StatementIsOrderly _ = Unit {0}
 
-  -- and so it is in a block
+  -- and the same in a block
   pub BlockIsOrderly : Block → Type 0
   BlockIsOrderly end = Unit {0}
   BlockIsOrderly (on_line line first rest) = StatementIsOrderly first × BlockIsOrderly rest

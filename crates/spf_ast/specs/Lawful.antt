@@ -64,7 +64,7 @@ IsLetter b = ((65 ≤ b) × (b ≤ 90)) ⊎ ((97 ≤ b) × (b ≤ 122)) ⊎ (b �
 abbrev pub IsWordByte : ℕ → Type 0
 IsWordByte b = IsLetter b ⊎ ((48 ≤ b) × (b ≤ 57))
 
--- the words that are no names
+-- the words that aren't names
 abbrev pub reserved_words : List (List ℕ)
 reserved_words =
     codes "array" ∷ codes "fn" ∷ codes "main" ∷ codes "let" ∷ codes "fill" ∷ codes "emit" ∷ codes "fail" ∷ codes "if"
@@ -110,19 +110,19 @@ pub record Scope : Type 0 where
   pub next : ℕ
   pub in_loop : Bool
 
--- the scope after so many declarations that can't be used any more
+-- the scope after `count` declarations that can't be used any more
 abbrev pub behind : ℕ → Scope → Scope
 behind count scope = record scope { next = scope.next + count }
 
--- the scope in which this slot may be used besides
+-- the scope in which this slot may also be used
 abbrev pub showing : ℕ → Scope → Scope
 showing slot scope = record scope { visible = slot ∷ scope.visible }
 
--- the scope in which this slot may be used besides, but not assigned
+-- the scope in which this slot may also be used, but not assigned
 abbrev pub showing_fixed : ℕ → Scope → Scope
 showing_fixed slot scope = record scope { visible = slot ∷ scope.visible; fixed = slot ∷ scope.fixed }
 
--- the scope in which these slots may be used besides, but not assigned
+-- the scope in which these slots may also be used, but not assigned
 abbrev pub showing_all_fixed : List ℕ → Scope → Scope
 showing_all_fixed slots scope = record scope { visible = slots ++ scope.visible; fixed = slots ++ scope.fixed }
 
@@ -148,12 +148,12 @@ abbrev pub DeclaresEach : Names → Scope → List ℕ → Type 0
 DeclaresEach names scope [] = Unit {0}
 DeclaresEach names scope (slot ∷ slots) = Declares names scope slot × DeclaresEach names (behind 1 (showing slot scope)) slots
 
--- the scope behind these declarations, in which they may be used
+-- the scope after these declarations, in which they may be used
 abbrev pub showing_each : List ℕ → Scope → Scope
 showing_each [] scope = scope
 showing_each (slot ∷ slots) scope = showing_each slots (behind 1 (showing slot scope))
 
--- a function that stands before this place has so many parameters
+-- a function that stands before this place has `count` parameters
 abbrev pub IsCallable : Names → ℕ → ℕ → Type 0
 IsCallable names f count = (f < names.place) × IfSome (slice_get names.functions f) (λ function. function.params ≡ count)
 
@@ -337,7 +337,7 @@ pub record IsScoped (p : Program) : Type 0 where
   pub slots : length p.slots ≡ declared_in p.main
   pub version : (p.version ≡ 1) ⊎ (p.version ≡ 2)
 
--- a program is lawful: so it is, and it keeps the limits of the language
+-- a program is lawful: it is scoped, and it keeps the limits of the language
 pub record IsLawful (p : Program) : Type 0 where
   pub scoped : IsScoped p
   pub limits : IsWithinLimits p

@@ -50,7 +50,7 @@ use Rattle.spf_ast.specs.Syntax.{Expression, Number, Local, Len, Input, Load, Ca
 use Rattle.spf_ast.specs.Syntax.{Condition, Compare, Both, Either, Not, FoldHead}
 use Rattle.spf_ast.specs.Syntax.{Statement, Let, Assign, Store, Fill, Emit, Fail, If, For, While, Do, Fold, Pair, Break, Block, end, on_line, Function}
 
--- ---- what every form is made of
+-- ---- the primitives of forms
 
 -- gives this value at once
 abbrev pub gives : {A : Type 0} → A → Meaning A
@@ -93,7 +93,7 @@ loads cell s = AskLoad cell (λ word. Answer (Value word s))
 abbrev pub stores : ℕ → ℤ → Meaning Flow
 stores cell word s = AskStore cell word (Answer (Value Onward s))
 
--- stores a word into so many cells, in ascending order from the first one
+-- stores a word into this many cells, in ascending order from the first one
 abbrev pub stores_each : ℕ → ℕ → ℤ → Meaning Flow
 stores_each first zero word = done
 stores_each first (suc count) word = stores first word >> stores_each (suc first) count word
@@ -127,7 +127,7 @@ abbrev pub byte_of : List ℕ → ℤ → Result ℤ TrapKind
 byte_of input (pos i) = if nat_lt i (length input) then Ok (pos (slice_index input i)) else Err trap.Index
 byte_of input (negsuc i) = Err trap.Index
 
--- the first cell and the number of cells of the elements from i up to j, without j, where they lie in the array
+-- the first cell and the number of cells of the elements from i up to but excluding j, where they lie in the array
 abbrev pub cells_of : Extent → ℤ → ℤ → Result (ℕ × ℕ) TrapKind
 cells_of extent (pos i) (pos j) = if nat_le i j && nat_le j extent.1 then Ok (extent.0 + i, j - i) else Err trap.Range
 cells_of extent (pos i) (negsuc j) = Err trap.Range
@@ -142,7 +142,8 @@ compares Le a b = int_le a b
 compares Gt a b = int_lt b a
 compares Ge a b = int_le b a
 
--- so many turns of a `for` from i upward: each is a turn, sets the slot and performs the body; there are no more where that breaks off
+-- a count of turns of a `for` from i upward: each is a turn, sets the slot and performs the body; there are no more
+-- where that breaks off
 abbrev pub for_turns : ℕ → ℤ → ℕ → Meaning Flow → Meaning Flow
 for_turns zero i slot body = done
 for_turns (suc count) i slot body = do
@@ -150,7 +151,8 @@ for_turns (suc count) i slot body = do
   sets slot i
   body >>= unless_ended (for_turns count (i +ℤ pos 1) slot body)
 
--- at most so many turns of a `while`; it traps where its condition holds once more, and there are no more where the body breaks off
+-- at most this many turns of a `while`; it traps where its condition holds once more, and there are no more where the
+-- body breaks off
 abbrev pub while_turns : ℕ → ℕ → Meaning Bool → Meaning Flow → Meaning Flow
 while_turns line zero test body = test >>= λ holds. if holds then traps trap.Turns line else done
 while_turns line (suc most) test body = test >>= λ holds. if holds then (turns >> (body >>= unless_ended (while_turns line most test body))) else done
@@ -159,7 +161,8 @@ while_turns line (suc most) test body = test >>= λ holds. if holds then (turns 
 abbrev pub max_blocks : ℕ
 max_blocks = 4096
 
--- so many blocks of a fold from block number b upward: each is a turn, sets its number and the carried row, and gives the next one
+-- a count of blocks of a fold from block number b upward: each is a turn, sets its number and the carried row, and
+-- gives the next one
 abbrev pub fold_blocks : ℕ → ℤ → ℕ → List ℕ → Carried → Meaning Carried → Meaning Carried
 fold_blocks zero b block carried value body = gives value
 fold_blocks (suc count) b block carried value body = do
@@ -300,7 +303,7 @@ function_means g None given = gives (pos 0)
 function_means g (Some f) given =
     in_own_slots (own_slots (length f.slots) given) (block_means g f.body >> expression_means g f.answer_line f.answer)
 
--- the function has slots for so many arguments
+-- the function has slots for `count` arguments
 abbrev pub holds_arguments : Option Function → ℕ → Bool
 holds_arguments None count = false
 holds_arguments (Some f) count = nat_le count (length f.slots)

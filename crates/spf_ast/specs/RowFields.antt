@@ -4,7 +4,7 @@ use Rattle.std.proofs.Common.{sym, ap, ◌∙◌, arith}
 use Rattle.std.proofs.lemmas.List.{take-append-drop, length-take-le}
 use Rattle.spf_ast.specs.declared.row.Row.TheInside.{Inside}
 
--- so many of the four parts are used, and the others are 0
+-- the first `width` of the four parts are used, and the others are 0
 pub record IsRow (parts : List ℤ) (width : ℕ) : Type 0 where
   pub some : 1 ≤ width
   pub few : width ≤ 4

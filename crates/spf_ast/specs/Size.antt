@@ -44,8 +44,8 @@ use Rattle.spf_ast.specs.Syntax.{
   Program,
 }
 
--- A way to measure forms: what a statement or an expression counts for itself, how the measures of its parts are put
--- together, and what a call of a function counts.
+-- A way to measure forms: what a statement or an expression counts by itself, how the measures of its parts are
+-- combined, and what a call of a function counts.
 pub record Measure : Type 0 where
   pub own : ℕ
   pub join : ℕ → ℕ → ℕ
@@ -138,7 +138,7 @@ function_measure m f = m.join (block_measure m f.body) (expression_measure m f.a
 abbrev pub by_size : (ℕ → ℕ) → Measure
 by_size of_function = record { own = 1; join = λ a b. a + b; of_function = of_function }
 
--- the depth: how many statements and expressions stand within each other, through calls too
+-- the depth: how deeply statements and expressions are nested, through calls too
 abbrev pub by_depth : (ℕ → ℕ) → Measure
 by_depth of_function = record { own = 1; join = max; of_function = of_function }
 

@@ -5,7 +5,8 @@ use Rattle.spf_ast.specs.declared.syntax.Part.TheVariants.{Body, Producer, Consu
 use Rattle.spf_ast.specs.Syntax.{Statement, Let, Assign, Emit, If, For, While, Fold, Pair, Break, Block, end, on_line}
 use Rattle.spf_ast.specs.Construct.{Construct, fold, pair, statements_of}
 
--- Whether some statement is as asked, at any depth: the question is answered for a statement from the answer for the blocks within it.
+-- Whether some statement passes a test, at any depth: the question is answered for a statement from the answer for the
+-- blocks within it.
 abbrev mutual
   pub in_statement : (Statement → Bool → Bool) → Statement → Bool
   in_statement ask (If c first second) = ask (If c first second) (in_block ask first || in_block ask second)

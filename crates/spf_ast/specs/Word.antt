@@ -1,4 +1,4 @@
--- Words, which are the whole numbers of 64 bits with a sign, and the operations on them.
+-- Words, which are the signed integers of 64 bits, and the operations on them.
 use Rattle.std.specs.Prelude.{ℕ, ◌^◌, Bool, nat_lt, if◌then◌else◌, ℤ, pos, negsuc, ◌+ℤ◌, ◌-ℤ◌, ◌*ℤ◌, int_div, int_rem}
 use Rattle.std.specs.Prelude.{Result, Ok, Err}
 use Rattle.std.specs.Int.{int_bit_and, int_bit_or, int_bit_xor, int_shr, w64}
@@ -8,16 +8,16 @@ use Rattle.spf_ast.specs.declared.outcome.TrapKind.TheVariants.{Overflow, DivZer
 use Rattle.spf_ast.specs.declared.syntax.Op.{Op}
 use Rattle.spf_ast.specs.declared.syntax.Op.TheVariants.{Add, Sub, Mul, Div, Rem, And, Or, Xor, Shl, Shr}
 
--- a word is a whole number from -2^63 to 2^63 - 1
+-- a word is an integer from -2^63 to 2^63 - 1
 abbrev pub is_word : ℤ → Bool
 is_word (pos n) = nat_lt n (2 ^ 63)
 is_word (negsuc n) = nat_lt n (2 ^ 63)
 
--- the answer, or Overflow where the number that goes with it is no word
+-- the answer, or Overflow where the number that goes with it isn't a word
 abbrev pub where_word : ℤ → ℤ → Result ℤ TrapKind
 where_word number answer = if is_word number then Ok answer else Err Overflow
 
--- the exact number, or Overflow where it is no word
+-- the exact number, or Overflow where it isn't a word
 abbrev pub exact : ℤ → Result ℤ TrapKind
 exact number = where_word number number
 
@@ -33,11 +33,11 @@ sub_words a b = exact (a -ℤ b)
 abbrev pub mul_words : ℤ → ℤ → Result ℤ TrapKind
 mul_words a b = exact (a *ℤ b)
 
--- the quotient, cut towards 0
+-- the quotient, truncated towards 0
 abbrev pub div_words : ℤ → ℤ → Result ℤ TrapKind
 div_words a b = if int_eq b (pos 0) then Err DivZero else exact (int_div a b)
 
--- what the cut quotient leaves, where that quotient is a word
+-- the remainder of the truncated quotient, where that quotient is a word
 abbrev pub rem_words : ℤ → ℤ → Result ℤ TrapKind
 rem_words a b = if int_eq b (pos 0) then Err DivZero else where_word (int_div a b) (int_rem a b)
 

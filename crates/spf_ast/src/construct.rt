@@ -1,4 +1,4 @@
-// The top constructs of a program.
+//! The top constructs of a program.
 
 ghost use Rattle.std.specs.Prelude.{◌≡◌, ◌^◌, ◌<◌, length, map, slice_get, MatchOption, IfOk, Some};
 ghost use Rattle.std.specs.Prelude.{None};
@@ -28,7 +28,7 @@ pub enum ConstructKind<'a> {
 }
 
 impl<'a> TopConstruct<'a> {
-    /// The slots of the carried row.
+    /// Returns the slots of the carried row.
     pub fn carried_slots(self) -> &'a [u32]
         ensures { result.now ≡ carried_of (seen_construct self.entry) }
     {
@@ -38,7 +38,7 @@ impl<'a> TopConstruct<'a> {
         }
     }
 
-    /// How the parts of a row are guessed.
+    /// Returns how the parts of a row are guessed.
     pub fn predictors(self) -> &'a [Predict]
         ensures { map seen_predictor result.now ≡ predictors_of (seen_construct self.entry) }
     {
@@ -48,8 +48,8 @@ impl<'a> TopConstruct<'a> {
         }
     }
 
-    /// The part that the block of this index runs: of a fold the body; of a pair the producer
-    /// first, and then the consumer.
+    /// Returns the part that the block of this index runs: of a fold the body; of a pair the
+    /// producer first, and then the consumer.
     pub fn part_of(self, block: u64) -> Part
         ensures { result ≡ part_run (seen_construct self.entry) block }
     {
@@ -61,7 +61,7 @@ impl<'a> TopConstruct<'a> {
     }
 }
 
-/// Whether a statement is a fold or a pair.
+/// Returns whether a statement is a fold or a pair.
 pub fn is_construct(kind: &StmtKind) -> bool
     ensures { result ≡ is_construct_form (seen_statement kind.now) }
 {
@@ -72,7 +72,7 @@ pub fn is_construct(kind: &StmtKind) -> bool
     }
 }
 
-/// The construct that a statement is, where it is one.
+/// Returns the construct that a statement is, where it is one.
 pub fn as_construct<'a>(statement: &'a Stmt) -> Option<TopConstruct<'a>>
     ensures { MatchOption result
         (construct_of statement.now.line (seen_statement statement.now.kind) ≡ None) (λ c.
@@ -93,7 +93,7 @@ pub fn as_construct<'a>(statement: &'a Stmt) -> Option<TopConstruct<'a>>
     }
 }
 
-/// How many of these statements are constructs.
+/// Returns how many of these statements are constructs.
 pub fn count_constructs(main: &[Stmt]) -> u32
     requires { length (constructs_in (seen_block main.now)) < 2 ^ 32 }
     ensures { result ≡ length (constructs_in (seen_block main.now)) }
@@ -107,8 +107,8 @@ pub fn count_constructs(main: &[Stmt]) -> u32
     count
 }
 
-/// The construct of this number among these statements, where there are so many; they are numbered
-/// from 0.
+/// Returns the construct of this number among these statements, numbered from 0; none where there
+/// are fewer.
 pub fn find_construct<'a>(main: &'a [Stmt], number: u32) -> Option<TopConstruct<'a>>
     ensures { MatchOption result
         (slice_get (constructs_in (seen_block main.now)) number ≡ None)
@@ -126,7 +126,7 @@ pub fn find_construct<'a>(main: &'a [Stmt], number: u32) -> Option<TopConstruct<
     None
 }
 
-/// All constructs among these statements, in their order.
+/// Returns all constructs among these statements, in their order.
 ///
 /// # Errors
 ///
@@ -144,7 +144,8 @@ pub fn constructs<'a>(alloc: Global, main: &'a [Stmt]) -> Result<Vec<TopConstruc
     Ok(found)
 }
 
-/// How many top constructs a program has: folds and pairs that are direct statements of `main`.
+/// Returns how many top constructs a program has: folds and pairs that are direct statements of
+/// `main`.
 pub fn top_constructs(program: &Program) -> u32
     requires { length (constructs_in (seen_program program.now).main) < 2 ^ 32 }
     ensures { result ≡ length (constructs_in (seen_program program.now).main) }

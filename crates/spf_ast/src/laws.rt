@@ -1,4 +1,4 @@
-// Laws about what programs mean. Each is the contract of a function that does nothing.
+//! Laws about what programs mean. Each is the contract of a function that does nothing.
 
 ghost use Rattle.spf_ast.specs.Laws.{ExpressionsHaveOnePlainRun, ConditionsHaveOnePlainRun};
 ghost use Rattle.spf_ast.specs.Laws.{BlocksHaveOnePlainRun, PartsHaveOneBlockRun};

@@ -1,9 +1,9 @@
-// How runs end.
+//! How runs end.
 
 /// Why a run was ended by the program itself.
 #[derive(Clone, Copy, PartialEq, Eq, Debug)]
 pub enum TrapKind {
-    /// An operation's exact answer is no word.
+    /// The exact answer of an operation isn't a word.
     Overflow,
     /// A division or a remainder by 0.
     DivZero,
@@ -15,7 +15,7 @@ pub enum TrapKind {
     Range,
     /// A `while` that would make more turns than its bound.
     Turns,
-    /// An `emit` of what is no byte, or past the longest output.
+    /// An `emit` of a value that isn't a byte, or past the longest output.
     Emit,
     /// A fold of more than 4,096 blocks.
     Blocks,

@@ -1,4 +1,4 @@
-// Programs as they are written: with names in place of the numbers of arrays, functions and slots.
+//! Programs as they are written: with names in place of the numbers of arrays, functions and slots.
 
 use crate::syntax::{Array, Name, Op, Test};
 
@@ -68,7 +68,7 @@ pub enum RawStmtKind {
 pub enum RawPredict {
     /// By an expression.
     Expr(RawExpr),
-    /// By the predictor of this number that the caller hands in.
+    /// By the predictor of this number that the caller supplies.
     Host(u64),
 }
 

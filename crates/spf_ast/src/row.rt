@@ -1,4 +1,4 @@
-// The row that a construct carries from block to block.
+//! The row that a construct carries from block to block.
 
 ghost use Rattle.std.specs.Prelude.{◌≡◌, ◌<◌, ◌≤◌, ◌∷◌, [], length, pos, slice_index_or, slice_set};
 ghost use Rattle.spf_ast.specs.Carried.{IsWidth, no_row, same_carried, with_carried};
@@ -29,7 +29,7 @@ impl Model for Row {
 }
 
 impl Row {
-    /// The row of one word.
+    /// Makes the row of one word.
     pub fn one(value: i64) -> Row
         ensures { result ≡ value ∷ [] }
     {
@@ -39,7 +39,7 @@ impl Row {
         }
     }
 
-    /// The row of these words.
+    /// Makes the row of these words.
     pub fn of(parts: &[i64]) -> Row
         requires { IsWidth (length parts.now) }
         ensures { result ≡ parts.now }
@@ -62,7 +62,7 @@ impl Row {
         }
     }
 
-    /// The row of so many zeros.
+    /// Makes the row of `width` zeros.
     pub fn zeros(width: u32) -> Row
         requires { IsWidth width }
         ensures { result ≡ no_row width }
@@ -73,7 +73,7 @@ impl Row {
         }
     }
 
-    /// The number of words.
+    /// Returns the number of words.
     pub fn width(&self) -> u32
         ensures width { result ≡ length self.now }
         ensures some { IsWidth result }
@@ -81,7 +81,7 @@ impl Row {
         self.width
     }
 
-    /// A word.
+    /// Returns the word at a place.
     pub fn part(&self, place: u32) -> i64
         requires { place < length self.now }
         ensures { result ≡ slice_index_or self.now place (pos 0) }
@@ -89,14 +89,14 @@ impl Row {
         self.parts[place as usize]
     }
 
-    /// The words.
+    /// Returns the words.
     pub fn words(&self) -> &[i64]
         ensures { result.now ≡ self.now }
     {
         &self.parts[..self.width as usize]
     }
 
-    /// Whether two rows are equal.
+    /// Returns whether two rows are equal.
     pub fn is_same(&self, other: &Row) -> bool
         ensures { result ≡ same_carried self.now other.now }
     {
@@ -104,7 +104,7 @@ impl Row {
     }
 }
 
-/// Whether two rows of words are equal.
+/// Returns whether two rows of words are equal.
 fn are_same(one: &[i64], other: &[i64]) -> bool
     ensures { result ≡ same_carried one.now other.now }
 {
@@ -119,7 +119,7 @@ fn are_same(one: &[i64], other: &[i64]) -> bool
     true
 }
 
-/// Puts a word into a slot. A slot that isn't there stays so.
+/// Puts a word into a slot; does nothing where there is no such slot.
 fn put(slots: &mut [i64], slot: u32, word: i64)
     ensures { slots.new ≡ slice_set slots.old slot word }
 {
@@ -129,8 +129,8 @@ fn put(slots: &mut [i64], slot: u32, word: i64)
     }
 }
 
-/// Puts the words of a row into slots. A slot that isn't there stays so, and one that the row has
-/// no word for gets 0.
+/// Puts the words of a row into slots. A slot that doesn't exist is skipped, and one for which the
+/// row has no word gets 0.
 pub fn set_carried(slots: &mut [i64], carried: &[u32], words: &[i64])
     ensures { slots.new ≡ with_carried carried.now words.now slots.old }
 {

@@ -1,4 +1,4 @@
-// Resolved programs: arrays, functions and slots go by their places in their lists.
+//! Resolved programs: arrays, functions and slots go by their places in their lists.
 
 /// A name of the text, as its bytes.
 #[derive(Drop)]
@@ -113,7 +113,7 @@ pub enum StmtKind {
 pub enum Predict {
     /// By an expression.
     Expr(Expr),
-    /// By the predictor of this number that the caller hands in.
+    /// By the predictor of this number that the caller supplies.
     Host(u64),
 }
 

@@ -1,5 +1,5 @@
-// The operations on words: whole numbers of 64 bits with a sign, and a trap where the exact answer
-// isn't one.
+//! The operations on words: signed integers of 64 bits, and a trap where the exact answer isn't
+//! one.
 
 ghost use Rattle.std.specs.Prelude.{◌≡◌};
 ghost use Rattle.spf_ast.specs.Word.{add_words, sub_words, mul_words, div_words, rem_words};
@@ -8,7 +8,7 @@ ghost use Rattle.spf_ast.specs.Word.{shl_words, shr_words, binary_words};
 use crate::outcome::TrapKind;
 use crate::syntax::Op;
 
-/// The sum. Traps `Overflow` where it is no word.
+/// Returns the sum. Traps with `Overflow` where it isn't a word.
 #[inline]
 pub fn add(a: i64, b: i64) -> Result<i64, TrapKind>
     ensures { result ≡ add_words a b }
@@ -16,7 +16,7 @@ pub fn add(a: i64, b: i64) -> Result<i64, TrapKind>
     a.checked_add(b).ok_or(TrapKind::Overflow)
 }
 
-/// The difference. Traps `Overflow` where it is no word.
+/// Returns the difference. Traps with `Overflow` where it isn't a word.
 #[inline]
 pub fn sub(a: i64, b: i64) -> Result<i64, TrapKind>
     ensures { result ≡ sub_words a b }
@@ -24,7 +24,7 @@ pub fn sub(a: i64, b: i64) -> Result<i64, TrapKind>
     a.checked_sub(b).ok_or(TrapKind::Overflow)
 }
 
-/// The product. Traps `Overflow` where it is no word.
+/// Returns the product. Traps with `Overflow` where it isn't a word.
 #[inline]
 pub fn mul(a: i64, b: i64) -> Result<i64, TrapKind>
     ensures { result ≡ mul_words a b }
@@ -32,7 +32,8 @@ pub fn mul(a: i64, b: i64) -> Result<i64, TrapKind>
     a.checked_mul(b).ok_or(TrapKind::Overflow)
 }
 
-/// The quotient, cut towards 0. Traps `DivZero` where `b` is 0, and `Overflow` for -2^63 by -1.
+/// Returns the quotient, truncated towards 0. Traps with `DivZero` where `b` is 0, and `Overflow`
+/// for -2^63 by -1.
 #[inline]
 pub fn div(a: i64, b: i64) -> Result<i64, TrapKind>
     ensures { result ≡ div_words a b }
@@ -43,7 +44,7 @@ pub fn div(a: i64, b: i64) -> Result<i64, TrapKind>
     a.checked_div(b).ok_or(TrapKind::Overflow)
 }
 
-/// What the cut quotient leaves, with the sign of `a`. Traps as `div` does.
+/// Returns the remainder of the truncated quotient, with the sign of `a`. Traps as `div` does.
 #[inline]
 pub fn rem(a: i64, b: i64) -> Result<i64, TrapKind>
     ensures { result ≡ rem_words a b }
@@ -54,8 +55,8 @@ pub fn rem(a: i64, b: i64) -> Result<i64, TrapKind>
     a.checked_rem(b).ok_or(TrapKind::Overflow)
 }
 
-/// `a` times 2^`b`. Traps `Shift` where `b` isn't 0 to 63, and `Overflow` where the product is no
-/// word.
+/// Returns `a` times 2^`b`. Traps with `Shift` where `b` isn't 0 to 63, and with `Overflow` where
+/// the product isn't a word.
 #[inline]
 pub fn shl(a: i64, b: i64) -> Result<i64, TrapKind>
     ensures { result ≡ shl_words a b }
@@ -73,7 +74,7 @@ pub fn shl(a: i64, b: i64) -> Result<i64, TrapKind>
     mul(a, 1 << b as u32)
 }
 
-/// The floor of `a` divided by 2^`b`. Traps `Shift` where `b` isn't 0 to 63.
+/// Returns the floor of `a` divided by 2^`b`. Traps with `Shift` where `b` isn't 0 to 63.
 #[inline]
 pub fn shr(a: i64, b: i64) -> Result<i64, TrapKind>
     ensures { result ≡ shr_words a b }
@@ -84,7 +85,7 @@ pub fn shr(a: i64, b: i64) -> Result<i64, TrapKind>
     Ok(a >> b as u32)
 }
 
-/// What an operator gives for two words. `And`, `Or` and `Xor` work on the 64 bits of two's
+/// Returns what an operator gives for two words. `And`, `Or` and `Xor` work on the 64 bits of two's
 /// complement and never trap.
 #[inline]
 pub fn binary(op: Op, a: i64, b: i64) -> Result<i64, TrapKind>

@@ -168,7 +168,7 @@ record BlocksCame (outer : List ℕ) (entry : State) (plain : Ending Carried) (m
   values : reals.values ≡ c.values
   trapped : reals.trapped ≡ is_trap c.result
 
--- one block more
+-- one more block
 block-more : (outer : List ℕ) (entry : State) (v : Carried) (next : Carried → Meaning Carried) (others : Carried → State → List ℤ → RealValues) (chain : Carried → List ℤ → Chained)
     → ((w : Carried) (s : State) → LookAlike outer s entry → (m : List ℤ) → BlocksCame outer entry (plain_answer (next w s) m) (plain_memory (next w s) m) (others w s m) (chain w m))
     → (plain run : Ending Carried) (x y : List ℤ) → EndsAs outer entry plain run → x ≡ y
@@ -365,7 +365,7 @@ fold-is-blocks g see keep leave names scope d line head body l own m h after ent
 
 -- ---- pairs
 
--- three forms, one after another, come to the same whichever two are taken together
+-- three forms, one after another, give the same whichever two are grouped together
 regrouped : {A B C : Type 0} (first : Meaning A) (second : Meaning B) (next : B → Meaning C) (s : State) (m : List ℤ) (e : Ending C) (y : List ℤ) → Comes (first >> second >>= next) s m e y → Comes (first >> (second >>= next)) s m e y
 regrouped {A} {B} {C} first second next s m e y p = outer (part (first >> second) next s m e y p)
   where

@@ -50,7 +50,7 @@ kept-set kept slots slot v n = record {
   slot_count = length-set slots slot v;
 }
 
--- so many other slots that are set
+-- other slots that are set
 kept-row : (kept slots : List ℕ) (row : Carried) (words : List ℤ) → ((slot : ℕ) → Contains slots slot → Contains kept slot → ⊥) → AreKept kept words (with_carried slots row words)
 kept-row kept [] row words n = kept-same kept words
 kept-row kept (slot ∷ slots) row words n =

@@ -65,7 +65,7 @@ comes-trap {first = first} next {s} {m} {x} {trap} {output} p = record {
   memory = memory-bind (first s) (after_ending next) m ∙ ap (λ d. plain_memory (after_ending next d) (plain_memory (first s) m)) p.answer ∙ p.memory;
 }
 
--- Two forms came to an ending: the first gave a value and the second came to it, or the first trapped.
+-- Two forms reached an ending: the first gave a value and the second reached the ending, or the first trapped.
 pub data Parted {A B : Type 0} (first : Meaning A) (next : A → Meaning B) (s : State) (m : List ℤ) (e : Ending B) (y : List ℤ) : Type 0 where
   gave : (a : A) (between : State) (x : List ℤ) → Comes first s m (Value a between) x → Comes (next a) between x e y → Parted first next s m e y
   trapped : (trap : Trap) (output : List ℕ) → Comes first s m (Trapped trap output) y → Trapped trap output ≡ e → Parted first next s m e y

@@ -1,4 +1,4 @@
--- What every form is made of sees visible slots alone.
+-- The primitives of forms see visible slots alone.
 use Rattle.std.proofs.Common.{◌≡◌, ℕ, zero, suc, Bool, true, false, List, [], ◌∷◌, ◌++◌, length, ℤ, pos, negsuc, refl, ap}
 use Rattle.std.specs.Prelude.{Result, Ok, Err, if◌then◌else◌, nat_lt, ◌&&◌}
 use Rattle.std.specs.List.{Contains}
@@ -22,7 +22,7 @@ pub performed : {A : Type 0} {Before After : Relation} {form : Meaning A} → Se
 performed {A} {Before} {After} {form} s one other h shared memory stop events =
     perform-alike (EndAlike After) shared memory stop (form one) (form other) (s.alike one other h) events
 
--- the same for a statement, which may break off
+-- a statement, which may break off, asks alike from related states, and ends alike in related states
 pub record SeesLeft (Before After Out : Relation) (form : Meaning Flow) : Type 0 where
   pub alike : (one other : State) → Before one other → AskAlike (LeftAlike After Out) (form one) (form other)
 

@@ -30,7 +30,7 @@ cons_first x xs = (zero, omega arith, refl)
 pub cons_rest : (x : ℕ) (xs : List ℕ) → IsWithin xs (x ∷ xs)
 cons_rest x xs y h = (suc h.0, (let l = h.1 in omega (arith, l)), h.2)
 
--- the first two elements may change places
+-- the first two elements may be swapped
 pub cons_swap : (x y : ℕ) (xs : List ℕ) → IsWithin (x ∷ y ∷ xs) (y ∷ x ∷ xs)
 cons_swap x y xs z h = go (cons_cases x (y ∷ xs) z h)
   where
@@ -42,7 +42,7 @@ cons_swap x y xs z h = go (cons_cases x (y ∷ xs) z h)
     go (inl e) = cons_rest y (x ∷ xs) z (subst (Contains (x ∷ xs)) e (cons_first x xs))
     go (inr k) = later (cons_cases y xs z k)
 
--- an element may stand in the midst
+-- an element may stand in the middle
 pub within_midst : (x : ℕ) (xs ys : List ℕ) → IsWithin (x ∷ (xs ++ ys)) (xs ++ (x ∷ ys))
 within_midst x xs ys k c = first (cons_cases x (xs ++ ys) k c)
   where

@@ -138,7 +138,7 @@ pub record AgreeOutside (construct : Construct) (part : Part) (one other : List 
 abbrev pub HaveOneOutput : Relation
 HaveOneOutput one other = one.output ≡ other.output
 
--- what a part of a lawful program's top construct finds in the slots that it declares is nothing to it
+-- what a part of a lawful program's top construct finds in the slots that it declares makes no difference to it
 abbrev pub PartsDeclareAnew : Type 0
 PartsDeclareAnew =
     (p : Program) (index : ℕ) (construct : Construct) → IsLawful p → slice_get (constructs_in p.main) index ≡ Some construct

@@ -28,9 +28,9 @@ chained_on value (Trapped trap output) after others = record { values = value �
 abbrev pub block_asks : Environment → Construct → List ℤ → ℕ → ℤ → Carried → Interaction (Ending Carried)
 block_asks g construct slots n b v = part_means g construct (part_of construct n) b v (record { slots = slots; output = [] })
 
--- So many block runs of a construct from an index on, with block number b, at value v and on memory m. All of them
--- start from the slots of the construct's entry; each begins with the value that the one before it gave, on the
--- memory that it left.
+-- A count of block runs of a construct from an index on, with block number b, at value v and on memory m. All of them
+-- start from the slots of the construct's entry; each begins with the value that the one before it gave, on the memory
+-- that it left.
 abbrev pub chained : Environment → Construct → List ℤ → ℕ → ℕ → ℤ → Carried → List ℤ → Chained
 chained g construct slots n zero b v m = record { values = []; result = Ok v; memory = m }
 chained g construct slots n (suc count) b v m =
@@ -59,7 +59,7 @@ abbrev pub real_rows : Environment → Construct → Moment → Header → State
 real_rows g construct m header after =
     blocks_from g construct 0 header.blocks header.low header.start (moment_after (header_means g construct) m after)
 
--- the plain meaning of a construct, and its real rows, are what its blocks come to that are run from this entry
+-- the plain meaning of a construct, and its real rows, are what its blocks come to when they are run from this entry
 pub record IsItsBlocks (g : Environment) (visible : List ℕ) (line : ℕ) (s : Statement) (construct : Construct)
     (m : Moment) (header : Header) (after entry : State) : Type 0 where
   pub settled : IsSettledAs visible entry (carried_of construct) (chained_from g construct m header entry).result (plainly (statement_means g line s) m)

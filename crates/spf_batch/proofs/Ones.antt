@@ -50,7 +50,7 @@ stopped-host p name place cells limit number missing before now hosts then none 
     none-some : None ≡ Some number → ⊥
     none-some e = cc
 
--- a run that came to its end hadn't too many cells
+-- a run that reached its end didn't have too many cells
 pub fits : (cells limit : ℕ) → (limit < cells → ⊥) → cells ≤ limit
 fits cells limit few = by_order (order cells limit)
   where
@@ -61,7 +61,7 @@ fits cells limit few = by_order (order cells limit)
     by_order (inl l) = l
     by_order (inr l) = absurd (few l)
 
--- the file can't be had
+-- the file can't be fetched
 pub stopped-fetch : (p : Program) (name : List ℕ) (place : ℕ) (old new : FilesState) (out : SinkState) (hosts : Hosts) (error : BatchError)
     → IsUnfetched name place old new error → IsStoppedBy p name place (world old out hosts) (world new out hosts) error
 stopped-fetch p name place old new out hosts (stop.Fetch at) h = (h.0, record { put = refl; told = untold hosts }, h.1)

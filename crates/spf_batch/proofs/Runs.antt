@@ -56,7 +56,7 @@ each-cut (answer ∷ others) pieces (own, rest, split, cut, each) =
 pub put-adds : (answer : List ℕ) (before now : SinkState) → ArePut (answer ∷ []) before now → Adds before.taken now.taken answer
 put-adds answer before now put = subst (Adds before.taken now.taken) (each-cut (answer ∷ []) put.pieces put.cut ∙ append-nil answer) put.taken.took
 
--- ---- one file more
+-- ---- one more file
 
 pub none-run : (p : Program) (now : World) → HaveRun p [] now now
 none-run p now = record {

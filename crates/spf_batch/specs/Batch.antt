@@ -31,7 +31,7 @@ answers p files = flat_map (file_answer p) files
 abbrev pub after : Hosts → List Telling → Hosts
 after hosts telling host pairs block = hosts host (told_to host telling ++ pairs) block
 
--- one file more: its hosts were told the pairs of all files before it
+-- one more file: its hosts were told the pairs of all files before it
 abbrev pub file_step : Hosts → Program → Tally → Entry → Tally
 file_step hosts p before file = record {
   stats = plus before.stats (tally (after hosts before.telling) p file.content).stats;

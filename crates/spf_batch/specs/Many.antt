@@ -1,4 +1,4 @@
--- What comes of a batch.
+-- What a batch leaves.
 use Rattle.std.specs.Prelude.{◌≡◌, ℕ, List, [], ◌∷◌, ◌++◌, length, map, Option, Some}
 use Rattle.std.specs.List.{All}
 use Rattle.spf_ast.specs.Syntax.{Program}

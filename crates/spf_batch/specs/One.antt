@@ -25,14 +25,14 @@ pub record HasRun (p : Program) (file : Entry) (before now : World) : Type 0 whe
   pub put : ArePut (file_answer p file ∷ []) before.out now.out
   pub told : WereTold before.hosts (tally before.hosts p file.content).telling now.hosts
 
--- the same, but its answer was put in part
+-- the file was fetched and run, hosts were told its pairs, and its answer was put in part
 pub record HasRunInPart (p : Program) (file : Entry) (before now : World) : Type 0 where
   pub fetched : IsFetched file.name (Ok file.content) before now
   pub few : HasFewCells p file
   pub put : IsPutInPart (file_answer p file) before.out now.out
   pub told : WereTold before.hosts (tally before.hosts p file.content).telling now.hosts
 
--- the file of this name was fetched, and has too many cells, so many
+-- the file of this name was fetched, and has too many cells: `count` of them
 pub record HasTooMany (p : Program) (name : List ℕ) (count : ℕ) (before now : World) : Type 0 where
   pub content : List ℕ
   pub fetched : IsFetched name (Ok content) before now
@@ -66,7 +66,7 @@ IsStoppedBy p name place before now OutOfMemory =
 
 -- ---- what the calls for one file leave
 
--- the file of this name, at this place, can't be had
+-- the file of this name, at this place, can't be fetched
 abbrev pub IsUnfetched : List ℕ → ℕ → FilesState → FilesState → BatchError → Type 0
 IsUnfetched name place old new (Fetch at) =
     (at ≡ place)
@@ -81,7 +81,7 @@ error_for place (engine_error.TooManyCells count) = TooManyCells place count
 error_for place (engine_error.NoHost number) = NoHost number
 error_for place engine_error.OutOfMemory = OutOfMemory
 
--- an answer was not put whole: of a fault of the output, or without memory
+-- an answer was not put whole: because of a fault of the output, or without memory
 abbrev pub IsPutError : Type 0 → BatchError → Type 0
 IsPutError Fault Put = Fault
 IsPutError Fault OutOfMemory = Unit {0}

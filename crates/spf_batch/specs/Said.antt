@@ -71,7 +71,7 @@ abbrev pub EndsAsSaid : Hosts → Program → List FetchMade → World → World
 EndsAsSaid hosts p fetches before now totals =
     Adds before.out.taken now.out.taken (batch_said hosts p [] fetches).out × ((batch_said hosts p [] fetches).gives ≡ Ok totals)
 
--- what comes of a batch is what is said of the fetches that it made
+-- what a batch leaves is what is said of the fetches that it made
 pub record BatchesAnswerAsSaid : Type 0 where
   pub done : (p : Program) (names : List (List ℕ)) (before now : World) (totals : Totals) → IsDone p names before now totals
       → (fetches : List FetchMade) × AreMade before.files now.files fetches × (names ≡ map (λ fetch. fetch.name) fetches)

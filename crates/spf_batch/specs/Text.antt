@@ -11,7 +11,7 @@ abbrev pub line : List (List ℕ) → List ℕ
 line [] = 10 ∷ []
 line (piece ∷ pieces) = piece ++ line pieces
 
--- how a kind of trap is called
+-- the name of a kind of trap
 abbrev pub kind_name : TrapKind → List ℕ
 kind_name trap.Overflow = codes "overflow"
 kind_name trap.DivZero = codes "divide-by-zero"
@@ -32,7 +32,7 @@ abbrev pub trap_line : List ℕ → Trap → ℕ → List ℕ
 trap_line name t size =
     line (name ∷ codes " trap " ∷ kind_name t.kind ∷ codes " line " ∷ decimal t.line ∷ codes " length " ∷ decimal size ∷ [])
 
--- the answer of a file of this name whose run came out so
+-- the answer of a file of this name whose run had this outcome
 abbrev pub answer_of : List ℕ → Outcome → List ℕ
 answer_of name (Done cells output) = done_line name (length output) ++ (output ++ 10 ∷ [])
 answer_of name (Stopped t output) = trap_line name t (length output) ++ (output ++ 10 ∷ [])

@@ -22,7 +22,7 @@ use std::alloc::Global;
 use std::sync::Wait;
 use std::thread::Threads;
 
-/// What a batch comes to, beside the answers.
+/// What a batch gives beside the answers.
 #[derive(Clone, Copy, PartialEq, Eq, Debug)]
 pub struct Totals {
     /// The number of files.
@@ -32,11 +32,11 @@ pub struct Totals {
 }
 
 /// Runs an accepted program on the files of these names, at most 1,000, one after another, and puts
-/// the answer of each on `out`, in pieces of 4,096 bytes of which only the last may be shorter. Each
-/// answer is that of the file alone. `hosts` are the predictors that the program names by number;
-/// the same ones serve all files, so at each file they were told the pairs of all files before it.
-/// The runs go by blocks, on 1 to 64 workers; the call waits for their threads. `gate` watches the
-/// attempts.
+/// the answer of each on `out`, in pieces of 4,096 bytes of which only the last may be shorter.
+/// Each answer is that of the file alone. `hosts` are the predictors that the program names by
+/// number; the same ones serve all files, so at each file they were told the pairs of all files
+/// before it. The runs go by blocks, on 1 to 64 workers; the call waits for their threads. `gate`
+/// watches the attempts.
 ///
 /// # Errors
 ///

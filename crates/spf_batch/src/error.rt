@@ -4,7 +4,7 @@ use thiserror::Error;
 /// Why a batch was not run to its end. Places of names count from 0.
 #[derive(Clone, Copy, PartialEq, Eq, Debug, Error)]
 pub enum BatchError {
-    /// The file of the name at this place could not be had.
+    /// The file of the name at this place could not be fetched.
     #[error("file {place} failed")]
     Fetch { place: u64 },
     /// The file at this place has more bytes than an input may have.

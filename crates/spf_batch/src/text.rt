@@ -7,7 +7,7 @@ ghost use Rattle.spf_batch.specs.Text.{trap_line as trap_line_of, answer_of};
 use spf_ast::outcome::{Outcome, Trap, TrapKind};
 use std::alloc::{AllocError, Global};
 
-/// How a kind of trap is called.
+/// The name of a kind of trap.
 fn kind_name(alloc: Global, kind: TrapKind) -> Result<String, AllocError>
     ensures { IfOk result (λ name. string_bytes name ≡ kind_name_of kind) }
 {
@@ -50,7 +50,7 @@ fn joined(line: String, output: &[u8]) -> Result<Vec<u8>, AllocError>
     Ok(bytes)
 }
 
-/// The answer of a file of this name whose run came out so.
+/// The answer of a file of this name whose run had this outcome.
 pub(crate) fn answer(alloc: Global, name: &str, outcome: &Outcome) -> Result<Vec<u8>, AllocError>
     ensures { IfOk result (λ bytes. bytes.items ≡ answer_of name.now (seen_outcome outcome.now)) }
 {

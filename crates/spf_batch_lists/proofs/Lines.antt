@@ -38,7 +38,7 @@ bad_line list text line rest before number split first each few number_is bad = 
   bad = bad;
 }
 
--- one line more has been read
+-- one more line has been read
 pub line_more : (list text line rest : List ℕ) (before after : List (List ℕ)) → before ++ lines text ≡ lines list → lines text ≡ line ∷ lines rest
     → after ≡ before ++ line ∷ [] → after ++ lines rest ≡ lines list
 line_more list text line rest before after split first more =

@@ -71,7 +71,7 @@ fn after_end(text: &[u8]) -> &[u8]
     }
 }
 
-/// The names of a list.
+/// Reads the names of a list.
 ///
 /// # Errors
 ///

@@ -113,7 +113,7 @@ is_there (x ∷ xs) c = dite (ℕ_discrete x c) (λ e. inl (0, ap some e)) (λ n
     not_here zero at ne out = ne (some-injective x c at)
     not_here (suc j) at ne out = out j at
 
--- the order in which cells are written back is nothing to the memory
+-- the order in which cells are written back makes no difference to the memory
 pub write_back_same : (f : ℕ → ℤ) (cs ds : List ℕ) (m : List ℤ) → ((j c : ℕ) → get_elem? cs j ≡ some c → (k : ℕ) × (get_elem? ds k ≡ some c)) → ((j c : ℕ) → get_elem? ds j ≡ some c → (k : ℕ) × (get_elem? cs k ≡ some c))
     → write_back f cs m ≡ write_back f ds m
 write_back_same f cs ds m to from = same_lists (write_back f cs m) (write_back f ds m) (length-write_back f cs m ∙ sym (length-write_back f ds m)) (λ k d low.

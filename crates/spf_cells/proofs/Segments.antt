@@ -41,7 +41,7 @@ no_segments first = record {
 pub once_front : (l m : List ℕ) → HasNoCellTwice (l ++ m) → HasNoCellTwice l
 once_front l m once i j c at at' = once i j c (at_left l m i (below l i c at) ∙ at) (at_left l m j (below l j c at') ∙ at')
 
--- one segment more
+-- one more segment
 module _ (ss : List Segment) (cells : List ℕ) (first : ℕ) (x : Segment) (h : AreUnsortedOf ss cells first) (full : x.span.from < x.span.to) (start : x.word ≡ first + length cells) where
   abbrev mine : List ℕ
   mine = consecutive x.span.from (x.span.to - x.span.from)

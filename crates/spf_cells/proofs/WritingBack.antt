@@ -22,7 +22,7 @@ write_back-append f (c ∷ cs) ds m = write_back-append f cs ds (set m c (f c))
 pub consecutive_here : (from to cell : ℕ) → from ≤ cell → cell < to → get_elem? (consecutive from (to - from)) (cell - from) ≡ some cell
 consecutive_here from to cell low high = let e : from + (cell - from) ≡ cell = omega arith in consecutive_at from (to - from) (cell - from) (omega arith) ∙ ap some e
 
--- one cell more of a span
+-- one more cell of a span
 pub write_back-consecutive : (f : ℕ → ℤ) (from cell : ℕ) (m : List ℤ) → from ≤ cell → set (write_back f (consecutive from (cell - from)) m) cell (f cell) ≡ write_back f (consecutive from (cell + 1 - from)) m
 write_back-consecutive f from cell m low =
     let e : cell + 1 - from ≡ (cell - from) + 1 = omega arith in

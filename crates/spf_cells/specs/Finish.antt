@@ -23,7 +23,7 @@ write_back_all (l ∷ ls) m = write_back_all ls (write_back (content_at l) (cell
 abbrev pub taken_as : LaneValue → TakenLane
 taken_as l = record { block = l.block; log = l.log }
 
--- the warden has taken this lane over
+-- the warden has taken over this lane
 abbrev pub HasTaken : WardenValue → LaneValue → Type 0
 HasTaken w l = (j : ℕ) × (get_elem? w.view.taken j ≡ some (taken_as l))
 

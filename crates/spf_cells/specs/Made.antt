@@ -18,7 +18,7 @@ setting p entry raisable = record { plan = spans_in p; entry = entry; raisable =
 abbrev pub first_words : List (List Span) → List ℤ → List ℕ
 first_words plan entry = replicate (length plan) 0 ++ map (entry_word entry) (cells_of_plan plan)
 
--- a warden that has handed out so many blocks: all flags are 0, and no lane was taken over
+-- a warden that has handed out `made` blocks: all flags are 0, and no lane was taken over
 abbrev pub new_warden : CellsValue → ℕ → WardenValue
 new_warden c made = record { table = c.table; setting = c.setting; view = record { made = made; flags = replicate (length c.setting.plan) 0; taken = [] } }
 

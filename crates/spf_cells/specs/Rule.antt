@@ -36,9 +36,9 @@ OwnsTaken logs owner j taken = (i : ℕ) (t : TakenLane) → get_elem? taken i �
 abbrev pub HasNoBlockTwice : List TakenLane → Type 0
 HasNoBlockTwice taken = (i j : ℕ) (t u : TakenLane) → get_elem? taken i ≡ some t → get_elem? taken j ≡ some u → t.block ≡ u.block → i ≡ j
 
--- what the view of the seat j says is so. A spent view says nothing. A lane has a block of the plan, which is its own, and its log is that
--- block's. The warden is the one warden; it knows all flags; each lane that it took over was handed out, is now its own, and none is there
--- twice; each block that was not handed out is its own, with an empty log
+-- what the view of the seat j says holds. A spent view says nothing. A lane has a block of the plan, which is its own,
+-- and its log is that block's. The warden is the one warden; it knows all flags; each lane that it took over was handed
+-- out, is now its own, and none is there twice; each block that was not handed out is its own, with an empty log
 abbrev pub Knows : ℕ → List ℕ → (ℕ → List LogEntry) → (ℕ → ℕ) → ℕ → ℕ → Role → Type 0
 Knows n words logs owner warden j Spent = Unit {0}
 Knows n words logs owner warden j (Lane b log) = (b < n) × (owner b ≡ j) × (logs b ≡ log)
@@ -73,7 +73,7 @@ pub record IsConsistentTable (k : Setting) (s : State ℕ View) : Type 0 where
   pub flags : (b : ℕ) → b < blocks k → IsPossibleFlag k b (slice_index s.words b)
   -- all views that are not spent have one setting
   pub settings : (j : ℕ) (v : View) → get_elem? s.views j ≡ some v → HasSetting k v.setting v.role
-  -- what each view says is so
+  -- what each view says holds
   pub seats : (j : ℕ) (v : View) → get_elem? s.views j ≡ some v → Knows (blocks k) s.words logs owner warden j v.role
 
 -- the view at the start: the warden has all blocks, and all flags are 0
@@ -90,7 +90,7 @@ log_of (Lane b log) = log
 log_of Spent = []
 log_of (Warden p) = []
 
--- the lane with one entry more in its log
+-- the lane with one more entry in its log
 abbrev pub role_logging : Role → LogEntry → Role
 role_logging (Lane b log) e = Lane b (log ++ e ∷ [])
 role_logging Spent e = Spent
@@ -135,7 +135,7 @@ IsReadBack st m n m' = (m' ≡ m)
     × ((i c j : ℕ) (t : TakenLane) → st.word ≡ blocks m.0.setting + i → get_elem? (taken_of m.0.role) j ≡ some t
     → get_elem? (cells_with_blocks m.0.setting.plan) i ≡ some (t.block, c) → cast_signed w64 n ≡ content m.0.setting t.log c)
 
--- the warden, once it has handed out one block more
+-- the warden, once it has handed out one more block
 abbrev pub role_after_hand_out : Role → Role
 role_after_hand_out (Warden p) = Warden (record p { made = p.made + 1 })
 role_after_hand_out Spent = Spent
@@ -147,7 +147,7 @@ role_handed_out (Warden p) = Lane p.made []
 role_handed_out Spent = Spent
 role_handed_out (Lane c log) = Spent
 
--- the warden's view, once it has handed out one block more
+-- the warden's view, once it has handed out one more block
 abbrev pub after_hand_out : View → View
 after_hand_out v = view_of v.setting (role_after_hand_out v.role)
 
@@ -155,7 +155,7 @@ after_hand_out v = view_of v.setting (role_after_hand_out v.role)
 abbrev pub handed_out : View → View
 handed_out v = view_of v.setting (role_handed_out v.role)
 
--- the warden, once it has taken a lane over
+-- the warden, once it has taken over a lane
 abbrev pub role_after_take_over : Role → Role → Role
 role_after_take_over (Warden p) (Lane b log) = Warden (record p { taken = p.taken ++ record { block = b; log = log } ∷ [] })
 role_after_take_over (Warden p) Spent = Warden p
@@ -163,7 +163,7 @@ role_after_take_over (Warden p) (Warden q) = Warden p
 role_after_take_over Spent w = Spent
 role_after_take_over (Lane b log) w = Lane b log
 
--- the warden's view, once it has taken a lane over
+-- the warden's view, once it has taken over a lane
 abbrev pub after_take_over : View → View → View
 after_take_over v w = view_of v.setting (role_after_take_over v.role w.role)
 

@@ -6,7 +6,7 @@ use mathlib.Core.Option.{some}
 use lib.ListN.{get_elem?}
 use Rattle.spf_region.specs.declared.span.Span.{Span}
 
--- so many numbers from this one on
+-- consecutive numbers from this one on
 abbrev pub consecutive : ℕ → ℕ → List ℕ
 consecutive from zero = []
 consecutive from (suc n) = from ∷ consecutive (suc from) n

@@ -29,7 +29,7 @@ content_at l c = content l.setting l.log c
 abbrev pub IsWordOf : LaneValue → ℕ → ℕ → Type 0
 IsWordOf l c n = (i : ℕ) × (n ≡ length l.setting.plan + i) × (get_elem? (cells_with_blocks l.setting.plan) i ≡ some (l.block, c))
 
--- the lane with one event more in its log
+-- the lane with one more event in its log
 abbrev pub logged : LaneValue → LogEntry → LaneValue
 logged l e = record l { log = l.log ++ e ∷ [] }
 
@@ -48,7 +48,7 @@ pub record WardenValue : Type 0 where
 abbrev pub with_flag : WardenValue → ℕ → ℕ → WardenValue
 with_flag w b x = record w { view = record w.view { flags = slice_set w.view.flags b (max (slice_index w.view.flags b) x) } }
 
--- the warden with one lane more taken over
+-- the warden with one more lane taken over
 abbrev pub with_lane : WardenValue → LaneValue → WardenValue
 with_lane w l = record w { view = record w.view { taken = w.view.taken ++ record { block = l.block; log = l.log } ∷ [] } }
 

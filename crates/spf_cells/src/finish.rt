@@ -1,4 +1,4 @@
-//! The warden takes all lanes over, and their contents go back into a memory.
+//! Takes over all lanes, and writes their contents back into a memory.
 ghost use Rattle.std.specs.Prelude.{◌≡◌, ℕ, ◌+◌, ◌-◌, ◌^◌, ◌<◌, List, [], length};
 ghost use mathlib.Core.Option.{some};
 ghost use lib.ListN.{get_elem?};
@@ -17,7 +17,7 @@ use spf_region::span::Span;
 use std::marker::Model;
 use std::snapshot::Snapshot;
 
-/// The logs of all lanes, which contracts alone see: one for each block, in the order of blocks.
+/// The logs of all lanes, which only contracts see: one for each block, in the order of blocks.
 ///
 /// Only `Cells::finish` makes one, so each event in it was a step on the cells' table.
 #[derive(Drop)]
@@ -108,7 +108,7 @@ impl Warden {
         }
     }
 
-    /// Takes a lane over, and writes its contents back.
+    /// Takes over a lane, and writes its contents back.
     fn collect(&mut self, cells: &Cells, lane: Lane, into: &mut [i64])
         requires own { IsWardenOf cells.now self.old }
         requires lane { IsLaneOf cells.now lane }
@@ -128,7 +128,7 @@ impl Warden {
 
 impl Cells {
     /// Ends all steps: each cell of a lane's spans takes the lane's content, and every other cell
-    /// of `into` stays. `into` is as long as the entry.
+    /// of `into` stays as it is. `into` is as long as the entry.
     ///
     /// `lanes` are the lanes of all blocks, in the order of blocks. The trace has their logs, and
     /// each keeps what a lane's log keeps.

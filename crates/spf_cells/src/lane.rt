@@ -98,15 +98,15 @@ impl Lane {
         find_word(self.segments.as_slice(), cell)
     }
 
-    /// Whether the cell is in the lane's spans.
+    /// Returns whether the cell is in the lane's spans.
     pub fn has(&self, cell: u64) -> bool
         ensures { IsTrue result ↔ Covers (spans_of self.now) cell }
     {
         self.word_of(cell).is_some()
     }
 
-    /// The lane's own content of a cell, whoever else steps, if the cell is in the lane's spans.
-    /// The load is then logged.
+    /// Returns the lane's own content of a cell, whoever else steps, if the cell is in the lane's
+    /// spans. The load is then logged.
     pub fn try_load(&mut self, cells: &Cells, cell: u64) -> Option<i64>
         requires own { self.old.table ≡ cells.now.table }
         ensures inside { IfSome result (λ _. in_spans (spans_of self.old) cell ≡ true) }
@@ -124,8 +124,8 @@ impl Lane {
         }
     }
 
-    /// Stores a word to a cell, if the cell is in the lane's spans; whether it is. The store is
-    /// then logged.
+    /// Stores a word to a cell, if the cell is in the lane's spans, and tells whether it is. The
+    /// store is then logged.
     pub fn try_store(&mut self, cells: &Cells, cell: u64, value: i64) -> bool
         requires own { self.old.table ≡ cells.now.table }
         ensures inside { result ≡ in_spans (spans_of self.old) cell }
@@ -143,7 +143,8 @@ impl Lane {
         }
     }
 
-    /// The lane's own content of a cell of its spans, whoever else steps. The load is logged.
+    /// Returns the lane's own content of a cell of its spans, whoever else steps. The load is
+    /// logged.
     pub fn load(&mut self, cells: &Cells, cell: u64) -> i64
         requires own { self.old.table ≡ cells.now.table }
         requires inside { Covers (spans_of self.old) cell }
@@ -164,7 +165,7 @@ impl Lane {
         self.try_store(cells, cell, value);
     }
 
-    /// The flag of the lane's block. The turn is logged.
+    /// Returns the flag of the lane's block. The turn is logged.
     pub fn poll(&mut self, cells: &Cells) -> u64
         requires own { self.old.table ≡ cells.now.table }
         ensures possible { IsPossibleFlag self.old.setting self.old.block result }

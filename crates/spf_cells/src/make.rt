@@ -1,4 +1,4 @@
-//! Cells are made, with their warden and their lanes.
+//! Makes cells, with their warden and their lanes.
 ghost use Rattle.std.specs.Prelude.{◌≡◌, ℕ, ◌+◌, ◌-◌, ◌<◌, List, [], ◌++◌, map, length};
 ghost use Rattle.std.specs.Prelude.{slice_index_or, ◌^◌, IfOk, pos};
 ghost use Rattle.std.specs.Int.RustNames.{FitsSigned};
@@ -24,9 +24,8 @@ use spf_cells_key::key::{GhostKey, ghost_key};
 use spf_region::span::{Plan, Span};
 use std::alloc::{AllocError, Global};
 
-/// A key with the setting that the caller names. The ghost argument of a call may speak of the
-/// call's other arguments alone, so the entry and the plan are passed here though nothing reads
-/// them.
+/// A key with the setting that the caller names. The ghost argument of a call may mention only the
+/// call's other arguments, so the entry and the plan are passed here though nothing reads them.
 fn key_of_setting(entry: &[i64], plan: &Plan) -> GhostKey<Setting>
     ghost named: { Setting }
     ensures { result.value ≡ named }
@@ -36,7 +35,7 @@ fn key_of_setting(entry: &[i64], plan: &Plan) -> GhostKey<Setting>
     ghost_key::<Setting>()
 }
 
-/// Each element fits 64 bits. A proof knows the range of an element once the element is read.
+/// Each element fits in 64 bits. A proof knows the range of an element once the element is read.
 fn in_range(entry: &[i64])
     ensures { (i : ℕ) → i < length entry.now → FitsSigned w64 (slice_index_or entry.now i (pos 0)) }
 {
@@ -114,7 +113,7 @@ impl Cells {
         Ok((Cells { table }, Warden { seat }))
     }
 
-    /// The cells of a plan's spans, their warden, and a lane for each block in order.
+    /// Makes the cells of a plan's spans, their warden, and a lane for each block in order.
     ///
     /// `entry` is the whole memory, of which the plan's spans are disjoint parts. Each cell begins
     /// with its word there, all flags are 0 and all logs empty. The caller names the blocks whose
@@ -154,7 +153,7 @@ fn size_of_spans(spans: &[Span]) -> usize
 }
 
 impl Warden {
-    /// Each block gets a lane.
+    /// Gives each block a lane.
     fn hand_out_all(
         &mut self,
         alloc: Global,
@@ -182,7 +181,7 @@ impl Warden {
         Ok(lanes)
     }
 
-    /// The next block gets a lane.
+    /// Gives the next block a lane.
     fn hand_out(&mut self, cells: &Cells, block: usize, segments: Vec<Segment>) -> Lane
         requires own { IsWardenOf cells.now self.old }
         requires next { (block ≡ self.old.view.made) × (block < length cells.now.setting.plan) }

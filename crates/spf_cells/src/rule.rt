@@ -60,7 +60,7 @@ impl Play<u64, View> for ReadBack {
     ghost then = { IsReadBack };
 }
 
-/// The warden hands the next block out to a lane.
+/// The warden hands out the next block to a lane.
 pub struct HandOut;
 
 impl Split<View> for HandOut {
@@ -71,7 +71,7 @@ impl Split<View> for HandOut {
     ghost right = { handed_out };
 }
 
-/// The warden takes a lane over.
+/// The warden takes over a lane.
 pub struct TakeOver;
 
 impl Join<View> for TakeOver {

@@ -47,7 +47,7 @@ pub enum Role {
     Spent,
     /// The steps of one block, with the log of those made so far.
     Lane(u64, LinkedList<LogEntry>),
-    /// Raising flags and taking lanes over.
+    /// Raising flags and taking over lanes.
     Warden(WardenView),
 }
 

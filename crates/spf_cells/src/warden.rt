@@ -1,4 +1,4 @@
-//! The warden: the seat that raises flags, and takes lanes over.
+//! The warden: the seat that raises flags and takes over lanes.
 ghost use Rattle.std.specs.Prelude.{◌≡◌, ◌<◌, length};
 ghost use Rattle.std.specs.List.{Contains};
 ghost use Rattle.spf_cells.specs.Rule.{HasNoBlockTwice};
@@ -30,7 +30,8 @@ impl Model for Warden {
 }
 
 impl Warden {
-    /// Raises the flag of a block to the attempt, if it was below. All other flags stay.
+    /// Raises the flag of a block to the attempt's number, if it was below that. All other flags
+    /// stay.
     pub fn raise(&mut self, cells: &Cells, block: u64, attempt: u64)
         requires own { IsWardenOf cells.now self.old }
         requires inside { block < length self.old.setting.plan }
@@ -42,7 +43,7 @@ impl Warden {
         shared.fetch_max::<Raised>(&mut self.seat, block as usize, attempt);
     }
 
-    /// Takes a lane over. The warden then has no block twice; all words and flags stay.
+    /// Takes over a lane. The warden then has no block twice; all words and flags stay.
     pub fn take(&mut self, cells: &Cells, lane: Lane)
         requires own { IsWardenOf cells.now self.old }
         requires lane { IsLaneOf cells.now lane }
@@ -55,7 +56,7 @@ impl Warden {
         shared.fetch_max::<Raised>(&mut self.seat, block, 0);
     }
 
-    /// Takes a lane's cells and log over.
+    /// Takes over a lane's cells and log.
     fn take_over(&mut self, cells: &Cells, lane: Lane)
         requires own { IsWardenOf cells.now self.old }
         requires lane { IsLaneOf cells.now lane }

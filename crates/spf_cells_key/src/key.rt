@@ -1,10 +1,10 @@
-//! A value that clauses alone see.
+//! A value that only clauses see.
 ghost use Rattle.std.specs.Prelude.{◌≡◌};
 ghost use base.Fml.{ftrue};
 
 use std::marker::{Model, PhantomData};
 
-/// A `V` that clauses alone see. It has no bytes and owns nothing.
+/// A `V` that only clauses see. It has no bytes and owns nothing.
 pub struct GhostKey<V> {
     marker: PhantomData<V>,
     pub ghost value: { V },
@@ -20,7 +20,7 @@ impl<V> Drop for GhostKey<V> {
     }
 }
 
-/// A key with whatever value the caller names.
+/// Makes a key with whatever value the caller names.
 pub fn ghost_key<V>() -> GhostKey<V>
     ghost named: { V }
     ensures { result.value ≡ named }
@@ -34,14 +34,14 @@ pub fn ghost_key<V>() -> GhostKey<V>
 unsafe impl<V> Send for GhostKey<V> {}
 
 impl<V> GhostKey<V> {
-    /// The same key again.
+    /// Returns the same key.
     pub fn again(&self) -> GhostKey<V>
         ensures { result.value ≡ self.now.value }
     {
         self.with()
     }
 
-    // A ghost value is named by a call's arguments alone, so the call has the key.
+    // A ghost value is named by a call's arguments alone, so the key is passed here.
     fn with(&self) -> GhostKey<V>
         ghost named: { V }
         ensures { result.value ≡ named }

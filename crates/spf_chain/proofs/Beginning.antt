@@ -1,4 +1,4 @@
--- The blocks at the beginning.
+-- The blocks at the start.
 use Rattle.std.proofs.Common.{◌≡◌, ℕ, ◌+◌, ◌<◌, zero, suc, List, [], ◌∷◌, ◌++◌, length, take, get_or, add-zero, refl, sym, ap, ◌∙◌, subst, Option, Some, None, arith, slice_get}
 use Rattle.std.specs.Prelude.{map, replicate, slice_index_or}
 use Rattle.std.proofs.lemmas.List.{length-map, take_more, map-append}
@@ -69,7 +69,7 @@ unvalidated-snoc n start (h ∷ gs) g =
     let c : Validated = record { block = n; guess = h; real = first_value start h } in
     ap (λ l. c ∷ l) (unvalidated-snoc (n + 1) start gs g) ∙ ap (λ k. c ∷ (unvalidated (n + 1) start gs ++ b k ∷ [])) (next_index n (length gs))
 
--- a block of a guess more
+-- the block of one more guess
 pub one_block : (start : Carried) (gs : List Guess) (i n : ℕ) (d : Guess) (w : Carried) (old new : List Validated) → i < length gs → w ≡ (get_or gs i d).value → old ≡ unvalidated 0 start (guesses_for (take i gs)) → n ≡ length old → new ≡ old ++ record { block = n; guess = Some w; real = w } ∷ [] → new ≡ unvalidated 0 start (guesses_for (take (i + 1) gs))
 one_block start gs i n d w old new low value is count added =
     let g = (get_or gs i d).value in

@@ -145,7 +145,7 @@ wrong-home law lanes e guess c n v r may home real none is =
     ready-not law lanes e guess c.setting n r.ticket.attempt s.0 v r.ticket.lane.log l.before l.log may home.turns real ready l.grown
     ((λ t. attempted e (sym home.block t) (sym is t) r.ticket.attempt l.log) ∙ stopped)
 
--- and so it is of a first attempt
+-- and the same of a first attempt
 pub record IsFirstAt (e : Entry) (guess : ℕ → Carried) (n : ℕ) (r : Report) : Type 0 where
   pub attempt : r.ticket.attempt ≡ 1
   pub carried : r.ticket.carried ≡ begins_at e guess n
@@ -298,6 +298,6 @@ waits-trapped a v b is trapped out lowest = record {
 abbrev pub home_value : Inside → List (Option Report) → Bool → ChainValue
 home_value a homes again = record (chain_value a) { homes = homes; again = again }
 
--- a chain's value with other homes, after so many reports
+-- a chain's value with other homes, after `reports` reports
 abbrev pub filed_value : Inside → List (Option Report) → Bool → ℕ → ChainValue
 filed_value a homes again reports = record (chain_value a) { homes = homes; again = again; reports = reports }

@@ -66,7 +66,7 @@ warden-of P c w x own g = (ap (λ (z : WardenValue). z.table) g.same ∙ own.0, 
 
 -- ---- of a chain
 
--- after a trap the plain run comes to no block that isn't validated
+-- after a trap the plain run reaches no block that isn't validated
 pub values-end : (xs : List (List ℤ)) (n : ℕ) (v : List ℤ) → length xs ≤ n → slice_get xs n ≢ Some v
 values-end xs n v past at = let low = slice_get_within xs n v at in omega (arith, low, past)
 

@@ -81,7 +81,7 @@ home-log e guess c n v r o h carried known =
     let whole : IsWhole e n v r.ticket.attempt l.log w.ending = (λ t. attempted e (sym h.block t) (sym carried t) r.ticket.attempt l.log) ∙ w.whole in
     record { ending = w.ending; real = ready-log e guess n r.ticket.attempt v (events r.ticket.lane.log) l.before l.log w.ending ready l.grown whole; ends = w.ends }
 
--- ---- one block more
+-- ---- one more block
 
 -- a block with its real row
 abbrev pub with_real : Validated → Carried → Validated

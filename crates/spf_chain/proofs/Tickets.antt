@@ -23,14 +23,14 @@ lane-from k b (suc n) (y ∷ ys) l rest e =
     let low = r.1 in
     (r.0 ∙ ap (new_lane k) more, omega (arith, low))
 
--- the next one of so many new lanes
+-- the next one of n new lanes
 pub next-lane : (k : CellsValue) (n : ℕ) (lanes ys rest : List LaneValue) (l : LaneValue) → lanes ≡ new_lanes k 0 n → lanes ≡ ys ++ l ∷ rest → (l ≡ new_lane k (length ys)) × (length ys < n)
 next-lane k n lanes ys rest l new split =
     let r = lane-from k 0 n ys l rest (sym new ∙ split) in
     let here : 0 + length ys ≡ length ys = omega arith in
     (r.0 ∙ ap (new_lane k) here, r.1)
 
--- one ticket more
+-- one more ticket
 pub more-tickets : (k : CellsValue) (low : ℤ) (blocks : List Validated) (frame : List ℤ) (n : ℕ) (old new : List Ticket) (t : Ticket)
     → AreFirstTickets k low blocks frame n old → IsFirstTicket (new_lane k n) low blocks frame n t → new ≡ old ++ t ∷ [] → AreFirstTickets k low blocks frame (n + 1) new
 more-tickets k low blocks frame n old new t are one added = record {

@@ -1,4 +1,4 @@
--- How a chain begins.
+-- How a chain starts.
 use Rattle.std.specs.Prelude.{◌≡◌, ◌+◌, ◌≤◌, ℕ, false, List, [], ◌∷◌, map, length, replicate, Option, Some, None, ℤ, pos, ◌+ℤ◌, slice_get}
 use Rattle.spf_ast.specs.Carried as carried
 use Rattle.spf_cells.specs.Values.{LaneValue, CellsValue, WardenValue}
@@ -66,7 +66,7 @@ pub record IsFirstTicket (lane : LaneValue) (low : ℤ) (blocks : List Validated
   pub own_lane : t.lane ≡ lane
   pub own_frame : t.frame ≡ frame
 
--- these are the tickets of the first attempts of so many blocks, in their order, with lanes that have logged nothing
+-- these are the tickets of the first attempts of the first `count` blocks, in their order, with lanes that have logged nothing
 pub record AreFirstTickets (cells : CellsValue) (low : ℤ) (blocks : List Validated) (frame : List ℤ) (count : ℕ) (tickets : List Ticket) : Type 0 where
   pub size : length tickets ≡ count
   pub each : (n : ℕ) (t : Ticket) → slice_get tickets n ≡ Some t → IsFirstTicket (new_lane cells n) low blocks frame n t

@@ -23,7 +23,7 @@ abbrev pub known_at : Carried → Option Report → Option Settled
 known_at v None = None
 known_at v (Some r) = if same_carried r.ticket.carried v then result_of r.stop else None
 
--- the same, where there is such a block
+-- what a block came to at a row, where there is such a block and its report is home
 abbrev pub known_in : Carried → Option (Option Report) → Option Settled
 known_in v None = None
 known_in v (Some home) = known_at v home

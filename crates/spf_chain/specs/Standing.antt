@@ -30,7 +30,7 @@ pub record TrappedAt (e : Entry) (guess : ℕ → carried.Carried) (logs : ℕ �
   pub count : length values ≡ n
   pub ends : EndsAt e guess logs last values trap
 
--- so many blocks are validated, with these real rows: the next one begins at this row, or the last one trapped
+-- the first n blocks are validated, with these real rows: the next one begins at this row, or the last one trapped
 abbrev pub StandsAt : Entry → (ℕ → carried.Carried) → (ℕ → List Event) → ℕ → List carried.Carried → Settled → Type 0
 StandsAt e guess logs n values (Carried v) = PrefixAt e guess logs n values v
 StandsAt e guess logs n values (Trapped trap) = TrappedAt e guess logs n values trap

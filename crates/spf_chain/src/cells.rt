@@ -13,8 +13,8 @@ use spf_region::span::Plan;
 use spf_speculation_entry::site::Site;
 use std::alloc::{AllocError, Global};
 
-/// Makes cells of which the mispredicted blocks of the site may be raised. Which they are no code
-/// tells: the site stands in its key alone.
+/// Makes cells for which the mispredicted blocks of the site may be raised. No code computes which
+/// ones: the site exists only in its key.
 pub(crate) fn cells_for(
     alloc: Global,
     site: &GhostKey<Site>,

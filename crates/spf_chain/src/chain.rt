@@ -1,4 +1,4 @@
-//! The chain: what is home, and how far the blocks are validated.
+//! The chain: which reports are home, and how far the blocks are validated.
 ghost use Rattle.std.specs.Prelude.{◌≡◌, ◌↔◌, IsTrue};
 ghost use Rattle.spf_chain.specs.declared.chain.Filed.TheVariants.{Ended as HasSaidEnded};
 
@@ -23,7 +23,7 @@ pub enum Filed {
 }
 
 impl Filed {
-    /// Whether the chain has ended.
+    /// Returns whether the chain has ended.
     pub fn is_ended(&self) -> bool
         ensures { IsTrue result ↔ (self.now ≡ HasSaidEnded) }
     {
@@ -35,14 +35,14 @@ impl Filed {
 ///
 /// Contracts see of it the site, the warden, the reports that are home, whether the next block's
 /// second attempt is out, how far the blocks are validated, and how many reports were filed; that
-/// number stands still at 2^64 - 1.
+/// number saturates at 2^64 - 1.
 #[derive(Drop)]
 pub struct Chain {
     pub(crate) site: GhostKey<Site>,
     pub(crate) warden: Warden,
     // the report of each block that is home
     pub(crate) homes: Vec<Option<Report>>,
-    // room for the lanes, which is taken when the chain starts
+    // room for the lanes, which is allocated when the chain starts
     pub(crate) room: Vec<Lane>,
     // whether the next block is out with its second attempt
     pub(crate) again: bool,

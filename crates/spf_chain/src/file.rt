@@ -1,4 +1,4 @@
-//! Reports are filed.
+//! Files reports.
 ghost use Rattle.std.specs.Prelude.{◌≡◌, ◌≢◌, ◌<◌, ◌≤◌, ◌==◌, ◌↔◌, IsTrue, if◌then◌else◌, ℕ, false};
 ghost use Rattle.std.specs.Prelude.{length, slice_get, Some, None, MatchOption};
 ghost use Rattle.spf_chain.specs.declared.validated.Settled.TheVariants.{Carried as Gave, Trapped};
@@ -21,7 +21,7 @@ use spf_cells::cells::Cells;
 use spf_cells::warden::Warden;
 use spf_ticket::ticket::Report;
 
-// Whether no report is at a place.
+// Returns whether a place has no report.
 fn is_out(homes: &[Option<Report>], place: usize) -> bool
     requires { place < length homes.now }
     ensures { IsTrue result ↔ (slice_get homes.now place ≡ Some None) }
@@ -32,7 +32,7 @@ fn is_out(homes: &[Option<Report>], place: usize) -> bool
     }
 }
 
-// The lowest place where no report is.
+// The lowest place without a report.
 fn lowest_out(homes: &[Option<Report>]) -> Option<u64>
     ensures { MatchOption result ((n : ℕ) → slice_get homes.now n ≢ Some None) (λ b.
         (slice_get homes.now b ≡ Some None)
@@ -46,7 +46,7 @@ fn lowest_out(homes: &[Option<Report>]) -> Option<u64>
     None
 }
 
-// Whether the second attempt is out still, when a report of a block came home.
+// Returns whether the second attempt is still out, once a report of a block came home.
 fn still_again(again: bool, block: usize, next_block: usize) -> bool
     ensures { result ≡ (if block == next_block then false else again) }
 {
@@ -54,7 +54,7 @@ fn still_again(again: bool, block: usize, next_block: usize) -> bool
 }
 
 impl Chain {
-    // A report comes home. The place is free, since the report has its block's only lane.
+    // Brings a report home. Its place is free, since the report has its block's only lane.
     fn come_home(&mut self, cells: &Cells, report: Report)
         requires own { cells.now ≡ cells_of self.old }
         requires lawful { IsLawfulReport (entry_at self.old.site) (guess_at self.old.site) cells.now
@@ -81,7 +81,7 @@ impl Chain {
         }
     }
 
-    // Blocks are validated.
+    // Validates blocks.
     fn validate(&mut self)
         ensures validates { Validates self.old self.new }
         ensures trapped { HasTrapped self.old → self.new ≡ self.old }
@@ -140,7 +140,7 @@ impl Chain {
     }
 }
 
-// Raises the flags of all places from this one on where no report is.
+// Raises the flags of all places from this one on that have no report.
 fn raise_out(warden: &mut Warden, cells: &Cells, homes: &[Option<Report>], from: usize)
     requires own { IsWardenOf cells.now warden.old }
     requires inside { length homes.now ≤ length warden.old.setting.plan }
@@ -174,7 +174,7 @@ impl Chain {
         }
     }
 
-    // Whether the next block's flag is to be raised, where its real row is known.
+    // Returns whether the next block's flag is to be raised, where its real row is known.
     fn is_next_mispredicted(&self, real: Row) -> bool
         requires { self.now.settled ≡ Gave real }
         ensures { IsTrue result ↔ IsToRaise self.now (next_block self.now) }
@@ -229,7 +229,7 @@ impl Chain {
 
     /// Files a report: its ticket comes home, the next blocks that are home and were run at their
     /// real rows are validated, and the flags of attempts that can't be of use are raised. Says
-    /// what is to be done next. One report more was filed then. Takes no memory.
+    /// what is to be done next. One more report is filed then. Takes no memory.
     pub fn file(&mut self, cells: &Cells, report: Report) -> Filed
         requires own { cells.now ≡ cells_of self.old }
         requires lawful { IsLawfulReport (entry_at self.old.site) (guess_at self.old.site) cells.now

@@ -1,4 +1,4 @@
-//! What a chain comes to.
+//! What the blocks of a chain come to.
 ghost use Rattle.std.specs.Prelude.{◌≡◌, ◌≤◌, [], length, map};
 ghost use Rattle.spf_speculation_entry.specs.Entry.{plain_blocks};
 ghost use Rattle.spf_speculation_entry.specs.Sites.{entry_at};
@@ -48,9 +48,9 @@ impl Chain {
         let _ = &self.again;
     }
 
-    /// What the blocks came to: the row after the last one, or the trap of the last validated one.
-    /// `into`, which is as long as the memory at the entry, takes the lanes' contents, and the
-    /// trace has their logs. It takes no memory.
+    /// Returns what the blocks came to: the row after the last one, or the trap of the last
+    /// validated one. `into`, which is as long as the memory at the entry, takes the lanes'
+    /// contents, and the trace has their logs. It takes no memory.
     pub fn finish(self, cells: Cells, into: &mut [i64]) -> (Settled, Trace)
         requires ended { HasEnded self }
         requires own { cells ≡ cells_of self }

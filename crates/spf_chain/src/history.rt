@@ -6,7 +6,7 @@ use crate::chain::Chain;
 use crate::validated::Validated;
 
 impl Chain {
-    /// The validated blocks, from block 0 on. No block that is out is among them.
+    /// Returns the validated blocks, from block 0 on. No block that is out is among them.
     pub fn history(&self) -> &[Validated]
         ensures history { result.now ≡ self.now.history }
         ensures validated { IsHistory self.now }

@@ -1,4 +1,4 @@
-// What a report that is home says.
+//! What a report that is home tells.
 ghost use Rattle.std.specs.Prelude.{◌≡◌};
 ghost use Rattle.spf_chain.specs.Homes.{result_of, known_at};
 

@@ -1,5 +1,5 @@
-//! A chain starts: cells are made for the blocks of a construct, and the tickets of all blocks go
-//! out.
+//! Starts a chain: makes cells for the blocks of a construct, and hands out the tickets of all
+//! blocks.
 ghost use Rattle.std.specs.Prelude.{◌≡◌, ◌+◌, ◌≤◌, ◌<◌, ◌+ℤ◌, ◌≤ℤ◌, length, pos, replicate, None};
 ghost use Rattle.std.specs.Prelude.{IfOk, Some, slice_get};
 ghost use Rattle.spf_ast.specs.Meaning.{max_blocks};
@@ -34,8 +34,8 @@ use spf_speculation_entry::site::Site;
 use spf_ticket::ticket::{Report, Ticket};
 use std::alloc::{AllocError, Global};
 
-/// A key with the site that the caller names. The ghost argument of a call may speak of the call's
-/// other arguments alone, so they are passed here though nothing reads them.
+/// A key with the site that the caller names. The ghost argument of a call may mention only the
+/// call's other arguments, so they are passed here though nothing reads them.
 fn key_of_site(
     instance: &Instance,
     construct: u32,
@@ -87,7 +87,7 @@ fn blocks_of(alloc: Global, start: Row, guesses: &[Guess]) -> Result<Vec<Validat
     Ok(blocks)
 }
 
-/// So many places where no report is.
+/// `count` places without a report.
 fn empty_homes(alloc: Global, count: usize) -> Result<Vec<Option<Report>>, AllocError>
     ensures { IfOk result (λ homes. homes.items ≡ replicate count None) }
 {
@@ -153,7 +153,7 @@ fn tickets_of(
 
 impl Chain {
     /// The chain of a site when it starts: the tickets of all blocks are out, and no flag is
-    /// raised. All room is taken here.
+    /// raised. All memory is allocated here.
     fn begin(
         alloc: Global,
         site: GhostKey<Site>,
@@ -191,7 +191,7 @@ impl Chain {
     /// `construct` is its number among the top constructs; `frame` and `entry` are the slots and
     /// the memory at its entry; there is a guess for each block but the first. The ticket of block
     /// 0 begins at the header's start row, that of any other block at its guess. The mispredicted
-    /// blocks are those that may be raised; which they are no code tells. All memory is taken here.
+    /// blocks are those that may be raised; no code computes which ones. All memory is taken here.
     ///
     /// # Errors
     ///

@@ -1,4 +1,4 @@
-// How far the blocks of a chain are validated.
+//! How far the blocks of a chain are validated.
 ghost use Rattle.std.specs.Prelude.{◌≡◌, ◌≤◌, length, ℕ};
 ghost use Rattle.spf_ast.specs.Carried.{Carried as CarriedValue};
 ghost use Rattle.spf_ast.specs.declared.outcome.Trap.{Trap as SeenTrap};

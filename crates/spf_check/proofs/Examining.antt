@@ -23,7 +23,7 @@ pub construct-line : (line : ℕ) (kind : ConstructKind) → line ≡ line_of (c
 construct-line line (code.Fold f) = refl
 construct-line line (code.Pair f) = refl
 
--- ---- one construct more
+-- ---- one more construct
 
 abbrev pub KeptBefore : Program → ℕ → Type 0
 KeptBefore p count = (number : ℕ) (k : Construct) → number < count → slice_get (constructs_in p.main) number ≡ Some k → KeepsTheRules p k

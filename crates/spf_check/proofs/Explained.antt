@@ -99,7 +99,7 @@ construct-added (Ok x) p k c t u v w n are e f (verdict, said, g) =
     (joined (construct_line k ∷ parts_lines p.arrays c ∷ verdict ∷ []), construct-text p k c verdict n are said, three-pieces t u v w _ _ verdict e f g)
 construct-added (Err x) p k c t u v w n are e f h = tt
 
--- the texts of one construct more
+-- the texts of one more construct
 pub texts-grow : (p : Program) (n : ℕ) (k : Construct) (t w : List ℕ) → slice_get (constructs_in p.main) n ≡ Some k → AreConstructTexts p (take n (constructs_in p.main)) t → (lines : List ℕ) × IsConstructText p k lines × (w ≡ t ++ lines) → AreConstructTexts p (take (n + 1) (constructs_in p.main)) w
 texts-grow p n k t w is before (lines, this, e) =
     subst (λ ks. AreConstructTexts p ks w) (sym (take-more (constructs_in p.main) n k is))

@@ -69,7 +69,7 @@ all-kept p k h = record {
   writes_all = h NotOverwritten (omega arith);
 }
 
--- what a search from the first rule on comes to
+-- what a search from the first rule on finds
 abbrev pub Lowest : Program → Construct → Option (Rule × Option Range) → Type 0
 Lowest p k o = MatchOption o (KeepsTheRules p k) (λ broken. IsLowestBroken p k broken.0 broken.1)
 

@@ -1,4 +1,4 @@
--- The spans of blocks, one block more, and that they make a plan.
+-- The spans of blocks, of one more block, and that they make a plan.
 use Rattle.std.proofs.Common.{◌≡◌, ◌≢◌, ◌⊎◌, inl, inr, ℕ, zero, suc, ◌+◌, ◌^◌, ◌<◌, ◌≤◌, Bool, true, false, List, [], ◌∷◌, ◌++◌, length, map, Option, Some, None, ℤ, pos, ◌+ℤ◌, refl, sym, ap, ◌∙◌, subst, arith, All}
 use Rattle.std.specs.Prelude.{◌==◌, ◌-ℤ◌, ◌≤ℤ◌, slice_get, slice_index_or, if◌then◌else◌}
 use Rattle.std.proofs.lemmas.Int.{ints}
@@ -35,7 +35,7 @@ use Rattle.spf_ast_lemmas.proofs.Indices.{index-within, last-index, earlier-inde
 pub none-listed : (w : Writes) (extents : List Extent) (low : ℤ) → AreListed w extents low 0 []
 none-listed w extents low = record { count = refl; spans = λ block list e. cc }
 
--- what maps see of one item more
+-- what maps see of one more item
 pub map-one : (plan : List (Vec Span Global)) (spans : Vec Span Global) → map (λ (v : Vec Span Global). v.items) (plan ++ spans ∷ []) ≡ map (λ (v : Vec Span Global). v.items) plan ++ spans.items ∷ []
 map-one [] spans = refl
 map-one (x ∷ plan) spans = ap (λ l. x.items ∷ l) (map-one plan spans)
@@ -43,7 +43,7 @@ map-one (x ∷ plan) spans = ap (λ l. x.items ∷ l) (map-one plan spans)
 the-same : (a b : List Span) → Some a ≡ Some b → a ≡ b
 the-same a b e = cc
 
--- one block more
+-- one more block
 pub one-more-listed : (w : Writes) (extents : List Extent) (low : ℤ) (n : ℕ) (plan : List (List Span)) (spans : List Span) → AreListed w extents low n plan → AreAscending spans → ((cell : ℕ) → in_spans spans cell ≡ cells_at extents (low +ℤ pos n) (list_of w n) cell) → AreListed w extents low (n + 1) (plan ++ spans ∷ [])
 one-more-listed w extents low n plan spans h up cells = record { count = one-longer plan spans n h.count; spans = each }
   where
@@ -76,7 +76,7 @@ list-is p k w block are = go k w.producer are.guessed are.producer
         by (suc n) true e = absurd (grind (arith, nat_tests, e))
         by (suc n) false e = g
 
--- one block more, as the code adds it
+-- one more block, as the code adds it
 pub pushed : (w : Writes) (extents : List Extent) (low number : ℤ) (n : ℕ) (old new : List (Vec Span Global)) (spans : Vec Span Global) (list : List Range) → AreListed w extents low n (map (λ (v : Vec Span Global). v.items) old) → new ≡ old ++ spans ∷ [] → number ≡ low +ℤ pos n → list ≡ list_of w n → AreAscending spans.items → ((cell : ℕ) → in_spans spans.items cell ≡ cells_at extents number list cell) → AreListed w extents low (n + 1) (map (λ (v : Vec Span Global). v.items) new)
 pushed w extents low number n old new spans list h e num is up cells =
     subst (AreListed w extents low (n + 1)) (sym (ap (map (λ (v : Vec Span Global). v.items)) e ∙ map-one old spans))

@@ -12,8 +12,8 @@ use Rattle.spf_check.specs.Accepting.{IsAccepted, IsFirstRefusal}
 abbrev pub IsFree : code.Program → Type 0
 IsFree p = (number : ℕ) (construct : Construct) → slice_get (constructs_in (program p).main) number ≡ Some construct → IsRollbackFree (program p) construct
 
--- the program is accepted, and then rollback free; or it isn't accepted, and this is its first refusal; or memory was
--- short; in each case it is handed on as it was
+-- the program is accepted, and then rollback free; or it isn't accepted, and this is its first refusal; or memory ran
+-- out; in each case it is passed on as it was
 abbrev pub IsChecked : code.Program → Result code.Program CheckError → Type 0
 IsChecked p (Ok checked) = (checked ≡ p) × IsAccepted (program p) × IsFree p
 IsChecked p (Err (Refused back refusal)) =

@@ -16,7 +16,7 @@ pub record AreSpansOf (p : Program) (construct : Construct) (extents : List Exte
   pub ascending : AreAscending spans
   pub cells : (cell : ℕ) → in_spans spans cell ≡ cells_at extents (low +ℤ pos block) (may_write p construct (part_of construct block)) cell
 
--- a plan has the spans of each of so many blocks; no cell is in those of two, and each is a cell of the run
+-- a plan has the spans of each of the first `blocks` blocks; no cell is in those of two, and each is a cell of the run
 pub record IsPlanOf (p : Program) (construct : Construct) (extents : List Extent) (cells : ℕ) (low : ℤ) (blocks : ℕ) (plan : List (List Span)) : Type 0 where
   pub count : length plan ≡ blocks
   pub spans : (block : ℕ) (list : List Span) → slice_get plan block ≡ Some list → AreSpansOf p construct extents low block list

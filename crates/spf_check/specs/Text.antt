@@ -19,7 +19,7 @@ abbrev pub joined : List (List ℕ) → List ℕ
 joined [] = []
 joined (piece ∷ pieces) = piece ++ joined pieces
 
--- how a rule is called
+-- the name of a rule
 abbrev pub rule_name : Rule → List ℕ
 rule_name OuterAssign = codes "outer-assign"
 rule_name EmitInside = codes "emit-inside"
@@ -29,7 +29,7 @@ rule_name PredictorReads = codes "predictor-reads"
 rule_name ReadBeforeWrite = codes "read-before-write"
 rule_name NotOverwritten = codes "not-overwritten"
 
--- the name of an array; of one that isn't there, none
+-- the name of an array, or nothing where there is no such array
 abbrev pub name_in : Option Array → List ℕ
 name_in None = []
 name_in (Some a) = a.name
@@ -60,7 +60,7 @@ perhaps_range arrays (Some r) = codes " " ++ range_text arrays r
 
 -- ---- explanations
 
--- how a part is called
+-- the name of a part
 abbrev pub part_name : Part → List ℕ
 part_name Body = codes "body"
 part_name Producer = codes "producer"

@@ -13,7 +13,7 @@ list_with guessed (Some producer) block = if block == 0 then producer else guess
 abbrev pub list_of : Writes → ℕ → List Range
 list_of w block = list_with w.guessed w.producer block
 
--- each of so many blocks has ascending spans, whose cells are those of its list
+-- each of the first `blocks` blocks has ascending spans, whose cells are those of its list
 pub record AreListed (w : Writes) (extents : List Extent) (low : ℤ) (blocks : ℕ) (plan : List (List Span)) : Type 0 where
   pub count : length plan ≡ blocks
   pub spans : (block : ℕ) (list : List Span) → slice_get plan block ≡ Some list

@@ -57,7 +57,7 @@ fn by(range: Option<Range>) -> Option<Breach>
     }
 }
 
-/// Whether the range shares cells with one of the list.
+/// Returns whether the range shares cells with one of the list.
 fn meets(range: &Range, others: &RangeList) -> bool
     ensures { result ≡ meets range.now others.now }
 {
@@ -68,7 +68,7 @@ fn meets(range: &Range, others: &RangeList) -> bool
 }
 
 impl ConstructEffects {
-    /// Whether the construct may write the array.
+    /// Returns whether the construct may write the array.
     fn is_written(&self, array: u32) -> bool
         ensures { result ≡ is_written self.now array }
     {
@@ -81,7 +81,7 @@ impl ConstructEffects {
         }
     }
 
-    /// Whether a block part assigns a local that is declared outside of it.
+    /// Returns whether a block part assigns a local that is declared outside of it.
     fn assigns_outer(&self) -> bool
         ensures { result ≡ assigns_outer self.now }
     {
@@ -91,7 +91,7 @@ impl ConstructEffects {
         }
     }
 
-    /// Whether a block part emits.
+    /// Returns whether a block part emits.
     fn emits_inside(&self) -> bool
         ensures { result ≡ emits_inside self.now }
     {
@@ -135,7 +135,7 @@ impl ConstructEffects {
             .find(|range| !must.covers(range))
     }
 
-    /// Whether the rule is broken, and by which range.
+    /// Returns whether the rule is broken, and by which range.
     pub(crate) fn breach(&self, rule: Rule) -> Option<Breach>
         ensures { result ≡ breach self.now rule }
     {

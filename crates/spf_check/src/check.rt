@@ -19,14 +19,14 @@ use spf_effects::effects::Effects;
 use spf_region::list::RangeList;
 use std::alloc::{AllocError, Global};
 
-/// What is said of one construct.
+/// The result of examining one construct.
 #[derive(Drop)]
 pub(crate) enum Examined {
     Accepted(Writes),
     Refused(Refusal),
 }
 
-/// What is said of a whole program.
+/// The verdict on a whole program.
 #[derive(Drop)]
 pub(crate) enum Verdict {
     Accepted(Vec<Writes>),
@@ -105,7 +105,7 @@ fn writes_of(found: ConstructEffects) -> Writes
     }
 }
 
-/// What is said of a construct, given the effects of its parts.
+/// Judges a construct, given the effects of its parts.
 fn judge(construct: &TopConstruct, found: ConstructEffects) -> Examined
     ensures { (p : plain_program) → AreEffectsOf p (seen_construct construct.now) found
         → IsExamined p (seen_construct construct.now) result }

@@ -44,7 +44,8 @@ impl Model for Checked {
 }
 
 impl Checked {
-    /// The program. It is lawful and accepted, and each of its top constructs is rollback free.
+    /// Returns the program. It is lawful and accepted, and each of its top constructs is rollback
+    /// free.
     pub fn program(&self) -> &Program
         ensures program { result.now ≡ self.now }
         ensures lawful { IsLawful (seen_program self.now) }

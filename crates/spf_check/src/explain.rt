@@ -27,7 +27,7 @@ use spf_region::list::RangeList;
 use spf_region::range::Range;
 use std::alloc::{AllocError, Global};
 
-/// How a part is called.
+/// The name of a part.
 fn part_name(part: Part) -> &'static str
     ensures { result.now ≡ part_name part }
 {

@@ -29,7 +29,7 @@ impl Writes {
     }
 }
 
-/// The number of a block: so many above the first one's.
+/// The number of the block at an index: `block` above the first one's.
 fn number_of(low: i64, block: u64) -> i64
     requires few { block ≤ max_blocks }
     requires fits { (low +ℤ pos block) ≤ℤ i64.MAX }
@@ -38,7 +38,7 @@ fn number_of(low: i64, block: u64) -> i64
     low + block as i64
 }
 
-/// The spans of so many blocks.
+/// The spans of the first `blocks` blocks.
 fn spans_of(
     alloc: Global,
     writes: &Writes,
@@ -64,9 +64,10 @@ fn spans_of(
 }
 
 impl Checked {
-    /// The spans of the first `blocks` blocks of a top construct, whose first block number is
-    /// `low`: block n of a fold has those of what its body may write at `low` + n; of a pair, block
-    /// 0 has the producer's and block 1 the consumer's. No cell is in the spans of two blocks.
+    /// Returns the spans of the first `blocks` blocks of a top construct, whose first block number
+    /// is `low`: block n of a fold has those of what its body may write at `low` + n; of a pair,
+    /// block 0 has the producer's and block 1 the consumer's. No cell is in the spans of two
+    /// blocks.
     ///
     /// # Errors
     ///

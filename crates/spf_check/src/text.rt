@@ -9,7 +9,7 @@ use spf_ast::syntax::Array;
 use spf_region::range::Range;
 use std::alloc::{AllocError, Global};
 
-/// How a rule is called.
+/// Returns the name of a rule.
 pub fn rule_name(rule: Rule) -> &'static str
     ensures { result.now ≡ rule_name rule }
 {
@@ -24,7 +24,7 @@ pub fn rule_name(rule: Rule) -> &'static str
     }
 }
 
-/// The name of an array; of one that isn't there, no bytes.
+/// The name of an array, or no bytes where there is no such array.
 fn array_name(arrays: &[Array], place: u32) -> &[u8]
     ensures { result.now ≡ array_name (map seen_array arrays.now) place }
 {

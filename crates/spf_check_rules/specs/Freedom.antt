@@ -40,17 +40,17 @@ pub record LeavesTheRest (construct : Construct) (part : Part) (s : Setup) (stat
   pub output : state.output ≡ s.output
   pub slots : (slot : ℕ) → part_declares construct part slot ≡ false → slice_index_or state.slots slot (pos 0) ≡ slice_index_or s.slots slot (pos 0)
 
--- this is so of each performance of a part, from every setup, whatever the loads answer and wherever it is stopped
+-- this holds for each performance of a part, from every setup, whatever the loads answer and wherever it is stopped
 abbrev pub Always : Program → Construct → Part → (Setup → List Event → Type 0) → Type 0
 Always p construct part holds =
     (s : Setup) (events : List Event) (result : Performed (Ending Carried)) → IsPerformance p construct part s events result → holds s events
 
--- this is so of each that ends with a row, in this state
+-- this holds for each that ends with a row, in this state
 abbrev pub WhereItGives : Program → Construct → Part → (Setup → List Event → State → Type 0) → Type 0
 WhereItGives p construct part holds =
     (s : Setup) (events : List Event) (row : Carried) (state : State) → IsPerformance p construct part s events (Ended (Value row state) []) → holds s events state
 
--- this is so of the output of each that traps
+-- this holds for the output of each that traps
 abbrev pub WhereItTraps : Program → Construct → Part → (Setup → List ℕ → Type 0) → Type 0
 WhereItTraps p construct part holds =
     (s : Setup) (events : List Event) (trap : Trap) (output : List ℕ) → IsPerformance p construct part s events (Ended (Trapped trap output) []) → holds s output

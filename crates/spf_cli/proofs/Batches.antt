@@ -181,7 +181,7 @@ given_first a texts s begin put same = record {
   lines_wait = inr same;
 }
 
--- the same, and the first pieces of one answer more
+-- the answers of some files were put, and the first pieces of one more, and no line
 given_part : (a : Answer) (texts : List (List ℕ)) (text : List ℕ) (between : SinkState) (s : Sinks) → BeginsWith (texts ++ text ∷ []) a
     → ArePut texts s.out_before between → IsPutInPart text between s.out_now → s.err_now ≡ s.err_before → IsGivenInPart a s
 given_part a texts text between s begin put part same = record {
@@ -388,7 +388,7 @@ memory_broken p names before now err st =
       ]
     ]
 
--- ---- what a batch came to
+-- ---- how a batch ended
 
 -- a batch whose end has a line has ended
 pub ended : (p : Program) (names : List (List ℕ)) (before now : World) (came : Result Totals BatchError) → IfOk came (IsDone p names before now) → IfErr came (IsStopped p names None before now)

@@ -33,7 +33,7 @@ pub from-line : (lines : List (Vec ℕ Global)) (i : ℕ) (m : Vec ℕ Global) �
 from-line lines i m l e =
     ap lines_of (drop-cons lines i m l) ∙ (λ j. (sym e j).items ∷ lines_of (drop (sym (add-one i) j) lines))
 
--- one line more
+-- one more line
 pub lines-more : (lines rest : List (List ℕ)) (line : List ℕ) (others : List (List ℕ)) (before between now : SinkState) → AreLinesPutUpTo lines rest before between → rest ≡ line ∷ others
     → Adds between.taken now.taken line → HasPut between.puts now.puts (taken_whole line ∷ []) → between.faults ≤ now.faults → AreLinesPutUpTo lines others before now
 lines-more lines rest line others before between now p e took put l = record {

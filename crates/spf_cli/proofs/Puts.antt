@@ -70,7 +70,7 @@ words_cause laws given words old new status s h two =
     by_status given words old new status s h (λ six. absurd (omega (arith, two, six))) (λ eight. absurd (omega (arith, two, eight)))
     (λ fetches answer made whole is. laws.words given words fetches answer whole (sym is ∙ two))
 
--- a fetch failed of a fault, or since the files are told
+-- a fetch failed because of a fault, or since the files are told
 failed_cause : (told : Option (List Entry)) (Fault : Type 0) (fetches : List Fetch) → AllByRecursion (IsGiven told Fault) fetches → HasFailed fetches → Fault ⊎ ((files : List Entry) × (told ≡ Some files))
 failed_cause told Fault [] given failed = absurd failed
 failed_cause told Fault (fetch ∷ fetches) given failed =
@@ -139,7 +139,7 @@ answered_rest course rest old mid new status s l h =
       ]
     ]
 
--- the same of a run over bytes at hand, whose answer has never that status
+-- the same of a run over bytes at hand, whose answer never has that status
 pub hand_cause : (wanted : Wanted) → ((answer : Answer) → wanted answer → answer.status ≡ 6 → ⊥) → (status : ℕ) (s : Sinks) → IsPut wanted status s ⊎ IsUntouched status s → status ≡ 6
     → Rose s.out_before.faults s.out_now.faults ⊎ Rose s.err_before.faults s.err_now.faults
 hand_cause wanted never status s h six =

@@ -1,4 +1,4 @@
--- What came of an answer: how much of it was put.
+-- What became of an answer: how much of it was put.
 use Rattle.std.specs.Prelude.{◌≡◌, ◌⊎◌, ⊤, ℕ, List, [], ◌∷◌, ◌++◌, Err}
 use Rattle.spf_edge.specs.declared.files.FetchError.TheVariants.{OutOfMemory}
 use Rattle.spf_edge.specs.Faults.{Rose}

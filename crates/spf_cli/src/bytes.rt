@@ -1,4 +1,4 @@
-// A run over bytes at hand.
+//! A run over bytes at hand.
 
 ghost use Rattle.std.specs.Prelude.{◌≡◌, ◌⊎◌, ◌≤◌, ◌<◌, [], map};
 ghost use Rattle.spf_ast_lemmas.specs.Limits.{max_workers};
@@ -20,8 +20,8 @@ use std::alloc::Global;
 use std::sync::Wait;
 use std::thread::Threads;
 
-/// Runs a program over an input, both at hand: `run` with `--stats`, without files and the limits
-/// of their lengths.
+/// Runs a program over an input, both at hand: `run` with `--stats`, without files and without
+/// limits on their lengths.
 ///
 /// `program` is the text. `hosts` are the predictors that it names by number; they are asked before
 /// a construct's blocks run, and told the real values after. `gate` watches the attempts. Blocks
@@ -56,8 +56,8 @@ pub fn run_file<R: Threads + Wait + Sync, S: Sink, G: Gate + Sync>(
     ensures told_first { (p : Program) → IsVerdict program.now (Says p)
         → WereToldFirst (supplied answer hosts.old.items) p input.now
         (supplied answer hosts.new.items) }
-    // All of it, where the program was run to its end or to its trap; nothing, where the text says
-    // none.
+    // They were told all of it where the program was run to its end or to its trap, and nothing
+    // where the text says no program.
     ensures told { (p : Program) → IsVerdict program.now (Says p) → (result ≡ 0) ⊎ (result ≡ 1)
         → WereTold (supplied answer hosts.old.items)
         (tally (supplied answer hosts.old.items) p input.now).telling

@@ -1,4 +1,4 @@
-//! The program: all that it does, over files and sinks that are supplied.
+//! The whole program, over files and sinks that are supplied.
 #![tactic(auto)]
 
 mod batch;

@@ -1,4 +1,4 @@
-// How an answer is put: its output in pieces, and then its lines.
+//! How an answer is put: its output in pieces, and then its lines.
 
 ghost use Rattle.std.specs.Prelude.{◌≡◌, ◌⊎◌, ◌≤◌, OnOk, IfErr};
 ghost use Rattle.spf_edge.specs.Faults.{Rose};

@@ -1,4 +1,4 @@
-// The top call: all that the program does.
+//! The top call: all that the program does.
 
 ghost use Rattle.std.specs.Prelude.{◌≡◌, ◌⊎◌, List, Some, map, string_bytes};
 ghost use Rattle.spf_edge.specs.Entries.{Entry};
@@ -49,14 +49,15 @@ pub fn spf_main<R: Threads + Wait + Sync, F: Files, S: Sink, G: Gate + Sync>(
     gate: &G,
 ) -> u8
     // The files of the command are fetched, each once and in order, and the one answer to what they
-    // give is put whole; or its first pieces are, until a sink failed or memory ran out. A batch may
-    // be broken off between its files, too.
+    // give is put whole; or its first pieces are, until a sink failed or memory ran out. A batch
+    // may be broken off between its files, too.
     ensures answered { IsAnswered
         (Whole (handed (map (λ h. answer h) hosts.items)) (map string_bytes words.now))
         (F.state files.old) (F.state files.new) result
         (sinks (S.state out.old) (S.state out.new) (S.state err.old) (S.state err.new)) }
 
-    // So words aren't understood, and a file or a sink has failed, only where that is so.
+    // So a status for words, a file or a sink is given only where words aren't understood, or a
+    // file or a sink has failed.
     ensures understood { result ≡ 2 → AskForNothing (map string_bytes words.now) }
     ensures file_fault { result ≡ 5 → Rose (F.state files.old).faults (F.state files.new).faults
         ⊎ ((told : List Entry) × ((F.state files.old).told ≡ Some told)) }

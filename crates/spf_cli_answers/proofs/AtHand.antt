@@ -67,7 +67,7 @@ told_all hosts p input now t = record {
   told = t;
 }
 
--- the same, of the same program and input
+-- what hosts were told, of the same program and input
 pub told_along : (hosts now : Hosts) (q p : Program) (other input : List ℕ) → q ≡ p → other ≡ input
     → WereTold hosts (tally hosts q other).telling now → WereTold hosts (tally hosts p input).telling now
 told_along hosts now q p other input same content t =
@@ -126,7 +126,7 @@ unrun_told P p (TooManyCells count) (Answered a) h = λ ended. elim ended [
 unrun_told P p run_error.OutOfMemory (Answered a) h = absurd h
 unrun_told P p error NoMemory h = tt
 
--- a run that didn't come to its end isn't answered as one that did
+-- a run that didn't reach its end isn't answered as one that did
 pub unfinished_told : (P : Type 0) (p : Program) (error : EngineError) (r : Result made.Answer Exit) → AnswersWith (SaysWhy p error) r → AnswersWith (λ a. IsRunToItsEnd a → P) r
 unfinished_told P p error r h = answers_with (λ a. IsRunToItsEnd a → P) (SaysWhy p error) r h (λ a why. go error a why)
   where

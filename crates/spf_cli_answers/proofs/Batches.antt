@@ -43,7 +43,7 @@ ready given p names state none = record {
   });
 }
 
--- what leads on from a course that this one comes to, after these fetches, leads on from this one
+-- what leads on from the course that is left of this one after these fetches leads on from this one
 pub ready_by : (given : Handed) (course next : Course) (p : Program) (names : List (List ℕ)) (old mid new : FilesState) (fetches : List Fetch) → AreMade old mid fetches
     → ((more : List Fetch) (a : Answer) → next more a → course (fetches ++ more) a) → ((more : List Fetch) (a : Answer) → course (fetches ++ more) a → next more a)
     → IsReady given next p names mid new → IsReady given course p names old new
@@ -93,7 +93,7 @@ ready_names laws given list found next p names old new are =
 
 -- ---- where a batch can't begin
 
--- a text is no list of names
+-- a text isn't a list of names
 names_left : ListsHaveOneVerdict → (bytes : List ℕ) (next : List (List ℕ) → Course) (state : FilesState) (left : Exit) → IsListExit bytes left → AnswersWith (IsFollowed (WithNames bytes next) state state) (Err left)
 names_left laws bytes next state (Answered a) h = record {
   fetches = [];
@@ -108,7 +108,7 @@ names_left laws bytes next state (Answered a) h = record {
     ]
 names_left laws bytes next state NoMemory h = tt
 
--- a list isn't to be had, or is none
+-- a list can't be fetched, or isn't one
 pub list_left : ListsHaveOneVerdict → (list : List ℕ) (next : List (List ℕ) → Course) (old new : FilesState) (left : Exit) → IsNoList old new list left
     → AnswersWith (IsFollowed (Fetches list max_list (λ bytes. WithNames bytes next)) old new) (Err left)
 list_left laws list next old new (Answered a) h =

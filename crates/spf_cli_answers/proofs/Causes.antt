@@ -283,7 +283,7 @@ caused_command given (Demo decoder seed size workers) =
 
 -- ---- words
 
--- what is so of a command's answer with this status, and of that to words that ask for none
+-- what holds for a command's answer with this status, and of that to words that ask for none
 by_words : {A : Type 0} (given : Handed) (words : List (List ℕ)) (fetches : List Fetch) (a : Answer) → Whole given words fetches a
     → (IsCommon a → A) → ((a.status ≡ 5) → HasFailed fetches → A) → (AskForNothing words → a.status ≡ 2 → A) → A
 by_words given words fetches a h common file none =

@@ -18,7 +18,7 @@ use Rattle.spf_cli_answers.specs.declared.answer.Answer as made
 use Rattle.spf_cli_answers.specs.declared.answer.Exit.{Exit}
 use Rattle.spf_cli_answers.proofs.Steps.{answers_as}
 
--- what is so of a list of hosts, which is empty, is so of none
+-- what holds for a list of hosts that is empty holds for no hosts
 pub no_hosts : {A : Type 0} (f : A → Answers) (xs : List A) (P : Handed → Type 0) → xs ≡ [] → P (handed (map f xs)) → P (handed [])
 no_hosts f xs P e h = subst (λ ys. P (handed (map f ys))) e h
 

@@ -10,7 +10,7 @@ use Rattle.std.specs.declared.vec.Vec.{Vec}
 use Rattle.std.specs.declared.alloc.Global.{Global}
 use Rattle.spf_cli_answers.specs.Answering.{lines_of}
 
--- one message more
+-- one more message
 pub lines_of-push : (messages : List (Vec ℕ Global)) (m : Vec ℕ Global) → lines_of (messages ++ m ∷ []) ≡ lines_of messages ++ m.items ∷ []
 lines_of-push [] m = refl
 lines_of-push (first ∷ rest) m = ap (λ ls. first.items ∷ ls) (lines_of-push rest m)
@@ -26,7 +26,7 @@ extent_size len base [] i a l e = absurd (omega (arith, l))
 extent_size len base (x ∷ rest) zero a l e = ap (λ y. size_of len (array y)) (sym e)
 extent_size len base (x ∷ rest) (suc i) a l e = extent_size len (base + size_of len (array x)) rest i a (omega (arith, l)) e
 
--- the line of one array more
+-- the line of one more array
 pub array_more : (len : ℕ) (arrays : List code_array.Array) (i : ℕ) (a : code_array.Array) (size : ℕ) (rest own others : List ℤ) → i < length arrays → a ≡ get_or arrays i a → size ≡ size_of len (array a) → own ≡ take (min size (length rest)) rest → others ≡ drop (min size (length rest)) rest → array_line (name a.name) own ∷ array_lines len (map array (drop (i + 1) arrays)) others ≡ array_lines len (map array (drop i arrays)) rest
 array_more len arrays i a size rest own others l e s o p =
     let mine : own ≡ take (size_of len (array a)) rest = o ∙ take_min size rest ∙ ap (λ n. take n rest) s in

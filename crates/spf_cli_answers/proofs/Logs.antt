@@ -110,7 +110,7 @@ pub none_said : (old new : FilesState) (name text : List ℕ) (left : Exit) → 
 none_said old new name text (Answered a) made h = inr (text, made, inl h)
 none_said old new name text NoMemory made h = tt
 
--- a file that isn't to be had
+-- a file that can't be fetched
 pub none_fetched : (old new : FilesState) (name : List ℕ) (left : Exit) → IsFetchExit old new name max_program left → IsNoneAccepted old new name left
 none_fetched old new name (Answered a) h = inl h
 none_fetched old new name NoMemory h = tt
@@ -204,7 +204,7 @@ followed_log laws file log next old new a is h = record { fetches = h.fetches; m
       | inr z ↦ absurd (laws.none file log z.0 is z.1)
     ]
 
--- bytes are no log
+-- bytes aren't a log
 log_left : LogLaws → (file : List ℕ) (next : List (List logged.Step) → Course) (state : FilesState) (left : Exit) → IsLogExit file left → AnswersWith (IsFollowed (WithLog file next) state state) (Err left)
 log_left laws file next state (Answered a) h = record {
   fetches = [];
@@ -229,7 +229,7 @@ pub answers_log : LogLaws → (file : List ℕ) (log : List (List logged.Step)) 
     → AnswersWith (IsFollowed (WithLog file next) old new) r
 answers_log laws file log next old new r is h = answers_with (IsFollowed (WithLog file next) old new) (IsFollowed (next log) old new) r h (λ a. followed_log laws file log next old new a is)
 
--- a file isn't to be had, or is no log
+-- a file can't be fetched, or isn't a log
 pub no_log_left : LogLaws → (name : List ℕ) (next : List (List logged.Step) → Course) (old new : FilesState) (left : Exit) → IsNoLog old new name left
     → AnswersWith (IsFollowed (Fetches name max_log (λ file. WithLog file next)) old new) (Err left)
 no_log_left laws name next old new (Answered a) h =

@@ -21,11 +21,11 @@ only_machine laws text file next a fetches is h = record { is = inl (file, is, h
       | inr z ↦ absurd (z.0 file is)
     ]
 
--- a text that is a machine's
+-- a text that is that of a machine
 pub followed_machine : MachinesHaveOneText → (text file : List ℕ) (next : List ℕ → Course) (old new : FilesState) (a : Answer) → IsTextOf text file → IsFollowed (next file) old new a → IsFollowed (WithMachine text next) old new a
 followed_machine laws text file next old new a is h = followed_as (next file) (WithMachine text next) old new a (λ fetches. only_machine laws text file next a fetches is) h
 
--- a text that is none's
+-- a text that is that of no machine
 pub machine_left : (text : List ℕ) (next : List ℕ → Course) (state : FilesState) (a : Answer) → BelongsToNoMachine text → a ≡ not_a_machine → IsFollowed (WithMachine text next) state state a
 machine_left text next state a none e = record {
   fetches = [];

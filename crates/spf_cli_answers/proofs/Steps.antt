@@ -40,11 +40,11 @@ use Rattle.spf_cli_answers.specs.declared.answer.Exit.TheVariants.{Answered, NoM
 pub only_this : (said : Answer) → IsOnly (Is said) said
 only_this said = record { is = refl; only = λ b e. e }
 
--- so it is, by another name
+-- the same, by another name
 pub only_same : (a said : Answer) → a ≡ said → IsOnly (Is said) a
 only_same a said e = subst (IsOnly (Is said)) (sym e) (only_this said)
 
--- what is so of an answer is so of the same one
+-- what holds for an answer holds for the same one
 pub at_same : (P : Answer → Type 0) (a said : Answer) → a ≡ said → P said → P a
 at_same P a said e h = subst P (sym e) h
 
@@ -53,7 +53,7 @@ either_first : (A B : Wanted) (b : Bool) (a : Answer) → b ≡ true → IsOnly 
 either_first A B true a e h = h
 either_first A B false a e h = cc
 
--- what is so of an answer that stands is so of what follows from it
+-- what holds for an answer that stands holds for what follows from it
 pub answers_with : (P Q : Answer → Type 0) (r : Result made.Answer Exit) → AnswersWith Q r → ((a : Answer) → Q a → P a) → AnswersWith P r
 answers_with P Q (Ok a) h f = f (seen_answer a) h
 answers_with P Q (Err (Answered a)) h f = f (seen_answer a) h
@@ -73,7 +73,7 @@ fits cells limit few = go cells limit few
     go : (a b : ℕ) → (b < a → ⊥) → nat_le a b ≡ true
     go a b few = grind (arith, few)
 
--- so many aren't above the limit
+-- a number within the limit isn't above it
 pub not_above : (cells limit : ℕ) → cells ≤ limit → limit < cells → ⊥
 not_above cells limit fits over = omega (arith, fits, over)
 

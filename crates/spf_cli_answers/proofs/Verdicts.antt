@@ -19,7 +19,7 @@ use Rattle.spf_cli_answers.specs.declared.reading.Unread.{Unread}
 use Rattle.spf_cli_answers.specs.declared.reading.Unread.TheVariants.{Refused, NoMemory}
 use Rattle.spf_cli_words.specs.Only.{IsOnly}
 
--- a text that is refused at a byte is refused so by the parser, unless memory was short
+-- a text that is refused at a byte is refused so by the parser, unless memory ran out
 abbrev pub IsExact : {A : Type 0} → List ℕ → Result A ParseError → Type 0
 IsExact text r =
     (refusal : Refusal) → IsTextRefused text refusal → IsAtByte refusal → (e : ParseError) × (refusal_of e ≡ Some refusal) × ((r ≡ Err e) ⊎ (r ≡ Err error.OutOfMemory))
@@ -72,7 +72,7 @@ faultless_of text r x is exact refusal h b =
     let found = exact refusal h b in
     elim found.2 [ inl e ↦ absurd (cc) | inr e ↦ absurd (cc) ]
 
--- where the parser refuses the text, it is refused so, and only so
+-- where the parser refuses the text, it is refused in this way, and in no other
 pub refused_by_parser : {A : Type 0} (text : List ℕ) (r : Result A ParseError) (e : ParseError) (mine : Refusal)
     → IsExact text r → IsRight text r
     → ((q : RawProgram) → IsProgramOf text q → IsOkUnless r error.OutOfMemory)

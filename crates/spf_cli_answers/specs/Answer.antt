@@ -59,7 +59,7 @@ accepted = record { status = 0; out = [] ∷ []; err = accepted_line ∷ [] }
 abbrev pub rule_refused : Program → Rule → ℕ → Option Range → Answer
 rule_refused p rule at range = refused 4 (rule_line p.arrays rule at range)
 
--- a file can't be had
+-- a file can't be fetched
 abbrev pub file_failed : List ℕ → Answer
 file_failed name = refused 5 (failed_line name)
 
@@ -67,7 +67,7 @@ file_failed name = refused 5 (failed_line name)
 abbrev pub file_too_long : List ℕ → ℕ → Answer
 file_too_long name limit = refused 7 (long_line name limit)
 
--- the arrays have so many cells, which are over the limit
+-- the arrays have `count` cells, which is over the limit
 abbrev pub too_many_cells : (count limit : ℕ) → Answer
 too_many_cells count limit = refused 7 (too_many_line count limit)
 
@@ -75,11 +75,11 @@ too_many_cells count limit = refused 7 (too_many_line count limit)
 abbrev pub host_missing : ℕ → Answer
 host_missing host = refused 7 (host_line host)
 
--- the input is no HUF1 file, for what stands, or is missing, at this place
+-- the input isn't a HUF1 file, because of what stands, or is missing, at this place
 abbrev pub not_huf1 : ℕ → Answer
 not_huf1 place = refused 9 (not_huf1_line place)
 
--- the machine is no LEX1 file, for what stands, or is missing, at this place
+-- the machine isn't a LEX1 file, because of what stands, or is missing, at this place
 abbrev pub not_lex1 : ℕ → Answer
 not_lex1 place = refused 9 (not_lex1_line place)
 
@@ -91,7 +91,7 @@ not_a_machine = refused 9 not_machine_line
 abbrev pub not_a_name : ℕ → Answer
 not_a_name number = refused 9 (not_name_line number)
 
--- the file is no log, for what stands, or is missing, at this place
+-- the file isn't a log, because of what stands, or is missing, at this place
 abbrev pub not_a_log : ℕ → Answer
 not_a_log place = refused 9 (not_log_line place)
 
@@ -120,7 +120,7 @@ asked false lines = []
 abbrev pub stats_lines : Options → Stats → List (List ℕ)
 stats_lines options stats = asked options.stats (stats_line stats.blocks stats.hits stats.misses stats.blind ∷ [])
 
--- a program was run, on an input of this length, to its end or to a trap, with guesses that were so good
+-- a program was run, on an input of this length, to its end or to a trap, with guesses of this quality
 abbrev pub ran : Options → Program → ℕ → Outcome → Stats → Answer
 ran options p len (Done cells output) stats =
     record { status = 0; out = output ∷ []; err = stats_lines options stats ++ asked options.cells (array_lines len p.arrays cells) }

@@ -42,7 +42,7 @@ IsFetchExit old new name limit (Answered a) =
     × Unfetched name limit error (seen_answer a)
 IsFetchExit old new name limit NoMemory = Unit {0}
 
--- the text is refused, and only so
+-- the text is refused in this way, and in no other
 abbrev pub IsReadExit : List ℕ → Exit → Type 0
 IsReadExit text (Answered a) = (refusal : Refusal) × IsOnly (IsVerdict text) (Refuses refusal) × (seen_answer a ≡ text_refused refusal)
 IsReadExit text NoMemory = Unit {0}
@@ -65,7 +65,7 @@ IsNotRun p (TooManyCells count) (Answered a) = seen_answer a ≡ too_many_cells 
 IsNotRun p run_error.OutOfMemory (Answered a) = ⊥
 IsNotRun p error NoMemory = Unit {0}
 
--- a run by blocks didn't come to its end, and its answer says why
+-- a run by blocks didn't reach its end, and its answer says why
 abbrev pub SaysWhy : Program → EngineError → said.Answer → Type 0
 SaysWhy p (engine_error.TooManyCells count) a = a ≡ too_many_cells count (max_cells p)
 SaysWhy p (engine_error.NoHost host) a = a ≡ host_missing host
@@ -77,7 +77,7 @@ pub record IsFollowed (course : Course) (old new : FilesState) (answer : said.An
   pub made : AreMade old new fetches
   pub only : IsOnly (course fetches) answer
 
--- the answer that stands, if memory wasn't short
+-- the answer that stands, unless memory ran out
 abbrev pub AnswersWith : (said.Answer → Type 0) → Result Answer Exit → Type 0
 AnswersWith P (Ok a) = P (seen_answer a)
 AnswersWith P (Err (Answered a)) = P (seen_answer a)

@@ -20,7 +20,7 @@ batch_answer p files status said = record { status = status; out = map (file_ans
 abbrev pub batch_done : Hosts → Program → List Entry → Answer
 batch_done hosts p files = batch_answer p files 0 (files_line (length files) (batch_tally hosts p files).stats)
 
--- the answer where the next file is not to be had
+-- the answer where the next file can't be fetched
 abbrev pub FileUnfetched : Program → List Entry → List ℕ → FetchError → Wanted
 FileUnfetched p files name Missing = Is (batch_answer p files 5 (failed_line name))
 FileUnfetched p files name Failed = Is (batch_answer p files 5 (failed_line name))

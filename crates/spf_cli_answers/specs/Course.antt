@@ -54,6 +54,6 @@ FetchesOr left name limit next [] answer = ⊥
 FetchesOr left name limit next (fetch ∷ fetches) answer =
     (fetch.name ≡ name) × (fetch.limit ≡ limit) × After left fetch.gave next fetches answer
 
--- the same, for a command that has nothing to say without the file
+-- the file of this name is fetched, within this limit, for a command that has nothing to say without the file
 abbrev pub Fetches : List ℕ → ℕ → (List ℕ → Course) → Course
 Fetches name limit = FetchesOr (Unfetched name limit) name limit

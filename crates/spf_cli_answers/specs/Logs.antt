@@ -22,11 +22,11 @@ IsFetchedAccepted old new name p =
     (text : List ℕ) × AreMade old new (record { name = name; limit = max_program; gave = Ok text } ∷ [])
     × IsOnly (IsVerdict text) (Says p) × IsAccepted p
 
--- a text says no program, or one that the rules refuse; there is the answer to that, or memory ran out
+-- a text doesn't say a program, or says one that the rules refuse; there is the answer to that, or memory ran out
 abbrev pub IsTextExit : List ℕ → Exit → Type 0
 IsTextExit text left = IsReadExit text left ⊎ ((p : Program) × IsOnly (IsVerdict text) (Says p) × IsRuleExit p left)
 
--- the file isn't to be had, or there is no such program in it; there is the answer to that, or memory ran out
+-- the file can't be fetched, or there is no such program in it; there is the answer to that, or memory ran out
 abbrev pub IsNoneAccepted : FilesState → FilesState → List ℕ → Exit → Type 0
 IsNoneAccepted old new name (Answered a) =
     IsFetchExit old new name max_program (Answered a)
@@ -40,12 +40,12 @@ abbrev pub IsReadLog : FilesState → FilesState → List ℕ → List (List Ste
 IsReadLog old new name log =
     (bytes : List ℕ) × AreMade old new (record { name = name; limit = max_log; gave = Ok bytes } ∷ []) × IsLog log bytes
 
--- bytes are no log: there is the answer to that, or memory ran out
+-- bytes aren't a log: there is the answer to that, or memory ran out
 abbrev pub IsLogExit : List ℕ → Exit → Type 0
 IsLogExit bytes (Answered a) = (place : ℕ) × LogBreaksAt bytes place × (seen_answer a ≡ not_a_log place)
 IsLogExit bytes NoMemory = Unit {0}
 
--- the file isn't to be had, or is no log; there is the answer to that, or memory ran out
+-- the file can't be fetched, or isn't a log; there is the answer to that, or memory ran out
 abbrev pub IsNoLog : FilesState → FilesState → List ℕ → Exit → Type 0
 IsNoLog old new name (Answered a) =
     IsFetchExit old new name max_log (Answered a)

@@ -86,7 +86,7 @@ rule_line arrays rule at range =
 abbrev pub byte_line : ℕ → List ℕ → List ℕ
 byte_line at what = line (codes "text byte " ∷ decimal at ∷ codes ": " ∷ what ∷ [])
 
--- how a fault of names and kinds is called
+-- the name of a fault of names and kinds
 abbrev pub fault_name : TypeFault → List ℕ
 fault_name fault.UnknownName = codes "unknown name"
 fault_name fault.Twice = codes "declared twice"

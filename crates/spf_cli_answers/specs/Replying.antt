@@ -39,7 +39,7 @@ abbrev pub IsReply : Handed → Course → FilesState → FilesState → Reply �
 IsReply given course old new (reply.Answer a) = IsFollowed course old new (seen_answer a)
 IsReply given course old new (reply.Batch b) = CanBegin given course old new b
 
--- the same, if memory wasn't short
+-- the course was followed to its answer, or to a batch, unless memory ran out
 abbrev pub RepliesWith : Handed → Course → FilesState → FilesState → Result Reply Exit → Type 0
 RepliesWith given course old new (Ok r) = IsReply given course old new r
 RepliesWith given course old new (Err left) = AnswersWith (IsFollowed course old new) (Err left)
@@ -66,7 +66,7 @@ abbrev pub IsListExit : List ℕ → Exit → Type 0
 IsListExit bytes (Answered a) = (number : ℕ) × IsBadAt bytes number × (seen_answer a ≡ not_a_name number)
 IsListExit bytes NoMemory = Unit {0}
 
--- it isn't to be had, or has a line that isn't a name; there is the answer to that, or memory ran out
+-- it can't be fetched, or has a line that isn't a name; there is the answer to that, or memory ran out
 abbrev pub IsNoList : FilesState → FilesState → List ℕ → Exit → Type 0
 IsNoList old new list (Answered a) =
     IsFetchExit old new list max_list (Answered a)

@@ -35,7 +35,7 @@ abbrev pub IsRefusalOf : ParseError → Unread → Type 0
 IsRefusalOf error (Refused refusal) = refusal_of error ≡ Some (seen_refusal refusal)
 IsRefusalOf error NoMemory = Unit {0}
 
--- the text is refused so, and only so, or memory ran out
+-- the text is refused in this way, and in no other, or memory ran out
 abbrev pub IsUnread : List ℕ → Unread → Type 0
 IsUnread text (Refused refusal) = IsOnly (IsVerdict text) (Refuses (seen_refusal refusal))
 IsUnread text NoMemory = Unit {0}

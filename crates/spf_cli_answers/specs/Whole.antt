@@ -99,7 +99,7 @@ CheckedBy p next fetches answer =
     ⊎ ((rule : Rule) × (line : ℕ) × (range : Option Range) × IsFirstRefusal p rule line range
     × Ends (Is (rule_refused p rule line range)) fetches answer)
 
--- with a program that may be run: by the plain meaning each may, else those that the rules accept
+-- with a program that may be run: by the plain meaning each may, otherwise those that the rules accept
 abbrev pub Allowed : Bool → Program → Course → Course
 Allowed true p next = next
 Allowed false p next = CheckedBy p next
@@ -134,7 +134,7 @@ abbrev pub WithHosts : Option ℕ → Wanted → Wanted
 WithHosts None next = next
 WithHosts (Some host) next = Is (host_missing host)
 
--- a program can be run on an input: it has not too many cells, and this host isn't missing
+-- a program can be run on an input: it doesn't have too many cells, and this host isn't missing
 abbrev pub Started : Option ℕ → Program → List ℕ → Wanted → Wanted
 Started missing p input next =
     Either (nat_le (cell_count_of p (length input)) (max_cells p)) (WithHosts missing next)
@@ -155,7 +155,7 @@ RunsOn options given input p = Fetches input max_input (λ content. Ends (Runs o
 
 -- ---- bytes at hand
 
--- a run by blocks on so many workers, which shows its statistics
+-- a run by blocks on `workers` workers, which shows its statistics
 abbrev pub with_stats : ℕ → Options
 with_stats workers = record { workers = Some workers; stats = true; cells = false; plain = false }
 
@@ -165,7 +165,7 @@ RunsText given workers text input = Read text (λ p. CheckedBy p (Ends (Runs (wi
 
 -- ---- decoders
 
--- how many input bytes a block has: as many as the words say, else 1,024
+-- how many input bytes a block has: as many as the words say, otherwise 1,024
 abbrev pub block_of : DecodeOptions → ℕ
 block_of options = unwrap_or options.block 1024
 
@@ -250,7 +250,7 @@ Simulates given seed p input = Started (missing_host given.count (constructs_in 
 abbrev pub Ruled : Hosts → Program → List ℕ → List (List logged.Step) → Wanted
 Ruled hosts p input log answer = (v : log_verdict.Verdict) × IsVerdictOn (expected hosts p input) (map seen_steps log) v × (answer ≡ judged v)
 
--- a log is held against the runs of a program on an input
+-- a log is checked against the runs of a program on an input
 abbrev pub Replays : Handed → Program → List ℕ → List (List logged.Step) → Wanted
 Replays given p input log = Started (missing_host given.count (constructs_in p.main)) p input (Ruled given.hosts p input log)
 

@@ -1,4 +1,4 @@
-// What the program answers, before any of it is put anywhere.
+//! What the program answers, before any of it is put on a sink.
 
 ghost use Rattle.std.specs.Prelude.{◌≡◌, ◌≤◌, ◌<◌, ◌^◌, ◌++◌, ◌∷◌, [], Ok, IfOk, IfErr, map};
 ghost use Rattle.std.specs.Prelude.{length, string_bytes, true, false};
@@ -71,7 +71,7 @@ pub(crate) const MAX_PROGRAM: u64 = 1_048_576;
 /// How many bytes the file of an input may have.
 pub(crate) const MAX_INPUT: u64 = 4_194_304;
 
-/// How many workers run the blocks where the words don't say it.
+/// How many workers run the blocks where the words don't say so.
 const DEFAULT_WORKERS: u64 = 4;
 
 /// A status, with the bytes for the output and the lines for the error stream.
@@ -125,7 +125,7 @@ fn said(alloc: Global, status: Status, line: Vec<u8>) -> Result<Answer, AllocErr
     })
 }
 
-/// The same, of a line as text.
+/// An answer with one line, given as text, and nothing on the output.
 pub(crate) fn refused(alloc: Global, status: Status, line: String) -> Result<Answer, AllocError>
     ensures { IfOk result
         (λ a. seen_answer a ≡ refused_answer (status_number status) (string_bytes line)) }
@@ -140,7 +140,7 @@ fn not_understood(alloc: Global) -> Result<Answer, AllocError>
     refused(alloc, Status::NotUnderstood, words_line(alloc)?)
 }
 
-/// The answer where a file can't be had.
+/// The answer where a file can't be fetched.
 fn failed(alloc: Global, name: &str) -> Result<Answer, AllocError>
     ensures { IfOk result (λ a. seen_answer a ≡ file_failed name.now) }
 {
@@ -327,7 +327,7 @@ fn not_run(alloc: Global, program: &Program, error: RunError) -> Exit
     }
 }
 
-/// The answer where the arrays have so many cells, which are over the limit.
+/// The answer where the arrays have `count` cells, which is over the limit.
 fn too_many(alloc: Global, count: u128, limit: u32) -> Result<Answer, AllocError>
     ensures { IfOk result (λ a. seen_answer a ≡ too_many_cells count limit) }
 {
@@ -345,7 +345,7 @@ pub(crate) fn without_host(alloc: Global, host: u64) -> Result<Answer, AllocErro
     refused(alloc, Status::OverLimit, host_line(alloc, host)?)
 }
 
-/// The answer where a run by blocks did not come to its end.
+/// The answer where a run by blocks did not reach its end.
 pub(crate) fn unfinished(
     alloc: Global,
     program: &Program,
@@ -385,7 +385,7 @@ fn run_plainly(
     Ok(ran(alloc, options, &instance, outcome, Stats::none())?)
 }
 
-/// How many workers run the blocks: as many as the words say, else 4.
+/// How many workers run the blocks: as many as the words say, otherwise 4.
 pub(crate) fn worker_count(said: Option<u64>) -> u64
     requires workers { IsUpTo max_workers said }
     ensures { (0 < result) × (result ≤ max_workers) }
@@ -596,7 +596,7 @@ impl<'a, R: Threads + Wait + Sync, G: Gate + Sync> Context<'a, R, G> {
     }
 }
 
-/// The reply to the words of a command line: the whole answer, or a batch that can begin.
+/// Returns the reply to the words of a command line: the whole answer, or a batch that can begin.
 ///
 /// `words` are the words after the program's name and after those that ask for hosts. `files` are
 /// those that the words name. `hosts` are the predictors that a program names by number; they are

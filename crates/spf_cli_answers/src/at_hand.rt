@@ -1,4 +1,4 @@
-// The answer of a run over bytes at hand.
+//! The answer of a run over bytes at hand.
 
 ghost use Rattle.std.specs.Prelude.{◌≤◌, ◌<◌, [], map, IfOk};
 ghost use Rattle.spf_ast_lemmas.specs.Limits.{max_workers};
@@ -63,7 +63,7 @@ impl<'a, R: Threads + Wait + Sync, G: Gate + Sync> Context<'a, R, G> {
     }
 }
 
-/// The answer of a run with statistics over a program's text and an input, both at hand.
+/// Returns the answer of a run with statistics over a program's text and an input, both at hand.
 ///
 /// `hosts` are the predictors that the program names by number; they are asked before a construct's
 /// blocks run, and told the real values after. `gate` watches the attempts. Blocks run on 1 to 64

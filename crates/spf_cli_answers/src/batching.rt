@@ -81,7 +81,7 @@ fn one_line(alloc: Global, line: String) -> Result<Vec<Vec<u8>>, AllocError>
 }
 
 impl<'a, R: Threads + Wait + Sync, G: Gate + Sync> Context<'a, R, G> {
-    /// The batch of a program and of the files that a list names, where so many hosts are supplied.
+    /// The batch of a program and of the files that a list names, where `hosts` hosts are supplied.
     pub(crate) fn read_batch<F: Files>(
         &self,
         program: &str,
@@ -117,7 +117,7 @@ impl<'a, R: Threads + Wait + Sync, G: Gate + Sync> Context<'a, R, G> {
 }
 
 impl Batch {
-    /// How a batch ends that came to this.
+    /// Returns the ending of a batch that came to this.
     ///
     /// # Errors
     ///

@@ -1,4 +1,4 @@
-// What commands run with.
+//! What commands run with.
 
 use spf_ticket_gate::Gate;
 use std::alloc::Global;
@@ -10,7 +10,7 @@ use std::thread::Threads;
 pub struct Context<'a, R: Threads + Wait + Sync, G: Gate + Sync> {
     /// What starts threads.
     pub rt: &'a R,
-    /// Where memory is taken from.
+    /// Where memory is allocated.
     pub alloc: Global,
     /// What is called before and after each attempt of a block.
     pub gate: &'a G,

@@ -1,5 +1,5 @@
-// The answers of the decoders: PackBits, HUF1, lexers' machines, and each of them on a generated
-// input.
+//! The answers of the decoders: PackBits, HUF1, lexers' machines, and each of them on a generated
+//! input.
 
 ghost use Rattle.std.specs.Prelude.{◌≡◌, ◌≤◌, ◌∷◌, [], IfOk, unwrap_or};
 ghost use Rattle.spf_ast_lemmas.specs.Limits.{max_workers};
@@ -51,7 +51,7 @@ use std::thread::Threads;
 /// How many bytes the file of a machine may have.
 pub(crate) const MAX_MACHINE: u64 = 16_384;
 
-/// How many input bytes a block has where the words don't say it.
+/// How many input bytes a block has where the words don't say so.
 const DEFAULT_BLOCK: u64 = 1024;
 
 /// How many states, and how many classes, the toy machine has.

@@ -1,4 +1,4 @@
-// The lines that the program writes on the error stream.
+//! The lines that the program writes on the error stream.
 
 ghost use Rattle.std.specs.Prelude.{◌≡◌, ◌++◌, codes, IfOk, map, string_bytes};
 ghost use Rattle.std.specs.Fmt.{signed_decimal};
@@ -161,7 +161,7 @@ pub(crate) fn byte_line(alloc: Global, at: usize, what: &str) -> Result<String, 
     format!(in alloc; "text byte {at}: {what}\n")
 }
 
-/// How a fault of names and kinds is called.
+/// The name of a fault of names and kinds.
 fn fault_name(fault: TypeFault) -> &'static str
     ensures { result.now ≡ fault_name_of fault }
 {

@@ -1,4 +1,4 @@
-// From a text to its program, or to why it has none.
+//! From a text to its program, or to why it has none.
 
 ghost use Rattle.std.specs.Prelude.{◌≡◌, IfOk, IfErr, string_bytes};
 ghost use Rattle.spf_ast.specs.View.{program as seen_program};

@@ -1,4 +1,4 @@
-// The answers of `sim` and `replay`: logs of runs.
+//! The answers of `sim` and `replay`: logs of runs.
 
 ghost use Rattle.std.specs.Prelude.{◌≡◌, ◌<◌, ◌≤◌, ◌++◌, map, None, IfOk, IfErr};
 ghost use Rattle.spf_ast.specs.View.{program as seen_program};
@@ -150,7 +150,7 @@ fn judged(alloc: Global, verdict: Verdict) -> Result<Answer, AllocError>
     })
 }
 
-/// The answer to a log that is held against the runs of an accepted program on an input.
+/// The answer to a log that is checked against the runs of an accepted program on an input.
 fn judge(
     alloc: Global,
     checked: &Checked,

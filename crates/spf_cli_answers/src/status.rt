@@ -1,4 +1,4 @@
-// The statuses with which the program ends.
+//! The statuses with which the program ends.
 
 ghost use Rattle.std.specs.Prelude.{◌≡◌};
 ghost use Rattle.spf_cli_answers.specs.Status.{status_number};
@@ -43,7 +43,7 @@ impl From<AllocError> for Status {
     }
 }
 
-/// The number of a status.
+/// Returns the number of a status.
 pub fn number(status: Status) -> u8
     ensures { result ≡ status_number status }
 {

@@ -1,4 +1,4 @@
-// The answers of `show` and `build`: machines as texts.
+//! The answers of `show` and `build`: machines as texts.
 
 ghost use Rattle.std.specs.Prelude.{◌≡◌, IfOk};
 ghost use Rattle.spf_cli_words.specs.Command.{Show as show_command, Build as build_command};

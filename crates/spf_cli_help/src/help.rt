@@ -40,7 +40,7 @@ pub enum Page {
 }
 
 impl Page {
-    /// The text of the page.
+    /// Returns the text of the page.
     pub fn text(self) -> &'static str
         ensures { result.now ≡ text_of self }
     {
@@ -104,8 +104,8 @@ fn command_page(name: &str, word: &str) -> Option<Page>
     }
 }
 
-/// The page that words ask for, where they ask for one: `--help`, `--version`, or the name of a
-/// command and `--help`.
+/// Returns the page that words ask for, where they ask for one: `--help`, `--version`, or the name
+/// of a command and `--help`.
 pub fn read_page(words: &[String]) -> Option<Page>
     ensures { MatchOption result
         ((page : Page) → map string_bytes words.now ≡ words_of page → ⊥)
@@ -118,8 +118,8 @@ pub fn read_page(words: &[String]) -> Option<Page>
     }
 }
 
-/// The text that words ask for, where they are exactly `--help`, `--version`, or the name of a
-/// command and `--help`. It goes to standard output, and the status is 0.
+/// Returns the text that words ask for, where they are exactly `--help`, `--version`, or the name
+/// of a command and `--help`. It goes to standard output, and the status is 0.
 pub fn usage(words: &[String]) -> Option<&'static str>
     ensures { MatchOption result
         ((text : List ℕ) → IsAnswer (map string_bytes words.now) text → ⊥)

@@ -4,7 +4,7 @@ use Rattle.std.specs.Prelude.{neg_ℤ}
 use Rattle.std.specs.Str.Parse.{IsNumeral, digits_value}
 use Rattle.spf_cli_host_words.specs.HostWords.{Kind, Fixed, Last, Most, Table, Vote, IsNumber, Names, AskFor, EndPairs, IsBroken, SayOnly, SayNothing, NextPair}
 
--- ---- one pair more
+-- ---- one more pair
 
 -- after pairs comes one more
 pub ask-more : (words : List (List ℕ)) (kinds : List Kind) (left : List (List ℕ)) (kind : Kind) (next : NextPair left kind) → AskFor words kinds left → AskFor words (kinds ++ kind ∷ []) next.others
@@ -135,7 +135,7 @@ pub none-left : {A : Type 0} (xs : List A) → length xs ≡ 0 → xs ≡ []
 none-left [] e = refl
 none-left (x ∷ xs) e = absurd (omega (arith, e))
 
--- one kind more takes two words more
+-- one more kind takes two more words
 pub one-longer : {A : Type 0} (xs more : List A) (x : A) (rest : ℕ) → more ≡ xs ++ x ∷ [] → rest ≡ 2 * length xs → rest + 2 ≡ 2 * length more
 one-longer xs more x rest is count =
     let longer : length more ≡ length xs + 1 = ap length is ∙ length-append xs (x ∷ []) in

@@ -10,7 +10,7 @@ pub data Kind : Type 0 where
   Table : Kind
   Vote : Kind
 
--- a text is this number: decimal digits, one or more, maybe after a minus
+-- a text is this number: decimal digits, one or more, optionally after a minus
 abbrev pub IsNumber : List ℕ → ℤ → Type 0
 IsNumber text n =
     (IsNumeral 10 text × (n ≡ pos (digits_value 10 text)))

@@ -33,7 +33,7 @@ pub struct HostWords {
     pub rest: u64,
 }
 
-/// The number that a text is: decimal digits, maybe after a minus.
+/// The number that a text is: decimal digits, optionally after a minus.
 fn read_number(text: &str) -> Option<i64>
     ensures { MatchOption result
         ((n : ℤ) → IsNumber text.now n → IsWord n → ⊥)

@@ -6,7 +6,7 @@ use Rattle.spf_cli_host_words.specs.declared.host_words.HostKind.{HostKind}
 use Rattle.spf_guess.specs.Answers.{Answers}
 use Rattle.spf_cli_hosts.specs.Hosts.{answers_of}
 
--- boxes answer as the kinds up to an index, and one box more as the kind at this index
+-- boxes answer as the kinds up to an index, and one more box as the kind at this index
 pub one_more : {A : Type 0} (answer : A → Answers) (boxes now : List A) (box : A) (kinds : List HostKind) (index : ℕ) (kind : HostKind)
     → index < length kinds → map answer boxes ≡ map answers_of (map seen_kind (take index kinds)) → now ≡ boxes ++ box ∷ []
     → answer box ≡ answers_of (seen_kind (slice_index_or kinds index kind))

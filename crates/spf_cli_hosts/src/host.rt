@@ -1,4 +1,4 @@
-// A predictor of any of the kinds that words ask for.
+//! A predictor of any of the kinds that words ask for.
 ghost use Rattle.std.specs.Prelude.{◌≡◌, ℤ, List, IfOk};
 ghost use Rattle.spf_guess_statistics.specs.Guess.{Told};
 ghost use Rattle.spf_cli_host_words.specs.Seen.{seen_kind};
@@ -9,16 +9,16 @@ use spf_cli_host_words::HostKind;
 use spf_guess::{Fixed, Last, Most, Predictor, Table, Vote};
 use std::alloc::{AllocError, Global};
 
-/// How many different values a host counts that guesses the one it was told most often.
+/// How many different values the host `most` counts.
 const MOST_ROOM: u64 = 256;
 
-/// For how many blocks a host keeps a value that guesses by block numbers.
+/// For how many blocks the host `table` keeps a value.
 const TABLE_ROOM: u64 = 4096;
 
-/// For how many blocks a host counts votes.
+/// For how many blocks the host `vote` counts votes.
 const VOTE_ROOM: u64 = 4096;
 
-/// How many different values of a block it counts.
+/// How many different values the host `vote` counts for each block.
 const VOTE_EACH: u64 = 8;
 
 /// A predictor that words ask for.
@@ -37,7 +37,7 @@ pub enum Host {
 }
 
 impl Host {
-    /// The predictor of a kind, which was told nothing.
+    /// Makes the predictor of a kind, which was told nothing.
     ///
     /// # Errors
     ///

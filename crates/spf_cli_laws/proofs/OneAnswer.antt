@@ -102,7 +102,7 @@ sure files left name limit (Err OutOfMemory) next (fetch ∷ fetches) a none giv
 
 -- ---- at most one answer
 
--- this is so of one answer at most
+-- this holds for one answer at most
 abbrev AtMostOne : Wanted → Type 0
 AtMostOne P = (a b : Answer) → P a → P b → a ≡ b
 
@@ -606,7 +606,7 @@ some_command laws formats given (Demo decoder seed size workers) files other jud
 
 -- ---- an answer that isn't denied
 
--- it isn't so that there is none
+-- it isn't the case that there is none
 abbrev Undenied : Type 0 → Type 0
 Undenied A = (A → ⊥) → ⊥
 
@@ -652,7 +652,7 @@ undenied_log laws files file next bytes f =
       | inr r ↦ told (not_a_log r.0, ([], tt, inr (r.0, r.1, refl)))
     ]
 
--- a verdict with a section more that is as expected
+-- a verdict with one more section that is as expected
 later_verdict : (x : Expected) (xs : List Expected) (steps : List Step) (log : List (List Step)) → IsRun x.entry x.guess steps
     → (v : log_verdict.Verdict) × IsVerdictOn xs log v → (v : log_verdict.Verdict) × IsVerdictOn (x ∷ xs) (steps ∷ log) v
 later_verdict x xs steps log run h = by h.0 h.1

@@ -1,4 +1,4 @@
-// Laws about the program's answers. Each is the contract of a function that does nothing.
+//! Laws about the program's answers. Each is the contract of a function that does nothing.
 ghost use Rattle.spf_cli_laws.specs.Laws.{VerdictsAreTheSame, NoTextIsLeftUnjudged};
 ghost use Rattle.spf_cli_laws.specs.Laws.{NoneHasTwoAnswers, NoneIsLeftUnanswered};
 

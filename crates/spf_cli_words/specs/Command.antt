@@ -5,14 +5,14 @@ use Rattle.std.specs.Fmt.{decimal}
 use Rattle.spf_apps_formats.specs.declared.generate.Kind.{Kind}
 use Rattle.spf_apps_formats.specs.declared.generate.Kind.TheVariants as kind
 
--- how many workers run the blocks, where that is said; what a run is to show; and whether it goes by the plain meaning alone
+-- how many workers run the blocks, where that is given; what a run is to show; and whether it goes by the plain meaning alone
 pub record Options : Type 0 where
   pub workers : Option ℕ
   pub stats : Bool
   pub cells : Bool
   pub plain : Bool
 
--- how large a decoder's blocks are and how many workers run them, where that is said; and whether it shows the statistics
+-- how large a decoder's blocks are and how many workers run them, where that is given; and whether it shows the statistics
 pub record DecodeOptions : Type 0 where
   pub block : Option ℕ
   pub workers : Option ℕ
@@ -30,7 +30,7 @@ pub data Command : Type 0 where
   Lex : List ℕ → List ℕ → DecodeOptions → Command
   Show : List ℕ → Command
   Build : List ℕ → Command
-  -- the program's file stands before the list's; how many workers, where that is said
+  -- the program's file stands before the list's; how many workers, where that is given
   Batch : List ℕ → List ℕ → Option ℕ → Command
   -- the program's file, the input's, and the seed
   Sim : List ℕ → List ℕ → ℕ → Command
@@ -101,7 +101,7 @@ HasFileNames (Sim program input seed) = IsFileName program × IsFileName input
 HasFileNames (Replay program input log) = IsFileName program × IsFileName input × IsFileName log
 HasFileNames (Demo decoder seed size workers) = Unit {0}
 
--- a number stands from 1 to `most`, where it is said
+-- a number is from 1 to `most`, where it is given
 abbrev pub IsUpTo : ℕ → Option ℕ → Type 0
 IsUpTo most None = Unit {0}
 IsUpTo most (Some n) = (1 ≤ n) × (n ≤ most)

@@ -20,7 +20,7 @@ use thiserror::Error;
 /// The options of a run.
 #[derive(Clone, Copy, Debug)]
 pub struct Options {
-    /// How many workers run the blocks, from 1 to 64, where that is said.
+    /// How many workers run the blocks, from 1 to 64, where that is given.
     pub workers: Option<u64>,
     /// Whether the statistics are shown.
     pub stats: bool,
@@ -33,9 +33,9 @@ pub struct Options {
 /// The options of a decoder.
 #[derive(Clone, Copy, Debug)]
 pub struct DecodeOptions {
-    /// How large the blocks are, from 1 to 65,536, where that is said.
+    /// How large the blocks are, from 1 to 65,536, where that is given.
     pub block: Option<u64>,
-    /// How many workers run the blocks, from 1 to 64, where that is said.
+    /// How many workers run the blocks, from 1 to 64, where that is given.
     pub workers: Option<u64>,
     /// Whether the statistics are shown.
     pub stats: bool,
@@ -50,11 +50,11 @@ pub enum Command<'a> {
         input: &'a str,
         options: Options,
     },
-    /// A program is held against the rules.
+    /// A program is checked by the rules.
     Check {
         program: &'a str,
     },
-    /// It is told what each construct of a program reads and writes.
+    /// What each construct of a program reads and writes is explained.
     Explain {
         program: &'a str,
     },
@@ -156,7 +156,7 @@ impl From<clap::Error> for WordsError {
 /// Reads the words of a command, or tells that they aren't those of one.
 ///
 /// `clap` finds the command and its arguments, also in another order or spelling. What it found is
-/// then held against the words: they have to be those that the command is written as.
+/// then compared with the words: they have to be those that the command is written as.
 ///
 /// They are one of these lists, with the options in this order and each at most once:
 ///

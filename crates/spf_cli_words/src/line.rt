@@ -34,7 +34,7 @@ fn flag<'a>(alloc: Global, name: &'a str) -> Arg<'a>
     Arg::new(alloc, name).long(name).action(ArgAction::SetTrue)
 }
 
-/// A command with one more argument, unless there was no memory before.
+/// Adds an argument to a command, unless memory ran out before.
 fn add_argument<'a>(
     command: Result<Command<'a>, AllocError>,
     argument: Arg<'a>,
@@ -45,7 +45,7 @@ fn add_argument<'a>(
     command?.arg(argument)
 }
 
-/// A command with one more subcommand, unless there was no memory before.
+/// Adds a subcommand to a command, unless memory ran out before.
 fn add_command<'a>(
     command: Result<Command<'a>, AllocError>,
     other: Result<Command<'a>, AllocError>,

@@ -25,7 +25,7 @@ const MOST_BLOCK: u64 = 65_536;
 /// The greatest size of an input that is generated.
 const MOST_SIZE: u64 = 1_000_000;
 
-/// Whether a word is a file's name: it isn't empty and doesn't begin with `-`.
+/// Returns whether a word is a file's name: it isn't empty and doesn't begin with `-`.
 fn is_file_name(word: &str) -> bool
     ensures { IsTrue result ↔ IsFileName word.now }
 {
@@ -112,7 +112,7 @@ fn option_of(matches: &ArgMatches, argument: &str, most: u64) -> Option<Option<u
     }
 }
 
-/// Whether a flag is given.
+/// Returns whether a flag is given.
 fn flag_of(matches: &ArgMatches, argument: &str) -> bool
     ensures { result ≡ flag_from argument.now (rows_of (found_of matches.now)) }
 {

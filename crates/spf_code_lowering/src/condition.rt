@@ -1,4 +1,4 @@
-// Lowering of conditions.
+//! Lowering of conditions.
 
 ghost use Rattle.std.specs.Prelude.{◌≡◌, ◌≤◌, ◌<◌, false, ℕ, map, IfOk};
 ghost use Rattle.spf_ast.specs.View.{expression as seen_expression, condition as seen_condition};
@@ -14,7 +14,7 @@ use spf_ast::syntax::{Cond, Expr, Test};
 use spf_code::node::Node;
 use std::alloc::AllocError;
 
-/// The code that compares two expressions.
+/// Appends the code that compares two expressions.
 fn compare(
     scope: &Scope,
     line: u32,
@@ -42,8 +42,8 @@ fn compare(
     )
 }
 
-/// The code that has the register `free` say whether a condition holds: 1 where it does, otherwise
-/// 0.
+/// Appends the code that has the register `free` say whether a condition holds: 1 where it does,
+/// otherwise 0.
 #[cycle(condition)]
 pub(crate) fn tell(
     scope: &Scope,
@@ -77,7 +77,7 @@ pub(crate) fn tell(
     }
 }
 
-/// Code of its own that has the register `free` say whether a condition holds.
+/// Returns code of its own that has the register `free` say whether a condition holds.
 #[cycle(condition)]
 pub(crate) fn told(
     scope: &Scope,

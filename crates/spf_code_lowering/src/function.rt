@@ -1,4 +1,4 @@
-// Lowering of functions.
+//! Lowering of functions.
 
 ghost use Rattle.std.specs.Prelude.{◌≡◌, ℕ, length, map, IfOk};
 ghost use Rattle.spf_ast.specs.View.{function as seen_function};

@@ -1,4 +1,4 @@
-// Lowering of programs.
+//! Lowering of programs.
 
 ghost use Rattle.std.specs.Prelude.{◌≡◌, [], ℕ, map, IfOk};
 ghost use Rattle.spf_ast.specs.declared.syntax.Fold.{out-Fold};
@@ -37,7 +37,7 @@ fn slot_count(slots: usize) -> Result<u32, AllocError>
     Ok(slots as u32)
 }
 
-/// The code of statements and then of a row.
+/// Returns the code of statements and then of a row.
 fn row_code(
     scope: &Scope,
     statements: &[Stmt],
@@ -60,7 +60,7 @@ fn row_code(
     })
 }
 
-/// The code of an expression.
+/// Returns the code of an expression.
 fn expression_code(scope: &Scope, line: u32, value: &Expr) -> Result<ValueCode, AllocError>
     ensures code { (calls : ℕ → ℕ)
         → IfOk result (λ v. IsExpressionCode
@@ -97,7 +97,7 @@ fn no_row(alloc: Global) -> RowCode
     }
 }
 
-/// The code of a guess. One that is supplied needs none.
+/// Returns the code of a guess. One that is supplied needs none.
 fn guess_code(scope: &Scope, line: u32, predict: &Predict) -> Result<ValueCode, AllocError>
     ensures code { (calls : ℕ → ℕ)
         → IfOk result (λ v. IsGuessCode
@@ -111,7 +111,7 @@ fn guess_code(scope: &Scope, line: u32, predict: &Predict) -> Result<ValueCode, 
     }
 }
 
-/// The code of the guesses of a row's parts.
+/// Returns the code of the guesses of a row's parts.
 fn guess_codes(scope: &Scope, line: u32, predict: &[Predict]) -> Result<Vec<ValueCode>, AllocError>
     ensures codes { (calls : ℕ → ℕ)
         → IfOk result (λ v. AreGuessCodes
@@ -125,7 +125,7 @@ fn guess_codes(scope: &Scope, line: u32, predict: &[Predict]) -> Result<Vec<Valu
     Ok(codes)
 }
 
-/// The code of a fold's parts.
+/// Returns the code of a fold's parts.
 fn fold_code(scope: &Scope, line: u32, fold: &Fold) -> Result<ConstructCode, AllocError>
     ensures code { (calls : ℕ → ℕ)
         → IfOk result (λ k. IsFoldCode
@@ -147,7 +147,7 @@ fn fold_code(scope: &Scope, line: u32, fold: &Fold) -> Result<ConstructCode, All
     })
 }
 
-/// The code of a pair's parts.
+/// Returns the code of a pair's parts.
 fn pair_code(scope: &Scope, line: u32, pair: &Pair) -> Result<ConstructCode, AllocError>
     ensures code { (calls : ℕ → ℕ)
         → IfOk result (λ k. IsPairCode
@@ -171,7 +171,7 @@ fn pair_code(scope: &Scope, line: u32, pair: &Pair) -> Result<ConstructCode, All
     })
 }
 
-/// The code of a top construct's parts.
+/// Returns the code of a top construct's parts.
 fn construct_code(scope: &Scope, construct: TopConstruct) -> Result<ConstructCode, AllocError>
     ensures code { (calls : ℕ → ℕ)
         → IfOk result (λ k. IsConstructCode
@@ -184,7 +184,7 @@ fn construct_code(scope: &Scope, construct: TopConstruct) -> Result<ConstructCod
     }
 }
 
-/// The code of each top construct among these statements.
+/// Returns the code of each top construct among these statements.
 fn construct_codes(scope: &Scope, main: &[Stmt]) -> Result<Vec<ConstructCode>, AllocError>
     ensures codes { (calls : ℕ → ℕ)
         → IfOk result (λ codes. AreConstructCodes
@@ -201,7 +201,7 @@ fn construct_codes(scope: &Scope, main: &[Stmt]) -> Result<Vec<ConstructCode>, A
     Ok(codes)
 }
 
-/// The code of one statement.
+/// Returns the code of one statement.
 fn statement_code(scope: &Scope, stmt: &Stmt) -> Result<Vec<Node>, AllocError>
     ensures code { (calls : ℕ → ℕ)
         → IfOk result (λ k. IsRun
@@ -213,7 +213,7 @@ fn statement_code(scope: &Scope, stmt: &Stmt) -> Result<Vec<Node>, AllocError>
     Ok(nodes)
 }
 
-/// The code of each of these statements.
+/// Returns the code of each of these statements.
 fn statement_codes(scope: &Scope, main: &[Stmt]) -> Result<Vec<Vec<Node>>, AllocError>
     ensures codes { (calls : ℕ → ℕ)
         → IfOk result (λ codes. AreStatementCodes

@@ -9,7 +9,7 @@ use Rattle.spf_code_registers.specs.Registers.{needs, arguments_need, predictor_
 use Rattle.spf_code_registers.specs.Counted.{capped}
 use Rattle.spf_code_registers.proofs.Lists.{item_at}
 
--- Where the forms before the rest of a list need so many registers at most, and so many of them are held, then this is
+-- Where the forms before the rest of a list need `most` registers at most, and `held` of them are held, then this is
 -- what the whole list needs.
 pub record IsBehind (held most rest all : ℕ) : Type 0 where
   pub left : capped (max most (held + rest)) ≡ capped all
@@ -19,7 +19,7 @@ pub record IsBehind (held most rest all : ℕ) : Type 0 where
 pub none_behind : (all : ℕ) → IsBehind 0 0 all all
 none_behind all = record { left = omega arith; reached = omega arith; fits = omega arith }
 
--- one argument more, whose value is then held
+-- one more argument, whose value is then held
 pub argument_behind : (held most rest all more part sum now need later : ℕ) → IsBehind held most rest all → rest ≡ 1 + max need later → more ≡ capped (held + 1) → part ≡ capped need → sum ≡ capped (more + part) → now ≡ max most sum → IsBehind more now later all
 argument_behind held most rest all more part sum now need later so split a b c d =
     let l = so.left in
@@ -27,7 +27,7 @@ argument_behind held most rest all more part sum now need later so split a b c d
     let f = so.fits in
     record { left = omega (arith, l, f, split, a, b, c, d); reached = omega (arith, r, f, a, b, c, d); fits = omega (arith, f, c, d) }
 
--- one statement more, which holds nothing
+-- one more statement, which holds nothing
 pub statement_behind : (most rest all part now need later : ℕ) → IsBehind 0 most rest all → rest ≡ max need later → part ≡ capped need → now ≡ max most part → IsBehind 0 now later all
 statement_behind most rest all part now need later so split b d =
     let l = so.left in
@@ -46,7 +46,7 @@ all_behind held most rest all so none =
 pub more_of_two : (m n a b both : ℕ) → a ≡ capped m → b ≡ capped n → both ≡ max a b → both ≡ capped (max m n)
 more_of_two m n a b both p q r = omega (arith, p, q, r)
 
--- with so many more
+-- with k more
 pub with_more : (k m a sum : ℕ) → a ≡ capped m → sum ≡ capped (a + k) → sum ≡ capped (k + m)
 with_more k m a sum p q = omega (arith, p, q)
 

@@ -33,7 +33,7 @@ other_item [] s d (suc k) h = refl
 other_item (x ∷ xs) s d zero h = refl
 other_item (x ∷ xs) s d (suc k) h = other_item xs s d k (λ same. h (let e : suc k ≡ length (x ∷ xs) = ap suc same in e))
 
--- the room of one function more
+-- the room of one more function
 pub table_more : (fs : List Function) (items : List ℕ) (n : ℕ) (f : Function) (now : ℕ) → length items ≡ n → slice_get fs n ≡ Some f → IsTable (rooms_before fs n) items → now ≡ capped (function_needs (rooms_before fs n) f) → IsTable (rooms_before fs (suc n)) (items ++ now ∷ [])
 table_more fs items n f now count at table has = λ k. elim (cases_order k n) [ inl same ↦ subst (λ q. get_or (items ++ now ∷ []) q 0 ≡ capped (rooms_before fs (suc n) q)) (sym same) last | inr order ↦ before k (λ same. elim order [ inl l ↦ omega (arith, same, l) | inr g ↦ omega (arith, same, g) ]) ]
   where

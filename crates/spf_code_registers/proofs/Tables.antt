@@ -22,7 +22,7 @@ none_counted raw = record { count = refl; table = table_none (map function raw) 
 function_there : (raw : List code.Function) (place : ℕ) (f : code.Function) → place < length raw → f ≡ get_or raw place f → slice_get (map function raw) place ≡ Some (function f)
 function_there raw place f h is = slice_get-map function raw place ∙ ap (option_map function) (get_is raw place f h is)
 
--- one function more
+-- one more function
 pub one_counted : (raw : List code.Function) (rooms : List ℕ) (place : ℕ) (f : code.Function) (now : ℕ) (later : List ℕ) → place < length raw → f ≡ get_or raw place f → AreCounted raw rooms place → now ≡ capped (function_needs (rooms_before (map function raw) place) (function f)) → later ≡ rooms ++ now ∷ [] → AreCounted raw later (place + 1)
 one_counted raw rooms place f now later h is so has push =
     let fs = map function raw in

@@ -1,5 +1,5 @@
-// How many registers forms need, given how many calls of functions need. A number that doesn't fit
-// is the largest.
+//! How many registers forms need, given how many calls of functions need. A number that doesn't fit
+//! is the largest.
 
 ghost use Rattle.std.specs.Prelude.{◌≡◌, ℕ, map};
 ghost use Rattle.spf_ast.specs.declared.syntax.Fold.{out-Fold};
@@ -26,7 +26,7 @@ fn called(rooms: &[u64], function: u32) -> u64
     }
 }
 
-/// An expression.
+/// Returns how many registers an expression needs.
 #[cycle(expression)]
 pub fn expression(rooms: &[u64], expr: &Expr) -> u64
     ensures { (calls : ℕ → ℕ) → IsTable calls rooms.now
@@ -108,7 +108,7 @@ fn predictors(rooms: &[u64], predict: &[Predict]) -> u64
     most
 }
 
-/// Statements one after another.
+/// Returns how many registers statements one after another need.
 #[cycle(statement)]
 pub fn block(rooms: &[u64], statements: &[Stmt]) -> u64
     ensures { (calls : ℕ → ℕ) → IsTable calls rooms.now

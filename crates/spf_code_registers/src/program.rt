@@ -1,4 +1,4 @@
-// How many registers functions and programs need.
+//! How many registers functions and programs need.
 
 ghost use Rattle.std.specs.Prelude.{◌≡◌, ℕ, map, IfOk};
 ghost use Rattle.spf_ast.specs.View.{function as seen_function, program as seen_program};
@@ -10,7 +10,7 @@ use crate::needs::{block, expression};
 use spf_ast::syntax::{Function, Program};
 use std::alloc::{AllocError, Global};
 
-/// How many registers a function needs: its slots, and what its body and its answer need.
+/// Returns how many registers a function needs: its slots, and what its body and its answer need.
 pub fn function_needs(rooms: &[u64], function: &Function) -> u64
     ensures { (calls : ℕ → ℕ) → IsTable calls rooms.now
         → result ≡ capped (needs_of_function calls (seen_function function.now)) }
@@ -20,7 +20,7 @@ pub fn function_needs(rooms: &[u64], function: &Function) -> u64
     most.saturating_add(function.slots.len() as u64)
 }
 
-/// How many registers a call of each function needs.
+/// Returns how many registers a call of each function needs.
 ///
 /// # Errors
 ///
@@ -36,8 +36,8 @@ pub fn rooms(alloc: Global, functions: &[Function]) -> Result<Vec<u64>, AllocErr
     Ok(rooms)
 }
 
-/// How many registers a program's code needs: the slots of `main`, and what its statements need
-/// with the deepest chain of their calls.
+/// Returns how many registers a program's code needs: the slots of `main`, and what its statements
+/// need with the deepest chain of their calls.
 ///
 /// # Errors
 ///

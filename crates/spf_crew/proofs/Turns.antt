@@ -1,4 +1,4 @@
--- What a turn comes to, from what its parts came to.
+-- What a turn does, from what its parts did.
 use Rattle.std.proofs.Common.{◌≡◌, ◌≢◌, ◌⊎◌, ℕ, ◌+◌, Bool, false, refl, sym, ap, ◌∙◌, subst}
 use Rattle.spf_ticket.specs.declared.ticket.Ticket.{Ticket}
 use Rattle.spf_ticket.specs.declared.ticket.Report.{Report}

@@ -34,11 +34,11 @@ abbrev pub dealt : ℕ → ℕ → ℕ
 dealt tickets zero = tickets
 dealt tickets (suc i) = 0
 
--- so many tickets may be given by the first of so many hands, and none by the others
+-- `tickets` tickets may be given by the first of `workers` hands, and none by the others
 abbrev pub capacities_for : ℕ → ℕ → List ℕ
 capacities_for workers tickets = slice_set (replicate workers 0) 0 tickets
 
--- a hand of this crew whose own deque was given so many tickets
+-- a hand of this crew whose own deque was given `tickets` tickets
 pub record IsDealtTo (k : CrewSetting) (tickets : ℕ) (h : HandValue CrewSetting) : Type 0 where
   pub key : h.key ≡ k
   pub given : slice_index h.given h.own ≡ tickets
@@ -47,7 +47,7 @@ pub record IsDealtTo (k : CrewSetting) (tickets : ℕ) (h : HandValue CrewSettin
 abbrev pub AreDealt : CrewSetting → ℕ → ℕ → List (HandValue CrewSetting) → Type 0
 AreDealt k tickets from hands = (i : ℕ) (h : HandValue CrewSetting) → get_elem? hands i ≡ some h → IsDealtTo k (dealt tickets (from + i)) h
 
--- a new mate: it holds nothing, has seen the turn number 0, and not read 1; its own deque was given so many tickets
+-- a new mate: it holds nothing, has seen the turn number 0, and not read 1; its own deque was given `tickets` tickets
 pub record IsNewMate (tickets : ℕ) (m : MateValue) : Type 0 where
   pub held : m.held ≡ held.Nothing
   pub seen : m.place.seen ≡ 0

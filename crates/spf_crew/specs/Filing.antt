@@ -16,7 +16,7 @@ RerunsFresh k (Rerun t) = IsFreshOf k t
 RerunsFresh k (Waiting block) = Unit {0}
 RerunsFresh k Ended = Unit {0}
 
--- the report was filed with a chain of this crew that had been given so many reports before, and this was the answer
+-- the report was filed with a chain of this crew that had been given `reports` reports before, and this was the answer
 pub record IsFiledAt (k : CrewSetting) (reports : ℕ) (r : Report) (answer : Filed) : Type 0 where
   pub before : ChainValue
   pub after : ChainValue

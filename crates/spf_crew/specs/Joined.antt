@@ -7,7 +7,7 @@ use Rattle.spf_speculation_entry.specs.Sites.{entry_at, guess_at}
 use Rattle.spf_speculation.specs.Runs.{IsSpeculativeRun}
 use Rattle.spf_speculation.specs.Steps.{Step, steps_of}
 
--- the logs of so many blocks, joined block by block from the last one down to block 0
+-- the logs of the first blocks, joined block by block from the last one down to block 0
 abbrev pub joined_down : ℕ → (ℕ → List Event) → List Step
 joined_down zero logs = []
 joined_down (suc n) logs = steps_of n (logs n) ++ joined_down n logs

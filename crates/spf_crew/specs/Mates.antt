@@ -1,4 +1,4 @@
--- What contracts see of a mate, and what a turn comes to.
+-- What contracts see of a mate, and what a turn can be.
 use Rattle.std.specs.Prelude.{◌≡◌, ◌≢◌, ◌⊎◌, ℕ, ◌+◌, true, false}
 use Rattle.spf_crew.specs.Limits.{last_turn}
 use Rattle.spf_ticket.specs.declared.ticket.Ticket.{Ticket}

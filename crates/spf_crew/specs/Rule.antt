@@ -22,7 +22,7 @@ pub record IsChainOf (k : CrewSetting) (c : ChainValue) : Type 0 where
   pub site : c.site ≡ k.site
   pub cells : cells_of c ≡ k.cells
 
--- the chain in the slot: it is of this crew, was given so many reports, and has ended where the ending word is 1
+-- the chain in the slot: it is of this crew, was given `half` reports, and has ended where the ending word is 1
 pub record IsAtHome (k : CrewSetting) (half ending : ℕ) (c : ChainValue) : Type 0 where
   pub of : IsChainOf k c
   pub reports : c.reports ≡ half
@@ -34,7 +34,7 @@ pub record IsHolder (ending : ℕ) (v : CrewView) : Type 0 where
   pub holds : v.holds ≡ true
   pub announced : ending ≡ 1 → v.announced ≡ true
 
--- what the view of the seat j says is so, where the turn word is n and the ending word is x
+-- what the view of the seat j says, where the turn word is n and the ending word is x
 pub record Knows (k : CrewSetting) (n x holder : ℕ) (owner : ℕ → ℕ) (j : ℕ) (v : CrewView) : Type 0 where
   pub setting : v.setting ≡ Some k
   -- its numbers are numbers of mates, and no other seat's
@@ -62,7 +62,7 @@ pub record IsCrewTable (k : CrewSetting) (s : State (Option ChainValue) CrewView
   pub away : (half : ℕ) → slice_index s.words 0 ≡ 2 * half + 1
       → (s.homes ≡ none ∷ []) × ((v : CrewView) × (get_elem? s.views holder ≡ some v)
       × IsHolder (slice_index s.words 1) v)
-  -- a view with a number says what is so
+  -- what a view with a number says holds
   pub seats : (j : ℕ) (v : CrewView) → get_elem? s.views j ≡ some v → v.from < v.to → Knows k (slice_index s.words 0) (slice_index s.words 1) holder owner j v
 
 -- the view at the start: it has all numbers
@@ -77,7 +77,7 @@ half_of n = (n + 1) / 2
 abbrev pub expected : ℕ → ℕ
 expected n = 2 * half_of n
 
--- the try to take the chain: the seat took it, and the end counts as announced where the chain has ended; or it saw another number
+-- a try to take the chain: the seat took it, and the end counts as announced where the chain has ended; or it saw another number
 abbrev pub IsTake : Step (Option ChainValue) → Me (Option ChainValue) CrewView → ℕ → Me (Option ChainValue) CrewView → Type 0
 IsTake st m n m' =
     (n ≤ last_turn)

@@ -22,6 +22,6 @@ pub record PlaceValue : Type 0 where
 abbrev pub IsPlaceOf : CrewValue → PlaceValue → Type 0
 IsPlaceOf c p = (p.table ≡ c.table) × (p.setting ≡ c.setting)
 
--- what is fixed for a crew of so many mates over this chain
+-- what is fixed for a crew of `mates` mates over this chain
 abbrev pub setting_of : ChainValue → ℕ → CrewSetting
 setting_of c mates = record { site = c.site; cells = cells_of c; mates = mates }

@@ -27,8 +27,8 @@ pub trait Attempter {
 }
 
 /// Has the program with its input. A type parameter with this bound, or with `HasConstruct`, stands
-/// for what is large, where it is proved that attempts may be made by many threads: the search for
-/// that would be too long with both at once.
+/// for something large where attempts are proved to be safe on many threads: with both in full the
+/// proof search would take too long.
 pub trait HasInstance {
     // the program with its input
     ghost instance: { Self → Bor InstanceValue };

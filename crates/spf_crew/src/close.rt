@@ -1,4 +1,4 @@
-// A crew is closed.
+//! Closes a crew.
 ghost use Rattle.std.specs.Prelude.{◌≡◌, true, length};
 ghost use Rattle.spf_chain.specs.Chains.{cells_of, HasEnded};
 ghost use Rattle.spf_chain.specs.Finishing.{EveryMergingRuns};
@@ -13,7 +13,7 @@ use spf_cells::cells::Cells;
 use spf_chain::chain::Chain;
 
 impl Crew {
-    // All places are put together.
+    // Joins all places.
     fn dismiss_all(&self, last: Place, mut mates: Vec<Mate>) -> Place
         requires last { IsPlaceOf self.now last × (last.read ≡ true)
             × (last.from ≡ length mates.items) × (last.to ≡ self.now.setting.mates) }

@@ -1,4 +1,4 @@
-// Tickets as items of a pool.
+//! Tickets as items of a pool.
 use crate::view::CrewSetting;
 use spf_pool::rule::Item;
 use spf_ticket::ticket::Ticket;

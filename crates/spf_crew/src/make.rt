@@ -1,4 +1,4 @@
-// A crew is made.
+//! Makes a crew.
 ghost use Rattle.std.specs.Prelude.{◌≡◌, ◌+◌, ◌<◌, ◌≤◌, length, slice_index, IfOk};
 ghost use Rattle.spf_pool.specs.Limits.{max_capacity};
 ghost use Rattle.spf_ast_lemmas.specs.Limits.{max_workers};
@@ -22,7 +22,7 @@ use spf_pool::pool::Pool;
 use spf_ticket::ticket::Ticket;
 use std::alloc::{AllocError, Global};
 
-// The hands of a pool. The first may give so many tickets, and the others none.
+// Makes the hands of a pool. The first may give `capacity` tickets, and the others none.
 fn hands_of(
     alloc: Global,
     chain: &Chain,
@@ -41,7 +41,7 @@ fn hands_of(
     Pool::make::<Ticket, CrewSetting>(alloc, &key, capacities.as_slice())
 }
 
-// A ticket goes to the back of the hand's own deque.
+// Puts a ticket at the back of the hand's own deque.
 fn give_one(hand: &mut Hand<Ticket, CrewSetting>, ticket: Ticket)
     requires fresh { IsFreshOf hand.old.key ticket }
     requires room { slice_index hand.old.given hand.old.own < hand.old.capacity }
@@ -53,7 +53,7 @@ fn give_one(hand: &mut Hand<Ticket, CrewSetting>, ticket: Ticket)
     }
 }
 
-// All tickets go into one hand's deque, in their order.
+// Puts all tickets into one hand's deque, in their order.
 fn give_all(hand: &mut Hand<Ticket, CrewSetting>, tickets: Vec<Ticket>)
     requires fresh { All (IsFreshOf hand.old.key) tickets.items }
     requires room { hand.old.capacity ≡ length tickets.items }
@@ -67,9 +67,9 @@ fn give_all(hand: &mut Hand<Ticket, CrewSetting>, tickets: Vec<Ticket>)
 }
 
 impl Crew {
-    /// A crew of 1 to 64 mates over a chain that has just started, with its cells and its tickets.
-    /// All tickets go into the first mate's deque, in their order, and the chain into its slot. The
-    /// other mates' deques have room for none. All memory of the crew is taken here.
+    /// Makes a crew of 1 to 64 mates over a chain that has just started, with its cells and its
+    /// tickets. All tickets go into the first mate's deque, in their order, and the chain into its
+    /// slot. The other mates' deques have room for none. All memory of the crew is taken here.
     ///
     /// # Errors
     ///

@@ -114,7 +114,7 @@ impl Mate {
         Turn::Worked
     }
 
-    // Looks whether the chain has ended, and else for a ticket.
+    // Checks whether the chain has ended; if not, looks for a ticket.
     fn look<A: Attempter>(&mut self, crew: &Crew, attempter: &A) -> Turn
         requires own { IsMateOf crew.now self.old }
         requires serves { A.serves crew.now.setting attempter.now }
@@ -135,9 +135,9 @@ impl Mate {
         }
     }
 
-    /// One turn. A mate with a report tries once to take the chain, and files it. A mate with a
-    /// ticket to rerun runs it. Any other one looks whether the chain has ended; if not, it takes a
-    /// ticket and runs it. `attempter` makes the attempts.
+    /// Takes one turn. A mate with a report tries once to take the chain, and files it. A mate with
+    /// a ticket to rerun runs it. Any other mate checks whether the chain has ended; if not, it
+    /// takes a ticket and runs it. `attempter` makes the attempts.
     ///
     /// `Ended` comes only where the mate held nothing and read 1 in the ending word, and from then
     /// on. `Idle` with `ChainOut` comes only where it has a report and found another turn number

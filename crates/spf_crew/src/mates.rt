@@ -1,4 +1,4 @@
-// The mates of a new crew.
+//! The mates of a new crew.
 ghost use Rattle.std.specs.Prelude.{◌≡◌, ◌<◌, length, IfOk};
 ghost use Rattle.spf_crew.specs.Crews.{AreAllMates, AreDealt, AreNewMates};
 ghost use Rattle.spf_crew.specs.Mates.{new_place};
@@ -11,7 +11,7 @@ use spf_pool::hand::Hand;
 use spf_ticket::ticket::Ticket;
 use std::alloc::{AllocError, Global};
 
-// Each hand gets a place.
+// Gives each hand a place.
 pub(crate) fn enlist_all(
     alloc: Global,
     crew: &Crew,

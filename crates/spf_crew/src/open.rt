@@ -1,5 +1,5 @@
-// The table is made with the chain in its slot, places are split off and joined again, and the
-// chain comes back.
+//! Makes the table with the chain in its slot, splits places off and joins them again, and takes
+//! the chain back.
 ghost use Rattle.std.specs.Prelude.{◌≡◌, ◌+◌, ◌<◌, true, false, IfOk};
 ghost use Rattle.spf_chain.specs.Chains.{cells_of};
 ghost use Rattle.spf_chain.specs.Sites.{IsGround};
@@ -19,8 +19,8 @@ use spf_cells_key::key::{GhostKey, ghost_key};
 use spf_chain::chain::Chain;
 use std::alloc::{AllocError, Global};
 
-// A key with the setting of a crew. A ghost value is named by a call's arguments alone, so the call
-// has those that the name speaks of.
+// A key with the setting of a crew. A ghost value is named by a call's arguments alone, so those
+// that the name mentions are passed here.
 pub(crate) fn key_of(chain: &Chain, mates: u64) -> GhostKey<CrewSetting>
     ensures { result.value ≡ setting_of chain.now mates }
 {
@@ -83,7 +83,7 @@ impl Crew {
 }
 
 impl Place {
-    // A new place gets the first number.
+    // Gives the first number to a new place.
     pub(crate) fn enlist(&mut self, crew: &Crew) -> Place
         requires own { IsPlaceOf crew.now self.old }
         requires more { self.old.from + 1 < self.old.to }
@@ -99,7 +99,7 @@ impl Place {
         }
     }
 
-    // The numbers of the next place are taken over.
+    // Takes over the numbers of the next place.
     pub(crate) fn dismiss(&mut self, crew: &Crew, other: Place)
         requires own { IsPlaceOf crew.now self.old }
         requires other { IsPlaceOf crew.now other }

@@ -1,5 +1,5 @@
-// A mate's place at the chain: it takes the chain, files a report, and gives the chain back. It
-// neither waits nor takes memory.
+//! A mate's place at the chain: it takes the chain, files a report, and gives the chain back. It
+//! neither waits nor takes memory.
 ghost use Rattle.std.specs.Prelude.{◌≡◌, ◌≢◌, ◌⊎◌, ◌+◌, ◌*◌, ◌<◌, ◌≤◌, true, false, [], IfOk};
 ghost use Rattle.std.specs.Prelude.{IfErr, if◌then◌else◌};
 ghost use Rattle.spf_crew.specs.Limits.{last_turn, max_reports};
@@ -53,7 +53,7 @@ impl Model for Place {
     ghost invariant = { IsPlace };
 }
 
-// The seat takes the chain where the turn number is the one expected. Else it has seen another
+// Takes the chain where the turn number is the one expected. Otherwise the seat has seen another
 // number.
 fn take_chain(seat: &mut CrewSeat, crew: &Crew, half: u64) -> Result<Chain, u64>
     requires own { IsSeatOf crew.now.table seat.old.table_id }
@@ -74,7 +74,7 @@ fn take_chain(seat: &mut CrewSeat, crew: &Crew, half: u64) -> Result<Chain, u64>
     Ok(shared.exchange(seat, 0, None).unwrap())
 }
 
-// The seat that holds the chain announces the end, if it has come.
+// Announces the end, if it has come. The seat holds the chain.
 fn announce(seat: &mut CrewSeat, crew: &Crew, ended: bool)
     requires own { IsSeatOf crew.now.table seat.old.table_id }
     requires holds { HoldsNow crew.now.setting seat.old.me }
@@ -93,7 +93,7 @@ fn announce(seat: &mut CrewSeat, crew: &Crew, ended: bool)
     }
 }
 
-// The seat gives the chain back, which was given one report more.
+// Gives back the chain, which was given one more report.
 fn give_chain(seat: &mut CrewSeat, crew: &Crew, half: u64, chain: Chain)
     requires own { IsSeatOf crew.now.table seat.old.table_id }
     requires holds { HoldsNow crew.now.setting seat.old.me × (seat.old.me.0.seen ≡ 2 * half + 1) }
@@ -121,8 +121,8 @@ impl Place {
         self.seen
     }
 
-    // Files a report where the turn number is the one expected. Else the report comes back, with
-    // the number that was found.
+    // Files a report where the turn number is the one expected. Otherwise the report comes back,
+    // with the number that was found.
     fn take_turn(&mut self, crew: &Crew, half: u64, report: Report) -> Result<Filed, (Report, u64)>
         requires own { IsPlaceOf crew.now self.old }
         requires lawful { IsLawfulOf self.old.setting report }
@@ -148,8 +148,8 @@ impl Place {
         }
     }
 
-    /// Files a report where the turn number is the one expected. Else the report comes back, with
-    /// the number that was found.
+    /// Files a report where the turn number is the one expected. Otherwise the report comes back,
+    /// with the number that was found.
     pub(crate) fn file(&mut self, crew: &Crew, report: Report) -> Result<Filed, (Report, u64)>
         requires own { IsPlaceOf crew.now self.old }
         requires lawful { IsLawfulOf self.old.setting report }
@@ -171,7 +171,7 @@ impl Place {
         }
     }
 
-    /// Whether the ending word is 1.
+    /// Returns whether the ending word is 1.
     pub(crate) fn reads_end(&mut self, crew: &Crew) -> bool
         requires own { IsPlaceOf crew.now self.old }
         ensures read { self.new ≡ record self.old { read = result } }

@@ -1,4 +1,4 @@
-// The rule of the crew's table, and what each step on it tells the seat that makes it.
+//! The rule of the crew's table, and what each step on it tells the seat that makes it.
 use crate::view::{CrewSetting, CrewView};
 use atomic_table::{Join, Play, Seat, Split, Table, TableRule};
 use spf_cells_key::key::GhostKey;
@@ -16,7 +16,7 @@ impl TableRule<Option<Chain>, CrewView, GhostKey<CrewSetting>> for CrewRule {
     ghost first = { λ t. first t.value };
 }
 
-/// The try to take the chain.
+/// A try to take the chain.
 pub struct Takes;
 
 impl Play<Option<Chain>, CrewView> for Takes {
@@ -25,7 +25,7 @@ impl Play<Option<Chain>, CrewView> for Takes {
     ghost then = { IsTake };
 }
 
-/// The step on the turn word that changes it to itself.
+/// A step on the turn word that leaves it as it is.
 pub struct Looks;
 
 impl Play<Option<Chain>, CrewView> for Looks {
@@ -34,7 +34,7 @@ impl Play<Option<Chain>, CrewView> for Looks {
     ghost then = { IsLook };
 }
 
-/// The end is announced.
+/// The step that announces the end.
 pub struct Announces;
 
 impl Play<Option<Chain>, CrewView> for Announces {
@@ -43,7 +43,7 @@ impl Play<Option<Chain>, CrewView> for Announces {
     ghost then = { IsAnnounce };
 }
 
-/// The chain is given back.
+/// The step that gives the chain back.
 pub struct Gives;
 
 impl Play<Option<Chain>, CrewView> for Gives {
@@ -52,7 +52,7 @@ impl Play<Option<Chain>, CrewView> for Gives {
     ghost then = { IsGive };
 }
 
-/// The ending word is read.
+/// The step that reads the ending word.
 pub struct Reads;
 
 impl Play<Option<Chain>, CrewView> for Reads {
@@ -61,7 +61,7 @@ impl Play<Option<Chain>, CrewView> for Reads {
     ghost then = { IsRead };
 }
 
-/// A new mate gets the first number of the seat that is split.
+/// The step that gives a new mate the first number of the seat that is split.
 pub struct Enlists;
 
 impl Split<CrewView> for Enlists {
@@ -72,7 +72,7 @@ impl Split<CrewView> for Enlists {
     ghost right = { enlisted };
 }
 
-/// The numbers of another mate are taken over.
+/// The step that takes over the numbers of another mate.
 pub struct Dismisses;
 
 impl Join<CrewView> for Dismisses {

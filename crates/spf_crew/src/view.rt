@@ -1,4 +1,4 @@
-//! What a seat of the crew's table knows: plain data that stands in proofs and contracts alone. No
+//! What a seat of the crew's table knows: plain data that occurs in proofs and contracts alone. No
 //! value of these types is made at run time.
 use spf_cells::cells::Cells;
 use spf_speculation_entry::site::Site;
@@ -19,7 +19,7 @@ pub struct CrewView {
     pub setting: Option<CrewSetting>,
     /// The seat has the numbers of mates from this one on ..
     pub from: u64,
-    /// .. up to and without this one. With no number it holds nothing.
+    /// .. up to but excluding this one. With no number it holds nothing.
     pub to: u64,
     /// The turn number that it saw last.
     pub seen: u64,

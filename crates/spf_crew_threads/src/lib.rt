@@ -30,10 +30,10 @@ use std::alloc::AllocError;
 use std::sync::Wait;
 use std::thread::{Threads, for_each_mut};
 
-/// The most threads that run at once: as many as there may be workers.
+/// The most threads that run at the same time: as many as there may be workers.
 const MOST_THREADS: usize = 64;
 
-/// A mate takes turns until it has ended. It pauses where a turn was idle.
+/// Takes turns with a mate until it has ended, and pauses after an idle turn.
 fn drive<R: Wait, A: Attempter>(rt: &R, crew: &Crew, attempter: &A, mate: &mut Mate)
     requires own { IsMateOf crew.now mate.old }
     requires serves { A.serves crew.now.setting attempter.now }
@@ -49,7 +49,7 @@ fn drive<R: Wait, A: Attempter>(rt: &R, crew: &Crew, attempter: &A, mate: &mut M
     }
 }
 
-/// The mates take turns, each in a thread of its own, until each has ended.
+/// Lets the mates take turns, each in a thread of its own, until each has ended.
 fn in_threads<R: Threads + Wait + Sync, A: Attempter + Sync>(
     rt: &R,
     crew: &Crew,
@@ -73,7 +73,7 @@ fn in_threads<R: Threads + Wait + Sync, A: Attempter + Sync>(
     );
 }
 
-/// The same, where the attempts are those of a construct's blocks.
+/// Lets the mates take turns, each in a thread of its own, and attempt a construct's blocks.
 fn drive_blocks<
     R: Threads + Wait + Sync,
     I: HasInstance + Sync,
@@ -93,7 +93,7 @@ fn drive_blocks<
     in_threads(rt, crew, attempter, mates);
 }
 
-/// The same, where they are those of this job.
+/// Lets the mates take turns, each in a thread of its own, and attempt the blocks of this job.
 fn drive_all<R: Threads + Wait + Sync, G: Gate + Sync>(
     rt: &R,
     crew: &Crew,

@@ -12,9 +12,9 @@ use std::thread::Threads;
 pub struct Workers<'a, R: Threads + Wait + Sync, G: Gate + Sync> {
     /// What starts their threads.
     pub rt: &'a R,
-    /// Where their memory is taken from.
+    /// Where their memory is allocated.
     pub alloc: Global,
-    /// How many they are.
+    /// The number of workers.
     pub count: u64,
     /// What is called before and after each attempt.
     pub gate: &'a G,
@@ -22,7 +22,7 @@ pub struct Workers<'a, R: Threads + Wait + Sync, G: Gate + Sync> {
 }
 
 impl<'a, R: Threads + Wait + Sync, G: Gate + Sync> Workers<'a, R, G> {
-    /// So many workers.
+    /// Makes `count` workers.
     pub fn new(rt: &'a R, alloc: Global, count: u64, gate: &'a G) -> Workers<'a, R, G>
         requires few { (0 < count) × (count ≤ max_workers) }
         ensures count { result.count ≡ count }

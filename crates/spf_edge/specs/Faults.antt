@@ -2,6 +2,6 @@
 use Rattle.std.specs.Prelude.{ℕ, ◌≤◌}
 use Rattle.spf_ast_lemmas.specs.Counts.{one_more}
 
--- the count has risen, or stands at its last value
+-- the count has risen, or is at its largest value
 abbrev pub Rose : ℕ → ℕ → Type 0
 Rose before now = one_more before ≤ now

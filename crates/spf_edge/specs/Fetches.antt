@@ -19,7 +19,7 @@ pub record Fetch : Type 0 where
   pub limit : ℕ
   pub gave : Result (List ℕ) FetchError
 
--- a fetch of this name gives this: where the files are told, what they hold; and it fails only of a fault
+-- a fetch of this name gives this: where the files are told, what they hold; and it fails only because of a fault
 abbrev pub Gives : Option (List Entry) → Type 0 → List ℕ → ℕ → Result (List ℕ) FetchError → Type 0
 Gives told Fault name limit (Ok content) = HasContent told name content × (length content ≤ limit)
 Gives told Fault name limit (Err Missing) = IsMissing told name
@@ -30,7 +30,7 @@ Gives told Fault name limit (Err OutOfMemory) = ⊤
 abbrev pub IsGiven : Option (List Entry) → Type 0 → Fetch → Type 0
 IsGiven told Fault fetch = Gives told Fault fetch.name fetch.limit fetch.gave
 
--- these names were fetched, in order: where they are told now, they were told before, and these have come to their end
+-- these names were fetched, in order: where they are told now, they were told before, and these were added at their end
 abbrev pub HasFetched : Option (List (List ℕ)) → Option (List (List ℕ)) → List (List ℕ) → Type 0
 HasFetched old new names = (all : List (List ℕ)) → new ≡ Some all → (before : List (List ℕ)) × (old ≡ Some before) × (all ≡ before ++ names)
 

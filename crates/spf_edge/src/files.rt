@@ -1,4 +1,4 @@
-// Where files come from.
+//! Where files come from.
 ghost use Rattle.std.specs.Prelude.{◌≡◌, [], ◌∷◌, Err};
 ghost use Rattle.spf_edge.specs.declared.files.FetchError.TheVariants.{OutOfMemory};
 ghost use Rattle.spf_edge.specs.Entries.{IsMissing};
@@ -35,10 +35,10 @@ impl From<AllocError> for FetchError {
 /// A place that files are read from, by name.
 pub trait Files {
     /// What they tell: names and contents, and the names that were fetched so far, where they tell
-    /// them; and how often a fetch has failed, a count that stops at its last value.
+    /// them; and how often a fetch has failed, a count that saturates.
     ghost state: { Self → FilesState };
 
-    /// The whole content of the file of that name, of at most `limit` bytes.
+    /// Fetches the whole content of the file of that name, of at most `limit` bytes.
     fn fetch(&mut self, alloc: Global, name: &str, limit: u64) -> Result<Vec<u8>, FetchError>
         // This one fetch was made, and gave what the files hold, where they tell it.
         ensures made { AreMade (state self.old) (state self.new)

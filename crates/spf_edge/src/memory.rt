@@ -1,4 +1,4 @@
-// Files and a sink in memory, for tests: the calls that fail are told beforehand.
+//! Files and a sink in memory, for tests: the calls that fail are told beforehand.
 ghost use Rattle.std.specs.Prelude.{find, bytes_eq, string_bytes, ◌≡◌, ◌≢◌, ◌↔◌, ℕ, [], Some, None};
 ghost use Rattle.std.specs.Prelude.{Err, IfOk, OnOk, IsErr, IfErr, vec_len, Contains, IsSome, ◌+◌};
 ghost use Rattle.std.specs.Prelude.{◌++◌, option_map, map, option_copied, ◌∷◌, List, take, length};
@@ -74,7 +74,8 @@ impl MemFiles {
         }
     }
 
-    /// The names that were fetched so far, in order; `None` once there was no memory for one.
+    /// Returns the names that were fetched so far, in order; `None` once there was no memory for
+    /// one.
     pub fn fetches(&self) -> Option<&[String]>
         ensures { option_map (map string_bytes) (option_copied result) ≡ self.now.fetches }
     {
@@ -179,7 +180,7 @@ impl Model for MemSink {
 }
 
 impl MemSink {
-    /// An empty sink. The calls of `put` whose numbers, from 0, are in `failing` fail, and no
+    /// Makes an empty sink. The calls of `put` whose numbers, from 0, are in `failing` fail, and no
     /// others do. A put that fails first takes `keeps` bytes of its piece, or the whole piece where
     /// that is shorter. It takes no memory.
     pub fn make(failing: Vec<u64>, keeps: u64) -> MemSink
@@ -202,14 +203,14 @@ impl MemSink {
         }
     }
 
-    /// The bytes taken so far.
+    /// Returns the bytes taken so far.
     pub fn bytes(&self) -> &[u8]
         ensures { result.now ≡ self.now.taken }
     {
         &self.bytes
     }
 
-    /// The puts so far, but for those for which there was no memory.
+    /// Returns the puts so far, but for those for which there was no memory.
     pub fn puts(&self) -> &[PutMade]
         ensures { puts_of result.now ≡ self.now.puts }
     {

@@ -1,4 +1,4 @@
-// The machine's files and standard streams. They tell nothing of what they hold.
+//! The machine's files and standard streams. They tell nothing of what they hold.
 ghost use Rattle.std.specs.Prelude.{◌≡◌, ◌≢◌, ◌<◌, ◌≤◌, length, vec_len, IfOk, OnOk, IfSome};
 ghost use Rattle.std.specs.Prelude.{IfNone, None, Err};
 ghost use Rattle.spf_edge.specs.Faults.{Rose};
@@ -27,7 +27,7 @@ impl<'a, R> Model for RealFiles<'a, R> {
 }
 
 impl<'a, R: rt::Files> RealFiles<'a, R> {
-    /// The files of this machine, with no fault so far.
+    /// Makes the files of this machine, with no fault so far.
     pub fn make(machine: &'a R) -> RealFiles<'a, R>
         ensures { result ≡ 0 }
     {
@@ -105,7 +105,7 @@ impl Write for StandardStream {
     }
 }
 
-/// A stream of the machine as a sink. One that takes nothing of a piece that isn't empty has
+/// A stream of the machine as a sink. A stream that takes nothing of a piece that isn't empty has
 /// failed.
 #[derive(Drop)]
 pub struct RealSink<W = StandardStream> {
@@ -116,7 +116,7 @@ pub struct RealSink<W = StandardStream> {
 impl<W: Write> RealSink<W> {
     ghost use Rattle.spf_edge.specs.Streams.{stream_of, failure_count};
 
-    /// A sink that writes to this stream, with no fault so far.
+    /// Makes a sink that writes to this stream, with no fault so far.
     pub fn make(stream: W) -> RealSink<W>
         ensures stream { stream_of result ≡ stream }
         ensures faults { failure_count result ≡ 0 }
@@ -125,7 +125,7 @@ impl<W: Write> RealSink<W> {
     }
 }
 
-// Writes the whole piece, and hands it on at once.
+// Writes the whole piece, and flushes the stream.
 fn write_piece<W: Write>(stream: &mut W, piece: &[u8]) -> io::Result<()>
     ensures { OnOk result (Appends (W.contents stream.old) (W.contents stream.new) piece.now) }
 {

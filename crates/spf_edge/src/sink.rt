@@ -1,4 +1,4 @@
-// Where output goes.
+//! Where output goes.
 ghost use Rattle.std.specs.Prelude.{◌≡◌, ◌≤◌, Err, OnOk};
 ghost use Rattle.spf_edge.specs.declared.sink.PutError.TheVariants.{OutOfMemory};
 ghost use Rattle.spf_edge.specs.Bytes.{Adds, AddsPrefix};
@@ -30,7 +30,7 @@ impl From<AllocError> for PutError {
 /// A device that takes bytes, one piece after another.
 pub trait Sink {
     /// What it tells: the bytes taken and the puts so far, where it tells them, and how often a put
-    /// has failed; this count stops at its last value.
+    /// has failed, a count that saturates.
     ghost state: { Self → SinkState };
 
     /// Takes the piece, after what was taken before.

@@ -58,7 +58,7 @@ put-none bytes state = record {
 concat-last : (front : List (List ℕ)) (piece : List ℕ) → concat (front ++ piece ∷ []) ≡ concat front ++ piece
 concat-last front piece = concat-append front (piece ∷ []) ∙ ap (λ bytes. concat front ++ bytes) (append-nil piece)
 
--- one piece more on a sink
+-- one more piece on a sink
 pub taken-more : (front : List (List ℕ)) (piece : List ℕ) (before between now : SinkState) → AreTaken front before between → Adds between.taken now.taken piece → HasPut between.puts now.puts (taken_whole piece ∷ []) → AreTaken (front ++ piece ∷ []) before now
 taken-more front piece before between now t took put = record {
   took = subst (Adds before.taken now.taken) (sym (concat-last front piece)) (adds_both before.taken between.taken now.taken (concat front) piece t.took took);
@@ -112,7 +112,7 @@ cut-both (answer ∷ first) second pieces others (own, rest, split, cut, each) t
 pub cut-one : (text : List ℕ) (pieces : List (List ℕ)) → AreCut text pieces → AreCutEach (text ∷ []) pieces
 cut-one text pieces cut = (pieces, [], sym (append-nil pieces), cut, refl)
 
--- one piece more of the bytes
+-- one more piece of the bytes
 pub put-more : (bytes rest piece others : List ℕ) (before between now : SinkState) → IsPutUpTo bytes rest before between → rest ≡ piece ++ others
     → 0 < length piece → length piece ≤ piece_size → (0 < length others → length piece ≡ piece_size)
     → Adds between.taken now.taken piece → HasPut between.puts now.puts (taken_whole piece ∷ []) → between.faults ≤ now.faults → IsPutUpTo bytes others before now

@@ -17,7 +17,7 @@ or_none false = refl
 pub nothing_more : (list : List Range) → Joins [] list list
 nothing_more list = record { offsets = refl; wholes = refl }
 
--- one range more
+-- one more range
 pub one_more : (r : Range) (old new : List Range) → offsets_of new ≡ joined r (offsets_of old) → wholes_of new ≡ whole_joined r (wholes_of old) → Joins (r ∷ []) old new
 one_more r old new h k = record {
   offsets = h ∙ (λ i array f o. ◌||◌ (sym (or_none (has_offset r array f o)) i) (offsets_of old array f o));
@@ -40,7 +40,7 @@ read_range (Ok x) array f low high uncovered may written new bare h k = record {
 }
 read_range (Err e) array f low high uncovered may written new bare h k = tt
 
--- an array somewhere into which a write may go
+-- an array into which a write may go at any place
 pub write_whole : {E : Type 0} (result : Result (Unit {0}) E) (array : ℕ) (uncovered may written new : List Range) → OnOk result (offsets_of new ≡ joined (Whole array) (offsets_of may)) → OnOk result (wholes_of new ≡ whole_joined (Whole array) (wholes_of may)) → OnOk result (Extends (may_write_whole array) (record { uncovered = uncovered; may = may; written = written }) (record { uncovered = uncovered; may = new; written = written }))
 write_whole (Ok x) array uncovered may written new h k =
     record { uncovered = nothing_more uncovered; may = one_more (Whole array) may new h k; written = refl; wholes = refl }

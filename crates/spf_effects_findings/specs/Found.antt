@@ -65,12 +65,13 @@ writes_element array Unknown w = may_write_whole array w
 writes_element array (Known f l h) w =
     record { uncovered = []; may = Affine array f l h ∷ []; written = if int_eq l h then joined (Affine array f l h) w else w }
 
--- a write that may go to the elements from an offset of at least l up to, without, one of at most i
+-- a write that may go to the elements from an offset of at least l up to but excluding one of at most i
 abbrev pub may_write_between : ℕ → (f l i : ℤ) → Finds
 may_write_between array f l i w =
     record { uncovered = []; may = if int_lt l i then Affine array f l (i -ℤ pos 1) ∷ [] else []; written = w }
 
--- a write that surely goes to the elements from an offset between l and h up to, without, one between m and i, where each is one offset
+-- a write that surely goes to the elements from an offset between l and h up to but excluding one between m and i,
+-- where each end is a single offset
 abbrev pub surely_writes_between : ℕ → (f l h m i : ℤ) → Finds
 surely_writes_between array f l h m i w = record {
   uncovered = [];

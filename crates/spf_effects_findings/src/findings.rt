@@ -14,7 +14,7 @@ use spf_region::range::Range;
 use std::alloc::{AllocError, Global};
 use std::marker::Model;
 
-/// Whether two offsets are one.
+/// Returns whether two offsets are equal.
 fn is_same(low: i64, high: i64) -> bool
     ensures { result ≡ int_eq low high }
 {
@@ -30,14 +30,14 @@ fn copied(alloc: Global, list: &RangeList) -> Result<RangeList, AllocError>
     list.join(alloc, &none)
 }
 
-/// The last offset from `first` up to, without, `end`, where there is one.
+/// The last offset from `first` up to but excluding `end`, where there is one.
 fn last_between(first: i64, end: i64) -> Option<i64>
     ensures { result ≡ (if int_lt first end then Some (end -ℤ pos 1) else None) }
 {
     if first < end { Some(end - 1) } else { None }
 }
 
-/// The last offset of a range, where each end is one offset and the range isn't empty.
+/// Returns the last offset of a range, where each end is one offset and the range isn't empty.
 pub fn last_of_one(low: i64, high: i64, end_low: i64, end_high: i64) -> Option<i64>
     ensures { result
         ≡ (if int_eq low high && (int_eq end_low end_high && int_lt low end_low)
@@ -73,7 +73,7 @@ impl Model for Findings {
 }
 
 impl Findings {
-    /// Nothing is found yet.
+    /// Makes findings with nothing in them.
     pub fn new(alloc: Global) -> Findings
         ensures { result ≡ record { uncovered = []; may = []; written = [] } }
     {
@@ -84,7 +84,7 @@ impl Findings {
         }
     }
 
-    /// A range is surely written, too.
+    /// Adds a range to what is surely written.
     pub fn surely_write(&mut self, alloc: Global, range: Range) -> Result<(), AllocError>
         requires affine { (array : ℕ) → is_whole range array ≡ false }
         ensures { OnOk result (IsSwept (joined range) self.old self.new) }
@@ -92,7 +92,7 @@ impl Findings {
         self.written.add(alloc, range)
     }
 
-    /// A list of what is surely written so far.
+    /// Returns a list of what is surely written so far.
     pub fn surely_written(&self, alloc: Global) -> Result<RangeList, AllocError>
         ensures offsets { IfOk result (λ copy. offsets_of copy ≡ offsets_of self.now.written) }
         ensures wholes { IfOk result (λ copy. wholes_of copy ≡ wholes_of self.now.written) }
@@ -109,8 +109,8 @@ impl Findings {
         std::mem::replace(&mut self.written, written)
     }
 
-    /// A loop ends. What its body wrote isn't sure, so this list, from before it, is what is surely
-    /// written.
+    /// Ends a loop. What its body wrote isn't sure, so this list, from before the loop, is what is
+    /// surely written.
     pub fn leave_loop(&mut self, before: RangeList)
         ensures { self.new
             ≡ record { uncovered = self.old.uncovered; may = self.old.may; written = before } }
@@ -118,7 +118,7 @@ impl Findings {
         self.written = before;
     }
 
-    /// Keeps of what is surely written only what the other list has too.
+    /// Keeps only that part of what is surely written which the other list has too.
     pub fn keep_common(&mut self, alloc: Global, other: &RangeList) -> Result<(), AllocError>
         ensures { OnOk result (KeepsCommon other.now self.old self.new) }
     {
@@ -127,7 +127,7 @@ impl Findings {
         Ok(())
     }
 
-    /// An element is read whose index has this bound.
+    /// Adds a read of an element whose index has this bound.
     pub fn read_element(
         &mut self,
         alloc: Global,
@@ -153,14 +153,14 @@ impl Findings {
         }
     }
 
-    /// Some element of an array may be written.
+    /// Adds that any element of an array may be written.
     fn may_write_whole(&mut self, alloc: Global, array: u32) -> Result<(), AllocError>
         ensures { OnOk result (Extends (may_write_whole array) self.old self.new) }
     {
         self.may.add(alloc, Range::Whole { array })
     }
 
-    /// An element is written whose index has this bound.
+    /// Adds a write of an element whose index has this bound.
     pub fn write_element(
         &mut self,
         alloc: Global,
@@ -187,7 +187,7 @@ impl Findings {
         }
     }
 
-    /// Elements from `first` up to, without, `end` may be written.
+    /// Adds that the elements from `first` up to but excluding `end` may be written.
     fn may_write_between(
         &mut self,
         alloc: Global,
@@ -213,8 +213,8 @@ impl Findings {
         }
     }
 
-    /// Elements from an offset between `low` and `high` up to, without, one between `end_low` and
-    /// `end_high` are surely written, where each is one offset.
+    /// Adds that the elements from an offset between `low` and `high` up to but excluding one
+    /// between `end_low` and `end_high` are surely written, where each end is a single offset.
     fn surely_write_between(
         &mut self,
         alloc: Global,
@@ -242,8 +242,8 @@ impl Findings {
         }
     }
 
-    /// Elements from an offset between `low` and `high` up to, without, one between `end_low` and
-    /// `end_high` are written.
+    /// Adds a write of the elements from an offset between `low` and `high` up to but excluding one
+    /// between `end_low` and `end_high`.
     fn write_between(
         &mut self,
         alloc: Global,
@@ -261,7 +261,7 @@ impl Findings {
         self.surely_write_between(alloc, array, factor, low, high, end_low, end_high)
     }
 
-    /// A range is written whose ends have these bounds; the last end is outside of it.
+    /// Adds a write of a range whose ends have these bounds; the last end is excluded.
     pub fn write_range(
         &mut self,
         alloc: Global,

@@ -125,7 +125,7 @@ known-where p input extents k bytes scoped place le calls slots block = record {
   callable = λ f count c. callable-made p scoped place f count le c.0 c.1;
 }
 
--- and so do calls of one function more
+-- and so do calls of one more function
 next-meet : (p : Program) (input : List ℕ) (extents : List Extent) (k : ℤ) → ((i : ℕ) → i < length input → slice_index input i < 256) → IsScoped p → (place : ℕ) → CallsMeet p input extents k place → CallsMeet p input extents k (suc place)
 next-meet p input extents k bytes scoped place calls f bounds values s below params within = choose (f == place) refl
   where

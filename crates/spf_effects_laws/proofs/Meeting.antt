@@ -55,7 +55,8 @@ EndsWith g k w post (Trapped t out) done = Unit {0}
 pub record Meets {A : Type 0} (g : List Extent) (k : ℤ) (finds : Finds) (post : A → State → List ℕ → Type 0) (t : Interaction (Ending A)) : Type 0 where
   pub holds : (w : Offsets) (done : List ℕ) → AreStored g k w done → Keeps (IsAmong g k (finds w).may) (IsAmong g k (finds w).uncovered) (EndsWith g k (finds w).written post) done t
 
--- an end of a statement: where it goes on, all that is surely written is stored; where it broke off, or trapped, that isn't so
+-- an end of a statement: where it goes on, all that is surely written is stored; where it broke off, or trapped, that
+-- isn't required
 abbrev pub LeavesWith : List Extent → ℤ → Offsets → (onward broken : State → List ℕ → Type 0) → Ending Flow → List ℕ → Type 0
 LeavesWith g k w onward broken (Value Onward s) done = AreStored g k w done × onward s done
 LeavesWith g k w onward broken (Value Broken s) done = broken s done

@@ -1,4 +1,4 @@
-// Bounds of operators, and of the names of loops.
+//! Bounds of operators, and of the names of loops.
 ghost use Rattle.std.specs.Prelude.{◌≡◌, ◌-ℤ◌, pos};
 ghost use Rattle.spf_region.specs.Bounds.{kept};
 ghost use Rattle.spf_effects_findings.specs.Forms.{binary_bound};
@@ -21,7 +21,7 @@ pub(crate) fn binary_bound(op: Op, left: Bound, right: Bound) -> Bound
     }
 }
 
-/// Whether a loop between these ends makes no turn at any block.
+/// Returns whether a loop between these ends makes no turn in any block.
 pub(crate) fn has_no_turn(low: Bound, high: Bound) -> bool
     ensures { result ≡ has_no_turn low high }
 {

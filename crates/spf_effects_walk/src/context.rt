@@ -19,7 +19,7 @@ use std::alloc::{AllocError, Global};
 /// somewhere in the present one.
 #[derive(Clone, Copy)]
 pub struct Context<'a> {
-    /// Where memory is taken from.
+    /// Where memory is allocated.
     pub alloc: Global,
     /// The program's functions.
     pub functions: &'a [Function],

@@ -27,7 +27,7 @@ impl Model for SlotSet {
 }
 
 impl SlotSet {
-    /// The empty set. It takes no memory.
+    /// Makes the empty set. It takes no memory.
     pub fn new(alloc: Global) -> SlotSet
         ensures { result ≡ [] }
     {
@@ -36,7 +36,7 @@ impl SlotSet {
         }
     }
 
-    /// Whether a slot is in the set.
+    /// Returns whether a slot is in the set.
     pub fn contains(&self, slot: usize) -> bool
         ensures { result ≡ has_slot self.now slot }
     {
@@ -93,7 +93,7 @@ pub struct Slots {
     pub declared: SlotSet,
 }
 
-/// The slots of a block.
+/// Returns the slots of a block.
 ///
 /// # Errors
 ///

@@ -10,7 +10,7 @@ ghost use Rattle.spf_effects_walk.specs.SlotSets.{has_slot};
 use crate::slot_sets::SlotSet;
 use spf_ast::syntax::{Fold, Pair, Stmt, StmtKind};
 
-/// Whether one of these statements, or one within them, emits.
+/// Returns whether one of these statements, or one within them, emits.
 #[cycle(emits)]
 pub fn emits(statements: &[Stmt]) -> bool
     ensures { result ≡ emits (seen_block statements.now) }
@@ -23,7 +23,7 @@ pub fn emits(statements: &[Stmt]) -> bool
     false
 }
 
-/// Whether a statement, or one within it, emits.
+/// Returns whether a statement, or one within it, emits.
 #[cycle(emits)]
 fn statement_emits(kind: &StmtKind) -> bool
     ensures { result ≡ statement_emits (seen_statement kind.now) }
@@ -45,7 +45,7 @@ fn statement_emits(kind: &StmtKind) -> bool
     }
 }
 
-/// Whether the body of a fold emits.
+/// Returns whether the body of a fold emits.
 #[cycle(emits)]
 fn fold_emits(fold: &Fold) -> bool
     ensures { result ≡ emits (seen_block (out-Fold fold.now).body.items) }
@@ -53,7 +53,7 @@ fn fold_emits(fold: &Fold) -> bool
     emits(&fold.body)
 }
 
-/// Whether the producer or the consumer of a pair emits.
+/// Returns whether the producer or the consumer of a pair emits.
 #[cycle(emits)]
 fn pair_emits(pair: &Pair) -> bool
     ensures { result
@@ -63,7 +63,8 @@ fn pair_emits(pair: &Pair) -> bool
     emits(&pair.producer) || emits(&pair.consumer)
 }
 
-/// Whether one of these statements, or one within them, assigns a slot that isn't among these.
+/// Returns whether one of these statements, or one within them, assigns a slot that isn't among
+/// these.
 #[cycle(assigns)]
 pub fn assigns_other(statements: &[Stmt], declared: &SlotSet) -> bool
     ensures { result
@@ -77,7 +78,7 @@ pub fn assigns_other(statements: &[Stmt], declared: &SlotSet) -> bool
     false
 }
 
-/// Whether a statement, or one within it, assigns a slot that isn't among these.
+/// Returns whether a statement, or one within it, assigns a slot that isn't among these.
 #[cycle(assigns)]
 fn statement_assigns_other(kind: &StmtKind, declared: &SlotSet) -> bool
     ensures { result
@@ -102,7 +103,7 @@ fn statement_assigns_other(kind: &StmtKind, declared: &SlotSet) -> bool
     }
 }
 
-/// Whether the body of a fold assigns a slot that isn't among these.
+/// Returns whether the body of a fold assigns a slot that isn't among these.
 #[cycle(assigns)]
 fn fold_assigns_other(fold: &Fold, declared: &SlotSet) -> bool
     ensures { result
@@ -112,7 +113,7 @@ fn fold_assigns_other(fold: &Fold, declared: &SlotSet) -> bool
     assigns_other(&fold.body, declared)
 }
 
-/// Whether the producer or the consumer of a pair assigns a slot that isn't among these.
+/// Returns whether the producer or the consumer of a pair assigns a slot that isn't among these.
 #[cycle(assigns)]
 fn pair_assigns_other(pair: &Pair, declared: &SlotSet) -> bool
     ensures { result
@@ -124,7 +125,7 @@ fn pair_assigns_other(pair: &Pair, declared: &SlotSet) -> bool
     assigns_other(&pair.producer, declared) || assigns_other(&pair.consumer, declared)
 }
 
-/// Whether one of these statements is a `break` that ends a loop around them, or holds one.
+/// Returns whether one of these statements is a `break` that ends a loop around them, or holds one.
 #[cycle(breaks)]
 pub(crate) fn breaks(statements: &[Stmt]) -> bool
     ensures { result ≡ breaks (seen_block statements.now) }
@@ -137,7 +138,8 @@ pub(crate) fn breaks(statements: &[Stmt]) -> bool
     false
 }
 
-/// Whether a statement is a `break`, or holds one that isn't in a loop or a construct within it.
+/// Returns whether a statement is a `break`, or holds one that isn't in a loop or a construct
+/// within it.
 #[cycle(breaks)]
 fn statement_breaks(kind: &StmtKind) -> bool
     ensures { result ≡ statement_breaks (seen_statement kind.now) }

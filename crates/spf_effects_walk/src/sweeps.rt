@@ -1,4 +1,4 @@
-// Sweeps: stores that each turn of a loop makes, at the loop's name or at a distance from it.
+//! Sweeps: stores that each turn of a loop makes, at the loop's name or at a distance from it.
 ghost use Rattle.std.specs.Prelude.{◌≡◌, ℤ, ◌+ℤ◌, if◌then◌else◌, ◌≤◌, ◌^◌, List, OnOk, Some, None};
 ghost use Rattle.std.specs.Prelude.{IfSome, MatchOption, unsigned_abs};
 ghost use Rattle.spf_region.specs.Bounds.{is_small};
@@ -17,7 +17,7 @@ use spf_region::bound::Bound;
 use spf_region::range::Range;
 use std::alloc::{AllocError, Global};
 
-/// A sweep with an offset of greater size isn't kept.
+/// A sweep with an offset of greater magnitude isn't kept.
 const LIMIT: i128 = 1 << 40;
 
 fn is_small(n: i128) -> bool

@@ -1,4 +1,4 @@
--- How far a run has come, and how much it has counted.
+-- How far a run has got, and how much it has counted.
 use Rattle.std.proofs.Common.{◌≡◌, ℕ, suc, ◌+◌, ◌-◌, ◌*◌, ◌<◌, ◌≤◌, Bool, true, false, length, refl, sym, ap, ◌∙◌, subst, arith}
 use Rattle.std.specs.Prelude.{◌^◌, Some}
 use Rattle.spf_ast.specs.Syntax.{Block, end, on_line, Program}
@@ -12,7 +12,7 @@ use Rattle.spf_engine.specs.Runs.{AreFew}
 use Rattle.spf_engine_laws.proofs.Fronts.{front-constructs}
 use Rattle.spf_engine_laws.proofs.Constructs.{stands-before, rest-next, counts-first}
 
--- ---- how far a run has come
+-- ---- how far a run has got
 
 front-counts : (b : Block) → statement_count (from_construct b) ≤ statement_count b
 front-counts end = omega arith

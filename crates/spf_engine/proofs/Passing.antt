@@ -52,7 +52,7 @@ pub record IsLeftThere (after now : Stand) : Type 0 where
   pub place : now.place ≡ after.place
 
 -- A construct was entered, its blocks came to this, and the run was settled with it. Then the run goes on past it, or
--- has come to its end, with what the construct adds to its progress.
+-- has reached its end, with what the construct adds to its progress.
 pub goes-past-blocks : ConstructsSettle → ConstructsEndRuns → (hosts : Hosts) (p : Program) (input : List ℕ) (after now last : Stand) (progress : Progress) (c : Construct) (h : Header) (settled : Settled) (taken : Step)
     → HasEntered hosts p input c h after progress → FunctionsAreSilent p.functions → KeepsTheRules p c → IsLeftThere after now
     → BlocksComeTo (entry_there p input c h after) (result_as settled) now.cells → IsSettledSo p c now last settled taken

@@ -50,7 +50,7 @@ told-first hosts p input s progress now goes told =
     let on = tells-on hosts p input (constructs_in (ahead p s)) (reached_from (environment_of p input) (ahead p s) goes.moment) progress.telling in
     record { telling = progress.telling; more = on.more; all = on.all ∙ goes.completes.telling_is; told = told }
 
--- those of a run that has come to its end were told all
+-- those of a run that has reached its end were told all
 pub told-all : (hosts : Hosts) (p : Program) (input : List ℕ) (telling : List Telling) (now : Hosts) → telling ≡ (tally hosts p input).telling → WereTold hosts telling now → WereToldFirst hosts p input now
 told-all hosts p input telling now is told = record { telling = telling; more = []; all = append-nil telling ∙ is; told = told }
 

@@ -37,18 +37,18 @@ abbrev pub IsSettledSo : Program → Construct → Stand → Stand → Settled �
 IsSettledSo p c before after (Carried value) taken = (taken ≡ step.Next) × IsSettled p c before after value
 IsSettledSo p c before after (Trapped trap) taken = (taken ≡ step.Trapped trap) × (after ≡ before)
 
--- each construct that a run went over has counted at most so much
+-- each construct that a run went over has counted at most `max_blocks`
 abbrev pub AreFew : Program → Stand → Stats → Type 0
 AreFew p s counted = AreAtMost counted (max_blocks * (length (constructs_in p.main) - length (constructs_in (ahead p s))))
 
--- where the run goes on, fewer statements are still to come, and each construct before it has counted so much at most
+-- where the run goes on, fewer statements are still to come, and each construct before it has counted at most `max_blocks`
 abbrev pub GoesFurther : Program → Step → Stand → Stand → Stats → Type 0
 GoesFurther p step.Next before after counted = (statement_count (ahead p after) < statement_count (ahead p before)) × AreFew p after counted
 GoesFurther p _ before after counted = Unit {0}
 
--- ---- where a run has come to
+-- ---- where a run stands
 
--- a run has come to a construct and done its header, which left it here
+-- a run has reached a construct and done its header, which left it here
 pub record HasEntered (hosts : Hosts) (p : Program) (input : List ℕ) (c : Construct) (h : Header) (s : Stand) (progress : Progress) : Type 0 where
   pub before : Stand
   pub goes : GoesOn hosts p input before progress
@@ -56,7 +56,7 @@ pub record HasEntered (hosts : Hosts) (p : Program) (input : List ℕ) (c : Cons
   pub header : EndsAt p (header_means (environment_of p input) c) before s h
   pub place : s.place ≡ before.place
 
--- so it is where a run arrives
+-- this holds where a run arrives
 abbrev pub IsArrived : Hosts → Program → List ℕ → Arrival → Stand → Progress → Type 0
 IsArrived hosts p input (AtBlocks number c header) s progress = HasEntered hosts p input (seen_construct c) (seen_header header) s progress
 IsArrived hosts p input (Over taken) s progress = IsThere hosts p input taken s progress
@@ -70,7 +70,7 @@ pub record IsReadyAt (p : Program) (number : ℕ) (c : Construct) (header : code
   pub few : header.blocks ≤ max_blocks
   pub fits : (header.low +ℤ pos header.blocks) ≤ℤ pos 9223372036854775807
 
--- so it is where a run arrives at blocks
+-- this holds where a run arrives at blocks
 abbrev pub CanBeRun : Program → Arrival → Stand → Type 0
 CanBeRun p (AtBlocks number c header) s = IsReadyAt p number (seen_construct c) header s
 CanBeRun p (Over taken) s = Unit {0}

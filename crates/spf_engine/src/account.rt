@@ -17,7 +17,7 @@ pub(crate) struct Account {
 }
 
 impl Account {
-    /// That of a run that begins.
+    /// The account of a run that begins.
     pub(crate) fn new(alloc: Global) -> Account
         ensures stats { result.stats ≡ no_blocks }
         ensures traces { result.traces.items ≡ [] }
@@ -28,7 +28,7 @@ impl Account {
         }
     }
 
-    /// Adds what a construct counted, and its trace.
+    /// Adds the statistics of a construct, and its trace.
     pub(crate) fn add(&mut self, stats: Stats, trace: Trace) -> Result<(), AllocError>
         requires few { AreAtMost (both self.old.stats stats) most_counted }
         ensures stats { IfOk result (λ u. self.new.stats ≡ both self.old.stats stats) }

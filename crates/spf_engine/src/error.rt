@@ -1,4 +1,4 @@
-//! Why a run doesn't come to its end.
+//! Why a run doesn't reach its end.
 ghost use Rattle.std.specs.Prelude.{◌≡◌};
 ghost use Rattle.spf_engine.specs.declared.error.EngineError.TheVariants as engine_error;
 

@@ -35,7 +35,7 @@ use std::alloc::{AllocError, Global};
 use std::sync::Wait;
 use std::thread::Threads;
 
-/// How a whole run came out.
+/// The result of a whole run.
 #[derive(Drop)]
 pub struct RunReport {
     /// The output, and the cells or the trap.
@@ -136,8 +136,8 @@ pub fn run_instance<R: Threads + Wait + Sync, G: Gate + Sync>(
 ///
 /// # Errors
 ///
-/// `TooManyCells` where the arrays have more cells than a run of the program's version may have, and
-/// `OutOfMemory`.
+/// `TooManyCells` where the arrays have more cells than a run of the program's version may have,
+/// and `OutOfMemory`.
 fn lay_out<'a>(
     alloc: Global,
     checked: &'a Checked,
@@ -164,7 +164,8 @@ fn lay_out<'a>(
     }
 }
 
-/// The instance of an accepted program that runs on an input, where so many hosts are supplied.
+/// Sets up the instance of an accepted program that runs on an input, where `hosts` hosts are
+/// supplied.
 ///
 /// # Errors
 ///
@@ -198,9 +199,9 @@ pub fn set_up<'a>(
 }
 
 /// Runs an accepted program on an input by blocks, each from its guess, and those again whose
-/// guesses were wrong. What comes of it is the plain outcome, whatever the guesses are, and however
-/// the attempts of the 1 to 64 workers interleave. Each worker has a thread of its own; where one
-/// can't be started, the calling thread does its work. The call waits until all have ended.
+/// guesses were wrong. The result is the plain outcome, whatever the guesses are, and however the
+/// attempts of the 1 to 64 workers interleave. Each worker has a thread of its own; where one can't
+/// be started, the calling thread does its work. The call waits until all have ended.
 ///
 /// `hosts` are the predictors that the program names by number. Each is asked once for each part
 /// that names it of each block but the first, in the order of blocks and then of parts, before the
@@ -266,7 +267,8 @@ pub fn run_whole<'a, R: Threads + Wait + Sync, G: Gate + Sync>(
     Ok((instance, report))
 }
 
-/// The same, where the instance is of no further use.
+/// Runs an accepted program on an input by blocks, as [`run_whole`] does, and gives the report
+/// alone.
 ///
 /// # Errors
 ///

@@ -1,5 +1,5 @@
 //! Steps of a run: from one construct past the next. A run goes up to each construct by itself, and
-//! past it where it has no blocks; who runs the blocks settles it with what they came to.
+//! past it where it has no blocks; whoever runs the blocks settles it with what they came to.
 ghost use Rattle.std.specs.Prelude.{◌≡◌, ◌<◌, ◌≤◌, ◌+◌, length, Some, slice_get, IfOk};
 ghost use Rattle.spf_ast.specs.View.{program as seen_program};
 ghost use Rattle.spf_ast.specs.ConstructView.{construct as seen_construct};
@@ -28,7 +28,7 @@ pub enum Step {
     Trapped(Trap),
 }
 
-/// Where a run has come to that went up to its next construct.
+/// Where a run stands after it went up to its next construct.
 #[derive(Clone, Copy)]
 pub enum Arrival<'a> {
     /// Before a construct with blocks, whose header is done.
@@ -38,7 +38,7 @@ pub enum Arrival<'a> {
         construct: TopConstruct<'a>,
         header: Header,
     },
-    /// Where a step ends in which no blocks are run.
+    /// The end of a step in which no blocks are run.
     Over(Step),
 }
 

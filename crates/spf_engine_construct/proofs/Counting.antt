@@ -8,7 +8,7 @@ use Rattle.spf_guess_statistics.specs.Guess.{Guess}
 use Rattle.spf_guess_statistics.specs.Statistics.{guessed_from, statistics_with}
 use Rattle.spf_engine_construct.specs.Guesses.{seen_guess, guesses_from, paired, counts_of}
 
--- one guess more
+-- one more guess
 pub guesses-snoc : (guess : ℕ → Guess) (place count : ℕ) → guesses_from guess place (suc count) ≡ guesses_from guess place count ++ guess (place + count) ∷ []
 guesses-snoc guess place zero = let e : place ≡ place + 0 = omega arith in ap (λ n. guess n ∷ []) e
 guesses-snoc guess place (suc count) =

@@ -20,7 +20,7 @@ header_sync = search (crosses, declared_sync, sendable) depth 20
 pub stand_sync : (κ : NamedLft) → IsSync (as_row (Stand.the_field κ))
 stand_sync κ = declared_sync (Stand.the_type κ) (search (instance_sync, top_construct_field_sync, frame_sync, sendable))
 
--- what is so of each element below the length is so of each element that is there
+-- what holds for each element below the length holds for each element that is there
 pub each_given : {A : Type 0} (P : ℕ → A → Type 0) (xs : List A) → ((i : ℕ) (d : A) → i < length xs → P i (slice_index_or xs i d)) → (i : ℕ) → IfSome (slice_get xs i) (P i)
 each_given P [] f zero = tt
 each_given P [] f (suc i) = tt

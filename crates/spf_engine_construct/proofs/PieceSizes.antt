@@ -13,7 +13,7 @@ sum done size count = grind arith
 starts : (guess : Guesses) (done size count : ℕ) → guesses_from guess (1 + min count done) (min size (count - done)) ≡ guesses_from guess (1 + done) (min size (count - done))
 starts guess done size count = grind arith
 
--- the guesses of one piece more
+-- the guesses of one more piece
 pub one-piece-more : (guess : Guesses) (i size count : ℕ)
     → guesses_from guess 1 (min count (i * size)) ++ piece_of guess count size i ≡ guesses_from guess 1 (min count ((i + 1) * size))
 one-piece-more guess i size count =

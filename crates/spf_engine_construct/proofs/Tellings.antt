@@ -7,7 +7,7 @@ use Rattle.spf_ast.specs.Carried.{Carried}
 use Rattle.spf_ast.specs.Syntax.{Predictor}
 use Rattle.spf_guess_statistics.specs.Guess.{tells_part, tells_row, tells_from}
 
--- one part more
+-- one more part
 pub row-more : (ps : List Predictor) (n : ℕ) (q : Predictor) (number : ℤ) (row : Carried) (w d : ℤ) → slice_get ps n ≡ Some q → n < length row → w ≡ slice_index_or row n d
     → tells_row (take (suc n) ps) number row ≡ tells_row (take n ps) number row ++ tells_part q number w
 row-more [] n q number row w d at h read = cc
@@ -34,7 +34,7 @@ row-all (p ∷ ps) (suc n) number (word ∷ words) h = ap (λ more. tells_part p
     fewer : (a b : ℕ) → min (suc a) (suc b) ≤ suc n → min a b ≤ n
     fewer a b h = omega (arith, h)
 
--- one row more
+-- one more row
 pub rows-more : (ps : List Predictor) (first : ℤ) (rows : List Carried) (n : ℕ) (row : Carried) → n < length rows → row ≡ slice_index_or rows n row
     → tells_from ps first (take (suc n) rows) ≡ tells_from ps first (take n rows) ++ tells_row ps (first +ℤ pos n) row
 rows-more ps first [] n row h read = absurd (omega (arith, h))

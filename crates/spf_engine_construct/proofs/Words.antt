@@ -83,7 +83,7 @@ traps-alike one other results place (Host host ∷ ps) = traps-alike one other r
 
 -- ---- expressions
 
--- where a host guesses a part, the part comes to 0 as an expression
+-- where a host guesses a part, the part is 0 as an expression
 comes-host : (p : Program) (input : List ℕ) (c : Construct) (slots memory : List ℤ) (number : ℤ) (n host : ℕ) → slice_get (predictors_of c) n ≡ Some (Host host)
     → predicts p input c slots memory number n ≡ Ok (pos 0)
 comes-host p input (fold line head body) slots memory number n host at =
@@ -132,7 +132,7 @@ word-there at number n d h =
     ∙ ap (λ part. part.word) (expression-part (answered no_hosts [] number) (λ host. refl) (program_of at.instance.now) at.instance.now.input (seen_construct at.construct)
     (main_slots (program_of at.instance.now) at.frame.now) at.cells.now number n one.0 one.1)
 
--- one word more
+-- one more word
 pub next-word : (at : Stand) (number : ℤ) (n : ℕ) (words : List ℤ) (w : ℤ) → n < length words → n < length (predictors_of (seen_construct at.construct))
     → take n words ≡ take n (words_of (parts_there at number)) → w ≡ (part_of_result (comes_there at number n)).word
     → take (suc n) (slice_set words n w) ≡ take (suc n) (words_of (parts_there at number))
@@ -194,7 +194,7 @@ answer-word : (zeros answer : ℕ → ℤ) (r : Result ℤ Trap) (q : Predictor)
 answer-word zeros answer r (By guess) = refl
 answer-word zeros answer r (Host host) = refl
 
--- one part more
+-- one more part
 pub ask-step : (zeros answer : ℕ → ℤ) (results : Results) (ps : List Predictor) (n : ℕ) (q : Predictor) (d : ℤ) (value words : List ℤ) (word w : ℤ) → slice_get ps n ≡ Some q
     → value ≡ words_of (parts_from zeros results 0 ps) → word ≡ slice_index_or value n d → w ≡ (part_by answer (Ok word) q).word → n < length words → n < length ps
     → take n words ≡ take n (words_of (parts_from answer results 0 ps)) → take (suc n) (slice_set words n w) ≡ take (suc n) (words_of (parts_from answer results 0 ps))

@@ -19,7 +19,7 @@ use Rattle.spf_engine_construct.specs.declared.guesses.Stand.{Stand}
 abbrev pub seen_guess : code_guess.Guess → Guess
 seen_guess guess = record { value = guess.value; blind = guess.blind }
 
--- the guess there for a block number, where these hosts were told so much
+-- the guess there for a block number, where these hosts were told these pairs
 abbrev pub guess_there : Hosts → List Telling → Stand → ℤ → Guess
 guess_there hosts telling at number = guess_for hosts telling (program_of at.instance.now) at.instance.now.input
     (seen_construct at.construct) (main_slots (program_of at.instance.now) at.frame.now) at.cells.now number
@@ -36,7 +36,7 @@ predicted at number = guess_there no_hosts [] at number
 abbrev pub predicted_at : Stand → Header → ℕ → Guess
 predicted_at at header n = predicted at (header.low +ℤ pos n)
 
--- the word that a host answers for a block number, where these hosts were told so much
+-- the word that a host answers for a block number, where these hosts were told these pairs
 abbrev pub answered : Hosts → List Telling → ℤ → ℕ → ℤ
 answered hosts telling number host = hosts host (told_to host telling) number
 
@@ -44,11 +44,11 @@ answered hosts telling number host = hosts host (told_to host telling) number
 abbrev pub Results : Type 0
 Results = ℕ → Result ℤ Trap
 
--- the hosts that a construct names are among so many
+-- the hosts that a construct names are among the first `count` hosts
 abbrev pub IsHandedIn : ℕ → Construct → Type 0
 IsHandedIn count construct = AreAllHandedIn count (predictors_of construct)
 
--- the guesses for so many blocks from an index on
+-- the guesses for a number of blocks from an index on
 abbrev pub guesses_from : (ℕ → Guess) → ℕ → ℕ → List Guess
 guesses_from guess n zero = []
 guesses_from guess n (suc count) = guess n ∷ guesses_from guess (suc n) count
@@ -57,7 +57,7 @@ guesses_from guess n (suc count) = guess n ∷ guesses_from guess (suc n) count
 abbrev pub Guesses : Type 0
 Guesses = ℕ → Guess
 
--- the guesses of the piece at an index, where so many guesses from index 1 on are cut into pieces of this size, of which the last may be shorter
+-- the guesses of the piece at an index, where `count` guesses from index 1 on are cut into pieces of this size, of which the last may be shorter
 abbrev pub piece_of : Guesses → ℕ → ℕ → ℕ → List Guess
 piece_of guess count size i = guesses_from guess (1 + i * size) (min size (count - i * size))
 
@@ -72,7 +72,7 @@ abbrev pub paired : List Guess → List Carried → List Guessed
 paired (guess ∷ guesses) (real ∷ reals) = record { guess = guess; real = real } ∷ paired guesses reals
 paired _ _ = []
 
--- the statistics of so many blocks, those of them with guesses being these
+-- the statistics of a number of blocks, those of them with guesses being these
 abbrev pub counts_of : ℕ → List Guessed → Stats
 counts_of blocks guessed_blocks = record {
   blocks = blocks;
@@ -81,7 +81,7 @@ counts_of blocks guessed_blocks = record {
   blind = how_many (λ block. block.guess.blind) guessed_blocks;
 }
 
--- each count is at most so much
+-- each count is at most this much
 pub record AreAtMost (stats : Stats) (most : ℕ) : Type 0 where
   pub blocks : stats.blocks ≤ most
   pub hits : stats.hits ≤ most

@@ -110,10 +110,10 @@ fn real_rows(alloc: Global, history: &[Validated]) -> Result<Vec<Row>, AllocErro
 }
 
 /// Runs the blocks of a top construct whose header is done. `at` is where the run stands. Each of
-/// the workers has a thread of its own; no more of them are used than there are blocks. Before the first attempt
-/// the workers compute what expressions guess, and a host is asked once for each part that names it
-/// of each block but the first, in the order of blocks and then of parts. A host is told these
-/// parts of the real rows, in that order, when all is run.
+/// the workers has a thread of its own; no more of them are used than there are blocks. Before the
+/// first attempt the workers compute what expressions guess, and a host is asked once for each part
+/// that names it of each block but the first, in the order of blocks and then of parts. A host is
+/// told these parts of the real rows, in that order, when all is run.
 ///
 /// # Errors
 ///

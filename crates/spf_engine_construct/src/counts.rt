@@ -8,7 +8,7 @@ use spf_ast::row::Row;
 use spf_guess_statistics::guess::Guess;
 use spf_guess_statistics::stats::Stats;
 
-/// 1 where it is so, else 0.
+/// 1 for true, 0 for false.
 fn one_if(so: bool) -> u64
     ensures { result ≡ if so then 1 else 0 }
 {
@@ -34,8 +34,8 @@ fn with_guess(stats: Stats, guess: &Guess, real: &Row) -> Stats
     }
 }
 
-/// The statistics of blocks with these real rows: how many they are, and how good the guesses for
-/// all but the first were.
+/// Returns the statistics of blocks with these real rows: how many they are, and how good the
+/// guesses for all but the first were.
 pub fn count_blocks(reals: &[Row], guesses: &[Guess]) -> Stats
     requires few { length reals.now ≤ max_blocks }
     requires enough { length reals.now ≤ length guesses.now + 1 }

@@ -32,7 +32,7 @@ use spf_guess_statistics::guess::Guess;
 use std::alloc::{AllocError, Global};
 use std::thread::Threads;
 
-/// Where a run stands that has come to a top construct and done its header.
+/// Where a run stands once it has reached a top construct and done its header.
 #[derive(Clone, Copy)]
 pub struct Stand<'a> {
     /// The program with its input.
@@ -237,7 +237,8 @@ pub(crate) fn take_guesses<R: Threads + Sync>(
     ask_all(alloc, at, header, &predicted, hosts)
 }
 
-/// The same without a thread: the calling one computes what the expressions come to.
+/// Takes the guesses for all blocks but the first, in order, without starting a thread: the calling
+/// thread computes what the expressions come to.
 ///
 /// # Errors
 ///

@@ -21,7 +21,7 @@ use std::thread::{Threads, map_indices};
 /// The fewest guesses that are worth a thread.
 const SMALLEST_PIECE: u64 = 256;
 
-/// How many guesses a piece has: so many that no worker needs two pieces, and that a piece is worth
+/// How many guesses a piece has: enough that no worker needs two pieces, and that a piece is worth
 /// a thread.
 fn piece_size(guesses: u64, workers: u64) -> u64
     requires workers { 0 < workers }
@@ -31,7 +31,8 @@ fn piece_size(guesses: u64, workers: u64) -> u64
     guesses.div_ceil(workers).max(SMALLEST_PIECE)
 }
 
-/// How many pieces of a size so many guesses make. The last may be shorter.
+/// The number of pieces where `guesses` guesses are split into pieces of `size`. The last may be
+/// shorter.
 fn piece_count(guesses: u64, size: u64) -> u64
     requires size { 0 < size }
     ensures enough { guesses ≤ result * size }
@@ -40,7 +41,7 @@ fn piece_count(guesses: u64, size: u64) -> u64
     guesses.div_ceil(size)
 }
 
-/// The guesses of expressions for so many blocks from an index on, in order.
+/// The guesses of expressions for `count` blocks from an index on, in order.
 pub(crate) fn predict_piece(
     alloc: Global,
     at: Stand,
@@ -121,7 +122,7 @@ fn predict_pieces<R: Threads + Sync>(
     )
 }
 
-/// Joins pieces of a size, of which the last may be shorter, into one list of so many guesses.
+/// Joins pieces of a size, of which the last may be shorter, into one list of `count` guesses.
 fn join_pieces(
     alloc: Global,
     pieces: &[Result<Vec<Guess>, AllocError>],

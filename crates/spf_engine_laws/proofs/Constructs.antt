@@ -1,4 +1,4 @@
--- A run in pieces goes on as the plain run does where a construct is settled as its blocks come out.
+-- A run in pieces goes on as the plain run does where a construct is settled with what its blocks came to.
 use Rattle.std.proofs.Common.{◌≡◌, ℕ, zero, suc, ◌+◌, true, false, List, [], ◌∷◌, ◌++◌, length, ℤ, pos, ◌+ℤ◌, refl, sym, ap, ◌∙◌, subst, add-one}
 use Rattle.std.specs.Prelude.{Some, Result, Ok, Err}
 use Rattle.spf_ast.specs.declared.outcome.Trap.{Trap}

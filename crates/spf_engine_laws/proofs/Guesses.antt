@@ -44,14 +44,14 @@ guess-sees g calls names scope line s c is l place number =
 
 -- ---- what it comes to
 
--- endings that are alike come to the same
+-- endings that are alike give the same result
 alike-results : {A : Type 0} (After : Relation) (e d : Ending A) → EndAlike After e d → result_of e ≡ result_of d
 alike-results After (Value a s) (Value b t) h = ap Ok h.0
 alike-results After (Value a s) (Trapped t o) h = elim h [ ]
 alike-results After (Trapped t o) (Value a s) h = elim h [ ]
 alike-results After (Trapped t o) (Trapped u q) h = ap Err h.0
 
--- what one of two trees that are performed alike comes to with no shared cell, the other comes to as well
+-- two trees that are performed alike give the same result with no shared cell
 same-result : {A : Type 0} (After : Relation) (t u : Interaction (Ending A)) (m : List ℤ) → HasOneUnsharedAnswer t m → HasOneUnsharedAnswer u m
     → ((es : List Event) → GoAlike After (perform no_cell m None t es) (perform no_cell m None u es)) → result_of (unshared_answer t m) ≡ result_of (unshared_answer u m)
 same-result {A} After t u m one other alike = go (perform no_cell m None u one.events) refl (subst (λ x. GoAlike After x (perform no_cell m None u one.events)) one.ends (alike one.events))
@@ -61,7 +61,7 @@ same-result {A} After t u m one other alike = go (perform no_cell m None u one.e
     go (Stopped n rest) is h = elim h [ ]
     go Misfit is h = elim h [ ]
 
--- from slots that look alike the guess of a part comes to the same
+-- from slots that look alike the guess of a part gives the same result
 same-part : (p : Program) (input : List ℕ) (scope : Scope) (line : ℕ) (s : Statement) (c : Construct) → construct_of line s ≡ Some c
     → IsLawfulStatement (names_at p (length p.functions) p.slots) true scope s
     → (one other : State) → LookAlike scope.visible one other → (m : List ℤ) (k : ℤ) (place : ℕ) → predicts p input c one.slots m k place ≡ predicts p input c other.slots m k place
@@ -74,7 +74,7 @@ same-part p input scope line s c is l one other h m k place =
 
 -- ---- whole guesses
 
--- parts whose expressions come to the same are guessed alike
+-- parts whose expressions give the same result are guessed alike
 same-parts : (answer : ℕ → ℤ) (one other : ℕ → _) → ((place : ℕ) → one place ≡ other place) → (place : ℕ) (ps : List Predictor) → parts_from answer one place ps ≡ parts_from answer other place ps
 same-parts answer one other same place [] = refl
 same-parts answer one other same place (p ∷ ps) = λ i. part_by answer (same place i) p ∷ same-parts answer one other same (suc place) ps i

@@ -18,7 +18,7 @@ one-by-one-append Related [] (y ∷ ys) more others h k = elim h [ ]
 one-by-one-append Related (x ∷ xs) [] more others h k = elim h [ ]
 one-by-one-append Related (x ∷ xs) (y ∷ ys) more others h k = (h.0, one-by-one-append Related xs ys more others h.1 k)
 
--- what is so of the one is so of the other
+-- what holds for the one holds for the other
 pub one-by-one-over : {A B C : Type 0} (Related : A → B → Type 0) (Of : A → C → Type 0) (Other : B → C → Type 0) → ((a : A) (b : B) (c : C) → Related a b → Of a c → Other b c)
     → (xs : List A) (ys : List B) (zs : List C) → OneByOne Related xs ys → OneByOne Of xs zs → OneByOne Other ys zs
 one-by-one-over Related Of Other f [] [] [] h k = tt

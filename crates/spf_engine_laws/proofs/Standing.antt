@@ -35,7 +35,7 @@ pub record Laws : Type 0 where
 
 -- ---- forms from two states
 
--- from a moment that looks alike, a form comes to the same value, in a state that looks alike
+-- from a moment that looks alike, a form ends with the same value, in a state that looks alike
 pub record Follows {A : Type 0} (After : Relation) (form : Meaning A) (m : Moment) (a : A) (other : State) (y : List ℤ) : Type 0 where
   pub state : State
   pub comes : Comes form m.state m.memory (Value a state) y

@@ -37,7 +37,7 @@ plus-plus one other last =
     let blind : one.blind + other.blind + last.blind ≡ one.blind + (other.blind + last.blind) = omega arith in
     λ i. record { blocks = blocks i; hits = hits i; misses = misses i; blind = blind i }
 
--- ---- the begin and the end
+-- ---- the start and the end
 
 -- at first all constructs are still to come
 pub completes-all : (hosts : Hosts) (p : Program) (input : List ℕ) → IsCompletedBy hosts p input (constructs_in p.main) (reals p input) no_progress

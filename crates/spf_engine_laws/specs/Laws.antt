@@ -22,7 +22,7 @@ use Rattle.spf_engine_laws.specs.Progress.{Progress, no_progress, GoesOn, IsWhol
 abbrev pub RunsBegin : Type 0
 RunsBegin = (hosts : Hosts) (p : Program) (input : List ℕ) (s : Stand) → IsLawful p → HasBegun p (length input) s → GoesOn hosts p input s no_progress
 
--- a run that paused so goes on before a construct, or has come to its end
+-- a run that paused in this way goes on before a construct, or has reached its end
 abbrev pub IsPausedSo : Hosts → Program → List ℕ → Stand → Progress → Pause → Type 0
 IsPausedSo hosts p input s progress (pause.AtConstruct number construct) = GoesOn hosts p input s progress
 IsPausedSo hosts p input s progress pause.Finished = HasCome hosts p input (Done s.cells s.output) progress
@@ -57,7 +57,7 @@ ConstructsSettle =
     → GoesOn hosts p input last
     (with_construct (entry_there p input construct header after) (guess_there hosts progress.telling p input construct header after) progress)
 
--- where one of them trapped, the run has come to its end
+-- where one of them trapped, the run has reached its end
 abbrev pub ConstructsEndRuns : Type 0
 ConstructsEndRuns =
     (hosts : Hosts) (p : Program) (input : List ℕ) (before after : Stand) (progress : Progress)

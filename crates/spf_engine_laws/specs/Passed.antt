@@ -34,7 +34,7 @@ passed_from e guess = where_blocks e.header.blocks (record { entry = e; guess = 
 
 -- ---- of the plain run
 
--- a construct that the plain run reached, after hosts were told so much
+-- a construct that the plain run reached, after hosts were told these pairs
 abbrev pub passed_plainly : Hosts → List Telling → Program → List ℕ → Construct → Reached → PassedConstruct
 passed_plainly hosts telling p input construct r = record {
   entry = entry_reached p input construct r;
@@ -42,7 +42,8 @@ passed_plainly hosts telling p input construct r = record {
   reals = r.reals;
 }
 
--- those with blocks among these constructs, of which the plain run reaches so many; before the first of them hosts were told so much
+-- those with blocks among these constructs, as far as the plain run reaches them; before the first of them hosts were
+-- told these pairs
 abbrev pub all_passed_from : Hosts → Program → List ℕ → List Construct → List Reached → List Telling → List PassedConstruct
 all_passed_from hosts p input (construct ∷ constructs) (r ∷ others) telling =
     where_blocks r.header.blocks (passed_plainly hosts telling p input construct r)
@@ -53,7 +54,7 @@ all_passed_from hosts p input _ _ telling = []
 abbrev pub all_passed : Hosts → Program → List ℕ → List PassedConstruct
 all_passed hosts p input = all_passed_from hosts p input (constructs_in p.main) (reals p input) []
 
--- ---- what is the same of both
+-- ---- what both have in common
 
 -- the items of two lists are in this relation, one by one, and none is left over
 abbrev pub OneByOne : {A B : Type 0} → (A → B → Type 0) → List A → List B → Type 0

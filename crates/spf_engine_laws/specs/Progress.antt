@@ -78,7 +78,7 @@ entry_there p input c h s = record {
   header = h;
 }
 
--- the guess for each of its blocks, after hosts were told so much
+-- the guess for each of its blocks, after hosts were told these pairs
 abbrev pub guess_there : Hosts → List Telling → Program → List ℕ → Construct → Header → Stand → ℕ → Guess
 guess_there hosts telling p input c h s n = guess_for hosts telling p input c (main_slots p s.frame) s.cells (h.low +ℤ pos n)
 
@@ -103,7 +103,7 @@ pub record IsWhole (hosts : Hosts) (p : Program) (input : List ℕ) (progress : 
   pub telling_is : progress.telling ≡ (tally hosts p input).telling
   pub passed_are : OneByOne PassedAlike progress.passed (all_passed hosts p input)
 
--- a run has come to its end with the program's outcome
+-- a run has reached its end with the program's outcome
 pub record HasCome (hosts : Hosts) (p : Program) (input : List ℕ) (o : Outcome) (progress : Progress) : Type 0 where
   pub outcome_is : o ≡ outcome p input
   pub whole : IsWhole hosts p input progress

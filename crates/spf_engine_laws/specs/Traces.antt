@@ -39,14 +39,15 @@ pub record IsTraceOf (e : Entry) (guess : ℕ → Carried) (reals : RealValues) 
   pub logs : length trace ≡ e.header.blocks
   pub merging : (steps : List Step) → Merges e.header.blocks (logs_in trace) steps → IsRunReached e guess reals steps
 
--- the first trace is that of a construct with so many blocks, and the others are those of later constructs; a construct without blocks has no trace
+-- the first trace is that of a construct with this many blocks, and the others are those of later constructs; a
+-- construct without blocks has no trace
 abbrev pub begin_with : ℕ → (Trace → Type 0) → (List Trace → Type 0) → List Trace → Type 0
 begin_with zero First Later traces = Later traces
 begin_with (suc blocks) First Later [] = ⊥
 begin_with (suc blocks) First Later (trace ∷ traces) = First trace × Later traces
 
 -- one trace for each construct that was reached and has blocks, in their order, each with its predictor's guesses;
--- before the first of them hosts were told so much
+-- before the first of them hosts were told these pairs
 abbrev pub AreTraces : Hosts → Program → List ℕ → List Construct → List Reached → List Telling → List Trace → Type 0
 AreTraces hosts p input (construct ∷ constructs) (r ∷ others) telling traces =
     begin_with r.header.blocks

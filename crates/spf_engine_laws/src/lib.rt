@@ -12,10 +12,11 @@ use spf_ast_laws::{
 };
 use spf_speculation::laws::speculative_runs_see_visible_slots_alone;
 
-/// A run in pieces goes on as the plain run of its program does, from its begin over each piece to
-/// its end, where each construct is settled as its blocks come out. So its end has the program's
-/// outcome; what was counted by then are its statistics, and what hosts were told and which
-/// constructs were passed is as in the whole run. Traces of what was passed are those of the run.
+/// A run in pieces goes on as the plain run of its program does, from its start over each piece to
+/// its end, where each construct is settled with what its blocks came to. So its end has the
+/// program's outcome; what was counted by then is its statistics, and what hosts were told and
+/// which constructs were passed is as in the whole run. Traces of what was passed are those of the
+/// run.
 pub fn runs_in_pieces_go_on()
     ensures begin { RunsBegin }
     ensures advance { RunsAdvance }

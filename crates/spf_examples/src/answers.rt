@@ -1,4 +1,4 @@
-// Runs the command lines of a table over files and sinks in memory.
+//! Runs the command lines of a table over files and sinks in memory.
 
 use crate::table::{Reader, Row, words};
 use spf_apps_formats::toy::toy_machine;
@@ -31,7 +31,7 @@ fn files(alloc: Global, reader: &Reader, row: &Row) -> Result<MemFiles, AllocErr
     Ok(MemFiles::make(files, row.failing_fetches.to_vec(alloc)?))
 }
 
-/// A sink that takes all, or fails at the put with this number after so many bytes of it.
+/// A sink that takes all, or fails at the put with this number after this many bytes of it.
 fn sink(alloc: Global, failing: Option<(u64, u64)>) -> Result<MemSink, AllocError> {
     let mut numbers = Vec::new(alloc);
     let Some((number, keeps)) = failing else {
@@ -41,7 +41,7 @@ fn sink(alloc: Global, failing: Option<(u64, u64)>) -> Result<MemSink, AllocErro
     Ok(MemSink::make(numbers, keeps))
 }
 
-/// Whether these files were fetched, in this order.
+/// Returns whether these files were fetched, in this order.
 fn are_fetched(names: &str, files: &MemFiles) -> bool {
     match files.fetches() {
         Some(fetches) => names
@@ -51,7 +51,7 @@ fn are_fetched(names: &str, files: &MemFiles) -> bool {
     }
 }
 
-/// Whether the output was put in pieces of these lengths.
+/// Returns whether the output was put in pieces of these lengths.
 fn are_pieces(alloc: Global, lengths: &str, out: &MemSink) -> Result<bool, AllocError> {
     let mut found = String::new(alloc);
     for put in out.puts() {
@@ -64,7 +64,8 @@ fn are_pieces(alloc: Global, lengths: &str, out: &MemSink) -> Result<bool, Alloc
     Ok(found.as_str() == lengths)
 }
 
-/// Whether the files were fetched and the output was put as the table says, where it says it.
+/// Returns whether the files were fetched and the output was put as the table says, where it says
+/// it.
 fn is_done_so(
     alloc: Global,
     row: &Row,
@@ -82,12 +83,12 @@ fn is_done_so(
     Ok(fetched && put)
 }
 
-/// Whether the sinks have what a command line is to put, with this status.
+/// Returns whether the sinks have what a command line is to put, with this status.
 fn is_wanted(row: &Row, status: u8, out: &MemSink, err: &MemSink) -> bool {
     u64::from(status) == row.status && *out.bytes() == *row.output && *err.bytes() == *row.messages
 }
 
-/// Whether a command line is answered as wanted.
+/// Returns whether a command line is answered as wanted.
 fn is_answered<R: Threads + Wait + Sync>(
     rt: &R,
     alloc: Global,
@@ -102,8 +103,8 @@ fn is_answered<R: Threads + Wait + Sync>(
     Ok(is_wanted(row, status, &out, &err) && is_done_so(alloc, row, &files, &out)?)
 }
 
-/// Whether a run over the program and the input at hand, without the command line, is answered as
-/// wanted.
+/// Returns whether a run over the program and the input at hand, without the command line, is
+/// answered as wanted.
 fn is_answered_at_hand<R: Threads + Wait + Sync>(
     rt: &R,
     alloc: Global,
@@ -130,8 +131,8 @@ fn is_answered_at_hand<R: Threads + Wait + Sync>(
     Ok(is_wanted(row, status, &out, &err))
 }
 
-/// Whether a command line is answered as wanted, and, where it shows the statistics of a run and
-/// fetches both files, the same run at hand.
+/// Returns whether a command line is answered as wanted, and, where it shows the statistics of a
+/// run and fetches both files, the same run at hand.
 pub fn is_right<R: Threads + Wait + Sync>(
     rt: &R,
     alloc: Global,

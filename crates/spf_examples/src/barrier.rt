@@ -1,4 +1,4 @@
-// Whether the command runs blocks at once.
+//! Whether the command runs blocks at the same time.
 
 use spf_cli::spf_main;
 use spf_edge::{MemFiles, MemSink};
@@ -11,9 +11,9 @@ use std::thread::Threads;
 const PROGRAM: &[u8] =
     b"main { specfold s = 1 for k in 0..5 predict 1 << k { next s * 2; } emit s; }";
 
-/// Runs the program by the top call on so many workers, with a gate that holds the first attempts
-/// of two blocks for so many iterations at most. Gives whether the answer is right, and whether the
-/// two attempts were under way at once.
+/// Runs the program by the top call on `workers` workers, with a gate that holds the first attempts
+/// of two blocks for at most `limit` iterations. Gives whether the answer is right, and whether the
+/// two attempts ran at the same time.
 pub fn run_at_gate<R: Threads + Wait + Sync>(
     rt: &R,
     alloc: Global,

@@ -1,8 +1,8 @@
-// Runs of the examples, and what is expected of them.
-//
-// `expected.txt` lists them. A line that isn't indented has the words of a run. The indented lines
-// after it are what is expected: `status N`, where the status isn't 0; `output FILE`, where there
-// is an output; and the lines of the error stream.
+//! Runs of the examples, and what is expected of them.
+//!
+//! `expected.txt` lists them. A line that isn't indented has the words of a run. The indented lines
+//! after it are what is expected: `status N`, where the status isn't 0; `output FILE`, where there
+//! is an output; and the lines of the error stream.
 
 use crate::table::words;
 use spf_cli_shell::answer;
@@ -68,7 +68,7 @@ pub fn read_runs<'a>(alloc: Global, table: &'a str) -> Result<Vec<Run<'a>>, Allo
     Ok(runs)
 }
 
-/// Whether a run is answered as expected.
+/// Returns whether a run is answered as expected.
 pub fn is_as_expected<R: Threads + Wait + Sync, F: Files>(
     rt: &R,
     alloc: Global,

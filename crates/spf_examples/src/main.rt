@@ -62,8 +62,8 @@ fn run_table<R: Print + rt::Files + AllocGlobal + Threads + Wait + Sync>(
     Ok((count, wrong))
 }
 
-/// Runs two blocks on two workers, and on one. Gives whether they were under way at once on two,
-/// and one after the other on one.
+/// Runs two blocks on two workers, and on one. Gives whether they ran at the same time on two, and
+/// one after the other on one.
 fn run_gates<R: AllocGlobal + Threads + Wait + Sync>(rt: &R) -> io::Result<bool> {
     let alloc = rt.alloc();
     let on_two = run_at_gate(rt, alloc, "2", 100_000_000)?;

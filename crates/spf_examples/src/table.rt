@@ -1,27 +1,27 @@
-// The table of command lines.
-//
-// `answers.txt` is the table. `#` begins a comment. Lines that aren't indented say what the files
-// are, and what the command line is:
-//
-// - `program TEXT`: the file `P` has this text; or `program` alone, and then its lines, each after
-//   `|`;
-// - `lines COUNT TEXT`: so many lines more of it, in each of which `#` stands for the line's
-//   number, counted from 0;
-// - `input TEXT`: the file `I` has this text; `bytes 1 2 0*65`: it has these bytes, here 0 65
-//   times; the file `M` is the toy machine;
-// - `file NAME 1 2 0*65`: a further file, of this name, has these bytes; it stays;
-// - `words WORDS`: the command line, with a space between any two words.
-//
-// The indented lines after it are what is wanted:
-//
-// - `status N`, where it isn't 0; `> LINE`: a line of the output; `bytes ..`: bytes of the output;
-// - `! LINE`: a line of the error stream; `part TEXT`: a part of one;
-// - `fetch N`: this fetch fails, counted from 0; `put N K` and `line N K`: this put on the output
-//   or on the error stream fails after K bytes;
-// - `fetched NAMES`: these files are fetched, in this order, and no others;
-// - `pieces N N`: the output is put in pieces of so many bytes, the one that fails with them.
-//
-// `end` is the last line.
+//! The table of command lines.
+//!
+//! `answers.txt` is the table. `#` begins a comment. Lines that aren't indented say what the files
+//! are, and what the command line is:
+//!
+//! - `program TEXT`: the file `P` has this text; or `program` alone, and then its lines, each after
+//!   `|`;
+//! - `lines COUNT TEXT`: COUNT more lines of it, in each of which `#` stands for the line's number,
+//!   counted from 0;
+//! - `input TEXT`: the file `I` has this text; `bytes 1 2 0*65`: it has these bytes, here 0 65
+//!   times; the file `M` is the toy machine;
+//! - `file NAME 1 2 0*65`: a further file, of this name, has these bytes; it stays;
+//! - `words WORDS`: the command line, with a space between any two words.
+//!
+//! The indented lines after it are what is wanted:
+//!
+//! - `status N`, where it isn't 0; `> LINE`: a line of the output; `bytes ..`: bytes of the output;
+//! - `! LINE`: a line of the error stream; `part TEXT`: a part of one;
+//! - `fetch N`: this fetch fails, counted from 0; `put N K` and `line N K`: this put on the output
+//!   or on the error stream fails after K bytes;
+//! - `fetched NAMES`: these files are fetched, in this order, and no others;
+//! - `pieces N N`: the output is put in pieces of N bytes each, including the piece that fails.
+//!
+//! `end` is the last line.
 
 use std::alloc::{AllocError, Global};
 
@@ -37,7 +37,7 @@ pub struct Row<'a> {
     pub failing_fetches: Vec<u64>,
     /// The number of the put on the output that fails, and how many bytes it takes.
     pub failing_put: Option<(u64, u64)>,
-    /// The same of the error stream.
+    /// The number of the put on the error stream that fails, and how many bytes it takes.
     pub failing_line: Option<(u64, u64)>,
     /// The names that are fetched, with a space between any two, where the table says it.
     pub fetched: Option<&'a str>,
@@ -108,7 +108,8 @@ fn add_line(bytes: &mut Vec<u8>, line: &str) -> Result<(), AllocError> {
     Ok(())
 }
 
-/// Adds so many lines, in each of which `#` stands for its number, counted from 0.
+/// Adds the lines of `COUNT TEXT`: COUNT lines, in each of which `#` stands for its number, counted
+/// from 0.
 fn add_lines(alloc: Global, bytes: &mut Vec<u8>, text: &str) -> Result<(), AllocError> {
     let Some((count, line)) = text.split_once(' ') else {
         return Ok(());
@@ -175,7 +176,7 @@ impl<'a> Row<'a> {
 }
 
 impl<'a> Reader<'a> {
-    /// A reader at the begin of a table.
+    /// A reader at the start of a table.
     pub fn make(alloc: Global) -> Reader<'a> {
         Reader {
             alloc,

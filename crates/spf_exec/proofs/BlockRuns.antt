@@ -97,7 +97,7 @@ quiet_run p input c part slots own full n v silent functions q = record {
   performs = unquiet (with_any_output (part_means (environment_of p input) c part n v) (part_leaves p input c part n v silent functions) slots full [] q);
 }
 
--- on a memory of its own such a form comes to its plain outcome, whatever the output is
+-- on a memory of its own such a form has its plain outcome, whatever the output is
 pub quiet_outcome : {S M N A : Type 0} (cells : M → List ℤ) (output : M → List ℕ) (lent : S → M) (place : S → N) (form : Meaning A) → LeavesOutput form → (slots : List ℤ) (full out : List ℕ) (own : List ℤ) (a b : S) (r : Result A Halt)
     → Performs (LeadsQuietly (λ es x y. LeadsPlainly es (cells x) (cells y)) output lent place) (λ m. None) ⊥ (form (record { slots = slots; output = full })) a b r (record { slots = own; output = full })
     → IsPlainOutcome r (form (record { slots = slots; output = out })) (cells (lent a)) (cells (lent b)) (record { slots = own; output = out })
@@ -123,7 +123,7 @@ header_decided (Err h.Broken) l = absurd l
 
 -- ---- guesses
 
--- a performance over cells that are only read comes to the answer with no shared cell
+-- a performance over cells that are only read gives the answer with no shared cell
 unshared : {A : Type 0} (t : Interaction A) (m : List ℤ) (es : List Event) (a : A) → IsReadOf m es → perform every_cell [] None t es ≡ Ended a [] → a ≡ unshared_answer t m
 unshared (Answer b) m [] a r e = cc
 unshared (Answer b) m (f ∷ es) a r e = cc

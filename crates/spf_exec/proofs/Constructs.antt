@@ -74,7 +74,7 @@ after_one line Break rest n = ap (slice_get (constructs_in rest)) (let e : 0 + n
 after_one line (Fold head body) rest n = ap (slice_get (constructs_in (on_line line (Fold head body) rest))) (let e : 1 + n ≡ suc n = omega arith in e)
 after_one line (Pair head producer consumer) rest n = ap (slice_get (constructs_in (on_line line (Pair head producer consumer) rest))) (let e : 1 + n ≡ suc n = omega arith in e)
 
--- a construct that stands first from some index on has the index of so many constructs that were passed
+-- a construct that stands first from some index on has as its index the number of constructs that were passed
 pub index_of_first : (b : Block) (n passed : ℕ) (k : Construct) → construct_first (rest_from n b) ≡ Some k → passed + length (constructs_in (rest_from n b)) ≡ length (constructs_in b) → slice_get (constructs_in b) passed ≡ Some k
 index_of_first end zero passed k e count = cc
 index_of_first end (suc n) passed k e count = cc
@@ -109,7 +109,7 @@ is_one line Break k e = cc
 is_one line (Fold head body) k e = refl
 is_one line (Pair head producer consumer) k e = refl
 
--- after it there is one construct less
+-- after it there is one construct fewer
 pub one_less : (b : Block) (n : ℕ) (k : Construct) → construct_first (rest_from n b) ≡ Some k → length (constructs_in (rest_from n b)) ≡ 1 + length (constructs_in (rest_from (n + 1) b))
 one_less end zero k e = cc
 one_less end (suc n) k e = cc

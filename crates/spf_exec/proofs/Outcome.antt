@@ -1,4 +1,4 @@
--- What a performance of a whole program comes to.
+-- The outcome of a performance of a whole program.
 use Rattle.std.proofs.Common.{pos, length, replicate, ◌≡◌, ℕ, List, [], ℤ, sym, ◌∙◌}
 use Rattle.spf_ast.specs.Interaction.{Ending}
 use Rattle.spf_ast.specs.Plain.{plain_answer, plain_memory}
@@ -6,7 +6,7 @@ use Rattle.spf_ast.specs.Syntax.{Block, Program}
 use Rattle.spf_ast.specs.Meaning.{Environment, main_means}
 use Rattle.spf_ast.specs.Program.{environment_of, zeros_of, main_asks, outcome, outcome_from}
 
--- where `main` is performed from zeros, it comes to the program's outcome
+-- where `main` is performed from zeros, it ends with the program's outcome
 pub whole_outcome : (p : Program) (input : List ℕ) (g : Environment) (main : Block) (slots cells : List ℤ) (out : List ℕ) (a : Ending (Unit {0})) (after_ : List ℤ)
     → g ≡ environment_of p input → main ≡ p.main → slots ≡ replicate (length p.slots) (pos 0) → out ≡ [] → cells ≡ zeros_of p (length input)
     → plain_answer (main_means g main (record { slots = slots; output = out })) cells ≡ a

@@ -17,7 +17,7 @@ use Rattle.spf_exec.specs.declared.pieces.Pause.TheVariants as pause
 use Rattle.spf_exec.specs.Pieces.{Stand, EndsAt, Advanced, ahead}
 use Rattle.spf_exec.proofs.Constructs.{constructs_from}
 
--- none of so many first statements is a construct
+-- none of these first statements is a construct
 abbrev pub IsPlainPrefix : List Stmt → ℕ → Type 0
 IsPlainPrefix xs zero = Unit {0}
 IsPlainPrefix [] (suc n) = ⊥

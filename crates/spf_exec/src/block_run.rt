@@ -1,4 +1,4 @@
-// Runs of single blocks of a program's top constructs.
+//! Runs of single blocks of a program's top constructs.
 
 ghost use Rattle.std.specs.Prelude.{◌≡◌, ◌≢◌, ◌≤◌, ◌+◌, ℤ, [], length, map, slice_get, Some};
 ghost use Rattle.spf_ast.specs.declared.syntax.Fold.{out-Fold};

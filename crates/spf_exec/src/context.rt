@@ -1,4 +1,4 @@
-// What the code of `main` is performed in.
+//! What the code of `main` is performed in.
 
 ghost use Rattle.std.specs.Prelude.{◌<◌, ◌^◌, length};
 ghost use Rattle.spf_ast.specs.Program.{cell_count_of};

@@ -1,4 +1,4 @@
-// Performances of a program's code, in terms of the source.
+//! Performances of a program's code, in terms of the source.
 
 ghost use Rattle.std.specs.Prelude.{◌≡◌, ◌≤◌, ◌+◌, ℕ, ℤ, length};
 ghost use Rattle.spf_ast.specs.Carried.{Carried, IsWidth};

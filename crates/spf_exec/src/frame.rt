@@ -1,4 +1,4 @@
-// The registers of a program's `main`, with room for calls.
+//! The registers of a program's `main`, with room for calls.
 
 ghost use Rattle.std.specs.Prelude.{◌≡◌, ℤ, List, [], length, pos, replicate, IfOk};
 ghost use Rattle.spf_ast.specs.Carried.{with_carried};
@@ -15,7 +15,7 @@ use std::marker::Model;
 /// line, and each store would slow the others down.
 const GAP: usize = 16;
 
-/// Room for so many registers, with the gap after them.
+/// Room for `count` registers, with the gap after them.
 fn room_for(alloc: Global, count: usize) -> Result<Vec<i64>, AllocError>
     ensures empty { IfOk result (λ room. room.items ≡ []) }
 {

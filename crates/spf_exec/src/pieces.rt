@@ -1,5 +1,5 @@
-// Plain runs in pieces: `main` is run from one top construct to the next, and each construct is
-// settled by who runs it.
+//! Plain runs in pieces: `main` is run from one top construct to the next, and each construct is
+//! settled by whoever runs it.
 
 ghost use Rattle.std.specs.Prelude.{◌≡◌, ◌+◌, ◌-◌, ◌<◌, ◌≤◌, ◌^◌, ◌+ℤ◌, ◌≤ℤ◌, ℕ, length, pos, drop};
 ghost use Rattle.std.specs.Prelude.{take, slice_get, Some, IfOk, MatchOption};
@@ -57,7 +57,7 @@ pub struct Header {
     pub start: Row,
 }
 
-/// Where a run has come to.
+/// Where a run in pieces pauses.
 #[derive(Clone, Copy)]
 pub enum Pause<'a> {
     /// This top construct stands next.
@@ -98,7 +98,7 @@ impl Model for Run {
 /// The statements before the first top construct among some.
 #[derive(Clone, Copy)]
 struct Prefix<'a> {
-    /// How many they are.
+    /// The number of these statements.
     count: usize,
     /// The top construct, where there is one.
     construct: Option<TopConstruct<'a>>,
@@ -490,21 +490,21 @@ impl Run {
         self.passed += 1;
     }
 
-    /// The slots of `main`, with room for calls.
+    /// Returns the slots of `main`, with room for calls.
     pub fn frame(&self) -> &Frame
         ensures { result.now ≡ self.now.frame }
     {
         &self.frame
     }
 
-    /// The word of each cell.
+    /// Returns the word of each cell.
     pub fn cells(&self) -> &[i64]
         ensures { result.now ≡ self.now.cells }
     {
         &self.memory.cells
     }
 
-    /// The word of each cell, to be changed by who settles a construct.
+    /// Returns the word of each cell, to be changed by whoever settles a construct.
     pub fn cells_mut(&mut self) -> &mut [i64]
         ensures* writes_back { sem 𝓛 (Lends the_row (Array word 0) self.entry result
             (λ w. record self.old { cells = refilled self.old.cells w })) }
@@ -513,8 +513,8 @@ impl Run {
         self.memory.cells.as_mut_slice()
     }
 
-    /// Exchanges the word of each cell for those of a vector, so that who settles a construct can
-    /// keep the cells in a memory of its own meanwhile.
+    /// Exchanges the words of the cells for those of a vector, so that whoever settles a construct
+    /// can keep the cells in a memory of its own meanwhile.
     pub fn swap_cells(&mut self, cells: &mut Vec<i64>)
         ensures run { self.new ≡ record self.old { cells = cells.old.items } }
         ensures cells { cells.new.items ≡ self.old.cells }

@@ -1,4 +1,4 @@
-// Whole programs on a memory of their own.
+//! Whole programs on a memory of their own.
 
 ghost use Rattle.std.specs.Prelude.{◌≡◌, ◌<◌, ◌≤◌, ◌-◌, ◌^◌, length, take, drop, IfOk, IfErr};
 ghost use Rattle.std.specs.Prelude.{IsErrAnd};

@@ -1,4 +1,4 @@
-// How runs of single blocks end.
+//! How runs of single blocks end.
 
 use spf_ast::outcome::Trap;
 use spf_ast::row::Row;

@@ -7,7 +7,7 @@ use Rattle.spf_exec_instance.specs.declared.layout.RunError.TheVariants.{TooMany
 abbrev pub counted : ℕ → ℕ
 counted count = min count (2 ^ 128 - 1)
 
--- there are too many cells, so many, unless memory was lacking
+-- there are too many cells, and this is their number, unless memory ran out
 abbrev pub IsTooMany : ℕ → RunError → Type 0
 IsTooMany cells (TooManyCells count) = count ≡ counted cells
 IsTooMany cells OutOfMemory = Unit {0}

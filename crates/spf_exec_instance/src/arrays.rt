@@ -1,4 +1,4 @@
-// The arrays of a program, whose cells follow each other.
+//! The arrays of a program, whose cells follow each other.
 
 ghost use Rattle.std.specs.Prelude.{◌≡◌, ◌<◌, ◌≤◌, length, map, IfOk, IfErr, IsErrAnd};
 ghost use Rattle.spf_ast.specs.View.{array as seen_array, program as seen_program};
@@ -12,7 +12,7 @@ use crate::layout::{Layout, RunError};
 use spf_ast::syntax::{Array, Program};
 use std::alloc::{AllocError, Global};
 
-/// How many cells a run of this program may have: a program of version 2 may have more.
+/// Returns how many cells a run of this program may have: a program of version 2 may have more.
 pub fn max_cells_of(program: &Program) -> u32
     ensures { result ≡ max_cells (seen_program program.now) }
 {

@@ -1,4 +1,4 @@
-// Programs with an input that they run on.
+//! Programs with an input that they run on.
 
 ghost use Rattle.std.specs.Prelude.{◌≡◌, ◌<◌, ◌≤◌, ◌^◌, length, IfOk, IfErr, IsErrAnd};
 ghost use Rattle.spf_ast.specs.View.{program as seen_program};
@@ -81,14 +81,14 @@ impl<'a> Instance<'a> {
         })
     }
 
-    /// The program.
+    /// Returns the program.
     pub fn program(&self) -> &'a Program
         ensures { result.now ≡ self.now.code }
     {
         self.program
     }
 
-    /// The input.
+    /// Returns the input.
     pub fn input(&self) -> &'a [u8]
         ensures same { result.now ≡ self.now.input }
         ensures short { length self.now.input < 2 ^ 63 }
@@ -96,14 +96,14 @@ impl<'a> Instance<'a> {
         self.input
     }
 
-    /// Where the arrays lie, which have no more cells than a run may have.
+    /// Returns where the arrays lie, which have no more cells than a run may have.
     pub fn layout(&self) -> &Layout
         ensures { IsLayoutOf (program_of self.now) (length self.now.input) result.now }
     {
         &self.layout
     }
 
-    /// The program's code.
+    /// Returns the program's code.
     pub fn code(&self) -> &ProgramCode
         ensures code { IsCodeOfProgram (program_of self.now) result.now }
         ensures orderly { IsOrderly (program_of self.now) }
@@ -111,7 +111,8 @@ impl<'a> Instance<'a> {
         &self.code
     }
 
-    /// How many registers a frame has: those of `main`, and those of its deepest chain of calls.
+    /// Returns how many registers a frame has: those of `main`, and those of its deepest chain of
+    /// calls.
     pub fn frame_size(&self) -> usize
         ensures { result ≡ size_of_frame (program_of self.now) }
     {

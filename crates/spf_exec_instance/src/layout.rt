@@ -1,4 +1,4 @@
-// Where the arrays of a program lie among the cells of a run, and why there can't be a run.
+//! Where the arrays of a program lie among the cells of a run, and why there can't be a run.
 
 ghost use Rattle.std.specs.Prelude.{◌≡◌};
 ghost use Rattle.spf_exec_instance.specs.declared.layout.RunError.TheVariants.{OutOfMemory};
@@ -23,14 +23,14 @@ impl Model for Layout {
 }
 
 impl Layout {
-    /// The first cell and the number of elements of each array, in their order.
+    /// Returns the first cell and the number of elements of each array, in their order.
     pub fn extents(&self) -> &[(u64, u64)]
         ensures { result.now ≡ self.now.extents }
     {
         &self.extents
     }
 
-    /// The number of cells of all arrays.
+    /// Returns the number of cells of all arrays.
     pub fn cells(&self) -> u64
         ensures { result ≡ self.now.cells }
     {

@@ -1,4 +1,4 @@
--- What a performance on a memory of its own comes to.
+-- The outcome of a performance on a memory of its own.
 use Rattle.std.proofs.Common.{zero, suc, pos, length, replicate, ◌≡◌, ℕ, Bool, true, false, List, [], ◌∷◌, ◌++◌, None, Result, Ok, Err, ℤ, refl, sym, ap, subst, ◌∙◌, append-nil}
 use Rattle.std.specs.Prelude.{if◌then◌else◌, ◌==◌, ◌&&◌}
 use Rattle.std.specs.Ordering.{int_eq}

@@ -1,4 +1,4 @@
-// The memory that a form is performed on.
+//! The memory that a form is performed on.
 
 ghost use Rattle.std.specs.Prelude.{◌≡◌, ◌<◌, ℕ, List, [], ◌∷◌, Option, true, false, MatchOption};
 ghost use Rattle.spf_ast.specs.Event.{Event, Load, Store, Turn};
@@ -16,16 +16,16 @@ pub enum Halt {
     Cancelled { seen: u64 },
     /// The output had no memory for a byte.
     NoMemory,
-    /// A `break` ends the innermost loop. No whole form is left so.
+    /// A `break` ends the innermost loop. No whole form is left in this way.
     Broken,
 }
 
-/// That a form was left before its end. Why is kept beside it, so that an answer needs two
-/// registers and no memory.
+/// Says that a form was left before its end. The reason is kept beside it, so that an answer needs
+/// two registers and no memory.
 #[derive(Clone, Copy)]
 pub struct Halted;
 
-/// What came of a byte for the output.
+/// What became of a byte for the output.
 #[derive(Clone, Copy, PartialEq, Eq, Debug)]
 pub enum Emitted {
     /// It is the output's last byte now.
@@ -51,7 +51,7 @@ pub trait Memory {
     // the bytes of the output
     ghost output: { Self → List ℕ };
 
-    // whether the output may lack memory for a byte
+    // whether the output may have no memory for a byte
     ghost may_lack_memory: { Type 0 };
 
     /// Gives the word of a cell.

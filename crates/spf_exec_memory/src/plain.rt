@@ -1,4 +1,4 @@
-// A memory of its own: a vector of cells, an output, and nothing that stops a turn.
+//! A memory of its own: a vector of cells, an output, and nothing that stops a turn.
 
 use crate::memory::{Emitted, Memory};
 

@@ -1,9 +1,9 @@
-// Memories that parts of constructs are performed on, which emit nothing.
+//! Memories that parts of constructs are performed on, which emit nothing.
 
 use crate::memory::{Emitted, Memory};
 
 /// Another memory, whose output counts as full, so that nothing is put into it and no memory is
-/// wanted for it.
+/// needed for it.
 #[derive(Drop)]
 pub struct Quiet<'a, M> {
     pub memory: &'a mut M,

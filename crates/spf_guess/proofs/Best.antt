@@ -181,7 +181,7 @@ best-alike f g (x ∷ xs) alike = best_is_reduced g (x ∷ xs) (fold (preferred 
   others = λ w e. rw (alike w e, alike (fold (preferred f) x xs) (reduced_is_best f x xs).among) ((reduced_is_best f x xs).others w e);
 })
 
--- ---- one count more
+-- ---- one more count
 
 -- the counts of a list of values after one value came that is among them now: its count has risen, and no other count changed
 pub record OneMore (f : ℤ → ℕ) (values : List ℤ) (g : ℤ → ℕ) (more : List ℤ) (v : ℤ) (c : ℕ) : Type 0 where

@@ -33,7 +33,7 @@ count-none (x ∷ xs) v e = go (int_eq v x) refl e (count-none xs v)
     go true d h later = cc
     go false d h later = rw d (later h)
 
--- ---- one value more
+-- ---- one more value
 
 -- the values that are kept
 abbrev keys_of : ℕ → List ℤ → List ℤ

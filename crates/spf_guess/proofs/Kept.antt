@@ -59,7 +59,7 @@ without-same x y (z ∷ zs) e = go (int_eq y z) refl (without-same x y zs e)
 
 -- ---- the different numbers
 
--- one number more in a list is one more among its different numbers, unless it is one of them
+-- one more number in a list is one more among its different numbers, unless it is one of them
 pub distinct-more : (xs : List ℤ) (x : ℤ) → distinct (xs ++ x ∷ []) ≡ with_one x (distinct xs)
 distinct-more [] x = refl
 distinct-more (y ∷ ys) x = ap (λ others. y ∷ without y others) (distinct-more ys x) ∙ go (has x (distinct ys)) (int_eq x y) refl refl

@@ -43,7 +43,7 @@ is_kept room xs x = list_any (int_eq x) (kept room xs)
 abbrev pub counted : List ℤ → ℤ → ℕ
 counted values value = min (count_by (int_eq value) values) (2 ^ 64 - 1)
 
--- whether a value that is counted so often is preferred to another one: it is counted more often, or as often and is smaller
+-- whether a value with this count is preferred to another one: it is counted more often, or as often and is smaller
 abbrev pub is_preferred : ℤ → ℕ → ℤ → ℕ → Bool
 is_preferred value count other count_of_other = nat_lt count_of_other count || (nat_eq count_of_other count && int_lt value other)
 

@@ -60,7 +60,7 @@ pub record Counts : Type 0 where
 abbrev pub one_more : Stored ℕ → ℤ → ℕ
 one_more store value = min (unwrap_or (store.value value) 0 + 1) (2 ^ 64 - 1)
 
--- the counts after a value came, which is counted so often now
+-- the counts after a value came, which has this count now
 abbrev pub count_as : Counts → ℤ → ℕ → Counts
 count_as counts value count =
     if takes counts.stored value then record {

@@ -12,7 +12,7 @@ pub struct Fixed {
 }
 
 impl Fixed {
-    /// The predictor that guesses this value.
+    /// Makes the predictor that guesses this value.
     pub fn make(value: i64) -> Fixed
         ensures { (pairs : List Told) (block : ℤ)
             → ⟦<Fixed as Predictor>⟧.answer result pairs block ≡ value }

@@ -1,4 +1,4 @@
-//! The predictors that the caller hands in, as a list; the first of them is host 0.
+//! The predictors that the caller supplies, as a list; the first of them is host 0.
 ghost use Rattle.std.specs.Prelude.{◌≡◌, ◌<◌, ◌++◌, ◌∷◌, [], List, map, length};
 ghost use Rattle.spf_guess_statistics.specs.Guess.{Hosts, Telling, told_to};
 ghost use Rattle.spf_guess.specs.Answers.{AnswersAlike, WasTold, WereTold, supplied};
@@ -22,8 +22,8 @@ fn tell_one(host: &mut Box<dyn Predictor>, block: i64, real: i64)
     host.tell(block, real)
 }
 
-/// What a host guesses for the block of this number: what it answered at first after all that it
-/// was told since.
+/// Returns what a host guesses for the block of this number: the answer of the host as it was at
+/// first, after all that it has been told since.
 pub fn ask(hosts: &mut Vec<Box<dyn Predictor>>, host: u64, block: i64) -> i64
     requires { host < length hosts.old.items }
     ensures guess { (before : Hosts) (telling : List Telling)
@@ -36,7 +36,7 @@ pub fn ask(hosts: &mut Vec<Box<dyn Predictor>>, host: u64, block: i64) -> i64
     ask_one(&mut hosts[host as usize], block)
 }
 
-/// Tells a host what a part of the row really was at which the block of this number began.
+/// Tells a host the real value of a part of the row at which the block of this number began.
 pub fn tell(hosts: &mut Vec<Box<dyn Predictor>>, host: u64, block: i64, real: i64)
     requires { host < length hosts.old.items }
     ensures told { (before : Hosts) (telling : List Telling)

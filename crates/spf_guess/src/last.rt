@@ -13,7 +13,7 @@ pub struct Last {
 }
 
 impl Last {
-    /// The predictor that was told nothing.
+    /// Makes the predictor that was told nothing.
     pub fn make() -> Last
         ensures { (pairs : List Told) (block : ℤ)
             → ⟦<Last as Predictor>⟧.answer result pairs block ≡ last_answer pairs }

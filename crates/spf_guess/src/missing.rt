@@ -23,8 +23,8 @@ fn first_missing_of(predictors: &[Predict], count: u64) -> Option<u64>
     None
 }
 
-/// The first host that constructs among these statements name, where only `count` hosts are handed
-/// in and it isn't one of them.
+/// The first host that constructs among these statements name, where only `count` hosts are
+/// supplied and it isn't one of them.
 fn first_missing_among(main: &[Stmt], count: u64) -> Option<u64>
     ensures { result ≡ missing_host count (constructs_in (seen_block main.now)) }
 {
@@ -38,8 +38,8 @@ fn first_missing_among(main: &[Stmt], count: u64) -> Option<u64>
     None
 }
 
-/// The first host that a top construct of the program names, in the order of the text, where only
-/// `count` hosts are supplied and it isn't one of them.
+/// Returns the first host that a top construct of the program names, in the order of the text,
+/// where only `count` hosts are supplied and it isn't one of them.
 #[tactic(auto, using(crate::proofs::Named::all_handed_in))]
 pub fn first_missing(program: &Program, count: u64) -> Option<u64>
     ensures first { result ≡ missing_host count (constructs_in (seen_program program.now).main) }

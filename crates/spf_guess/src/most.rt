@@ -13,8 +13,8 @@ use std::alloc::{AllocError, Global};
 /// Guesses the real value that it was told most often, the smallest of several, whatever the block,
 /// or 0 before it was told any.
 ///
-/// It keeps the first `room` different values that it is told, and drops any other. A count stays
-/// at 2^64 - 1.
+/// It keeps the first `room` different values that it is told, and drops any other. A count
+/// saturates at 2^64 - 1.
 #[derive(Drop)]
 pub struct Most {
     pub(crate) counts: Store<u64>,
@@ -22,7 +22,7 @@ pub struct Most {
     pub(crate) best_count: u64,
 }
 
-/// Whether a value that is counted so often is preferred to another one.
+/// Returns whether a value with this count is preferred to another value.
 fn is_preferred(value: i64, count: u64, other: i64, count_of_other: u64) -> bool
     ensures { result ≡ goes_before value count other count_of_other }
 {
@@ -30,7 +30,7 @@ fn is_preferred(value: i64, count: u64, other: i64, count_of_other: u64) -> bool
 }
 
 impl Most {
-    /// The predictor with room for so many values, which was told nothing.
+    /// Makes the predictor with room for `room` values, which was told nothing.
     ///
     /// # Errors
     ///

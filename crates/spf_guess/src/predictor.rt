@@ -1,4 +1,4 @@
-//! The trait of predictors that the caller hands in.
+//! The trait of predictors that the caller supplies.
 ghost use Rattle.std.specs.Prelude.{◌≡◌, []};
 ghost use Rattle.spf_guess.specs.Answers.{Answers, AnswersAlike, WasTold};
 
@@ -12,12 +12,12 @@ pub trait Predictor: Drop {
     /// What it answers after it was told further pairs.
     ghost answer: { Self → Answers };
 
-    /// What a part of the row seems to be at which the block of this number begins.
+    /// Guesses a part of the row at which the block of this number begins.
     fn guess(&mut self, block: i64) -> i64
         ensures answer { result ≡ answer self.old [] block }
         ensures same { AnswersAlike (answer self.old) (answer self.new) };
 
-    /// The part was this word when the block of this number began.
+    /// Tells the predictor that the part was this word when the block of this number began.
     fn tell(&mut self, block: i64, real: i64)
         ensures told { WasTold (answer self.old) (record { block = block; real = real }) (answer self.new) };
 }

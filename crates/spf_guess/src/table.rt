@@ -20,7 +20,7 @@ pub struct Table {
 }
 
 impl Table {
-    /// The table with room for so many blocks, which was told nothing.
+    /// Makes the table with room for `room` blocks, which was told nothing.
     ///
     /// # Errors
     ///

@@ -11,8 +11,9 @@ use std::collections::HashMap;
 /// Guesses for each block the real value that it was told most often for a block of this number,
 /// the smallest of several, or 0 where it was told none.
 ///
-/// It keeps the first `room` different block numbers that it is told, and for each of them the first
-/// `each` different values, and drops what is told of any other. A count stays at 2^64 - 1.
+/// It keeps the first `room` different block numbers that it is told, and for each of them the
+/// first `each` different values, and drops what is told of any other. A count saturates at 2^64 -
+/// 1.
 #[derive(Drop)]
 pub struct Vote {
     pub(crate) votes: HashMap<i64, Most>,

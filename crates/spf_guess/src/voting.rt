@@ -1,4 +1,4 @@
-// How votes are counted, block by block.
+//! How votes are counted, block by block.
 ghost use Rattle.std.specs.Prelude.{◌≡◌, ◌≤◌, ◌<◌, ◌+◌, ℤ, pos, List, [], Some, None, IfOk};
 ghost use Rattle.std.specs.Prelude.{if◌then◌else◌, unwrap_or, option_map};
 ghost use Rattle.std.specs.HashMap.{get, hash_map_len, spare};
@@ -37,8 +37,8 @@ fn insert(votes: &mut HashMap<i64, Most>, block: i64, most: Most)
 }
 
 impl Vote {
-    /// The predictor with room for `room` blocks and for `each` values of each block, which was told
-    /// nothing.
+    /// Makes the predictor with room for `room` blocks and for `each` values of each block, which
+    /// was told nothing.
     ///
     /// # Errors
     ///

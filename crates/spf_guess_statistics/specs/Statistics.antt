@@ -36,7 +36,7 @@ is_hit block = same_carried block.guess.value block.real
 abbrev pub none : Stats
 none = record { blocks = 0; hits = 0; misses = 0; blind = 0 }
 
--- the statistics of both
+-- the sum of two statistics
 abbrev pub plus : Stats → Stats → Stats
 plus one other = record {
   blocks = one.blocks + other.blocks;
@@ -65,7 +65,8 @@ pub record Tally : Type 0 where
   pub stats : Stats
   pub telling : List Telling
 
--- one construct that was reached, and those after it: its hosts were told so much before it, and are told parts of its blocks' rows after it
+-- one construct that was reached, and those after it: its hosts were told these pairs before it, and are told parts of
+-- its blocks' rows after it
 abbrev pub tally_from : Hosts → Program → List ℕ → List Construct → List Reached → List Telling → Tally
 tally_from hosts p input (construct ∷ constructs) (r ∷ others) telling =
     let later = tally_from hosts p input constructs others (telling ++ tells construct r.header r.reals.values) in

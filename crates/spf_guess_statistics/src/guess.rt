@@ -1,4 +1,4 @@
-// Guesses for the rows at which blocks begin.
+//! Guesses for the rows at which blocks begin.
 use spf_ast::row::Row;
 
 /// A guess for the carried row at a block.

@@ -1,4 +1,4 @@
-// How good the guesses of a run are.
+//! How good the guesses of a run are.
 
 ghost use Rattle.std.specs.Prelude.{◌≡◌, ◌+◌, ◌<◌, ◌^◌};
 ghost use Rattle.spf_guess_statistics.specs.Statistics.{none as no_blocks, plus as both};
@@ -17,7 +17,7 @@ pub struct Stats {
 }
 
 impl Stats {
-    /// The statistics of no blocks.
+    /// Returns the statistics of no blocks.
     pub fn none() -> Stats
         ensures { result ≡ no_blocks }
     {
@@ -29,7 +29,7 @@ impl Stats {
         }
     }
 
-    /// The statistics of these blocks and of the others.
+    /// Returns the statistics of these blocks and of the others.
     pub fn plus(self, other: Stats) -> Stats
         requires blocks { self.blocks + other.blocks < 2 ^ 64 }
         requires hits { self.hits + other.hits < 2 ^ 64 }

@@ -52,6 +52,6 @@ line_more t a b le =
 abbrev pub no_token : Token
 no_token = record { kind = kind.Name; from = 0; to = 0 }
 
--- one element more
+-- one more element
 pub mapped : {A B : Type 0} (f : A → B) (xs : List A) (d : A) (i : ℕ) → i < length xs → map f (take i xs) ++ f (get_or xs i d) ∷ [] ≡ map f (take (i + 1) xs)
 mapped f xs d i h = rw (add-one, take-suc xs i d h, map-append) refl

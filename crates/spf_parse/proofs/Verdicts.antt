@@ -183,7 +183,7 @@ module _ {V : Type 0} (text : List ℕ) (r : Result V ScanError)
     (long : max_text < length text → r ≡ Err (scan.TooLong max_text))
     (bad : (at : ℕ) → length text ≤ max_text → IsFaultyAt BeginsNothing text at → (r ≡ Err (scan.BadByte at)) ⊎ (r ≡ Err scan.OutOfMemory))
     (large : (at : ℕ) → length text ≤ max_text → IsFaultyAt BeginsTooLarge text at → (r ≡ Err (scan.NumberTooLarge at)) ⊎ (r ≡ Err scan.OutOfMemory)) where
-  -- a fault of the text is answered, or memory was short
+  -- a fault of the text is answered, or memory ran out
   told : (e : ScanError) → IsNoTokenText text e → (r ≡ Err e) ⊎ (r ≡ Err scan.OutOfMemory)
   told (scan.TooLong at) n = inl (long n.0 ∙ ap (λ m. Err (scan.TooLong m)) (sym n.1))
   told (scan.BadByte at) n = bad at n.0 n.1

@@ -1,4 +1,4 @@
-// The tokens of a text, each with its bytes and its line.
+//! The tokens of a text, each with its bytes and its line.
 
 ghost use Rattle.std.specs.Prelude.{◌≡◌, ◌≤◌, ◌<◌, ◌^◌, ◌==◌, length, map, IfOk, count_by};
 ghost use Rattle.spf_text.specs.Tokens.{AreInOrder};

@@ -1,4 +1,4 @@
-// Whole programs.
+//! Whole programs.
 
 ghost use Rattle.std.specs.Prelude.{◌≡◌, ◌<◌, ◌≤◌, ◌-◌, ◌⊎◌, ℕ, [], length, drop, map, IfOk};
 ghost use Rattle.std.specs.Prelude.{IsOkUnless, Err};
@@ -53,7 +53,7 @@ pub enum ParseError {
 /// The version in which `break` is a statement.
 const WITH_BREAKS: u32 = 2;
 
-/// The version that a text is written in: 1 where it has no header.
+/// Parses the version that a text is written in: 1 where it has no header.
 fn header<'b, 'a>(tokens: &'b [Lexeme<'a>]) -> Result<(u32, &'b [Lexeme<'a>]), Fault>
     ensures { Answers header_part (seen_lexemes tokens.now) (λ x. x.0) (λ x. seen_lexemes x.1.now)
         result }
@@ -72,7 +72,7 @@ fn header<'b, 'a>(tokens: &'b [Lexeme<'a>]) -> Result<(u32, &'b [Lexeme<'a>]), F
     Ok((2, end))
 }
 
-/// The arrays, as long as one begins.
+/// Parses the arrays, as long as one begins.
 fn arrays<'b, 'a>(
     alloc: Global,
     tokens: &'b [Lexeme<'a>],
@@ -90,7 +90,8 @@ fn arrays<'b, 'a>(
     Ok((found, rest))
 }
 
-/// The functions, as long as one begins. `break` is a statement in them where so told.
+/// Parses the functions, as long as one begins. `break` is a statement in them where `breaks` says
+/// so.
 fn functions<'b, 'a>(
     alloc: Global,
     tokens: &'b [Lexeme<'a>],
@@ -109,7 +110,7 @@ fn functions<'b, 'a>(
     Ok((found, rest))
 }
 
-/// A program, and the tokens after it.
+/// Parses a program, and returns it with the tokens after it.
 fn program<'b, 'a>(
     alloc: Global,
     tokens: &'b [Lexeme<'a>],
@@ -136,7 +137,7 @@ fn program<'b, 'a>(
     ))
 }
 
-/// The program that all these tokens say.
+/// Parses the program that all these tokens say.
 fn whole(alloc: Global, tokens: &[Lexeme]) -> Result<RawProgram, Fault>
     ensures { Answered 14 (all program_part) (seen_lexemes tokens.now) (λ p. raw_program p)
         (λ p. []) result }
@@ -148,7 +149,7 @@ fn whole(alloc: Global, tokens: &[Lexeme]) -> Result<RawProgram, Fault>
     Ok(found)
 }
 
-/// The place of the token from which so many are left. The text ends at `end`.
+/// The place of the token from which `left` tokens are left. The text ends at `end`.
 fn place(tokens: &[Lexeme], end: usize, left: usize) -> usize
     requires { left ≤ length tokens.now }
     ensures { result ≡ place_of end (drop (length tokens.now - left) (seen_lexemes tokens.now)) }
@@ -172,7 +173,7 @@ fn of_scan(e: ScanError) -> ParseError
     }
 }
 
-/// The program that a text says.
+/// Parses the program that a text says.
 ///
 /// # Errors
 ///

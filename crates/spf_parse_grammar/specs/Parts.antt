@@ -15,11 +15,11 @@ pub data Part : Type 0 where
   token : TokenKind → Part
   opens : ℕ → Sign → Part
   operator : (rank used : ℕ) → Part
-  -- a name; a number, as a whole number or as a natural one
+  -- a name; a number, as an integer or as a natural number
   name : Part
   number : Part
   count : Part
-  -- a part any number of times, or so many times at most; a part with the line of its first token
+  -- a part any number of times, or at most `most` times; a part with the line of its first token
   many : Part → Part
   few : (most : ℕ) → Part → Part
   lined : Part → Part

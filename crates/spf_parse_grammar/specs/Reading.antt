@@ -10,7 +10,7 @@ use Rattle.spf_parse_grammar.specs.Rules.{rule, rank_of}
 abbrev pub Relation : Type 0 → Type 1
 Relation A = List Lexeme → A → List Lexeme → Type 0
 
--- one token, of which this is so
+-- one token for which this holds
 abbrev pub one : {A : Type 0} → (Lexeme → A → Type 0) → Relation A
 one P [] a us = ⊥
 one P (t ∷ ts) a us = P t a × (us ≡ ts)

@@ -580,7 +580,7 @@ many_rule p =
       more ← many p
       give (x ∷ more))
 
--- a part so many times at most
+-- a part at most this many times
 abbrev pub few_rule : ℕ → (p : Part) → Rule (List (Value p))
 few_rule zero p = give []
 few_rule (suc most) p =

@@ -13,7 +13,7 @@ pub record IsProgramOf (text : List ℕ) (p : RawProgram) : Type 0 where
   pub are : AreTokensOf text tokens
   pub reads : Reads 0 (lexemes_of text tokens) p
 
--- some program's tokens begin so, and these keep the limits, but for so many at their end
+-- some program's tokens begin with these, and these keep the limits, except for the last `free` of them
 abbrev pub IsFront : (free : ℕ) → List Lexeme → Type 0
 IsFront free ts = (more : List Lexeme) × (p : RawProgram) × Reads (free + length more) (ts ++ more) p
 

@@ -66,7 +66,7 @@ alike_shared p K L = record {
     shared_back p K L free k b vs x us d (inl e) = inl (x, us, d, e)
     shared_back p K L free k b vs x us d (inr e) = inr (x, us, d, e)
 
--- alternatives, and one more behind them
+-- alternatives, and one more after them
 abbrev pub and_either : {A : Type 0} → Rule A → Rule A → Rule A
 and_either (either r s) t = either r (and_either s t)
 and_either (give a) t = either (give a) t

@@ -1,4 +1,4 @@
-// Expressions.
+//! Expressions.
 
 ghost use Rattle.std.specs.Prelude.{◌≡◌, ◌≤◌, ◌<◌, IfOk, IfErr, Some, map, suc};
 ghost use Rattle.spf_parse_grammar.specs.Reading.{max_nesting};
@@ -71,7 +71,7 @@ fn join(
     Ok(Box::new(alloc, between(operator, left, right))?)
 }
 
-/// A name alone, indexed or called.
+/// Parses a name alone, indexed or called.
 #[cycle(expression)]
 fn named<'b, 'a>(
     alloc: Global,
@@ -101,7 +101,8 @@ fn named<'b, 'a>(
     Ok((Box::new(alloc, RawExpr::Local(x))?, rest))
 }
 
-/// An operand that begins with a sign: one with a unary sign, or an expression in parentheses.
+/// Parses an operand that begins with a sign: one with a unary sign, or an expression in
+/// parentheses.
 #[cycle(expression)]
 fn signed<'b, 'a>(
     alloc: Global,
@@ -133,8 +134,8 @@ fn signed<'b, 'a>(
     }
 }
 
-/// An operand: a number, a name alone, indexed or called, the input or its length, one with a unary
-/// sign, or an expression in parentheses.
+/// Parses an operand: a number, a name alone, indexed or called, the input or its length, one with
+/// a unary sign, or an expression in parentheses.
 #[cycle(expression)]
 fn operand<'b, 'a>(
     alloc: Global,
@@ -176,7 +177,7 @@ fn operand<'b, 'a>(
     }
 }
 
-/// What stands in the parentheses of a call, and the closing one.
+/// Parses what stands in the parentheses of a call, and the closing one.
 #[cycle(expression)]
 pub(crate) fn arguments<'b, 'a>(
     alloc: Global,
@@ -202,8 +203,8 @@ pub(crate) fn arguments<'b, 'a>(
     Ok((inside, end))
 }
 
-/// An expression of this rank, in one that has so many operators before it, and how many it has
-/// after it.
+/// Parses an expression of this rank within one that has `used` operators before it. Also returns
+/// how many operators that one has after it.
 #[cycle(expression)]
 fn level<'b, 'a>(
     alloc: Global,
@@ -223,7 +224,7 @@ fn level<'b, 'a>(
     continued(alloc, first, rest, rank, nesting, used)
 }
 
-/// An expression of this rank, of which the first operand is read.
+/// Parses an expression of this rank, of which the first operand is read.
 #[cycle(expression)]
 pub(crate) fn continued<'b, 'a>(
     alloc: Global,
@@ -251,7 +252,7 @@ pub(crate) fn continued<'b, 'a>(
     chain(alloc, left, rest, rank - 1, nesting, so_far)
 }
 
-/// Operands of this rank after a first one, each after an operator of the next looser rank.
+/// Parses operands of this rank after a first one, each after an operator of the next looser rank.
 #[cycle(expression)]
 fn chain<'b, 'a>(
     alloc: Global,
@@ -283,7 +284,7 @@ fn chain<'b, 'a>(
     Ok((left, so_far, rest))
 }
 
-/// At most one comparison after its left side.
+/// Parses at most one comparison after its left side.
 #[cycle(expression)]
 fn comparison<'b, 'a>(
     alloc: Global,
@@ -308,7 +309,7 @@ fn comparison<'b, 'a>(
     Ok((join(alloc, sign, left, right)?, more, end))
 }
 
-/// An expression.
+/// Parses an expression.
 #[cycle(expression)]
 pub(crate) fn expr<'b, 'a>(
     alloc: Global,
@@ -323,7 +324,7 @@ pub(crate) fn expr<'b, 'a>(
     Ok((a, rest))
 }
 
-/// An expression, and the token after it.
+/// Parses an expression, and the token after it.
 #[cycle(expression)]
 pub(crate) fn value<'b, 'a>(
     alloc: Global,

@@ -1,4 +1,4 @@
-// Why the parser stops.
+//! Why the parser stops.
 
 use std::alloc::{AllocError, AllocFailed};
 

@@ -1,4 +1,4 @@
-// Arrays and functions.
+//! Arrays and functions.
 
 ghost use Rattle.std.specs.Prelude.{map};
 ghost use Rattle.spf_ast.specs.View.{name as seen_name, array as seen_array};
@@ -19,7 +19,7 @@ use spf_parse_grammar::Lexeme;
 use spf_text::token::{Keyword, Sign, TokenKind};
 use std::alloc::Global;
 
-/// The factor and the offset of a size.
+/// Parses the factor and the offset of a size.
 fn size<'b, 'a>(tokens: &'b [Lexeme<'a>]) -> Result<((i64, i64), &'b [Lexeme<'a>]), Fault>
     ensures { Answers size_part (lexemes tokens.now) (λ x. (x.0.0, x.0.1)) (λ x. lexemes x.1.now)
         result }
@@ -36,7 +36,7 @@ fn size<'b, 'a>(tokens: &'b [Lexeme<'a>]) -> Result<((i64, i64), &'b [Lexeme<'a>
     Ok(((first, second), end))
 }
 
-/// An array.
+/// Parses an array.
 pub fn array<'b, 'a>(
     alloc: Global,
     tokens: &'b [Lexeme<'a>],
@@ -62,7 +62,7 @@ pub fn array<'b, 'a>(
     ))
 }
 
-/// What stands in the parentheses of a function, and the closing one.
+/// Parses what stands in the parentheses of a function, and the closing one.
 fn parameters<'b, 'a>(
     alloc: Global,
     tokens: &'b [Lexeme<'a>],
@@ -85,7 +85,7 @@ fn parameters<'b, 'a>(
     Ok((inside, end))
 }
 
-/// A function. `break` is a statement in it where so told.
+/// Parses a function. `break` is a statement in it where `breaks` says so.
 pub fn function<'b, 'a>(
     alloc: Global,
     tokens: &'b [Lexeme<'a>],

@@ -1,4 +1,4 @@
-// Rows: the names, expressions and predictors of what is carried.
+//! Rows: the names, expressions and predictors of what is carried.
 
 ghost use Rattle.std.specs.Prelude.{◌≤◌, ◌<◌, map};
 ghost use Rattle.spf_parse_grammar.specs.Reading.{max_nesting};
@@ -30,7 +30,7 @@ const COMMA: TokenKind = TokenKind::Sign(Sign::Comma);
 /// How many parts a row may have after its second one.
 const MORE_PARTS: u32 = 2;
 
-/// A name, or two to four in parentheses.
+/// Parses a name, or two to four in parentheses.
 pub(crate) fn names<'b, 'a>(
     alloc: Global,
     tokens: &'b [Lexeme<'a>],
@@ -65,8 +65,8 @@ pub(crate) fn names<'b, 'a>(
     Ok((found, end))
 }
 
-/// What comes after an opening parenthesis: an expression that goes on after its bracket, or the
-/// first part of a row and its comma. Whether it is a whole expression is told.
+/// Parses what comes after an opening parenthesis: an expression that goes on after its bracket, or
+/// the first part of a row and its comma. Also tells whether it is a whole expression.
 fn bracketed<'b, 'a>(
     alloc: Global,
     tokens: &'b [Lexeme<'a>],
@@ -88,7 +88,7 @@ fn bracketed<'b, 'a>(
     Ok(((whole, true), end))
 }
 
-/// An expression, or two to four in parentheses.
+/// Parses an expression, or two to four in parentheses.
 pub(crate) fn row<'b, 'a>(
     alloc: Global,
     tokens: &'b [Lexeme<'a>],
@@ -126,7 +126,7 @@ pub(crate) fn row<'b, 'a>(
     Ok((found, end))
 }
 
-/// A row, and the token after it.
+/// Parses a row, and the token after it.
 pub(crate) fn row_up_to<'b, 'a>(
     alloc: Global,
     tokens: &'b [Lexeme<'a>],
@@ -141,7 +141,7 @@ pub(crate) fn row_up_to<'b, 'a>(
     followed(row(alloc, tokens, nesting), end)
 }
 
-/// A predictor: the number of one that is supplied, or an expression.
+/// Parses a predictor: the number of one that is supplied, or an expression.
 fn predictor<'b, 'a>(
     alloc: Global,
     tokens: &'b [Lexeme<'a>],
@@ -159,8 +159,8 @@ fn predictor<'b, 'a>(
     Ok((RawPredict::Expr(Box::into_inner(g)), end))
 }
 
-/// What comes after an opening parenthesis: a predictor that goes on after its bracket, or the
-/// first one of a row and its comma. Whether it is a whole predictor is told.
+/// Parses what comes after an opening parenthesis: a predictor that goes on after its bracket, or
+/// the first one of a row and its comma. Also tells whether it is a whole predictor.
 fn bracketed_predictor<'b, 'a>(
     alloc: Global,
     tokens: &'b [Lexeme<'a>],
@@ -178,7 +178,7 @@ fn bracketed_predictor<'b, 'a>(
     Ok(((RawPredict::Expr(Box::into_inner(g)), is_whole), end))
 }
 
-/// What comes after `predict`: a predictor, or two to four in parentheses.
+/// Parses what comes after `predict`: a predictor, or two to four in parentheses.
 pub(crate) fn guess<'b, 'a>(
     alloc: Global,
     tokens: &'b [Lexeme<'a>],

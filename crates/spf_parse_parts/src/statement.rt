@@ -1,4 +1,4 @@
-// Statements.
+//! Statements.
 
 ghost use Rattle.std.specs.Prelude.{◌≤◌, ◌<◌, map};
 ghost use Rattle.spf_parse_grammar.specs.Reading.{max_nesting};
@@ -38,7 +38,7 @@ pub(crate) const CLOSE_BRACE: TokenKind = TokenKind::Sign(Sign::CloseBrace);
 /// A statement, or a part of one, and the tokens after it.
 pub type Read<'b, 'a, T> = Result<(T, &'b [Lexeme<'a>]), Fault>;
 
-/// An assignment, after its name.
+/// Parses an assignment, after its name.
 fn assign_form<'b, 'a>(
     alloc: Global,
     tokens: &'b [Lexeme<'a>],
@@ -54,7 +54,7 @@ fn assign_form<'b, 'a>(
     Ok((RawStmtKind::Assign(target, Box::into_inner(a)), end))
 }
 
-/// A store, after its name.
+/// Parses a store, after its name.
 fn store_form<'b, 'a>(
     alloc: Global,
     tokens: &'b [Lexeme<'a>],
@@ -72,7 +72,7 @@ fn store_form<'b, 'a>(
     Ok((store, end))
 }
 
-/// A call, after its name.
+/// Parses a call, after its name.
 fn call_form<'b, 'a>(
     alloc: Global,
     tokens: &'b [Lexeme<'a>],
@@ -88,7 +88,7 @@ fn call_form<'b, 'a>(
     Ok((RawStmtKind::Call(function, given), end))
 }
 
-/// A statement that begins with a name.
+/// Parses a statement that begins with a name.
 fn named_form<'b, 'a>(
     alloc: Global,
     tokens: &'b [Lexeme<'a>],
@@ -108,7 +108,7 @@ fn named_form<'b, 'a>(
     assign_form(alloc, rest, nesting, x)
 }
 
-/// `let`.
+/// Parses `let`.
 fn let_form<'b, 'a>(
     alloc: Global,
     tokens: &'b [Lexeme<'a>],
@@ -124,7 +124,7 @@ fn let_form<'b, 'a>(
     Ok((RawStmtKind::Let(x, Box::into_inner(a)), end))
 }
 
-/// `fill`.
+/// Parses `fill`.
 fn fill_form<'b, 'a>(
     alloc: Global,
     tokens: &'b [Lexeme<'a>],
@@ -149,7 +149,7 @@ fn fill_form<'b, 'a>(
     Ok((fill, end))
 }
 
-/// `emit`.
+/// Parses `emit`.
 fn emit_form<'b, 'a>(
     alloc: Global,
     tokens: &'b [Lexeme<'a>],
@@ -164,7 +164,7 @@ fn emit_form<'b, 'a>(
     Ok((RawStmtKind::Emit(Box::into_inner(a)), end))
 }
 
-/// `fail`.
+/// Parses `fail`.
 fn fail_form<'b, 'a>(tokens: &'b [Lexeme<'a>], nesting: u32) -> Read<'b, 'a, RawStmtKind>
     ensures { Answered 11 (grammar.fail_form nesting) (lexemes tokens.now) (λ x. raw_statement x.0)
         (λ x. lexemes x.1.now) result }
@@ -175,7 +175,7 @@ fn fail_form<'b, 'a>(tokens: &'b [Lexeme<'a>], nesting: u32) -> Read<'b, 'a, Raw
     Ok((RawStmtKind::Fail(n), end))
 }
 
-/// `break`, where it is a statement.
+/// Parses `break`, where it is a statement.
 fn break_form<'b, 'a>(
     tokens: &'b [Lexeme<'a>],
     nesting: u32,
@@ -193,7 +193,7 @@ fn break_form<'b, 'a>(
     Ok((RawStmtKind::Break, end))
 }
 
-/// `if`.
+/// Parses `if`.
 #[cycle(statement)]
 fn if_form<'b, 'a>(
     alloc: Global,
@@ -212,7 +212,7 @@ fn if_form<'b, 'a>(
     Ok((RawStmtKind::If(Box::into_inner(test), yes, no), end))
 }
 
-/// `else` with its block, or nothing.
+/// Parses `else` with its block, or nothing.
 #[cycle(statement)]
 fn otherwise<'b, 'a>(
     alloc: Global,
@@ -230,7 +230,7 @@ fn otherwise<'b, 'a>(
     }
 }
 
-/// `for`.
+/// Parses `for`.
 #[cycle(statement)]
 fn for_form<'b, 'a>(
     alloc: Global,
@@ -251,7 +251,7 @@ fn for_form<'b, 'a>(
     Ok((repeat, end))
 }
 
-/// `while`.
+/// Parses `while`.
 #[cycle(statement)]
 fn while_form<'b, 'a>(
     alloc: Global,
@@ -281,7 +281,7 @@ struct FoldHead {
     predict: Vec<RawPredict>,
 }
 
-/// `specfold`, up to its body.
+/// Parses `specfold`, up to its body.
 fn fold_head<'b, 'a>(
     alloc: Global,
     tokens: &'b [Lexeme<'a>],
@@ -314,7 +314,7 @@ fn fold_head<'b, 'a>(
     Ok((Box::new(alloc, head)?, end))
 }
 
-/// `specfold`.
+/// Parses `specfold`.
 #[cycle(statement)]
 fn fold_form<'b, 'a>(
     alloc: Global,
@@ -343,8 +343,8 @@ fn fold_form<'b, 'a>(
     Ok((RawStmtKind::Fold(Box::new(alloc, fold)?), end))
 }
 
-/// Statements in braces whose last one begins with this word and has a row, with the line of that
-/// word.
+/// Parses statements in braces whose last one begins with this word and has a row, with the line of
+/// that word.
 #[cycle(statement)]
 fn ended<'b, 'a>(
     alloc: Global,
@@ -366,7 +366,7 @@ fn ended<'b, 'a>(
     Ok(((body, line, a), end))
 }
 
-/// `spec`.
+/// Parses `spec`.
 #[cycle(statement)]
 fn pair_form<'b, 'a>(
     alloc: Global,
@@ -397,7 +397,7 @@ fn pair_form<'b, 'a>(
     Ok((RawStmtKind::Pair(Box::new(alloc, pair)?), end))
 }
 
-/// Statements in braces.
+/// Parses statements in braces.
 #[cycle(statement)]
 pub fn block<'b, 'a>(
     alloc: Global,
@@ -413,7 +413,7 @@ pub fn block<'b, 'a>(
     Ok((inside, end))
 }
 
-/// An opening brace, and statements as long as one begins.
+/// Parses an opening brace, and statements as long as one begins.
 #[cycle(statement)]
 pub(crate) fn opened<'b, 'a>(
     alloc: Global,
@@ -436,7 +436,7 @@ pub(crate) fn opened<'b, 'a>(
     Ok((inside, rest))
 }
 
-/// A statement, but for its line.
+/// Parses a statement, but for its line.
 #[cycle(statement)]
 fn form<'b, 'a>(
     alloc: Global,

@@ -1,4 +1,4 @@
-// Single tokens.
+//! Single tokens.
 
 ghost use Rattle.std.specs.Prelude.{◌≡◌, ◌↔◌, ◌<◌, IsTrue, Some, ◌∷◌, MatchOption, IfOk, IfErr};
 ghost use Rattle.std.specs.Prelude.{Err};
@@ -33,7 +33,7 @@ pub(crate) fn next(tokens: &[Lexeme]) -> Option<TokenKind>
     }
 }
 
-/// The line of the next token, or 0.
+/// Returns the line of the next token, or 0.
 pub fn line_of(tokens: &[Lexeme]) -> u32
     ensures { result ≡ first_line (lexemes tokens.now) }
 {
@@ -43,7 +43,7 @@ pub fn line_of(tokens: &[Lexeme]) -> u32
     }
 }
 
-/// Whether the next token is of this kind.
+/// Returns whether the next token is of this kind.
 pub fn is_next(tokens: &[Lexeme], kind: TokenKind) -> bool
     ensures { IsTrue result ↔ (ahead (lexemes tokens.now) ≡ Some kind) }
 {
@@ -62,7 +62,7 @@ pub(crate) fn after<'b, 'a>(tokens: &'b [Lexeme<'a>], kind: TokenKind) -> Option
     }
 }
 
-/// The tokens after one of this kind.
+/// Returns the tokens after one of this kind.
 pub fn expect<'b, 'a>(tokens: &'b [Lexeme<'a>], kind: TokenKind) -> Result<&'b [Lexeme<'a>], Fault>
     ensures { Answers (token kind) (lexemes tokens.now) (λ rest. first_line (lexemes tokens.now))
         (λ rest. lexemes rest.now) result }
@@ -107,7 +107,7 @@ pub(crate) fn open<'b, 'a>(
     Ok(rest)
 }
 
-/// A name.
+/// Parses a name.
 pub(crate) fn name<'b, 'a>(
     alloc: Global,
     tokens: &'b [Lexeme<'a>],
@@ -125,7 +125,7 @@ pub(crate) fn name<'b, 'a>(
     Ok((Name { bytes }, rest))
 }
 
-/// A number.
+/// Parses a number.
 pub(crate) fn number<'b, 'a>(tokens: &'b [Lexeme<'a>]) -> Result<(i64, &'b [Lexeme<'a>]), Fault>
     ensures { Answers number_part (lexemes tokens.now) (λ x. x.0) (λ x. lexemes x.1.now) result }
 {
@@ -140,7 +140,7 @@ pub(crate) fn number<'b, 'a>(tokens: &'b [Lexeme<'a>]) -> Result<(i64, &'b [Lexe
     }
 }
 
-/// A number that counts.
+/// Parses a number as a count.
 pub(crate) fn count<'b, 'a>(tokens: &'b [Lexeme<'a>]) -> Result<(u64, &'b [Lexeme<'a>]), Fault>
     ensures { Answers count_part (lexemes tokens.now) (λ x. x.0) (λ x. lexemes x.1.now) result }
 {
@@ -193,7 +193,7 @@ pub(crate) fn operator<'b, 'a>(
     }
 }
 
-/// Whether a statement begins here. `break` begins one where there are such statements.
+/// Returns whether a statement begins here. `break` begins one where there are such statements.
 pub(crate) fn begins_statement(tokens: &[Lexeme], breaks: bool) -> bool
     ensures { result ≡ opens_statement breaks (ahead (lexemes tokens.now)) }
 {

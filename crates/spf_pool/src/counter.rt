@@ -30,7 +30,7 @@ impl Counter {
         Ok(Counter { ledger, seat })
     }
 
-    /// From now on other hands may have counters.
+    /// Allows counters of other hands from now on.
     pub(crate) fn open(&mut self)
         requires { IsCounter self.old }
         ensures same { IsCounter self.new × (ledger_of self.new ≡ ledger_of self.old) }
@@ -52,7 +52,7 @@ impl Counter {
         Ok(Counter { ledger, seat })
     }
 
-    /// Counts one item more as given, and gives its receipt.
+    /// Counts one more item as given, and gives its receipt.
     pub(crate) fn issue(&mut self, given: u64) -> LedgerSeat
         requires counter { IsCounter self.old }
         requires owner { (known self.old).owner ≡ true }
@@ -83,7 +83,7 @@ impl Counter {
         shared.fetch_add::<CountsTaken>(&mut self.seat, TAKEN, 1);
     }
 
-    /// Whether all items given were counted as taken.
+    /// Returns whether all items given were counted as taken.
     pub(crate) fn look(&mut self) -> bool
         requires { IsCounter self.old }
         ensures same { IsCounter self.new × (ledger_of self.new ≡ ledger_of self.old) }

@@ -15,7 +15,7 @@ use std::marker::Model;
 /// A hand of a pool, for one thread.
 ///
 /// Contracts see of it the key and the deques of its pool, which deque is its own, how many items
-/// it may give, how many items it has seen given to each deque and taken from it, how many it took
+/// it may give, how many items it has seen given to and taken from each deque, how many it took
 /// itself, and how often it has looked at these numbers.
 pub struct Hand<T: Item<K>, K> {
     pub(crate) key: GhostKey<K>,

@@ -7,7 +7,7 @@ use crate::ledger::LedgerSeat;
 use spf_cells_key::key::GhostKey;
 use std::marker::{Model, PhantomData};
 
-/// The name of a ledger, which contracts alone see.
+/// The name of a ledger, which only contracts see.
 pub struct LedgerName {
     marker: PhantomData<()>,
     pub ghost id: { TableId } by { table_id_coded },
@@ -17,7 +17,7 @@ impl Model for LedgerName {
     ghost also_owns = { λ _. ftrue };
 }
 
-/// What all know that use a deque: the key of the pool, and the deque's ledger. No value of it is
+/// What all users of a deque know: the key of the pool, and the deque's ledger. No value of it is
 /// made at run time.
 pub struct Tag<K> {
     pub key: K,
@@ -30,7 +30,7 @@ pub enum Stage<K> {
     Fresh,
     /// It holds the parcel that tells of this tag.
     Opening(Tag<K>),
-    /// It is the only pass, and the deque holds so many items.
+    /// It is the only pass, and the deque holds this many items.
     Alone(Tag<K>, u64),
     /// There may be other passes.
     Shared(Tag<K>),

@@ -1,4 +1,4 @@
-//! A pool is made, with its hands.
+//! Makes a pool and its hands.
 ghost use Rattle.std.specs.Prelude.{◌≡◌, ◌+◌, ◌<◌, ◌≤◌, true, false, [], ◌∷◌, length, map, IfOk};
 ghost use Rattle.std.specs.List.{All};
 ghost use Rattle.spf_pool.specs.Limits.{max_capacity};
@@ -27,7 +27,7 @@ fn tag_for<K>(key: &GhostKey<K>, counter: &Counter) -> GhostKey<Tag<K>>
     named(key, counter)
 }
 
-// A ghost value is named by a call's arguments alone, so the call has them.
+// A ghost value is named by a call's arguments alone, so they are passed here.
 fn named<K>(key: &GhostKey<K>, counter: &Counter) -> GhostKey<Tag<K>>
     ghost value: { Tag K }
     ensures { result.value ≡ value }
@@ -83,7 +83,7 @@ impl<T: Item<K>, K> End<T, K> {
         self.capacity
     }
 
-    // From now on other hands may have ends of the deque.
+    // Allows ends of the deque for other hands from now on.
     fn open(&mut self)
         requires { self.old.owner ≡ true }
         ensures { self.new ≡ record self.old { solo = false } }
@@ -225,7 +225,7 @@ fn alone<T: Item<K>, K>(
     })
 }
 
-// It alone in a list.
+// A list of this hand alone.
 fn one<T: Item<K>, K>(
     alloc: Global,
     key: &GhostKey<K>,
@@ -243,8 +243,8 @@ fn one<T: Item<K>, K>(
 pub struct Pool;
 
 impl Pool {
-    /// The hands of a new pool, one for each of 1 to 64 capacities. A hand can give as many items
-    /// as its capacity says, at most 8,192, to a deque of its own, and takes from all deques.
+    /// Makes the hands of a new pool, one for each of 1 to 64 capacities. A hand can give as many
+    /// items as its capacity says, at most 8,192, to a deque of its own, and takes from all deques.
     /// Nothing is given yet. Contracts compare items with the key's value. All memory of the pool
     /// is taken here.
     ///

@@ -39,8 +39,8 @@ impl<T: Item<K>, K> Drop for Side<T, K> {
 }
 
 impl<T: Item<K>, K> Side<T, K> {
-    /// The owner's side of a new deque, in which there is room for so many parcels beside the
-    /// first. That one goes in and out, and tells the tag.
+    /// The owner's side of a new deque, in which there is room for `capacity` parcels beside the
+    /// first. That one is put in and taken out again, and tells the tag.
     pub(crate) fn make(
         alloc: Global,
         capacity: usize,
@@ -56,7 +56,7 @@ impl<T: Item<K>, K> Side<T, K> {
         Ok(Side::Own(worker))
     }
 
-    /// From now on other hands may have passes.
+    /// Allows passes of other hands from now on.
     pub(crate) fn open(&mut self)
         requires side { IsSide self.old × (is_own self.old ≡ true) }
         requires stage { (t : Tag K) × knows_tag t (stage self.old) }

@@ -1,4 +1,4 @@
-//! A hand takes from the deques of others.
+//! Takes from the deques of other hands.
 ghost use Rattle.std.specs.Prelude.{◌≡◌, ◌+◌, ◌<◌, true, false, ◌||◌, length, MatchResult};
 ghost use Rattle.spf_pool.specs.Ends.{MatchFound};
 ghost use Rattle.spf_pool.specs.Hands.{TookNoneOf, TookOneOf, Swept, LookedAt, TookAt, AreOrdered};
@@ -13,8 +13,8 @@ fn either(one: bool, other: bool) -> bool
     one || other
 }
 
-// Looks into one deque, if it isn't the own one. True says that an item was given to it that isn't
-// counted as taken; an item was taken.
+// Looks into one deque, unless it is the hand's own. Returns whether an item was given to it that
+// isn't counted as taken, or, as the error, the item that was taken.
 fn look_at<T: Item<K>, K>(ends: &mut [End<T, K>], own: usize, place: usize) -> Result<bool, T>
     requires order { AreOrdered ends.old }
     requires within { place < length ends.old }
@@ -33,7 +33,7 @@ fn look_at<T: Item<K>, K>(ends: &mut [End<T, K>], own: usize, place: usize) -> R
     }
 }
 
-// Looks into each deque but the own one, and takes the first front that it can.
+// Looks into each deque but the hand's own, and takes the first front that it can.
 pub(crate) fn sweep<T: Item<K>, K>(ends: &mut [End<T, K>], own: usize) -> Found<T>
     requires order { AreOrdered ends.old }
     requires within { own < length ends.old }

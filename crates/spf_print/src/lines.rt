@@ -1,4 +1,4 @@
-// Single lines, added to a text.
+//! Single lines, added to a text.
 
 ghost use Rattle.std.specs.Prelude.{◌≡◌, ◌++◌, ◌∷◌, [], codes, IfOk, map, pos};
 ghost use Rattle.std.specs.Fmt.{decimal, signed_decimal};

@@ -1,4 +1,4 @@
-// Arrays, functions and whole programs, added to a text.
+//! Arrays, functions and whole programs, added to a text.
 
 ghost use Rattle.std.specs.Prelude.{◌≡◌, ◌++◌, ◌∷◌, [], codes, IfOk, map, take};
 ghost use Rattle.spf_ast.specs.View.{name as seen_name, array as seen_array};
@@ -149,8 +149,8 @@ fn push_header(text: &mut Vec<u8>, version: u32) -> Result<(), AllocError>
     Ok(())
 }
 
-/// The canonical text of a program: each statement on lines of its own, two spaces deeper for each
-/// block around it, and no parentheses but those that are needed.
+/// Prints the canonical text of a program: each statement on lines of its own, two spaces deeper
+/// for each block around it, and no parentheses but those that are needed.
 ///
 /// # Errors
 ///

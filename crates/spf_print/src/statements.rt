@@ -1,4 +1,4 @@
-// Statements and blocks, added to a text.
+//! Statements and blocks, added to a text.
 
 ghost use Rattle.std.specs.Prelude.{◌≡◌, ◌++◌, IfOk};
 ghost use Rattle.spf_ast.specs.Syntax.{Fold as fold_form, Pair as pair_form};

@@ -2,7 +2,7 @@
 use Rattle.std.proofs.Common.{◌≡◌, ◌++◌, ◌∷◌, [], ◌+◌, ◌<◌, ◌≤◌, ℕ, List, length, drop, get_or, sym, ap, ◌∙◌, append_assoc, append-nil, add-one, drop-cons}
 use Rattle.std.proofs.lemmas.List.{drop_all}
 
--- one element more
+-- one more element
 pub one_more : {A : Type 0} (all : List A → List ℕ) (one : A → List ℕ) → ((x : A) (xs : List A) → all (x ∷ xs) ≡ one x ++ all xs) → (before after whole : List ℕ) (xs : List A) (i : ℕ) (x : A) → x ≡ get_or xs i x → i < length xs → after ≡ before ++ one x → before ++ all (drop i xs) ≡ whole → after ++ all (drop (i + 1) xs) ≡ whole
 one_more all one cons before after whole xs i x item below added left =
     let cut : drop i xs ≡ get_or xs i x ∷ drop (i + 1) xs = rw add-one (drop-cons xs i x below) in

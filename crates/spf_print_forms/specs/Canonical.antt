@@ -46,7 +46,8 @@ deeper indent = indent ++ codes "  "
 
 -- ---- expressions
 
--- how tight an operator binds, the loosest with 1: `||`, `&&`, comparisons, `|`, `^`, `&`, shifts, sums, products, signs, and operands
+-- how tightly an operator binds, the loosest with 1: `||`, `&&`, comparisons, `|`, `^`, `&`, shifts, sums, products,
+-- signs, and operands
 abbrev pub op_level : Op → ℕ
 op_level op.Or = 4
 op_level op.Xor = 5

@@ -1,4 +1,4 @@
-// Expressions, conditions and predictors, added to a text.
+//! Expressions, conditions and predictors, added to a text.
 
 ghost use Rattle.std.specs.Prelude.{◌≡◌, ◌++◌, ◌∷◌, [], codes, IfOk, nat_lt, map};
 ghost use Rattle.spf_ast.specs.View.{expression, arguments, condition, predictor};
@@ -17,7 +17,7 @@ use crate::pieces::{
 use spf_ast::syntax::{Cond, Expr, Op, Predict};
 use std::alloc::{AllocError, Global};
 
-/// How tight an operator binds.
+/// How tightly an operator binds.
 fn op_level(op: Op) -> u32
     ensures { result ≡ op_level_of op }
 {
@@ -35,7 +35,7 @@ fn op_level(op: Op) -> u32
     }
 }
 
-/// How tight an expression binds.
+/// Returns how tightly an expression binds.
 pub fn level(expr: &Expr) -> u32
     ensures { (v : Vocabulary) → result ≡ level_of (spelled_expression v (expression expr.now)) }
 {
@@ -188,7 +188,7 @@ pub fn push_row(
     }
 }
 
-/// How tight a condition binds.
+/// How tightly a condition binds.
 fn condition_level(cond: &Cond) -> u32
     ensures { (v : Vocabulary) → result ≡ level_of (spelled_condition v (condition cond.now)) }
 {

@@ -1,4 +1,4 @@
-// Names, numbers and signs, added to a text.
+//! Names, numbers and signs, added to a text.
 
 ghost use Rattle.std.specs.Prelude.{◌≡◌, ◌++◌, ◌∷◌, [], codes, IfOk, map};
 ghost use Rattle.std.specs.Fmt.{decimal, signed_decimal};
@@ -25,7 +25,7 @@ pub const COMPARISON_LEVEL: u32 = 3;
 /// The level of a sign before its operand.
 pub const UNARY_LEVEL: u32 = 10;
 
-/// The level of what is no operator's.
+/// The level of an operand.
 pub const OPERAND_LEVEL: u32 = 11;
 
 /// The names that the numbers of a form stand for: those of the arrays, of the functions, and of
@@ -37,7 +37,7 @@ pub struct Names<'a> {
     pub slots: &'a [Name],
 }
 
-/// The name of an array; of one that isn't there, no bytes.
+/// Returns the name of an array, or no bytes where there is no such array.
 pub fn array_name(arrays: &[Array], place: u32) -> &[u8]
     ensures { result.now ≡ name_at (map (λ a. seen_name a.name) arrays.now) place }
 {
@@ -47,7 +47,7 @@ pub fn array_name(arrays: &[Array], place: u32) -> &[u8]
     }
 }
 
-/// The name of a function; of one that isn't there, no bytes.
+/// Returns the name of a function, or no bytes where there is no such function.
 pub fn function_name(functions: &[Function], place: u32) -> &[u8]
     ensures { result.now ≡ name_at (map (λ f. seen_name f.name) functions.now) place }
 {
@@ -57,7 +57,7 @@ pub fn function_name(functions: &[Function], place: u32) -> &[u8]
     }
 }
 
-/// The name of a slot; of one that isn't there, no bytes.
+/// Returns the name of a slot, or no bytes where there is no such slot.
 pub fn slot_name(slots: &[Name], place: u32) -> &[u8]
     ensures { result.now ≡ name_at (map seen_name slots.now) place }
 {
@@ -96,7 +96,7 @@ pub fn push_carried(text: &mut Vec<u8>, names: &[Name], slots: &[u32]) -> Result
     }
 }
 
-/// How an operator is written.
+/// Returns how an operator is written.
 pub fn op_sign(op: Op) -> &'static [u8]
     ensures { result.now ≡ op_sign_of op }
 {
@@ -114,7 +114,7 @@ pub fn op_sign(op: Op) -> &'static [u8]
     }
 }
 
-/// How a comparison is written.
+/// Returns how a comparison is written.
 pub fn test_sign(test: Test) -> &'static [u8]
     ensures { result.now ≡ test_sign_of test }
 {
@@ -151,7 +151,7 @@ pub fn push_count(alloc: Global, text: &mut Vec<u8>, number: u64) -> Result<(), 
     push(text, digits.as_bytes())
 }
 
-/// The indentation of a block's statements, where its own is this.
+/// Returns the indentation of a block's statements, where its own is this.
 pub fn deeper(alloc: Global, indent: &[u8]) -> Result<Vec<u8>, AllocError>
     ensures { IfOk result (λ inner. inner.items ≡ deeper_of indent.now) }
 {
@@ -185,7 +185,8 @@ pub fn push_name(text: &mut Vec<u8>, name: &Name) -> Result<(), AllocError>
     push(text, &name.bytes)
 }
 
-/// The names that the numbers of a form in this program stand for, whose slots have these names.
+/// Returns the names that the numbers of a form in this program stand for, whose slots have these
+/// names.
 pub fn names_of<'a>(program: &'a Program, slots: &'a [Name]) -> Names<'a>
     ensures { vocabulary_of result
         ≡ vocabulary (seen_program program.now) (map seen_name slots.now) }

@@ -26,7 +26,7 @@ pub record Laws : Type 0 where
   pub tokens : TextsDetermineTheirTokens
   pub spellings : SpellingsResolveToTheirPrograms
 
--- a text says one raw program at most, lines apart
+-- a text says one raw program at most, apart from line numbers
 says_once : Laws → (text : List ℕ) (p q : RawProgram) → SaysButForLines text p → SaysButForLines text q → program_without_lines p ≡ program_without_lines q
 says_once laws text p q a b =
     let same = laws.tokens text b.tokens a.tokens b.are a.are in

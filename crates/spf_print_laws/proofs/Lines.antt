@@ -127,7 +127,7 @@ globals_kept arrays functions = λ j. record {
   params = sym (map_twice raw.function_without_lines (λ (f : RawFunction). length f.params) functions) j;
 }
 
--- to leave the lines out and to resolve come to the same in either order
+-- leaving the lines out and resolving give the same result in either order
 pub program_kept : (p : RawProgram) → resolved (raw.program_without_lines p) ≡ lines.program_without_lines (resolved p)
 program_kept p =
     let g = globals_of p.arrays p.functions in

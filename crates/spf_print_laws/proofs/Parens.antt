@@ -13,8 +13,8 @@ use Rattle.spf_parse_grammar.proofs.Derivations.{grow, from_rule}
 use Rattle.spf_print_laws.proofs.Clear.{IsClosed}
 use Rattle.spf_print_laws.proofs.Limits.{shrinks, loosened_rule, shrunk_rule}
 
--- What a rule says of an opening parenthesis and these tokens: an expression in it, up to the closing one. It says so too
--- under other limits, which the parenthesis and the expression keep and which bind nothing behind it.
+-- What a rule says of an opening parenthesis and these tokens: an expression in it, up to the closing one. It says so
+-- too under other limits, which the parenthesis and the expression keep and which bind nothing after it.
 pub record Inner (depth free n : ℕ) {A : Type 0} (r : Rule A) (ts : List Lexeme) (x : A) (us : List Lexeme) : Type 0 where
   pub a : RawExpression
   pub ms : List Lexeme

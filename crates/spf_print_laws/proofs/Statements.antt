@@ -76,7 +76,7 @@ ranged free n low high ps ts us room t =
 
 -- ---- rows
 
--- further parts, so many at most
+-- further parts, at most `most` of them
 few_arguments : (free n most : ℕ) (given : RawArguments) → raw_count given ≤ most → (ts us : List Lexeme) → length ts ≤ free → Takes (of_further given) ts us → Said free (few most (next_argument n)) ts (list_of given) us
 few_arguments free n zero no_more wide ts us room t = by_rule free (few zero (next_argument n)) ts [] us (done_at t)
 few_arguments free n (suc most) no_more wide ts us room t = by_rule free (few (suc most) (next_argument n)) ts [] us (first_of (done_at t))
@@ -204,7 +204,7 @@ guess_step free n (g ∷ h ∷ gs) ps ts us wide room taken =
       room = omega (arith, q.room, ap length q.behind);
     }
 
--- ---- statements and blocks, lines apart
+-- ---- statements and blocks, apart from line numbers
 
 -- a statement of every version is a statement of each
 said_plain : (free : ℕ) (breaks : Bool) (n : ℕ) (ts : List Lexeme) (x : RawStatement) (us : List Lexeme) → Told free (plain_form breaks n) ts x us → Said free (form breaks n) ts x us

@@ -54,7 +54,7 @@ program_without_lines p = record {
   main_line = 0;
 }
 
--- the text has tokens, and the grammar reads them as this program, lines apart, where no limit binds them
+-- the text has tokens, and the grammar reads them as this program, apart from line numbers, where no limit binds them
 pub record SaysButForLines (text : List ℕ) (p : RawProgram) : Type 0 where
   pub tokens : List Token
   pub are : AreTokensOf text tokens

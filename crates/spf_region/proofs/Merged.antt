@@ -246,7 +246,7 @@ met-offsets xs ys p q = λ j a f o. met-any (λ r. has_offset r a f o) (record {
 pub met-wholes : (xs ys : List Range) → IsNormal xs → IsNormal ys → wholes_of (met xs ys) ≡ whole_in_both (wholes_of xs) (wholes_of ys)
 met-wholes xs ys p q = λ j a. met-any (λ r. is_whole r a) (record { both = λ r s x h. h.wholes a; none = λ r s h. h.wholes a }) xs ys p q j
 
--- ---- one range more
+-- ---- one more range
 
 or-false : (b : Bool) → (b || false) ≡ b
 or-false true = refl

@@ -20,7 +20,7 @@ normal-form (r ∷ rest) = with-first (is_empty r) refl (normal-form rest)
       wholes = added-wholes r n.normal e n.is_normal ∙ ap (whole_joined r) n.wholes;
     }
 
--- a set with one range more
+-- a set with one more range
 more-listed : (r : Range) (set : Offsets) → ((array : ℕ) → is_whole r array ≡ false) → IsListed set → IsListed (joined r set)
 more-listed r set affine l = go (is_empty r) refl
   where

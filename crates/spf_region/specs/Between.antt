@@ -5,7 +5,7 @@ use Rattle.spf_region.specs.declared.bound.Bound.{Bound}
 use Rattle.spf_region.specs.declared.bound.Bound.TheVariants.{Unknown}
 use Rattle.spf_region.specs.Bounds.{known}
 
--- known where all three numbers are there, of which the last two stand in any order
+-- known where all three numbers are given; the last two may be in either order
 abbrev pub known_between : Option ℤ → Option ℤ → Option ℤ → Bound
 known_between factor (Some a) (Some b) = known factor (Some (int_min a b)) (Some (int_max a b))
 known_between factor (Some a) None = Unknown

@@ -25,7 +25,7 @@ use Rattle.std.specs.Int.{int_min, int_max}
 use Rattle.spf_region.specs.declared.bound.Bound.{Bound}
 use Rattle.spf_region.specs.declared.bound.Bound.TheVariants.{Known, Unknown}
 
--- a number of size at most 2^40
+-- a number of magnitude at most 2^40
 abbrev pub is_small : ℤ → Bool
 is_small (pos n) = nat_le n (2 ^ 40)
 is_small (negsuc n) = nat_lt n (2 ^ 40)
@@ -34,14 +34,14 @@ is_small (negsuc n) = nat_lt n (2 ^ 40)
 abbrev pub small : ℤ → Option ℤ
 small n = if is_small n then Some n else None
 
--- known where all three numbers are there
+-- known where all three numbers are given
 abbrev pub known : Option ℤ → Option ℤ → Option ℤ → Bound
 known (Some factor) (Some low) (Some high) = Known factor low high
 known (Some factor) (Some low) None = Unknown
 known (Some factor) None high = Unknown
 known None low high = Unknown
 
--- the bound of these numbers; unknown where one of them is of size over 2^40
+-- the bound of these numbers; unknown where one of them has a magnitude over 2^40
 abbrev pub kept : ℤ → ℤ → ℤ → Bound
 kept factor low high = known (small factor) (small low) (small high)
 
@@ -91,7 +91,7 @@ abbrev pub is_at_least_zero : Bound → Bool
 is_at_least_zero Unknown = false
 is_at_least_zero (Known a l h) = int_eq a (pos 0) && int_le (pos 0) l
 
--- x % c for c over 0: from 0 to c - 1 where x is at least 0, else from -(c - 1) to c - 1
+-- x % c for positive c: from 0 to c - 1 where x is at least 0, otherwise from -(c - 1) to c - 1
 abbrev pub remainder_by : Bound → Option ℤ → Bound
 remainder_by x None = Unknown
 remainder_by x (Some c) =

@@ -2,7 +2,7 @@
 use Rattle.std.specs.Prelude.{if◌then◌else◌, max, nat_le, List, [], ◌∷◌}
 use Rattle.spf_region.specs.declared.span.Span.{Span}
 
--- the span of both
+-- the span that covers both
 abbrev pub wider : Span → Span → Span
 wider s t = record { from = s.from; to = max s.to t.to }
 

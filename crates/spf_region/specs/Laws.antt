@@ -8,7 +8,7 @@ use Rattle.spf_region.specs.Cells.{Extent, in_extent, is_cell}
 abbrev pub HasEntry : Offsets → Arrays → ℕ → Type 0
 HasEntry offsets wholes a = (wholes a ≡ true) ⊎ ((f : ℤ) × (o : ℤ) × (offsets a f o ≡ true))
 
--- no array is there as a whole, and any two offsets of an array have one factor over 0 and are less than it apart
+-- no array is there as a whole, and any two offsets of an array have the same positive factor and are less than it apart
 pub record AreSeparate (offsets : Offsets) (wholes : Arrays) : Type 0 where
   pub no_whole : (a : ℕ) → wholes a ≡ false
   pub near : (a : ℕ) (f g o p : ℤ) → offsets a f o ≡ true → offsets a g p ≡ true → (f ≡ g) × (pos 0 <ℤ f) × ((o -ℤ p) <ℤ f)

@@ -22,7 +22,7 @@ ends_by (Whole a) s = nat_le a (array_of s)
 ends_by (Affine a f l h) (Whole b) = nat_lt a b
 ends_by (Affine a f l h) (Affine b g m i) = in_order a f h b g i
 
--- the range of both, where they meet or touch and the second doesn't begin before the first
+-- the range that covers both, where they meet or touch and the second doesn't begin before the first
 abbrev pub hull : Range → Range → Option Range
 hull (Whole a) (Whole b) = if a == b then Some (Whole a) else None
 hull (Whole a) (Affine b g m i) = None

@@ -113,11 +113,11 @@ abbrev pub covers : Offsets → Range → Bool
 covers set (Whole a) = false
 covers set (Affine a f from to) = every_offset (int_gap from (to +ℤ pos 1)) from (set a f)
 
--- offsets from l to h of a factor f, and from m to i of a factor g, are of one factor over 0 and within less than it
+-- offsets from l to h of a factor f, and from m to i of a factor g, have the same positive factor and lie within less than it
 abbrev pub separate_offsets : (f l h g m i : ℤ) → Bool
 separate_offsets f l h g m i = int_eq f g && (int_lt (pos 0) f && (int_lt (h -ℤ m) f && int_lt (i -ℤ l) f))
 
--- two ranges share no cell at different blocks, for what array, factor and offsets say
+-- two ranges share no cell at different blocks, as far as arrays, factor and offsets say
 abbrev pub separate : Range → Range → Bool
 separate (Affine a f l h) (Affine b g m i) = not (a == b) || separate_offsets f l h g m i
 separate (Affine a f l h) (Whole b) = not (a == b)
@@ -128,7 +128,7 @@ separate (Whole a) (Whole b) = not (a == b)
 abbrev pub disjoint_offsets : (f l h g m i : ℤ) → Bool
 disjoint_offsets f l h g m i = int_eq f (pos 0) && (int_eq g (pos 0) && int_lt (int_min h i) (int_max l m))
 
--- two ranges share no cell at any blocks, for what array, factor and offsets say
+-- two ranges share no cell at any blocks, as far as arrays, factor and offsets say
 abbrev pub disjoint : Range → Range → Bool
 disjoint (Affine a f l h) (Affine b g m i) = not (a == b) || disjoint_offsets f l h g m i
 disjoint (Affine a f l h) (Whole b) = not (a == b)
@@ -143,7 +143,7 @@ first_unseparated list = find (λ r. list_any (λ s. not (separate r s)) list) l
 abbrev pub first_meeting : List Range → List Range → Option Range
 first_meeting list others = find (λ r. list_any (λ s. not (disjoint r s)) others) list
 
--- the order of a list: by array; in it the whole array first, then by factor, then by offset, with a gap before the next
+-- the order of a list: by array; for each array the whole array first, then by factor, then by offset, with a gap before the next
 abbrev pub IsBefore : Range → Range → Type 0
 IsBefore (Whole a) (Whole b) = a < b
 IsBefore (Whole a) (Affine b g m i) = a ≤ b

@@ -13,7 +13,7 @@ pub enum Bound {
     Unknown,
 }
 
-/// A bound with a factor or an offset of greater size isn't kept.
+/// A bound with a factor or an offset of greater magnitude isn't kept.
 const LIMIT: i64 = 1 << 40;
 
 fn is_small(n: i64) -> bool
@@ -73,7 +73,7 @@ fn known(factor: Option<i64>, low: Option<i64>, high: Option<i64>) -> Bound
     }
 }
 
-/// Known where all three numbers are there, of which the last two stand in any order.
+/// Known where all three numbers are given; the last two may be in either order.
 fn known_between(factor: Option<i64>, one: Option<i64>, other: Option<i64>) -> Bound
     ensures { result ≡ known_between factor one other }
 {
@@ -118,14 +118,14 @@ fn remainder_by(dividend: Bound, constant: Option<i64>) -> Bound
 }
 
 impl Bound {
-    /// The bound of a number.
+    /// Returns the bound of a number.
     pub fn number(n: i64) -> Bound
         ensures number { result ≡ number n }
     {
         known(Some(0), small(n), small(n))
     }
 
-    /// The bound of a sum.
+    /// Returns the bound of a sum.
     pub fn plus(self, other: Bound) -> Bound
         ensures plus { result ≡ plus self other }
     {
@@ -148,7 +148,7 @@ impl Bound {
         }
     }
 
-    /// The bound of a difference.
+    /// Returns the bound of a difference.
     pub fn minus(self, other: Bound) -> Bound
         ensures minus { result ≡ minus self other }
     {
@@ -171,7 +171,7 @@ impl Bound {
         }
     }
 
-    /// The bound of the number with its sign turned.
+    /// Returns the bound of the negated number.
     pub fn negated(self) -> Bound
         ensures negated { result ≡ negated self }
     {
@@ -217,7 +217,7 @@ impl Bound {
         }
     }
 
-    /// The bound of a product. One of the two has to be a constant.
+    /// Returns the bound of a product. One of the two has to be a constant.
     pub fn times(self, other: Bound) -> Bound
         ensures times { result ≡ times self other }
     {
@@ -228,7 +228,7 @@ impl Bound {
         }
     }
 
-    /// Whether the number is at least 0 at every block.
+    /// Returns whether the number is at least 0 at every block.
     fn is_at_least_zero(self) -> bool
         ensures { result ≡ is_at_least_zero self }
     {
@@ -238,16 +238,16 @@ impl Bound {
         }
     }
 
-    /// The bound of a remainder, where the divisor is a constant over 0. It is known for every
-    /// dividend.
+    /// Returns the bound of a remainder, where the divisor is a positive constant. It is known for
+    /// every dividend.
     pub fn rem(self, other: Bound) -> Bound
         ensures remainder { result ≡ remainder self other }
     {
         remainder_by(self, other.constant())
     }
 
-    /// The bound of the bitwise and, where one side is a constant of at least 0. It is known for
-    /// every other side.
+    /// Returns the bound of the bitwise and, where one side is a constant of at least 0. It is
+    /// known for every other side.
     pub fn masked(self, other: Bound) -> Bound
         ensures masked { result ≡ masked self other }
     {

@@ -15,8 +15,9 @@ use crate::span::Span;
 use std::alloc::{AllocError, Global};
 use std::marker::Model;
 
-/// A list of ranges in normal form: by array; in it the whole array first, then by factor, then by
-/// offset, no range empty, and those of one array and factor with a gap between each and the next.
+/// A list of ranges in normal form: by array; for each array the whole array first, then by factor,
+/// then by offset, no range empty, and those of one array and factor with a gap between each and
+/// the next.
 ///
 /// A set of offsets and whole arrays has one such list.
 #[derive(Drop)]
@@ -37,7 +38,7 @@ impl Model for RangeList {
 }
 
 impl RangeList {
-    /// The empty list. It takes no memory.
+    /// Makes the empty list. It takes no memory.
     pub fn new(alloc: Global) -> RangeList
         ensures empty { result ≡ [] }
     {
@@ -46,7 +47,7 @@ impl RangeList {
         }
     }
 
-    /// Joins a range in. A range whose `from` is over its `to` adds nothing.
+    /// Adds a range. A range whose `from` is greater than its `to` adds nothing.
     ///
     /// # Errors
     ///
@@ -69,7 +70,7 @@ impl RangeList {
         Ok(())
     }
 
-    /// The list of what either of two lists has.
+    /// Returns the list of what either of two lists has.
     ///
     /// # Errors
     ///
@@ -88,7 +89,7 @@ impl RangeList {
         })
     }
 
-    /// The list of what both of two lists have.
+    /// Returns the list of what both of two lists have.
     ///
     /// # Errors
     ///
@@ -105,22 +106,22 @@ impl RangeList {
         })
     }
 
-    /// Whether the range is affine, and each of its offsets stands in an affine range of the same
-    /// array and factor.
+    /// Returns whether the range is affine, and each of its offsets stands in an affine range of
+    /// the same array and factor.
     pub fn covers(&self, range: &Range) -> bool
         ensures covers { result ≡ covers (offsets_of self.now) range.now }
     {
         covers_offsets(&self.items, range)
     }
 
-    /// Whether some range has that array.
+    /// Returns whether some range has that array.
     pub fn touches(&self, array: u32) -> bool
         ensures touches { result ≡ has_array self.now array }
     {
         has_array(&self.items, array)
     }
 
-    /// The ranges in their order.
+    /// Returns the ranges in their order.
     pub fn ranges(&self) -> &[Range]
         ensures list { result.now ≡ self.now }
         ensures normal { IsNormal self.now }
@@ -128,22 +129,22 @@ impl RangeList {
         &self.items
     }
 
-    /// The first range that isn't separate from each range of the list, itself included.
+    /// Returns the first range that isn't separate from each range of the list, itself included.
     pub fn unseparated(&self) -> Option<Range>
         ensures first { result ≡ first_unseparated self.now }
     {
         first_unseparated(&self.items)
     }
 
-    /// The first range that isn't disjoint from each range of the other list.
+    /// Returns the first range that isn't disjoint from each range of the other list.
     pub fn meeting(&self, others: &RangeList) -> Option<Range>
         ensures first { result ≡ first_meeting self.now others.now }
     {
         first_meeting(&self.items, &others.items)
     }
 
-    /// The cells of the ranges at block k, clipped to their arrays, as ascending spans, none empty
-    /// and with a gap between each and the next.
+    /// Returns the cells of the ranges at block k, clipped to their arrays, as ascending spans,
+    /// none empty and with a gap between each and the next.
     ///
     /// `extents` has the base and the size of each array.
     ///

@@ -10,7 +10,7 @@ ghost use Rattle.spf_region.specs.Ranges.{whole_in_both, is_empty, IsNormal};
 use crate::range::Range;
 use std::alloc::{AllocError, Global};
 
-// Whether an offset of an array and a factor doesn't come after another one.
+// Returns whether an offset of an array and a factor doesn't come after another one.
 fn in_order(
     array: u32,
     factor: i64,
@@ -30,7 +30,7 @@ fn in_order(
     offset <= other_offset
 }
 
-// Whether `range` doesn't begin after `other`.
+// Returns whether `range` doesn't begin after `other`.
 fn starts_by(range: &Range, other: &Range) -> bool
     ensures { result ≡ starts_by range.now other.now }
 {
@@ -54,7 +54,7 @@ fn starts_by(range: &Range, other: &Range) -> bool
     }
 }
 
-// Whether `range` doesn't end after `other`.
+// Returns whether `range` doesn't end after `other`.
 fn ends_by(range: &Range, other: &Range) -> bool
     ensures { result ≡ ends_by range.now other.now }
 {
@@ -78,14 +78,15 @@ fn ends_by(range: &Range, other: &Range) -> bool
     }
 }
 
-// Whether an interval that begins at `from` meets or touches one before it that ends at `to`.
+// Returns whether an interval that begins at `from` meets or touches one before it that ends at
+// `to`.
 fn touches(to: i64, from: i64) -> bool
     ensures { result ≡ int_le from (to +ℤ pos 1) }
 {
     from <= to || from - 1 == to
 }
 
-// The range of both, where they meet or touch. `next` doesn't begin before `range`.
+// The range that covers both, where they meet or touch. `next` doesn't begin before `range`.
 fn hull(range: &Range, next: &Range) -> Option<Range>
     ensures { result ≡ hull range.now next.now }
 {

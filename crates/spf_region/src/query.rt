@@ -7,7 +7,7 @@ ghost use Rattle.spf_region.specs.Spanning.{spans};
 
 use crate::range::Range;
 
-// Whether `other` has the first and the last offset of `range`.
+// Returns whether `other` has the first and the last offset of `range`.
 fn spans(range: &Range, other: &Range) -> bool
     ensures { result ≡ spans range.now other.now }
 {
@@ -38,14 +38,14 @@ fn spans(range: &Range, other: &Range) -> bool
     }
 }
 
-// Whether one range of the list has the first and the last offset of `range`.
+// Returns whether one range of the list has the first and the last offset of `range`.
 fn is_spanned(ranges: &[Range], range: &Range) -> bool
     ensures { result ≡ list_any (spans range.now) ranges.now }
 {
     ranges.iter().any(|other| spans(range, other))
 }
 
-/// Whether `range` is affine, and the list has each of its offsets.
+/// Returns whether `range` is affine, and the list has each of its offsets.
 pub(crate) fn covers_offsets(ranges: &[Range], range: &Range) -> bool
     requires { IsNormal ranges.now }
     ensures { result ≡ covers (offsets_of ranges.now) range.now }
@@ -62,21 +62,21 @@ pub(crate) fn covers_offsets(ranges: &[Range], range: &Range) -> bool
     }
 }
 
-/// Whether some range has that array.
+/// Returns whether some range has that array.
 pub(crate) fn has_array(ranges: &[Range], array: u32) -> bool
     ensures { result ≡ has_array ranges.now array }
 {
     ranges.iter().any(|range| range.array() == array)
 }
 
-// Whether the range isn't separate from some range of the list.
+// Returns whether the range isn't separate from some range of the list.
 fn is_unseparated(ranges: &[Range], range: &Range) -> bool
     ensures { result ≡ list_any (λ s. not (separate range.now s)) ranges.now }
 {
     ranges.iter().any(|other| !range.is_separate(other))
 }
 
-// Whether the range isn't disjoint from some range of the list.
+// Returns whether the range isn't disjoint from some range of the list.
 fn is_meeting(ranges: &[Range], range: &Range) -> bool
     ensures { result ≡ list_any (λ s. not (disjoint range.now s)) ranges.now }
 {

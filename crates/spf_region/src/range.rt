@@ -20,7 +20,7 @@ pub enum Range {
 }
 
 impl Range {
-    /// The array of the range.
+    /// Returns the array of the range.
     pub fn array(&self) -> u32
         ensures array { result ≡ array_of self.now }
     {
@@ -30,7 +30,7 @@ impl Range {
         }
     }
 
-    /// Whether the range has no offset, and is no whole array.
+    /// Returns whether the range has no offset, and is no whole array.
     pub fn is_empty(&self) -> bool
         ensures empty { result ≡ is_empty self.now }
     {
@@ -40,7 +40,8 @@ impl Range {
         }
     }
 
-    /// Whether the two share no cell at different blocks, as far as arrays, factor and offsets say.
+    /// Returns whether the two share no cell at different blocks, as far as arrays, factor and
+    /// offsets say.
     pub fn is_separate(&self, other: &Range) -> bool
         ensures separate { result ≡ separate self.now other.now }
     {
@@ -64,7 +65,8 @@ impl Range {
         }
     }
 
-    /// Whether the two share no cell at any blocks, as far as arrays, factor and offsets say.
+    /// Returns whether the two share no cell at any blocks, as far as arrays, factor and offsets
+    /// say.
     pub fn is_disjoint(&self, other: &Range) -> bool
         ensures disjoint { result ≡ disjoint self.now other.now }
     {
@@ -89,7 +91,7 @@ impl Range {
     }
 }
 
-// Whether offsets of an array are of one factor over 0, and less than it apart.
+// Returns whether offsets of an array have the same positive factor, and lie less than it apart.
 fn are_separate_offsets(
     factor: i64,
     from: i64,
@@ -109,7 +111,7 @@ fn are_separate_offsets(
     is_within(to, other_from, factor) && is_within(other_to, from, factor)
 }
 
-// Whether no offset is both from `from` to `to` and from `other_from` to `other_to`.
+// Returns whether no offset is both from `from` to `to` and from `other_from` to `other_to`.
 fn have_none_in_common(from: i64, to: i64, other_from: i64, other_to: i64) -> bool
     ensures { result ≡ int_lt (int_min to other_to) (int_max from other_from) }
 {
@@ -118,7 +120,7 @@ fn have_none_in_common(from: i64, to: i64, other_from: i64, other_to: i64) -> bo
     last < first
 }
 
-// Whether offsets of an array are of factor 0, with none in common.
+// Returns whether offsets of an array have factor 0, with none in common.
 fn are_disjoint_offsets(
     factor: i64,
     from: i64,
@@ -138,7 +140,7 @@ fn are_disjoint_offsets(
     have_none_in_common(from, to, other_from, other_to)
 }
 
-// Whether the offset `high` is less than `factor` above `low`.
+// Returns whether the offset `high` is less than `factor` above `low`.
 fn is_within(high: i64, low: i64, factor: i64) -> bool
     ensures { result ≡ int_lt (high -ℤ low) factor }
 {

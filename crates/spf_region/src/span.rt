@@ -1,6 +1,6 @@
-// Spans of cells, and which spans the blocks of a construct write.
+//! Spans of cells, and which spans the blocks of a construct write.
 
-/// The cells from `from` up to and without `to`.
+/// The cells from `from` up to but excluding `to`.
 #[derive(Clone, Copy, PartialEq, Eq, Debug)]
 pub struct Span {
     pub from: u64,

@@ -53,7 +53,7 @@ now-inside start c h = grind (arith, h)
 still : (start c d : ℕ) → d ≢ c → (nat_le start d && nat_lt d (c + 1)) ≡ (nat_le start d && nat_lt d c)
 still start c d ne = grind (arith, ne)
 
--- one cell more of a span
+-- one more cell of a span
 pub one-more : (to from before : List ℤ) (start c : ℕ) → start ≤ c → length to ≡ length from
     → ((d : ℕ) → word_at to d ≡ (if (nat_le start d && nat_lt d c) then word_at from d else word_at before d))
     → (d : ℕ) → word_at (slice_set to c (word_at from c)) d ≡ (if (nat_le start d && nat_lt d (c + 1)) then word_at from d else word_at before d)

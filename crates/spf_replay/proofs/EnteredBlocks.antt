@@ -1,4 +1,4 @@
--- Blocks of a construct that a run has come to.
+-- Blocks of a construct that a run has reached.
 use Rattle.std.proofs.Common.{◌≡◌, ◌≢◌, ℕ, zero, suc, length, ap, sym, ◌∙◌, subst}
 use Rattle.std.specs.Prelude.{slice_get, Some}
 use Rattle.spf_ast.specs.declared.syntax.Part.{Part}

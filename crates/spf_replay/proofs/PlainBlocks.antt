@@ -22,7 +22,7 @@ use Rattle.spf_exec.specs.declared.block_run.Block.{Block}
 use Rattle.spf_exec.specs.declared.pieces.Header.{Header}
 use Rattle.spf_replay.specs.Plainly.{BlockGives, AreRunPlainly, entry_from}
 
--- these real values, and then what the rest comes to, are what all blocks come to
+-- all blocks come to these real values, followed by what the rest comes to
 pub record IsRest (e : Entry) (values : List Carried) (rest : Chained) : Type 0 where
   pub values_are : (plain_blocks e).values ≡ values ++ rest.values
   pub result_is : (plain_blocks e).result ≡ rest.result
@@ -34,7 +34,7 @@ rest-begins e =
     subst (λ b. IsRest e [] (chained (environment_of e.program e.input) e.construct e.slots 0 e.header.blocks b e.header.start e.memory)) low
     (record { values_are = refl; result_is = refl; memory_is = refl })
 
--- one block more
+-- one more block
 one-block : (e : Entry) (n count : ℕ) (v next : Carried) (m now : List ℤ) → BlockGives (asks_at e n v) m (Ok next) now
     → plain_from e n (suc count) v m ≡ (record { values = v ∷ (plain_from e (suc n) count next now).values; result = (plain_from e (suc n) count next now).result; memory = (plain_from e (suc n) count next now).memory })
 one-block e n count v next m now h =

@@ -125,7 +125,7 @@ some-same v w e = cc
 none-some : {B : Type 0} (v : Carried) → None ≡ Some v → B
 none-some v e = cc
 
--- behind an index where a list has nothing it has nothing
+-- past an index where a list has nothing it has nothing
 past : (e : Entry) (f n : ℕ) → real e f ≡ None → f ≤ n → real e n ≡ None
 past e f n none from = slice_get_past (plain_blocks e).values n (cases (inside-or-past f (length (plain_blocks e).values))
     (λ inside. absurd (not-none (slice_get (plain_blocks e).values f) (get_or (plain_blocks e).values f []) (slice_get-get_or (plain_blocks e).values f [] inside) none))
@@ -519,7 +519,7 @@ pub advance-keeps : BlockLaws → (e : Entry) → IsEntry e → (guess : ℕ →
 advance-keeps laws e h guess s n (Filed v ended) is low k = k
 advance-keeps laws e h guess s n (Running a v left) is low k = turned-keeps laws e h guess s n a v left (after_piece left) refl low is k
 
--- the generator's state is nothing to it
+-- it doesn't depend on the generator's state
 pub any-state : (e : Entry) (guess : ℕ → Carried) (s : Situation) (state : ℕ) → Kept e guess s → Kept e guess (record s { state = state })
 any-state e guess s state k = record { loose = record { below = k.loose.below; at = k.loose.at; flags = k.loose.flags }; settled = k.settled }
 

@@ -211,7 +211,7 @@ no-more-running e s n next r running up h off is =
     let stands : is_running (s.status n) ≡ false = sym (ap is_running h.status) ∙ running-is e n r ∙ off in
     is ∙ sym (append-nil (running_blocks s.status n)) ∙ ap (λ l. running_blocks s.status n ++ l) (sym (chose-false (is_running (s.status n)) (n ∷ []) [] stands)) ∙ ap (running_blocks s.status) (sym up)
 
--- ---- the beginning
+-- ---- the start
 
 pub first-block : (e : Entry) (guess : ℕ → Carried) (state n : ℕ) (r : Runner) → r.count ≡ 0 → r.taken ≡ 0 → r.full ≡ true → r.running ≡ true → r.attempt ≡ 1 → r.flag ≡ 0
     → r.row ≡ begins_at e guess n → IsBlockOf e (beginning e guess state) n r

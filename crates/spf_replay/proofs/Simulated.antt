@@ -339,7 +339,7 @@ too-many e guess first runners running steps state limit m n r is over all last 
 
 -- ---- that it ends
 
--- a block has this much to do: to run to its end, and to come to its real row
+-- a block has this much to do: to run to its end, and to get to its real row
 abbrev pub weight : Entry → ℕ → Status → ℕ
 weight e n status = (if is_running status then 1 else 0) + off (real e n) status
 
@@ -424,7 +424,7 @@ filing-weight e t = cases (inside-or-not (front e t.status) e.header.blocks)
     not-front : (n f c : ℕ) → n < c → c ≤ f → n ≢ f
     not-front n f c h k e = omega (arith, h, k, e)
 
--- less to do, or as much and one step more
+-- less to do, or as much and one more step
 abbrev IsLess : (now next : ℕ) → (steps : ℕ) → Type 0
 IsLess now next steps = (next < now) ⊎ ((next ≡ now) × (0 < steps))
 

@@ -1,4 +1,4 @@
--- What comes of an attempt that is read from a log.
+-- How an attempt ends that is read from a log.
 use Rattle.std.specs.Prelude.{◌≡◌, ◌≤◌, ℕ, List, map, drop, length, Option, Some, None}
 use Rattle.spf_ast.specs.Carried.{Carried}
 use Rattle.spf_ast.specs.Event.{Event}

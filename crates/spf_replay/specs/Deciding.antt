@@ -29,7 +29,7 @@ pub record HasItsLogs (e : Entry) (guess : ℕ → Carried) (steps : List Step) 
   pub consistent : IsConsistent (events_of steps) e.memory
   pub logs : (n : ℕ) → n < e.header.blocks → IsLogAt e guess (slice_get (plain_blocks e).values n) n (log_of n steps)
 
--- the speculative runs are exactly the steps of which this is so
+-- the speculative runs are exactly the steps for which this holds
 abbrev pub RunsHaveTheirLogs : Type 0
 RunsHaveTheirLogs = (e : Entry) (guess : ℕ → Carried) (steps : List Step) → IsEntry e → IsRun e guess steps ↔ HasItsLogs e guess steps
 

@@ -1,4 +1,4 @@
--- A construct that a run has come to.
+-- A construct that a run has reached.
 use Rattle.std.specs.Prelude.{◌≡◌, ◌≤◌, ◌+◌, ℕ, suc, List, map, length, slice_get, Some, pos, ◌+ℤ◌, ◌≤ℤ◌}
 use Rattle.spf_ast.specs.Carried.{Carried}
 use Rattle.spf_ast.specs.Construct.{constructs_in, part_of}

@@ -16,7 +16,7 @@ abbrev pub with_blocks : ℕ → Expected → List Expected → List Expected
 with_blocks zero x later = later
 with_blocks (suc blocks) x later = x ∷ later
 
--- a construct that the plain run reached, after hosts were told so much
+-- a construct that the plain run reached, after hosts were told these pairs
 abbrev pub expected_at : Hosts → List Telling → Program → List ℕ → Construct → Reached → Expected
 expected_at hosts telling p input construct r = record {
   entry = record {
@@ -30,7 +30,7 @@ expected_at hosts telling p input construct r = record {
   guess = λ n. (guess_at hosts telling p input construct r n).value;
 }
 
--- those of these constructs, of which the plain run reaches so many; before the first of them hosts were told so much
+-- those of these constructs, as far as the plain run reaches them; before the first of them hosts were told these pairs
 abbrev pub expected_from : Hosts → Program → List ℕ → List Construct → List Reached → List Telling → List Expected
 expected_from hosts p input (construct ∷ constructs) (r ∷ others) telling =
     with_blocks r.header.blocks (expected_at hosts telling p input construct r)

@@ -71,7 +71,8 @@ pub record LeadsInRecord (events : List Event) (a b : InRecord) : Type 0 where
   pub record_is : MatchBool a.full ((b.full ≡ true) × (recorded b ≡ recorded a))
       (MatchBool b.full (FillsAt (in_spans a.spans) (length a.room) (recorded a) events (recorded b)) (RecordsAll (in_spans a.spans) (recorded a) events (recorded b)))
 
--- an event was to be added to a record of this room: one that was full stays as it was, and so does one that becomes full; else the event is its last
+-- an event was to be added to a record of this room: one that was full stays as it was, and so does one that becomes
+-- full; otherwise the event is its last
 abbrev pub Adds : Event → ℕ → Bool → List Event → Bool → List Event → Type 0
 Adds event room true seen full now = (full ≡ true) × (now ≡ seen)
 Adds event room false seen true now = (now ≡ seen) × (length now ≡ room)
@@ -91,7 +92,7 @@ pub record AreEventsOf {A : Type 0} (tree : Interaction A) (memory : List ℤ) (
   pub answer_is : came ≡ Ended (plain_answer tree memory) []
   pub events_are : events ≡ plain_events tree memory
 
--- A record of so much room that is full, or isn't, has seen these events of an attempt's: the first of them, up to one that had no room; or all.
+-- A record with this much room, full or not, has seen these events of an attempt: the first of them, up to one that had no room; or all.
 abbrev pub IsRecordOf : List Event → ℕ → Bool → List Event → Type 0
 IsRecordOf events room true seen = (length seen ≡ room) × ((next : Event) × (later : List Event) × (events ≡ seen ++ next ∷ later))
 IsRecordOf events room false seen = seen ≡ events

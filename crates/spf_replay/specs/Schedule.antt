@@ -62,7 +62,7 @@ is_valid (Some real) (Filed row ended) = ended && same_carried row real
 abbrev pub is_valid_in : Entry → (ℕ → Status) → ℕ → Bool
 is_valid_in e status n = is_valid (slice_get (plain_blocks e).values n) (status n)
 
--- how many of so many numbers from n on pass a test, up to the first that doesn't
+-- how many of `count` numbers from n on pass a test, up to the first that doesn't
 abbrev pub leading : (ℕ → Bool) → (n count : ℕ) → ℕ
 leading test n zero = 0
 leading test n (suc count) = if test n then suc (leading test (suc n) count) else 0
@@ -108,7 +108,7 @@ after_filing e s = record s { status = status_after e s; flag = flag_after e s }
 abbrev pub replace_at : {A : Type 0} → ℕ → A → (ℕ → A) → ℕ → A
 replace_at n x f k = if k == n then x else f k
 
--- a block has come to a turn, before these events: its attempt is filed where the flag stops it; or it has come to its end, and is filed
+-- a block has reached a turn, before these events: its attempt is filed where the flag stops it; or it has reached its end, and is filed
 abbrev pub arrive : Entry → ℕ → ℕ → Carried → Option (List Event) → Situation → Situation
 arrive e n attempt row None s = after_filing e (record s { status = replace_at n (Filed row true) s.status })
 arrive e n attempt row (Some rest) s =
@@ -134,7 +134,7 @@ pub record IsPicked (e : Entry) (s : Situation) (n : ℕ) : Type 0 where
   pub running : is_running (s.status n) ≡ true
   pub before : running_below s.status n ≡ given_by (next_state s.state) % running_below s.status e.header.blocks
 
--- from this situation on the schedule comes to these steps, and leaves the generator in this state
+-- from this situation on the schedule has these steps, and leaves the generator in this state
 pub data RunsTo (e : Entry) : Situation → List Step → ℕ → Type 0 where
   none_running : {s : Situation} → running_below s.status e.header.blocks ≡ 0 → RunsTo e s s.steps s.state
   one_more : {s : Situation} {steps : List Step} {last : ℕ} (n : ℕ) → IsPicked e s n
@@ -153,7 +153,7 @@ beginning e guess state = record {
 abbrev pub IsScheduled : Entry → (ℕ → Carried) → ℕ → List Step → ℕ → Type 0
 IsScheduled e guess state steps last = RunsTo e (beginning e guess state) steps last
 
--- those of so many blocks that run, in ascending order
+-- the running blocks among the first ones, in ascending order
 abbrev pub running_blocks : (ℕ → Status) → ℕ → List ℕ
 running_blocks status zero = []
 running_blocks status (suc n) = running_blocks status n ++ (if is_running (status n) then n ∷ [] else [])

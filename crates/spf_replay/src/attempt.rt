@@ -1,4 +1,4 @@
-// Attempts that are read from a log.
+//! Attempts that are read from a log.
 ghost use Rattle.std.specs.Prelude.{◌≡◌, ◌≤◌, Some, map, drop, length};
 ghost use Rattle.spf_ast.specs.BlockRun.{block_setup, part_asks};
 ghost use Rattle.spf_ast.specs.ConstructView.{construct as seen_construct};

@@ -1,4 +1,4 @@
-// Logs of single blocks.
+//! Logs of single blocks.
 ghost use Rattle.std.specs.Prelude.{◌≡◌, ◌≤◌, ◌↔◌, ℕ, IsTrue, map, length};
 ghost use Rattle.spf_ast.specs.Carried.{Carried};
 ghost use Rattle.spf_ast.specs.Interaction.{Ending};
@@ -16,7 +16,7 @@ use spf_exec::frame::Frame;
 use spf_exec::stop::Stop;
 use spf_replay_log::log::Event;
 
-/// Whether an attempt ended with a row or a trap at the end of its log.
+/// Returns whether an attempt ended with a row or a trap at the end of its log.
 fn is_whole(end: &Option<(Stop, usize)>, size: usize) -> bool
     ensures { IsTrue result ↔ IsWholeEnd end.now size }
 {
@@ -28,7 +28,7 @@ fn is_whole(end: &Option<(Stop, usize)>, size: usize) -> bool
     }
 }
 
-/// Whether an attempt was read to the end of its log.
+/// Returns whether an attempt was read to the end of its log.
 fn is_read(end: &Option<(Stop, usize)>, size: usize) -> bool
     ensures { IsTrue result ↔ IsReadEnd end.now size }
 {
@@ -38,8 +38,8 @@ fn is_read(end: &Option<(Stop, usize)>, size: usize) -> bool
     }
 }
 
-/// Whether a log is that of a block without a real row: one attempt from its guess, whole or
-/// chopped.
+/// Returns whether a log is that of a block without a real row: one attempt from its guess, whole
+/// or chopped.
 pub(crate) fn is_guessed_log(
     context: BlockContext,
     block: &Block,
@@ -57,8 +57,8 @@ pub(crate) fn is_guessed_log(
     is_read(&end, log.len())
 }
 
-/// Whether a log is that of a block at its real row: at once where the first attempt, at the
-/// block's row, began there; else a first attempt, whole or chopped, and then a whole one.
+/// Returns whether a log is that of a block at its real row: right away where the first attempt, at
+/// the block's row, began there; otherwise a first attempt, whole or chopped, and then a whole one.
 pub(crate) fn is_real_log(
     context: BlockContext,
     block: &Block,

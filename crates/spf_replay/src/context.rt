@@ -1,4 +1,4 @@
-// What attempts of a block are read with.
+//! What attempts of a block are read with.
 use spf_exec::frame::Frame;
 use spf_exec_instance::instance::Instance;
 use spf_region::span::Span;

@@ -1,4 +1,4 @@
-//! Words of some cells are copied from one memory to another.
+//! Copies the words of some cells from one memory to another.
 ghost use Rattle.std.specs.Prelude.{◌≡◌, ℕ, map, length};
 ghost use Rattle.spf_ast.specs.Event.{word_at};
 ghost use Rattle.spf_region.specs.Cells.{in_span, in_spans};

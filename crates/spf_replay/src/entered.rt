@@ -1,4 +1,4 @@
-//! Constructs that a run has come to.
+//! Constructs that a run has reached.
 ghost use Rattle.std.specs.Prelude.{◌≡◌, ◌≤◌, ◌<◌, ◌+ℤ◌, ◌≤ℤ◌, ℕ, pos, slice_get};
 ghost use Rattle.spf_ast.specs.Carried.{Carried};
 ghost use Rattle.spf_ast.specs.Meaning.{max_blocks};
@@ -15,7 +15,7 @@ use spf_exec_instance::instance::Instance;
 use spf_guess_statistics::guess::Guess;
 use spf_region::span::Plan;
 
-/// A top construct that a run has come to, with its header done, and what its blocks come to when
+/// A top construct that a run has reached, with its header done, and what its blocks come to when
 /// they are run plainly.
 #[derive(Clone, Copy)]
 pub struct EnteredConstruct<'a> {
@@ -35,7 +35,7 @@ pub struct EnteredConstruct<'a> {
     pub plan: &'a Plan,
     /// The guesses for the blocks from 1 on.
     pub guesses: &'a [Guess],
-    /// The real rows: those at which the blocks begin that the plain run comes to.
+    /// The real rows: those at which the blocks begin that the plain run reaches.
     pub reals: &'a [Row],
 }
 

@@ -1,4 +1,4 @@
-// What follows when an attempt is filed.
+//! What follows when an attempt is filed.
 ghost use Rattle.std.specs.Prelude.{◌≡◌, ◌<◌, ◌==◌, ◌&&◌, ℕ, IsTrue, Bool, [], true, length, slice_get};
 ghost use Rattle.std.specs.Prelude.{if◌then◌else◌, IfOk, OnOk};
 ghost use Rattle.spf_speculation_entry.specs.Entry.{Entry, plain_blocks};
@@ -13,7 +13,7 @@ use crate::runner::Runner;
 use spf_ast::row::Row;
 use std::alloc::{AllocError, Global};
 
-/// Whether a block's attempt at its real row has ended.
+/// Returns whether a block's attempt at its real row has ended.
 fn has_ended(runner: &Runner, real: Option<Row>) -> bool
     ensures { (e : Entry) (n : ℕ) → result ≡ is_valid real (status_of e n runner.now) }
 {
@@ -47,7 +47,7 @@ struct Front {
     real: Option<Row>,
 }
 
-/// Whether block n runs its first attempt, and that is useless.
+/// Returns whether block n runs its first attempt, and that attempt is useless.
 fn is_to_raise(runner: &Runner, n: u64, front: &Front) -> bool
     ensures { (e : Entry) → result
         ≡ is_raised front.now.block n front.now.real (status_of e n runner.now) }
@@ -73,8 +73,7 @@ fn flag_after(runner: &Runner, n: u64, front: &Front) -> u64
     runner.flag
 }
 
-/// Where the front block's attempt is filed at another row than its real one, it runs again, at
-/// that one.
+/// Runs the front block again at its real row, where its attempt is filed at another row.
 fn run_again(alloc: Global, runner: &mut Runner, front: &Front)
     ensures status { (e : Entry) (n : ℕ) → status_of e n runner.new
         ≡ rerun e [] n front.now.real (status_of e n runner.old) }

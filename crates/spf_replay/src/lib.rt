@@ -1,4 +1,4 @@
-//! Logs of speculative runs are checked, and schedules of such runs are defined.
+//! Checks logs of speculative runs, and defines schedules of such runs.
 //!
 //! A log has a section for each construct with blocks that a run reaches. A section is right where
 //! its steps are a speculative run of the construct's blocks, from the guesses for them. Whether

@@ -1,4 +1,4 @@
-// The logs of all blocks of a section, in one pass over its steps.
+//! The logs of all blocks of a section, in one pass over its steps.
 ghost use Rattle.std.specs.Prelude.{◌≡◌, ◌<◌, ◌==◌, if◌then◌else◌, ℕ, [], ◌∷◌, ◌++◌, length, map};
 ghost use Rattle.std.specs.Prelude.{IfOk, OnOk};
 ghost use Rattle.spf_speculation.specs.Steps.{log_of, AreBelow};
@@ -28,7 +28,7 @@ fn push_log(logs: &mut Vec<Vec<Event>>, log: Vec<Event>) -> Result<(), AllocErro
     Ok(())
 }
 
-/// So many empty logs.
+/// Makes `blocks` empty logs.
 fn empty_logs(alloc: Global, blocks: u64) -> Result<Vec<Vec<Event>>, AllocError>
     ensures size { IfOk result (λ logs. length logs.items ≡ blocks) }
     ensures empty { IfOk result (λ logs. (n : ℕ) → log_at logs.items n ≡ []) }
@@ -41,7 +41,7 @@ fn empty_logs(alloc: Global, blocks: u64) -> Result<Vec<Vec<Event>>, AllocError>
     Ok(logs)
 }
 
-/// The events of each of so many blocks among the steps, in their order.
+/// The events of each of the first `blocks` blocks among the steps, in their order.
 pub(crate) fn logs_of(
     alloc: Global,
     steps: &[Step],

@@ -1,4 +1,4 @@
-// The memory of an attempt that is read from a log.
+//! The memory of an attempt that is read from a log.
 
 ghost use Rattle.std.specs.Prelude.{◌≡◌, ◌≤◌, length};
 

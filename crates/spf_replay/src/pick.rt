@@ -1,4 +1,4 @@
-// The block that a draw picks.
+//! The block that a draw picks.
 ghost use Rattle.std.specs.Prelude.{◌≡◌, ◌≤◌, ◌%◌, slice_get, Some, length};
 
 /// The index that a draw picks among the indices of the blocks that are out.

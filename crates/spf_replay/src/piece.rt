@@ -1,4 +1,4 @@
-// Pieces of an attempt's record: up to a turn.
+//! Pieces of an attempt's record: up to a turn.
 ghost use Rattle.std.specs.Prelude.{◌≡◌, ◌≤◌, ◌<◌, ◌++◌, List, [], ◌∷◌, length, map, drop};
 ghost use Rattle.std.specs.Prelude.{Some, None, OnOk, MatchOption, if◌then◌else◌};
 ghost use Rattle.spf_ast.specs.Event.{Event as AskedEvent};
@@ -10,7 +10,7 @@ ghost use Rattle.spf_speculation.specs.Steps.{steps_of};
 use spf_replay_log::log::{Event, Step};
 use std::alloc::AllocError;
 
-/// Whether an event is a turn.
+/// Returns whether an event is a turn.
 fn is_turn(event: Event) -> bool
     ensures turn { result ≡ is_turn_event (event_of event) }
     ensures piece { (rest : List AskedEvent) → after_piece (event_of event ∷ rest)

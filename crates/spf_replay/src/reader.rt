@@ -1,4 +1,4 @@
-// The next event of a log.
+//! The next event of a log.
 ghost use Rattle.std.specs.Prelude.{◌≡◌, ◌≤◌, ◌<◌, ◌+◌, List, map, drop, length, Some, None};
 ghost use Rattle.std.specs.Prelude.{IfSome, if◌then◌else◌};
 ghost use Rattle.std.specs.Option.{option_map};
@@ -9,7 +9,7 @@ ghost use Rattle.spf_replay.specs.Reading.{event_of, with_front, next_load, next
 use spf_region::span::Span;
 use spf_replay_log::log::Event;
 
-/// Whether a cell is in one of the spans.
+/// Returns whether a cell is in one of the spans.
 pub(crate) fn is_in(spans: &[Span], cell: u64) -> bool
     ensures { result ≡ in_spans spans.now cell }
 {
@@ -39,7 +39,7 @@ pub(crate) fn loaded(event: Option<Event>, cell: u64) -> Option<i64>
     }
 }
 
-/// Whether an event is a store of this word to this cell.
+/// Returns whether an event is a store of this word to this cell.
 pub(crate) fn is_store(event: Option<Event>, cell: u64, value: i64) -> bool
     ensures { (rest : List AskedEvent) → next_store cell value (with_front event rest)
         ≡ (if result then Some rest else None) }

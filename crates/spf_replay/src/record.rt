@@ -1,4 +1,4 @@
-// The memory of an attempt that is recorded.
+//! The memory of an attempt that is recorded.
 
 ghost use Rattle.std.specs.Prelude.{◌≡◌, ◌≤◌, length, map, take};
 ghost use Rattle.spf_replay.specs.Reading.{event_of};
@@ -10,13 +10,14 @@ use spf_exec_memory::memory::{Emitted, Memory};
 use spf_region::span::Span;
 use spf_replay_log::log::Event;
 
-/// The cells of the spans, and a record of the loads of these cells, of all stores, and of the turns,
-/// which poll 0. A load of another cell gives its word at the entry. Where an event has no room, the
-/// record is full, and the next turn stops.
+/// The cells of the spans, and a record of the loads of these cells, of all stores, and of the
+/// turns, which poll 0. A load of another cell gives its word at the entry. Where an event has no
+/// room, the record is full, and the next turn stops.
 #[derive(Drop)]
 pub(crate) struct RecordMemory<'a> {
     pub(crate) spans: &'a [Span],
-    /// The words of the cells of the spans, each at its cell. What lies elsewhere makes no difference.
+    /// The words of the cells of the spans, each at its cell. What lies elsewhere makes no
+    /// difference.
     pub(crate) cells: Vec<i64>,
     pub(crate) entry: &'a [i64],
     pub(crate) room: Vec<Event>,

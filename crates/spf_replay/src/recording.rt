@@ -1,4 +1,4 @@
-// Attempts that are recorded.
+//! Attempts that are recorded.
 ghost use Rattle.std.specs.Prelude.{◌≡◌, ◌≤◌, ℕ, [], true, false, map, take, length};
 ghost use Rattle.spf_ast.specs.Event.{word_at};
 ghost use Rattle.spf_speculation_entry.specs.Entry.{Entry, IsEntry};
@@ -28,8 +28,8 @@ pub(crate) struct Record {
 }
 
 /// Runs an attempt of a block, and records its events in a room. The cells have the words of the
-/// entry in the spans of the block; there the attempt changes them. What the working frame holds makes
-/// no difference.
+/// entry in the spans of the block; there the attempt changes them. What the working frame holds
+/// makes no difference.
 pub(crate) fn record_attempt(
     context: BlockContext,
     block: &Block,

@@ -1,4 +1,4 @@
-// Blocks of a schedule: an attempt's events are recorded, and taken piece by piece.
+//! Blocks of a schedule: an attempt's events are recorded, and taken piece by piece.
 ghost use Rattle.std.specs.Prelude.{◌≡◌, ◌≢◌, ◌≤◌, ◌<◌, ◌+◌, ◌++◌, ℕ, IsTrue, [], true, false};
 ghost use Rattle.std.specs.Prelude.{length, map, take, drop, None, IfOk, OnOk};
 ghost use Rattle.spf_speculation_entry.specs.Entry.{Entry};
@@ -44,8 +44,8 @@ pub(crate) struct Runner {
     pub(crate) taken: usize,
 }
 
-/// Records a block's attempt at a row in a room. The cells of each block have the words of the entry,
-/// and have them again after it.
+/// Records a block's attempt at a row in a room. The cells of each block have the words of the
+/// entry, and have them again after it.
 pub(crate) fn record_block(
     entered: &EnteredConstruct,
     n: u64,
@@ -80,7 +80,7 @@ pub(crate) fn record_block(
     record
 }
 
-/// A room for so many events.
+/// A room for `size` events.
 pub(crate) fn room_of(alloc: Global, size: usize) -> Result<Vec<Event>, AllocError>
     ensures { IfOk result (λ room. length room.items ≡ size) }
 {
@@ -89,7 +89,7 @@ pub(crate) fn room_of(alloc: Global, size: usize) -> Result<Vec<Event>, AllocErr
     Ok(room)
 }
 
-/// Whether a block's record has the next piece whole.
+/// Returns whether a block's record has the next piece whole.
 pub(crate) fn has_piece(runner: &Runner) -> bool
     requires inside { runner.now.count ≤ length runner.now.room.items }
     requires taken { runner.now.taken ≤ runner.now.count }

@@ -56,7 +56,7 @@ pub struct Schedule {
     pub state: u64,
 }
 
-/// A block at the beginning.
+/// A block at the start.
 fn first_runner(alloc: Global, entered: &EnteredConstruct, n: u64) -> Runner
     requires is { IsEntered entered.now }
     requires block { n < entered.now.header.blocks }
@@ -77,7 +77,7 @@ fn first_runner(alloc: Global, entered: &EnteredConstruct, n: u64) -> Runner
     }
 }
 
-/// All blocks at the beginning.
+/// All blocks at the start.
 fn first_runners(alloc: Global, entered: &EnteredConstruct) -> Result<Vec<Runner>, AllocError>
     requires is { IsEntered entered.now }
     ensures { (guess : ℕ → Carried) (state : ℕ) → HasGuesses entered.now guess
@@ -92,7 +92,7 @@ fn first_runners(alloc: Global, entered: &EnteredConstruct) -> Result<Vec<Runner
     Ok(runners)
 }
 
-/// A block that runs goes on: its next piece becomes steps, of which there may be so many.
+/// Lets a running block go on: its next piece becomes steps, of which there may be at most `limit`.
 fn go_on(
     alloc: Global,
     entered: &EnteredConstruct,
@@ -135,8 +135,8 @@ fn go_on(
     Ok(())
 }
 
-/// The schedule of a construct from a state of the generator, where so many steps of the run were
-/// counted before it. The attempts are made over a scratch.
+/// Returns the schedule of a construct from a state of the generator, where `counted` steps of the
+/// run came before it. The attempts are made over a scratch.
 ///
 /// # Errors
 ///

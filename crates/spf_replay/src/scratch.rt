@@ -1,4 +1,4 @@
-// Records of attempts that grow until they have the next piece.
+//! Records of attempts that grow until they have the next piece.
 ghost use Rattle.std.specs.Prelude.{◌≡◌, ◌≤◌, ◌<◌, ℕ, IsTrue, [], true, false, length, drop};
 ghost use Rattle.std.specs.Prelude.{IfOk, OnOk};
 ghost use Rattle.spf_replay.specs.Entered.{entry_of, IsEntered};
@@ -18,13 +18,14 @@ const FIRST_ROOM: usize = 1024;
 /// What attempts are made over.
 #[derive(Drop)]
 pub struct Scratch {
-    /// The words of the cells of the blocks, each at its cell. What lies elsewhere makes no difference.
+    /// The words of the cells of the blocks, each at its cell. What lies elsewhere makes no
+    /// difference.
     pub cells: Vec<i64>,
     /// A frame, whatever its registers hold.
     pub work: Frame,
 }
 
-/// Records a block's attempt from its begin, in a new room.
+/// Records a block's attempt from its start, in a new room.
 fn record_anew(
     alloc: Global,
     entered: &EnteredConstruct,

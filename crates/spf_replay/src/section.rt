@@ -18,7 +18,7 @@ use spf_exec::frame::Frame;
 use spf_replay_log::log::{Event, Step};
 use std::alloc::{AllocError, Global};
 
-/// Whether a log is that of block n.
+/// Returns whether a log is that of block n.
 fn is_log(entered: &EnteredConstruct, n: u64, log: &[Event], work: &mut Frame) -> bool
     requires is { IsEntered entered.now }
     requires block { n < entered.now.header.blocks }
@@ -42,8 +42,8 @@ fn is_log(entered: &EnteredConstruct, n: u64, log: &[Event], work: &mut Frame) -
     }
 }
 
-/// Whether the steps are a speculative run of the construct's blocks from their guesses. The steps
-/// are made over a scratch, and leave it with any words.
+/// Returns whether the steps are a speculative run of the construct's blocks from their guesses.
+/// The steps are made over a scratch, and leave it with any words.
 ///
 /// # Errors
 ///

@@ -1,4 +1,4 @@
-// Steps of a section on one memory.
+//! Steps of a section on one memory.
 ghost use Rattle.std.specs.Prelude.{◌≡◌, ◌↔◌, IsTrue, List, ◌∷◌, length, slice_set};
 ghost use Rattle.spf_ast.specs.Event.{Event as AskedEvent, word_at, IsConsistent};
 ghost use Rattle.spf_speculation.specs.Steps.{events_of, AreBelow};
@@ -7,14 +7,14 @@ ghost use Rattle.spf_replay.specs.SeenSteps.{seen_steps};
 
 use spf_replay_log::log::{Event, Step};
 
-/// The word of a cell. One that isn't there has 0.
+/// The word of a cell, or 0 where there is no such cell.
 pub(crate) fn word_of(memory: &[i64], cell: u64) -> i64
     ensures { result ≡ word_at memory.now cell }
 {
     memory.get(cell as usize).copied().unwrap_or(0)
 }
 
-/// Stores a word to a cell. One that isn't there stays so.
+/// Stores a word to a cell; does nothing where there is no such cell.
 pub(crate) fn set_word(memory: &mut [i64], cell: u64, word: i64)
     ensures { memory.new ≡ slice_set memory.old cell word }
 {
@@ -54,7 +54,7 @@ pub(crate) fn are_consistent(memory: &mut [i64], steps: &[Step]) -> bool
     true
 }
 
-/// Whether each step is one of so many blocks.
+/// Returns whether each step belongs to one of the first `blocks` blocks.
 pub(crate) fn are_below(steps: &[Step], blocks: u64) -> bool
     ensures { IsTrue result ↔ AreBelow blocks (seen_steps steps.now) }
 {

@@ -213,7 +213,7 @@ fails-once begin end p q right bytes (inl x) (inr y) = let a = x.0 in let b = y.
 fails-once begin end p q right bytes (inr x) (inl y) = let a = x.0 in let b = y.0 in absurd (omega (arith, a, b))
 fails-once begin end p q right bytes (inr x) (inr y) = x.1 ∙ sym y.1
 
--- a field is before another one, behind it, or the same
+-- a field is before another one, after it, or the same
 before-or-behind : (f g : Field) → (begin_of f < begin_of g) ⊎ ((begin_of g < begin_of f) ⊎ (f ≡ g))
 before-or-behind Kind Kind = inr (inr refl)
 before-or-behind Kind Block = inl (omega arith)

@@ -25,7 +25,7 @@ all_one_more P xs new x is before here = subst (All P) (sym is) (All-append P xs
 pub rest-at : {X : Type 0} (p : ℕ) (bytes : List X) → take (length bytes - p) (drop p bytes) ≡ drop p bytes
 rest-at p bytes = take_all (length bytes - p) (drop p bytes) (omega (arith, length-drop p bytes))
 
--- one piece more was read
+-- one more piece was read
 pub read_more : {X : Type 0} (f : X → List ℕ) (whole head bytes slice : List ℕ) (xs new : List X) (x : X) (size p q : ℕ)
     → whole ≡ head ++ (flat_map f xs ++ drop p bytes) → slice ≡ drop p bytes → f x ≡ take size slice → new ≡ xs ++ x ∷ [] → q ≡ p + size
     → whole ≡ head ++ (flat_map f new ++ drop q bytes)
@@ -88,7 +88,7 @@ read_first f whole head bytes xs at size q front none is step =
     is ∙ sym (take-append-drop size (drop at bytes)) ∙ ap (λ l. l ++ drop size (drop at bytes)) front
     ∙ ap (λ l. head ++ l) (drop-drop size at bytes ∙ ap (λ n. drop n bytes) (sym step) ∙ ap (λ ys. flat_map f ys ++ drop q bytes) (sym none))
 
--- one element more
+-- one more element
 pub one_longer : {X : Type 0} (xs new : List X) (x : X) (n : ℕ) → new ≡ xs ++ x ∷ [] → length xs ≡ n → length new ≡ n + 1
 one_longer xs new x n is size = let joined = length-append xs (x ∷ []) in let whole : length new ≡ length (xs ++ x ∷ []) = ap length is in omega (arith, joined, whole, size)
 

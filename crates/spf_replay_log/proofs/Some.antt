@@ -43,7 +43,7 @@ IsByte byte = byte < 256
 abbrev AreBytes : List ℕ → Type 0
 AreBytes bytes = All IsByte bytes
 
--- at each place, and 0 behind the end
+-- at each place, and 0 past the end
 small-at : (bytes : List ℕ) → AreBytes bytes → (i : ℕ) → get_or bytes i 0 < 256
 small-at [] are i = omega arith
 small-at (x ∷ bytes) are zero = are 0 x (omega arith)
@@ -227,7 +227,7 @@ record HasSection (bytes : List ℕ) : Type 0 where
 abbrev BreaksInSection : List ℕ → Type 0
 BreaksInSection bytes = (place : ℕ) × SectionBreaksAt bytes place
 
--- the steps behind their number
+-- the steps after their number
 counted-or-break : (bytes behind : List ℕ) (count : ℕ) → count < 2 ^ 64 → bytes ≡ to_be_bytes w64 count ++ behind
     → HasSteps count behind ⊎ BreaksInSteps count behind → HasSection bytes ⊎ BreaksInSection bytes
 counted-or-break bytes behind count small front (inl h) =

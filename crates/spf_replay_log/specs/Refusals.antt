@@ -32,7 +32,7 @@ begin_of Block = 1
 begin_of Cell = 3
 begin_of Content = 11
 
--- the offset behind its last byte
+-- the offset after its last byte
 abbrev pub end_of : Field → ℕ
 end_of Kind = 1
 end_of Block = 3
@@ -67,7 +67,7 @@ pub record LacksCount (bytes : List ℕ) (place : ℕ) : Type 0 where
   pub short : length bytes < count_size
   pub place_is : place ≡ length bytes
 
--- fewer steps stand there than the section counts, and what follows them is no step
+-- fewer steps stand there than the section counts, and what follows them isn't a step
 pub record LacksStep (bytes : List ℕ) (place : ℕ) : Type 0 where
   pub count : ℕ
   pub steps : List Step
@@ -86,7 +86,7 @@ SectionBreaksAt bytes place = LacksCount bytes place ⊎ LacksStep bytes place
 
 -- ---- logs
 
--- sections stand there, and what follows them is no section
+-- sections stand there, and what follows them isn't a section
 pub record LacksSection (bytes : List ℕ) (place : ℕ) : Type 0 where
   pub log : List (List Step)
   pub rest : List ℕ
@@ -97,7 +97,7 @@ pub record LacksSection (bytes : List ℕ) (place : ℕ) : Type 0 where
   pub breaks : SectionBreaksAt rest offset
   pub place_is : place ≡ length (log_bytes log) + offset
 
--- the bytes are no log, and this is where they stop being one; the signature is one field
+-- the bytes aren't a log, and this is where they stop being one; the signature is one field
 abbrev pub LogBreaksAt : List ℕ → ℕ → Type 0
 LogBreaksAt bytes place = FailsAt 0 (length signature) (take (length signature) bytes ≡ signature) bytes place ⊎ LacksSection bytes place
 

@@ -1,4 +1,4 @@
-// Numbers in bytes, the highest byte first.
+//! Numbers in bytes, the highest byte first.
 ghost use Rattle.std.specs.Prelude.{◌≡◌, ◌≤◌, ◌+◌, length, take, drop};
 ghost use Rattle.std.specs.Int.{w16, w64, to_be_bytes, from_be_bytes};
 

@@ -1,4 +1,4 @@
-//! Logs are read.
+//! Reads logs.
 ghost use Rattle.std.specs.Prelude.{◌≡◌, ◌≤◌, ◌<◌, ◌+◌, ◌*◌, ◌++◌, ◌↔◌, IsTrue, length};
 ghost use Rattle.std.specs.Prelude.{take, drop, MatchResult, IfOk, IfErr, OnOk, [], ◌∷◌};
 ghost use Rattle.std.specs.Int.{cast_signed, w64};
@@ -124,7 +124,7 @@ fn read_section(alloc: Global, bytes: &[u8], at: usize) -> Result<Vec<Step>, Log
     Ok(steps)
 }
 
-/// Whether bytes that are long enough begin with the signature.
+/// Returns whether bytes that are long enough begin with the signature.
 fn is_signed(bytes: &[u8]) -> bool
     requires { length signature ≤ length bytes.now }
     ensures { IsTrue result ↔ (take (length signature) bytes.now ≡ signature) }
@@ -132,7 +132,7 @@ fn is_signed(bytes: &[u8]) -> bool
     &bytes[..4] == SIGNATURE
 }
 
-/// The log that the bytes are.
+/// Reads the log that the bytes are.
 ///
 /// # Errors
 ///

@@ -1,4 +1,4 @@
-// Logs as bytes, by hand.
+//! Logs as bytes, by hand.
 use crate::log::{Event, LogError, Step};
 use crate::reader::read_log;
 use crate::writer::write_log;

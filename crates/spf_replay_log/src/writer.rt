@@ -1,4 +1,4 @@
-//! Logs are written.
+//! Writes logs.
 ghost use Rattle.std.specs.Prelude.{◌≡◌, ◌<◌, ◌++◌, OnOk, IfOk};
 ghost use Rattle.std.specs.List.{All};
 ghost use Rattle.spf_replay_log.specs.Log.{max_blocks, kind_of as kind_field};
@@ -70,7 +70,7 @@ fn push_section(bytes: &mut Vec<u8>, section: &[Step]) -> Result<(), AllocError>
     Ok(())
 }
 
-/// The bytes of a log whose blocks are below `MAX_BLOCKS`.
+/// Returns the bytes of a log whose blocks are below `MAX_BLOCKS`.
 ///
 /// # Errors
 ///

@@ -34,7 +34,7 @@ come-to [] state (steps ∷ log) h = elim h [ ]
 come-to (x ∷ xs) state [] h = elim h [ ]
 come-to (x ∷ xs) state (steps ∷ log) h = let rest = come-to xs h.0 log h.2 in (rest.0, (h.0, h.1, rest.1))
 
--- one construct more
+-- one more construct
 pub one-more-scheduled : (xs : List Expected) (x : Expected) (state mid last : ℕ) (log : List (List Step)) (steps : List Step)
     → AreScheduledTo xs state log mid → IsScheduled x.entry x.guess mid steps last → AreScheduledTo (xs ++ x ∷ []) state (log ++ steps ∷ []) last
 one-more-scheduled [] x state mid last [] steps h k = (last, subst (λ s. IsScheduled x.entry x.guess s steps last) (sym h) k, refl)
@@ -87,12 +87,12 @@ pub more-steps : (log : List (List Step)) (steps : List Step) → step_count (lo
 more-steps [] steps = omega arith
 more-steps (first ∷ log) steps = let rest = more-steps log steps in omega (arith, rest)
 
--- what is expected with one construct more
+-- what is expected with one more construct
 expected-more : (xs : List PassedConstruct) (x : PassedConstruct) → expected_of_all (xs ++ x ∷ []) ≡ expected_of_all xs ++ expected_of x ∷ []
 expected-more [] x = refl
 expected-more (y ∷ ys) x = ap (λ l. expected_of y ∷ l) (expected-more ys x)
 
--- where there are too many, there are with one construct more
+-- where there are too many, there are with one more construct
 pub still-too-long : (seed : ℕ) (passed : List PassedConstruct) (x : PassedConstruct) → AreTooLong seed passed → AreTooLong seed (passed ++ x ∷ [])
 still-too-long seed passed x h log scheduled =
     let e = ends-in (expected_of_all passed) (expected_of x) seed log (subst (λ xs. AreScheduled xs seed log) (expected-more passed x) scheduled) in
@@ -114,7 +114,7 @@ now-too-long law seed mid counted passed x log drawn counts long others schedule
 
 -- ---- runs
 
--- one section more that is a run
+-- one more section that is a run
 pub one-more-run : (xs : List Expected) (x : Expected) (state last : ℕ) (log : List (List Step)) (steps : List Step) → AreScheduledTo xs state log last
     → ((n : ℕ) → SectionFits xs log n) → IsRun x.entry x.guess steps → (n : ℕ) → SectionFits (xs ++ x ∷ []) (log ++ steps ∷ []) n
 one-more-run [] x state last [] steps h runs run zero = run
@@ -129,7 +129,7 @@ one-more-run (y ∷ xs) x state last (first ∷ log) steps h runs run (suc n) = 
 few-none : AreOfFewBlocks []
 few-none n d below = absurd (omega (arith, below))
 
--- what is so of all elements and of one more
+-- what holds for all elements and for one more
 all-more : {A : Type 0} (P : A → Type 0) (xs : List A) (x : A) → All P xs → P x → All P (xs ++ x ∷ [])
 all-more P [] x h p zero d below = p
 all-more P [] x h p (suc n) d below = absurd (omega (arith, below))
@@ -154,7 +154,7 @@ none-drawn seed drawn none from zero_steps within =
       blocks = subst AreOfFewBlocks (sym none) few-none;
     })
 
--- where there are too many steps, there are with one construct more
+-- where there are too many steps, there are with one more construct
 pub drawn-over : (seed : ℕ) (passed : List PassedConstruct) (x : PassedConstruct) (drawn : Drawn) → drawn.over ≡ true → HasDrawn seed passed drawn → HasDrawn seed (passed ++ x ∷ []) drawn
 drawn-over seed passed x drawn over h =
     subst (λ b. AreDrawnSo b seed (passed ++ x ∷ []) drawn) (sym over) (still-too-long seed passed x (subst (λ b. AreDrawnSo b seed passed drawn) over h))

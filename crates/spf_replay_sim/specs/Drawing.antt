@@ -34,7 +34,8 @@ AreScheduledTo [] state [] last = state ≡ last
 AreScheduledTo (x ∷ others) state (steps ∷ log) last = (next : ℕ) × IsScheduled x.entry x.guess state steps next × AreScheduledTo others next log last
 AreScheduledTo _ state _ last = ⊥
 
--- the sections that were drawn from a seed for the constructs that were passed: each is a speculative run, and they have so many steps
+-- the sections that were drawn from a seed for the constructs that were passed: each is a speculative run, and
+-- `counted` is the number of their steps
 pub record AreDrawn (seed : ℕ) (passed : List PassedConstruct) (drawn : Drawn) : Type 0 where
   pub scheduled : AreScheduledTo (expected_of_all passed) seed (seen_log drawn.log.items) drawn.state
   pub runs : (n : ℕ) → SectionFits (expected_of_all passed) (seen_log drawn.log.items) n

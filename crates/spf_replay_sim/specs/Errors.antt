@@ -14,14 +14,15 @@ error_of (engine_error.TooManyCells count) = TooManyCells count
 error_of (engine_error.NoHost number) = NoHost number
 error_of engine_error.OutOfMemory = OutOfMemory
 
--- too many cells are the cause, and they are so many; or memory ran out
+-- too many cells are the cause, and this is their number; or memory ran out
 abbrev pub AreTooMany : ℕ → SimError → Type 0
 AreTooMany cells (TooManyCells count) = count ≡ counted cells
 AreTooMany cells (NoHost number) = ⊥
 AreTooMany cells TooManySteps = ⊥
 AreTooMany cells OutOfMemory = Unit {0}
 
--- the cause of each error of a run with so many cells, and this limit, and this host missing; after the first two, hosts were told nothing
+-- the cause of each error of a run with this number of cells, and this limit, and this host missing; after the first
+-- two, hosts were told nothing
 abbrev pub IsNotSimulated : (cells limit : ℕ) → Option ℕ → (before now : Hosts) → SimError → Type 0
 IsNotSimulated cells limit missing before now (TooManyCells count) = (limit < cells) × (count ≡ counted cells) × WereTold before [] now
 IsNotSimulated cells limit missing before now (NoHost number) = (cells ≤ limit) × (missing ≡ Some number) × WereTold before [] now

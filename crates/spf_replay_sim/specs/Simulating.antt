@@ -1,4 +1,4 @@
--- What a simulation comes to.
+-- The result of a simulation.
 use Rattle.std.specs.Prelude.{◌≡◌, ◌≤◌, ℕ, List, Option, Some, None}
 use Rattle.spf_ast.specs.Syntax.{Program}
 use Rattle.spf_ast.specs.Program.{outcome, seen_outcome}

@@ -38,7 +38,7 @@ use spf_replay::Step;
 use spf_replay_walk::walk::{Walked, walk};
 use std::alloc::{AllocError, Global};
 
-/// How a simulated run came out.
+/// The result of a simulated run.
 #[derive(Drop)]
 pub struct Simulated {
     /// A section for each construct that had blocks, in the order in which they were reached.
@@ -109,18 +109,18 @@ pub fn simulate_instance(
 /// Simulates a run by blocks: the log of the one run whose schedule the seed draws, with the
 /// outcome and the statistics, which are those of each run.
 ///
-/// A schedule is drawn for one construct after another. Of the blocks that run, each draw picks one;
-/// it goes on to its next turn, where it polls its flag, or to its end. Where an attempt ended or was
-/// stopped, validation goes on as in a run by workers: flags are raised, and a block that was
-/// mispredicted runs again. The program is run in the calling thread, and hosts are asked and told
-/// as in `spf_engine::run::run_program`.
+/// A schedule is drawn for one construct after another. Of the blocks that run, each draw picks
+/// one; it goes on to its next turn, where it polls its flag, or to its end. Where an attempt ended
+/// or was stopped, validation goes on as in a run by workers: flags are raised, and a block that
+/// was mispredicted runs again. The program is run in the calling thread, and hosts are asked and
+/// told as in `spf_engine::run::run_program`.
 ///
 /// # Errors
 ///
 /// `TooManyCells` where the arrays have more cells than a run of the program's version may have;
 /// `NoHost` where the program names a host that isn't supplied; `TooManySteps` where the sections
-/// have more than 1,000,000 steps together; and `OutOfMemory`. The hosts were told the first of what
-/// they are told in the whole run; after the first two errors nothing.
+/// have more than 1,000,000 steps together; and `OutOfMemory`. The hosts were told the first of
+/// what they are told in the whole run; after the first two errors nothing.
 pub fn sim(
     alloc: Global,
     checked: &Checked,

@@ -37,7 +37,7 @@ take-past (suc n) [] (suc k) l = refl
 take-past (suc n) (x ∷ xs) zero l = absurd (omega (arith, l))
 take-past (suc n) (x ∷ xs) (suc k) l = take-past n xs k (omega (arith, l))
 
--- ---- sections with one construct more
+-- ---- sections with one more construct
 
 order : (a b : ℕ) → (a < b) ⊎ ((b < a) ⊎ (a ≡ b))
 order a b = grind arith
@@ -78,7 +78,7 @@ refused-inside xs log k h = cases (order k (length xs))
     (λ less. less)
     (λ rest. cases rest (λ more. absurd (h (none-past xs log k (omega (arith, more))))) (λ same. absurd (h (none-past xs log k (omega (arith, same))))))
 
--- ---- verdicts with one construct more
+-- ---- verdicts with one more construct
 
 pub still-right : (xs : List Expected) (x : Expected) (log : List (List Step)) → IsVerdict xs (take (length xs) log) Yes → Fits (Some x) (slice_get log (length xs))
     → IsVerdict (xs ++ x ∷ []) (take (suc (length xs)) log) Yes

@@ -1,4 +1,4 @@
--- What was judged of a log, and what comes of one construct more.
+-- What was judged of a log, and what one more construct changes.
 use Rattle.std.proofs.Common.{◌≡◌, ◌⊎◌, ℕ, suc, ◌+◌, ◌<◌, ◌≤◌, List, [], ◌∷◌, ◌++◌, length, take, Some, None, refl, sym, ap, ◌∙◌, subst, add-one, arith}
 use Rattle.std.specs.Prelude.{slice_get}
 use Rattle.std.specs.Global.{Vec}
@@ -44,7 +44,7 @@ so-far passed log v w is h =
 no-yes : (k : ℕ) (v : Verdict) → v ≡ No k → v ≡ Yes → ⊥
 no-yes k v a b = cc
 
--- ---- one construct more
+-- ---- one more construct
 
 pub judged-wrong-before : (passed : List PassedConstruct) (x : PassedConstruct) (log : List (List Step)) (j : Judged) (k : ℕ) → j.verdict ≡ No k → HasJudged passed log j → HasJudged (passed ++ x ∷ []) log j
 judged-wrong-before passed x log j k is h = record {
@@ -102,7 +102,7 @@ as-long (x ∷ log) = ap suc (as-long log)
 pub not-missing : (log : List (List Step)) (n : ℕ) (x : Expected) → length log ≤ n → Fits (Some x) (slice_get log n) → ⊥
 not-missing log n x past fits = subst (Fits (Some x)) (slice_get_past log n past) fits
 
--- ---- what comes of a section
+-- ---- the verdict on a section
 
 -- it is one of the construct's speculative runs
 pub after-right : (passed : List PassedConstruct) (x : PassedConstruct) (log : List (List Step)) (j k : Judged) (e : Entry) (next : ℕ) → j.verdict ≡ Yes → HasJudged passed log j → x.entry ≡ e

@@ -1,4 +1,4 @@
--- What a walk comes to.
+-- The result of a walk.
 use Rattle.std.proofs.Common.{◌≡◌, ◌↔◌, ℕ, zero, suc, List, [], ◌∷◌, ◌++◌, Option, Some, None, refl, sym, ap, ◌∙◌, subst}
 use Rattle.std.specs.Prelude.{slice_get}
 use Rattle.spf_ast.specs.Syntax.{Program}

@@ -24,7 +24,8 @@ expected_of x = record { entry = x.entry; guess = x.guess }
 abbrev pub expected_of_all : List PassedConstruct → List Expected
 expected_of_all passed = map expected_of passed
 
--- what comes of a section: it is a speculative run from this entry with these guesses, and the next one comes after it; or it isn't, or is missing
+-- the verdict on a section: it is a speculative run from this entry with these guesses, and the next one comes after
+-- it; or it isn't, or is missing
 abbrev pub IsAfterRun : List (List Step) → ℕ → Entry → (ℕ → Carried) → Option ℕ → Type 0
 IsAfterRun log n e guess None = Fits (Some (record { entry = e; guess = guess })) (slice_get log n) → ⊥
 IsAfterRun log n e guess (Some next) = (next ≡ n + 1) × Fits (Some (record { entry = e; guess = guess })) (slice_get log n)

@@ -19,7 +19,7 @@ Visits V = V → List PassedConstruct → V → Type 0
 abbrev pub VisitsFrom : {V : Type 0} → Visits V → List PassedConstruct → V → List PassedConstruct → V → Type 0
 VisitsFrom {V} has_visited passed before later after = (first : V) → has_visited first passed before → has_visited first later after
 
--- it took one construct more: that of this entry, with these guesses
+-- it took one more construct: that of this entry, with these guesses
 abbrev pub VisitsNext : {V : Type 0} → Visits V → List code_guess.Guess → Entry → V → V → Type 0
 VisitsNext {V} has_visited guesses e before after =
     (passed : List PassedConstruct) (x : PassedConstruct) → x.entry ≡ e → AreGuesses guesses x.guess → VisitsFrom has_visited passed before (passed ++ x ∷ []) after

@@ -13,8 +13,8 @@ use Rattle.spf_engine.specs.declared.step.Step as taken
 use Rattle.spf_engine.specs.Runs.{HasEntered, IsThere}
 use Rattle.spf_replay_walk.specs.Visiting.{Visits, VisitsFrom}
 
--- A step led to a further progress of the run: a visitor that took the constructs that were passed before it took
--- those that were passed in it, too; these are the statistics, and hosts were told so much.
+-- A step led to a further progress of the run: a visitor that took the constructs that were passed before it took those
+-- that were passed in it, too; these are the statistics, and hosts were told these pairs.
 pub record WalksTo {V : Type 0} (has_visited : Visits V) (hosts : Hosts) (p : Program) (input : List ℕ) (passed : List PassedConstruct) (visitor : V)
     (step : taken.Step) (s : Stand) (after : V) (stats : Stats) (now : Hosts) : Type 0 where
   pub later : Progress

@@ -37,14 +37,14 @@ pub(crate) fn nothing_judged() -> Judged
     }
 }
 
-/// That the section at an index is the first that isn't as expected.
+/// Returns the verdict that the section at an index is the first that isn't as expected.
 fn no_at(n: usize) -> Verdict
     ensures { result ≡ No n }
 {
     Verdict::No { section: n as u64 }
 }
 
-/// That the section that comes next isn't one of the construct that was passed.
+/// Returns the verdict that the section that comes next isn't one of the construct that was passed.
 fn refused(next: usize) -> Judged
     ensures { result.verdict ≡ No next }
 {
@@ -162,7 +162,7 @@ pub(crate) fn judge_end(log: &[Vec<Step>], judged: Judged) -> Verdict
     }
 }
 
-/// Judges a log: each construct that it visits is held against the log's next section.
+/// Judges a log: each construct that it visits is compared with the log's next section.
 #[derive(Drop)]
 pub(crate) struct Judge<'a> {
     pub(crate) log: &'a [Vec<Step>],

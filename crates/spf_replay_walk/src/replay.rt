@@ -60,13 +60,13 @@ pub fn replay_instance(
     Ok(judge.verdict())
 }
 
-/// Whether a log is one of the program's speculative runs on this input: it is where it has one
-/// section for each construct with blocks that the run reaches, in order, and each is a speculative
-/// run of the construct's blocks from the guesses for them. Otherwise the answer names the first
-/// section that isn't, is missing, or is one too many.
+/// Tells whether a log is one of the program's speculative runs on this input: it is one if it has
+/// one section for each construct with blocks that the run reaches, in order, and each is a
+/// speculative run of the construct's blocks from the guesses for them. Otherwise the answer names
+/// the first section that isn't, is missing, or is one too many.
 ///
-/// The program is run as `spf_engine::run::run_program` does it, but in the calling thread, and hosts
-/// are asked and told as there. The run goes on to its end also where a section was refused.
+/// The program is run as `spf_engine::run::run_program` does it, but in the calling thread, and
+/// hosts are asked and told as there. The run goes on to its end also where a section was refused.
 ///
 /// # Errors
 ///

@@ -58,7 +58,7 @@ struct Site<'a> {
     header: Header,
 }
 
-/// What came of the blocks of a construct.
+/// What the blocks of a construct came to.
 #[derive(Drop)]
 struct Examined {
     /// The row after the last block, or the trap.
@@ -98,8 +98,8 @@ impl<'a> Walker<'a> {
             .plan(self.alloc, place.index, layout, header.low, header.blocks)
     }
 
-    /// Takes the guesses for the blocks of the construct at which a run stands with these cells, runs
-    /// the blocks, hands the construct over, and tells hosts the real rows.
+    /// Takes the guesses for the blocks of the construct at which a run stands with these cells,
+    /// runs the blocks, hands the construct over, and tells hosts the real rows.
     ///
     /// # Errors
     ///

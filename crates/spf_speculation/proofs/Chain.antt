@@ -23,7 +23,7 @@ same-memory one other size h = same_lists one other size (λ k d low.
     let low' : k < length other = omega (arith, low, size) in
     get_or_default one k d (pos 0) low ∙ h k ∙ get_or_default other k (pos 0) d low')
 
--- ---- one block more
+-- ---- one more block
 
 pub left-first : (e : Entry) (logs : ℕ → List Event) → IsLeftBy e logs 0 e.memory
 left-first e logs = record {

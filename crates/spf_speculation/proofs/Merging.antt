@@ -25,7 +25,7 @@ log-other n step rest ne = cases (true-or-false (step.block == n))
     (λ t. absurd (ne ((Decides-eqb step.block n).0 t)))
     (λ f. choose-false (step.block == n) (step.event ∷ log_of n rest) (log_of n rest) f)
 
--- the cells of each of so many blocks, of which no two share one
+-- the cells of each of the first `count` blocks, of which no two share one
 pub record AreApart (count : ℕ) (own : ℕ → ℕ → Bool) : Type 0 where
   pub apart : (n k c : ℕ) → n < count → k < count → n ≢ k → own n c ≡ true → own k c ≡ false
 

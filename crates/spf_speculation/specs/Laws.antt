@@ -80,7 +80,7 @@ pub record IsLeftBy (e : Entry) (logs : ℕ → List Event) (n : ℕ) (memory : 
   pub outside : (cell : ℕ) → ((k : ℕ) → k < n → own e k cell ≡ false) → word_at memory cell ≡ word_at e.memory cell
 
 -- from a memory that is as the logs of the first n blocks leave it, the plain run of block n has the answer of this
--- block's log; where that is a row, it leaves the memory as one log more does
+-- block's log; where that is a row, it leaves the memory as one more log does
 pub record ContinuesAt (e : Entry) (logs : ℕ → List Event) (n : ℕ) (v : Carried) (answer : Ending Carried) (memory : List ℤ) : Type 0 where
   pub same : plain_answer (asks_at e n v) memory ≡ answer
   pub left : (value : Carried) (state : State) → answer ≡ Value value state → IsLeftBy e logs (suc n) (plain_memory (asks_at e n v) memory)
@@ -171,7 +171,7 @@ abbrev pub answered_on : Carried → Ending Carried → (Carried → Answered) �
 answered_on v (Value next state) others = record { values = v ∷ (others next).values; result = (others next).result }
 answered_on v (Trapped trap output) others = record { values = v ∷ []; result = Err trap }
 
--- so many blocks from block n on, from this row
+-- the `count` blocks from block n on, from this row
 abbrev pub answered : (ℕ → Carried → Ending Carried) → (n count : ℕ) → Carried → Answered
 answered answer n zero v = record { values = []; result = Ok v }
 answered answer n (suc count) v = answered_on v (answer n v) (λ next. answered answer (suc n) count next)

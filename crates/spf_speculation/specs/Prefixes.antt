@@ -11,11 +11,11 @@ use Rattle.spf_speculation_entry.specs.Entry.{Entry, IsEntry, number_of, asks_at
 use Rattle.spf_speculation.specs.Runs.{IsRealLog, IsGuessedLog, LogsComeTo}
 use Rattle.spf_speculation.specs.Laws.{IsLeftBy}
 
--- what so many blocks from block n on come to, run plainly one after another from a row and a memory
+-- what the `count` blocks from block n on come to, run plainly one after another from a row and a memory
 abbrev pub plain_from : Entry → (n count : ℕ) → Carried → List ℤ → Chained
 plain_from e n count v memory = chained (environment_of e.program e.input) e.construct e.slots n count (number_of e n) v memory
 
--- these real rows, and then what the rest of the plain run comes to, are what all blocks come to
+-- all blocks come to these real rows, followed by what the rest of the plain run comes to
 pub record IsTheRest (e : Entry) (values : List Carried) (rest : Chained) : Type 0 where
   pub all_values : (plain_blocks e).values ≡ values ++ rest.values
   pub end : (plain_blocks e).result ≡ rest.result

@@ -8,9 +8,9 @@ use Rattle.spf_speculation_entry.specs.Entry.{Entry, begins_at}
 use Rattle.spf_speculation_entry.specs.Attempts.{IsAttempt, IsWhole}
 use Rattle.spf_speculation.specs.Steps.{Step, events_of, log_of, AreBelow}
 
--- The log of block n, whose real row is v, with the answer of the block at v: at once, where its first attempt
--- began at v; otherwise again, where a first attempt from a wrong guess, whole or chopped, was followed by a second
--- one from v, which is whole.
+-- The log of block n, whose real row is v, with the answer of the block at v: right away, where its first attempt began
+-- at v; otherwise again, where a first attempt from a wrong guess, whole or chopped, was followed by a second one from
+-- v, which is whole.
 pub data IsRealLog (e : Entry) (guess : ℕ → Carried) (n : ℕ) (v : Carried) (log : List Event) (answer : Ending Carried) : Type 0 where
   at_once : begins_at e guess n ≡ v → IsWhole e n v 1 log answer → IsRealLog e guess n v log answer
   again : (first second : List Event) → log ≡ first ++ second → begins_at e guess n ≢ v

@@ -22,7 +22,8 @@ abbrev pub AreBelow : ℕ → List Step → Type 0
 AreBelow count [] = Unit {0}
 AreBelow count (step ∷ rest) = (step.block < count) × AreBelow count rest
 
--- the steps merge the logs of so many blocks: they are the events of these logs and no others, and keep the order of each log
+-- the steps merge the logs of the first `count` blocks: they are the events of these logs and no others, and keep the
+-- order of each log
 pub record Merges (count : ℕ) (logs : ℕ → List Event) (steps : List Step) : Type 0 where
   pub below : AreBelow count steps
   pub logs_are : (n : ℕ) → n < count → log_of n steps ≡ logs n
@@ -32,7 +33,7 @@ abbrev pub steps_of : ℕ → List Event → List Step
 steps_of n [] = []
 steps_of n (e ∷ log) = record { block = n; event = e } ∷ steps_of n log
 
--- the logs of so many blocks, joined block by block from block 0 up
+-- the logs of the first blocks, joined block by block from block 0 up
 abbrev pub joined : ℕ → (ℕ → List Event) → List Step
 joined zero logs = []
 joined (suc n) logs = joined n logs ++ steps_of n (logs n)

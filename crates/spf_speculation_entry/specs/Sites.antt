@@ -11,7 +11,7 @@ use Rattle.spf_cells.specs.declared.view.Setting.{Setting}
 use Rattle.spf_speculation_entry.specs.declared.site.Site.{Site}
 use Rattle.spf_speculation_entry.specs.Entry.{Entry, own, plain_blocks, begins_at}
 
--- a construct that stands for none: a fold over rows of no words
+-- a placeholder where there is no construct: a fold over rows of no words
 abbrev pub construct_or_none : Option Construct → Construct
 construct_or_none None = fold 0 (record {
   carried = [];
@@ -36,7 +36,7 @@ entry_at s = record {
   header = record { low = s.low; blocks = s.blocks; start = s.start };
 }
 
--- the guess for each block; that of block 0, like one that isn't there, is the empty row, and is nothing to anyone
+-- the guess for each block; that of block 0, like one that isn't there, is the empty row, which nothing depends on
 abbrev pub guess_at : Site → ℕ → Carried
 guess_at s zero = []
 guess_at s (suc n) = slice_index_or s.guesses n []
@@ -54,7 +54,7 @@ pub record AreMadeFor (e : Entry) (setting : Setting) : Type 0 where
   pub blocks : length setting.plan ≡ e.header.blocks
   pub spans : (n : ℕ) (spans : List Span) (cell : ℕ) → slice_get setting.plan n ≡ Some spans → in_spans spans cell ≡ own e n cell
 
--- block n is mispredicted: its first attempt doesn't begin at its real row in the plain run, or the plain run doesn't come to the block
+-- block n is mispredicted: its first attempt doesn't begin at its real row in the plain run, or the plain run doesn't reach the block
 abbrev pub IsMispredicted : Entry → (ℕ → Carried) → ℕ → Type 0
 IsMispredicted e guess n = slice_get (plain_blocks e).values n ≢ Some (begins_at e guess n)
 

@@ -10,7 +10,7 @@ same-memory one other size h = same_lists one other size (λ k d low.
     let low' : k < length other = omega (arith, low, size) in
     get_or_default one k d (pos 0) low ∙ h k ∙ get_or_default other k (pos 0) d low')
 
--- one of so many numbers passes a test, or none does
+-- one of the numbers below `count` passes a test, or none does
 abbrev pub Passes : ℕ → (ℕ → Bool) → Type 0
 Passes count test = (n : ℕ) × (n < count) × (test n ≡ true)
 

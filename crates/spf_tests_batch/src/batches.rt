@@ -70,7 +70,7 @@ fn names(alloc: Global, names: &[&str]) -> Result<Vec<String>, Fail> {
     Ok(owned)
 }
 
-/// What a batch over these names comes to, on two workers.
+/// What a batch over these names gives, on two workers.
 fn run<R: Threads + Wait + Sync>(
     rt: &R,
     alloc: Global,
@@ -90,7 +90,7 @@ fn run<R: Threads + Wait + Sync>(
     Ok(run_batch(rt, alloc, &checked, &names, files, 2, hosts, &Open, out))
 }
 
-/// The totals of so many files and blocks, of which none is blind.
+/// The totals of `files` files and `blocks` blocks, none of which is blind.
 fn totals(files: u64, blocks: u64, hits: u64, misses: u64) -> Totals {
     Totals {
         files,

@@ -1,5 +1,5 @@
-//! Tests of batches, of lists of names, and of machines' texts. They are a crate of their own, since
-//! a crate with tests is proved twice.
+//! Tests of batches, of lists of names, and of machines' texts. They are a crate of their own,
+//! since a crate with tests is proved twice.
 #![tactic(auto)]
 
 #[cfg(test)]

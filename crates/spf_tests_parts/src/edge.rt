@@ -1,4 +1,4 @@
-// That the calls succeed with memory at hand, and what they do to the machine's files and streams.
+//! That the calls succeed with memory at hand, and what they do to the machine's files and streams.
 use spf_edge::{
     FetchError, Files, MemFiles, MemSink, PutError, RealFiles, RealSink, Sink, StandardStream,
 };
@@ -24,7 +24,7 @@ fn three_files(alloc: Global) -> Result<Vec<(String, Vec<u8>)>, AllocError> {
 /// A fetch of this name with this limit, and the content or error that it is to have.
 type Fetch<'a> = (&'a str, u64, Result<&'a str, FetchError>);
 
-/// Whether a fetch has the result that it is to have.
+/// Returns whether a fetch has the result that it is to have.
 fn is_fetched<F: Files>(files: &mut F, alloc: Global, fetch: Fetch) -> bool {
     let (name, limit, wanted) = fetch;
     match (files.fetch(alloc, name, limit), wanted) {
@@ -41,7 +41,7 @@ fn follow<R: Abort, F: Files>(rt: &R, files: &mut F, alloc: Global, fetches: &[F
     }
 }
 
-/// Whether names are those of a text, with a space between any two.
+/// Returns whether names are those of a text, with a space between any two.
 fn are_named(text: &str, names: &[String]) -> bool {
     text.split(' ').eq(names.iter().map(|name| name.as_str()))
 }
@@ -106,7 +106,7 @@ fn a_file_of_the_machine_is_read(rt: HostRuntime) -> Result<(), Fail> {
     Ok(())
 }
 
-// A device that takes so many bytes, and then no more.
+// A device that takes `room` bytes, and then no more.
 #[derive(Drop)]
 struct Narrow {
     room: usize,

@@ -1,4 +1,4 @@
-// Files of the formats, by hand and from their documents.
+//! Files of the formats, by hand and from their documents.
 ghost use Rattle.std.specs.Prelude.{◌≤◌, ◌<◌, ◌^◌, length};
 
 use spf_apps_formats::encoder::{EncodeError, encode_huf1};
@@ -69,7 +69,8 @@ fn lengths_over_15_come_before_those_without_room(rt: HostRuntime) {
     }
 }
 
-/// Whether symbols are encoded with these lengths into a file that is so long and ends so.
+/// Returns whether symbols are encoded with these lengths into a file of this size that ends with
+/// these bytes.
 fn is_encoded(alloc: Global, words: &[(u8, u8)], symbols: &[u8], size: usize, end: &[u8]) -> bool
     requires { length symbols.now < 2 ^ 32 }
 {
@@ -157,8 +158,8 @@ fn the_toy_machine_is_a_machine(rt: HostRuntime) -> Result<(), Fail> {
     Ok(())
 }
 
-/// What the check says of the first bytes of the toy machine and a byte more, where one byte is set
-/// to another.
+/// What the check says of the first bytes of the toy machine and one more byte, where one byte is
+/// set to another.
 fn changed(
     alloc: Global,
     at: usize,
@@ -206,7 +207,7 @@ fn a_machine_is_refused_at_what_is_wrong_first(rt: HostRuntime) {
     }
 }
 
-/// Whether this input is drawn.
+/// Returns whether this input is drawn.
 fn is_drawn(alloc: Global, kind: Kind, seed: u64, size: u64, wanted: &[u8]) -> bool
     requires { (1 ≤ size) × (size ≤ 1000000) }
 {

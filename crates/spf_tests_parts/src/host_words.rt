@@ -1,4 +1,4 @@
-// Words that ask for hosts, and words whose pairs are broken.
+//! Words that ask for hosts, and words whose pairs are broken.
 use spf_cli_host_words::{HostKind, read_hosts};
 use spf_cli_words::WordsError;
 use std::alloc::{AllocError, Global};

@@ -1,4 +1,4 @@
-// Where texts that end too early go wrong.
+//! Where texts that end too early go wrong.
 
 use spf_parse::{ParseError, parse};
 

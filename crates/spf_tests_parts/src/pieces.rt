@@ -1,4 +1,4 @@
-// Runs in order: in pieces, and whole.
+//! Runs in order: in pieces, and whole.
 
 ghost use Rattle.std.specs.Prelude.{◌<◌, ◌^◌, length, IfOk};
 ghost use Rattle.spf_ast.specs.View.{program as seen_program};
@@ -31,7 +31,7 @@ fn program_of(alloc: Global, text: &[u8]) -> Result<Program, Fail>
     Ok(program)
 }
 
-/// Whether a run ended with this output.
+/// Returns whether a run ended with this output.
 fn is_done_with(outcome: &Outcome, wanted: &[u8]) -> bool {
     match outcome {
         Outcome::Done { output, .. } => output.as_slice() == wanted,

@@ -1,4 +1,4 @@
-// Which cells the blocks of worked programs write.
+//! Which cells the blocks of worked programs write.
 
 ghost use Rattle.spf_ast.specs.View.{program as seen_program};
 ghost use Rattle.spf_ast.specs.Lawful.{IsLawful};

@@ -1,5 +1,5 @@
-// What each kind of predictor answers, and what hosts in a list answer after they were told
-// something.
+//! What each kind of predictor answers, and what hosts in a list answer after they were told
+//! something.
 ghost use Rattle.std.specs.List.{last_or};
 ghost use Rattle.std.specs.Prelude.{◌≡◌, Some, unwrap_or, IfOk, length, pos};
 ghost use Rattle.spf_guess.specs.Kinds.{blocks_told};

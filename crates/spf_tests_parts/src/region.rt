@@ -1,4 +1,4 @@
-// Tables of bounds, small lists of ranges, and cells of ranges at blocks.
+//! Tables of bounds, small lists of ranges, and cells of ranges at blocks.
 ghost use Rattle.std.specs.Prelude.{◌≡◌, ℕ, ◌+◌, ◌<◌, ◌^◌, true, length};
 ghost use Rattle.std.specs.List.{All};
 ghost use Rattle.spf_region.specs.Ranges.{array_of};
@@ -68,7 +68,7 @@ fn bound(word: Option<&str>) -> Option<Bound> {
     Some(known(factor, low, high))
 }
 
-/// Whether a row of sums is right.
+/// Returns whether a row of sums is right.
 fn is_right_sum(row: &str) -> Option<bool> {
     let mut words = row.split(' ');
     let x = bound(words.next())?;
@@ -78,7 +78,7 @@ fn is_right_sum(row: &str) -> Option<bool> {
     Some([x.plus(y), x.minus(y)] == [sum, difference])
 }
 
-/// Whether a row of products is right.
+/// Returns whether a row of products is right.
 fn is_right_product(row: &str) -> Option<bool> {
     let mut words = row.split(' ');
     let x = bound(words.next())?;

@@ -1,4 +1,4 @@
-// Texts, and the tokens that they are cut into.
+//! Texts, and the tokens that they are cut into.
 
 use spf_text::token::{Keyword, Sign, Token, TokenKind};
 use spf_text::{ScanError, scan};
@@ -9,7 +9,7 @@ const NAME: TokenKind = TokenKind::Name;
 
 const DOTS: TokenKind = TokenKind::Sign(Sign::DotDot);
 
-/// Whether tokens have these kinds.
+/// Returns whether tokens have these kinds.
 fn have_kinds(tokens: &[Token], kinds: &[TokenKind]) -> bool {
     tokens.len() == kinds.len()
         && tokens
@@ -18,7 +18,7 @@ fn have_kinds(tokens: &[Token], kinds: &[TokenKind]) -> bool {
             .all(|(token, kind)| token.kind == *kind)
 }
 
-/// Whether a text is cut into tokens of these kinds.
+/// Returns whether a text is cut into tokens of these kinds.
 fn is_cut_into(alloc: Global, text: &[u8], kinds: &[TokenKind]) -> bool {
     match scan(alloc, text) {
         Ok(tokens) => have_kinds(&tokens, kinds),

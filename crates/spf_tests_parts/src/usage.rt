@@ -1,4 +1,4 @@
-// Words that ask for a text, and words that don't.
+//! Words that ask for a text, and words that don't.
 use spf_cli_help::usage;
 use std::alloc::{AllocError, Global};
 

@@ -165,7 +165,7 @@ stopped-not n a rest later e = absurd cc
 ended-rest : (a b : Ending Carried) (rest later : List Event) → Ended a rest ≡ Ended b later → rest ≡ later
 ended-rest a b rest later e = cc
 
--- so many turns, and then a value
+-- a number of turns, and then a value
 abbrev turns : ℕ → Carried → State → Interaction (Ending Carried)
 turns zero value state = Answer (Value value state)
 turns (suc n) value state = AskTurn (turns n value state)

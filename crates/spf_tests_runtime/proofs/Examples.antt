@@ -148,7 +148,7 @@ not_raisable [] b i is z h e = omega arith
 not_raisable (x ∷ l) b zero is z h e = let one : x ≡ 1 = ap (λ (m : List ℕ). get_or m 0 0) is in omega arith
 not_raisable (x ∷ l) b (suc i) is z h e = let long : length (x ∷ l) ≡ 1 = ap (λ (m : List ℕ). length m) is in omega arith
 
--- what is so of the logs of the worked example says which numbers its polls gave
+-- what holds for the logs of the worked example says which numbers its polls gave
 pub turns_are : (trace : List (List LogEntry)) (k : Setting) (x y : ℕ) → k.raisable ≡ 1 ∷ [] → trace ≡ (Store 0 (pos 9) ∷ Turn x ∷ []) ∷ (Load 3 (pos 4) ∷ Turn y ∷ []) ∷ []
     → ((block : ℕ) (log : List LogEntry) → slice_get trace block ≡ Some log → IsLogOf k block log) → (y ≤ 1) × (x ≡ 0)
 turns_are trace k x y raisable is kept =

@@ -15,7 +15,7 @@ two_blocks_spans = (record { from = 0; to = 2 } ∷ []) ∷ (record { from = 3; 
 abbrev pub four_blocks_spans : List (List Span)
 four_blocks_spans = (cell 0 ∷ cell 4 ∷ []) ∷ (cell 1 ∷ cell 5 ∷ []) ∷ (cell 2 ∷ cell 6 ∷ []) ∷ (cell 3 ∷ cell 7 ∷ []) ∷ []
 
--- the span from a cell up to and without another
+-- the span from a cell up to but excluding another
 abbrev span : ℕ → ℕ → Span
 span from to = record { from = from; to = to }
 

@@ -286,7 +286,7 @@ fn count(cells: &Cells, lane: &mut Lane)
     }
 }
 
-/// A random number after so many others.
+/// The random number that comes after `count` others.
 fn random_after(count: u64) -> u64 {
     let mut random = count;
     for _ in 0..count {

@@ -12,7 +12,7 @@ use std::alloc::Global;
 use std::test::Fail;
 use std::thread::{Threads, join_mut};
 
-/// So many iterations that the other thread begins meanwhile: some seconds.
+/// Enough iterations for the other thread to begin meanwhile: some seconds.
 const LONG: u64 = 500_000_000;
 
 /// The first attempt of a block, which stores 9 to a cell.

@@ -24,7 +24,7 @@ use std::alloc::{AllocError, Global};
 use std::sync::Wait;
 use std::thread::{self, Threads, for_each_mut};
 
-/// A mate takes turns until it has ended.
+/// Takes turns with a mate until it has ended.
 fn take_turns<R: Wait, A: Attempter>(rt: &R, crew: &Crew, attempter: &A, mate: &mut Mate)
     requires own { IsMateOf crew.now mate.old }
     requires serves { A.serves crew.now.setting attempter.now }
@@ -39,7 +39,7 @@ fn take_turns<R: Wait, A: Attempter>(rt: &R, crew: &Crew, attempter: &A, mate: &
     }
 }
 
-/// All mates take turns, each in a thread of its own.
+/// Lets all mates take turns, each in a thread of its own.
 fn in_threads<R: Threads + Wait + Sync, A: Attempter + Sync>(
     rt: &R,
     crew: &Crew,
@@ -64,7 +64,7 @@ fn in_threads<R: Threads + Wait + Sync, A: Attempter + Sync>(
     );
 }
 
-/// The same, where the attempts are those of a construct's blocks.
+/// Lets all mates take turns, each in a thread of its own, and attempt a construct's blocks.
 fn attempt_blocks<R: Threads + Wait + Sync, I: HasInstance + Sync, C: HasConstruct + Sync>(
     rt: &R,
     crew: &Crew,
@@ -95,7 +95,7 @@ fn attempt_blocks<R: Threads + Wait + Sync, I: HasInstance + Sync, C: HasConstru
     in_threads(rt, crew, &attempter, mates);
 }
 
-/// The same, where they are those of this job.
+/// Lets all mates take turns, each in a thread of its own, and attempt the blocks of this job.
 fn attempt_all<R: Threads + Wait + Sync>(rt: &R, crew: &Crew, job: Job, mates: &mut [Mate])
     requires own { All (IsMateOf crew.now) mates.old }
     requires serves { MakesAttempts crew.now.setting job }
@@ -114,7 +114,7 @@ fn attempt_all<R: Threads + Wait + Sync>(rt: &R, crew: &Crew, job: Job, mates: &
     );
 }
 
-/// Runs the blocks of a construct whose chain has just started by so many mates.
+/// Runs the blocks of a construct whose chain has just started, with `workers` mates.
 pub(crate) fn run_on_threads<R: Threads + Wait + Sync>(
     rt: &R,
     alloc: Global,

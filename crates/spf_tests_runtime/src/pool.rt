@@ -79,7 +79,7 @@ fn refused(given: Result<(), Numbered>) -> u64 {
     }
 }
 
-/// What a call answers; 3000 stands for a hand that there is not.
+/// What a call answers; 3000 stands for a hand that doesn't exist.
 fn answer(all: &mut [Busy], call: Call) -> u64 {
     let (Call::Give(hand, _) | Call::Next(hand)) = call;
     let Some(busy) = all.get_mut(hand) else {
@@ -175,8 +175,8 @@ fn totals(all: &[Busy]) -> (u64, u64) {
 /// next.
 type Left = (usize, (u64, u64), [(u64, u64); 4]);
 
-/// What four threads leave, whose hands have these capacities, where the first hand gave so many
-/// items before, and each hand gives so many.
+/// What four threads leave whose hands have these capacities, where the first hand gave `by_first`
+/// items before, and each hand gives `by_each` items.
 fn in_four<R: Threads + Sync>(
     rt: &R,
     alloc: Global,

@@ -23,7 +23,7 @@ use std::thread::Threads;
 pub(crate) const DOUBLING: &[u8] =
     b"main { specfold s = 1 for k in 0..5 predict k { next s * 2; } emit s; }";
 
-/// The same; each guess is right.
+/// Each block doubles the carried word; each guess is right.
 pub(crate) const GUESSED: &[u8] =
     b"main { specfold s = 1 for k in 0..5 predict 1 << k { next s * 2; } emit s; }";
 
@@ -49,7 +49,8 @@ pub(crate) const HOSTED: &[u8] =
 pub(crate) const SUMS: &[u8] =
     b"main { specfold (a, b) = (0, 1) for k in 0..5 predict (k, 1) { next (b, a + b); } emit a; emit b; }";
 
-/// The same; the guesses of blocks 1 and 2 are right, and that of block 3 in its second part alone.
+/// The blocks of `SUMS`; the guesses of blocks 1 and 2 are right, and that of block 3 in its second
+/// part alone.
 pub(crate) const HALF_GUESSED: &[u8] =
     b"main { specfold (a, b) = (0, 1) for k in 0..5 predict (1, k) { next (b, a + b); } emit a; emit b; }";
 
@@ -121,7 +122,7 @@ pub(crate) fn accepted(alloc: Global, text: &[u8]) -> Result<Checked, Fail> {
     }
 }
 
-/// Runs a text's program on no input, on so many workers.
+/// Runs a text's program on an empty input, on `workers` workers.
 pub(crate) fn run<R: Threads + Wait + Sync, G: Gate + Sync>(
     rt: &R,
     alloc: Global,
@@ -140,7 +141,7 @@ pub(crate) fn run<R: Threads + Wait + Sync, G: Gate + Sync>(
     }
 }
 
-/// Whether a run ended with this output.
+/// Returns whether a run ended with this output.
 pub(crate) fn gave(outcome: &Outcome, wanted: &[u8]) -> bool {
     match outcome {
         Outcome::Done { output, .. } => output.as_slice() == wanted,

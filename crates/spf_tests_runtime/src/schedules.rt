@@ -1,4 +1,4 @@
-//! What only threads show: attempts that are made at once.
+//! What only threads show: attempts that run at the same time.
 use crate::programs::{GUESSED, gave, run};
 use spf_ticket_gate::Barrier;
 use std::test::Fail;

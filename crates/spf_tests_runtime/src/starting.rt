@@ -28,7 +28,7 @@ use std::test::Fail;
 /// A chain that has just started, with its cells and its tickets.
 pub(crate) type Started = (Chain, Cells, Vec<Ticket>);
 
-/// Whether a construct is a fold, which may have any number of blocks.
+/// Returns whether a construct is a fold, which may have any number of blocks.
 fn is_fold(construct: TopConstruct) -> bool
     ensures { IsTrue result → (n : ℕ) → AreBlocksOf (seen_construct construct.entry) n }
 {
@@ -53,7 +53,7 @@ fn guesses_of(alloc: Global, values: &[i64]) -> Result<Vec<Guess>, AllocError>
 }
 
 /// Starts the chain of the job's construct: a fold over rows of one word, which begins at this one
-/// and has one block more than guesses.
+/// and has one more block than guesses.
 pub(crate) fn start(
     alloc: Global,
     checked: &Checked,

@@ -22,7 +22,7 @@ use std::alloc::{AllocError, Global};
 use std::test::Fail;
 use std::thread::{Threads, join};
 
-/// So many turns that no attempt makes them to the end: some minutes.
+/// More turns than any attempt makes: they would take some minutes.
 const LONG: i64 = 100_000_000_000;
 
 /// Both attempts of block 1, the second one at 1: how they ended.

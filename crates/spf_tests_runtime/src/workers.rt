@@ -101,7 +101,7 @@ fn finish(alloc: Global, chain: Chain, cells: Cells, size: usize) -> Result<Came
     Ok(Came { values, memory })
 }
 
-/// Has the blocks of a construct whose chain has just started run by so many workers.
+/// Has the blocks of a construct whose chain has just started run by `workers` workers.
 fn attempt_all<R: Threads + Wait + Sync>(
     rt: &R,
     alloc: Global,
@@ -128,7 +128,7 @@ fn attempt_all<R: Threads + Wait + Sync>(
     }
 }
 
-/// What a job's construct came to, run by so many workers.
+/// What a job's construct came to, run by `workers` workers.
 fn run_over<R: Threads + Wait + Sync>(
     rt: &R,
     alloc: Global,
@@ -150,7 +150,7 @@ fn run_over<R: Threads + Wait + Sync>(
     Ok(finish(alloc, chain, cells, job.entry.len())?)
 }
 
-/// What a case's construct came to, run by so many workers.
+/// What a case's construct came to, run by `workers` workers.
 fn run<R: Threads + Wait + Sync>(
     rt: &R,
     alloc: Global,
@@ -190,7 +190,7 @@ fn after_one(value: i64) -> i64 {
     next
 }
 
-/// The values at which so many blocks of `MANY` begin, and that after the last one.
+/// The values at which the first `blocks` blocks of `MANY` begin, and the one after the last block.
 fn values_of(alloc: Global, blocks: usize) -> Result<Vec<i64>, AllocError> {
     let mut values = Vec::new(alloc);
     let mut value = 1;

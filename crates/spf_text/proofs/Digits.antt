@@ -8,10 +8,10 @@ pub number_from-le : (so_far : ℕ) (ds : List ℕ) → so_far ≤ number_from s
 number_from-le so_far [] = omega arith
 number_from-le so_far (d ∷ ds) = omega (arith, number_from-le (10 * so_far + (d - 48)) ds)
 
--- one digit more
+-- one more digit
 pub number_from_more : (so_far i : ℕ) (ds : List ℕ) → i < length ds → number_from so_far (drop i ds) ≡ number_from (10 * so_far + (get_or ds i 0 - 48)) (drop (i + 1) ds)
 number_from_more so_far i ds h = at_drop_more (number_from so_far) ds i 0 h
 
--- no digit more
+-- no more digits
 pub number_from_all : (so_far i : ℕ) (ds : List ℕ) → length ds ≤ i → number_from so_far (drop i ds) ≡ so_far
 number_from_all so_far i ds h = at_drop_all (number_from so_far) ds i h

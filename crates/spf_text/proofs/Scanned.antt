@@ -14,7 +14,7 @@ pub record ScannedUpTo (text : List ℕ) (tokens : List Token) (at : ℕ) : Type
   pub cut : IsCut text pieces (drop at text)
   pub are : tokens ≡ tokens_at 0 pieces
 
--- at the beginning there are no tokens
+-- at the start there are no tokens
 pub scanned_none : (text : List ℕ) → ScannedUpTo text [] 0
 scanned_none text = record { pieces = []; within = omega arith; cut = refl; are = refl }
 

@@ -19,7 +19,7 @@ pub record IsFirst (p : Piece) (bytes : List ℕ) (n : ℕ) : Type 0 where
   pub spelled : bytes_of p ≡ take n bytes
   pub piece : IsPiece p (drop n bytes)
 
--- what stands at the start of these bytes is as told
+-- this is what stands at the start of these bytes
 abbrev pub IsFront : List ℕ → Front → Type 0
 IsFront bytes front.Blank = IsFirst (Blank (slice_index bytes 0)) bytes 1
 IsFront bytes (front.Comment n) = IsFirst (Comment (take n bytes)) bytes n

@@ -1,4 +1,4 @@
-// What stands at the start of the bytes that are left of a text.
+//! What stands at the start of the bytes that are left of a text.
 
 ghost use Rattle.std.specs.Prelude.{◌<◌, length, slice_index};
 ghost use Rattle.spf_text.specs.Tokens.{IsLetter, IsDigit};
@@ -24,7 +24,7 @@ pub enum Front {
     Nothing,
 }
 
-/// What stands at the start of these bytes.
+/// Returns what stands at the start of these bytes.
 pub fn front_of(bytes: &[u8]) -> Front
     requires { 0 < length bytes.now }
     ensures { IsFront bytes.now result }

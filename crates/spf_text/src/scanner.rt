@@ -1,4 +1,4 @@
-// From a text to its tokens.
+//! From a text to its tokens.
 
 ghost use Rattle.std.specs.Prelude.{All, ◌≡◌, ℕ, ◌<◌, ◌≤◌, ◌⊎◌, List, length, IfOk, MatchResult};
 ghost use Rattle.std.specs.Prelude.{IsOkUnless};
@@ -32,7 +32,7 @@ pub enum ScanError {
     OutOfMemory,
 }
 
-/// The tokens of a text, in order, each with its slice of the text.
+/// Returns the tokens of a text, in order, each with its slice of the text.
 ///
 /// # Errors
 ///
@@ -53,7 +53,7 @@ pub fn scan(alloc: Global, text: &[u8]) -> Result<Vec<Token>, ScanError>
         → (length text.now ≤ max_text) × IsFaultyAt BeginsNothing text.now at }
     ensures too_large { (at : ℕ) → result ≡ Err (ScanError.NumberTooLarge at)
         → (length text.now ≤ max_text) × IsFaultyAt BeginsTooLarge text.now at }
-    // No other text is refused so, and no other text is accepted.
+    // No other text is refused for this, and no other text is accepted.
     ensures accepted { (ts : List Token) → length text.now ≤ max_text → AreTokensOf text.now ts
         → IsOkUnless result ScanError.OutOfMemory }
     ensures too_long_refused { max_text < length text.now

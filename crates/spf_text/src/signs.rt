@@ -1,4 +1,4 @@
-// Signs.
+//! Signs.
 
 ghost use Rattle.std.specs.Prelude.{◌≡◌, ◌<◌, ◌≤◌, MatchOption, [], ◌∷◌};
 ghost use Rattle.spf_text.specs.declared.token.Sign.{Sign};
@@ -58,7 +58,7 @@ fn long_sign(first: u8, second: u8) -> Option<Sign>
     }
 }
 
-/// The longest sign at the front, if one stands there, and its length.
+/// Returns the longest sign at the front, if one stands there, and its length.
 pub fn sign_at(bytes: &[u8]) -> Option<(Sign, usize)>
     ensures { MatchOption result
         ((s : Sign) → BeginsWith (sign_spelling s) bytes.now → ⊥)

@@ -1,4 +1,4 @@
-// What a text is made of.
+//! What a text is made of.
 
 /// A reserved word.
 #[derive(Clone, Copy, PartialEq, Eq, Debug)]
@@ -76,7 +76,7 @@ pub enum TokenKind {
     Sign(Sign),
 }
 
-/// A token: what it is, and its slice of the text, from byte `from` up to and without byte `to`.
+/// A token: what it is, and its slice of the text, from byte `from` up to but excluding byte `to`.
 #[derive(Clone, Copy, PartialEq, Eq, Debug)]
 pub struct Token {
     /// What it is.

@@ -1,4 +1,4 @@
-// Reserved words and numbers.
+//! Reserved words and numbers.
 
 ghost use Rattle.std.specs.Prelude.{◌≡◌, ◌<◌, ◌≤◌, MatchOption, pos, All};
 ghost use Rattle.spf_text.specs.declared.token.Keyword.{Keyword};
@@ -6,7 +6,7 @@ ghost use Rattle.spf_text.specs.Tokens.{word_spelling, IsDigit, number_from, max
 
 use crate::token::Keyword;
 
-/// The reserved word that is spelled so, if one is.
+/// Returns the reserved word that is spelled so, if one is.
 pub fn keyword_of(word: &[u8]) -> Option<Keyword>
     ensures { MatchOption result
         ((w : Keyword) → word.now ≡ word_spelling w → ⊥)
@@ -41,7 +41,7 @@ pub fn keyword_of(word: &[u8]) -> Option<Keyword>
     }
 }
 
-/// The number that digits spell, if it is not over `i64::MAX`.
+/// Returns the number that digits spell, if it is not over `i64::MAX`.
 pub fn number_of(digits: &[u8]) -> Option<i64>
     requires { All IsDigit digits.now }
     ensures { let number = number_from 0 digits.now in MatchOption result

@@ -26,7 +26,7 @@ not-both : (c : Bool) → c ≡ true → c ≡ false → ⊥
 not-both true t f = cc
 not-both false t f = cc
 
--- a lane that logged one event more
+-- a lane that logged one more event
 logged-one : (lane new : LaneValue) (x : LogEntry) (es : List Event) → new ≡ logged lane x → (event_of x ∷ []) ≡ own_events (is_in lane) es → events new.log ≡ events lane.log ++ own_events (is_in lane) es
 logged-one lane new x es is own =
     ap (λ (l : LaneValue). events l.log) is ∙ events-more lane.log (x ∷ []) ∙ ap (λ l. events lane.log ++ l) own

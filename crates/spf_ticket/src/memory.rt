@@ -1,4 +1,4 @@
-// The memory of one attempt: the cells of a lane, and beside them the words of the entry.
+//! The memory of one attempt: the cells of a lane, and beside them the words of the entry.
 
 ghost use Rattle.std.specs.Prelude.{◌≡◌};
 

@@ -35,7 +35,7 @@ pub struct Job<'a> {
 }
 
 impl Ticket {
-    /// What is so of each ticket's lane and its log: the lane is that of the ticket's block; each
+    /// What holds for each ticket's lane and its log: the lane is that of the ticket's block; each
     /// load gave the lane's own content, and each turn a number that the block's flag may have.
     pub fn log_facts(&self)
         ensures block { self.now.lane.block ≡ self.now.block }

@@ -1,4 +1,4 @@
-//! Tickets, and what comes of their runs.
+//! Tickets, and the reports of their runs.
 ghost use Rattle.std.specs.Prelude.{◌≡◌};
 
 use spf_ast::row::Row;
@@ -6,8 +6,8 @@ use spf_cells::lane::Lane;
 use spf_exec::frame::Frame;
 use spf_exec::stop::Stop;
 
-/// The leave to make one attempt of one block. It owns the block's only lane, so two attempts of
-/// one block can't run at once.
+/// The right to make one attempt of one block. It owns the block's only lane, so two attempts of
+/// one block can't run at the same time.
 #[derive(Drop)]
 pub struct Ticket {
     pub(crate) block: u64,
@@ -27,8 +27,8 @@ pub struct Report {
 }
 
 impl Ticket {
-    /// The ticket of a block's first attempt: the block's index and number, the carried row at
-    /// which it begins, its lane, and a frame with the slots of the entry.
+    /// Makes the ticket of a block's first attempt: the block's index and number, the carried row
+    /// at which it begins, its lane, and a frame with the slots of the entry.
     pub fn make(block: u64, number: i64, carried: Row, lane: Lane, frame: Frame) -> Ticket
         requires lane { lane.block ≡ block }
         ensures block { result.block ≡ block }
@@ -48,28 +48,28 @@ impl Ticket {
         }
     }
 
-    /// The block's index, from 0 on.
+    /// Returns the block's index, from 0 on.
     pub fn block(&self) -> u64
         ensures { result ≡ self.now.block }
     {
         self.block
     }
 
-    /// Which attempt of the block this is: 1 or 2.
+    /// Returns which attempt of the block this is: 1 or 2.
     pub fn attempt(&self) -> u64
         ensures { result ≡ self.now.attempt }
     {
         self.attempt
     }
 
-    /// The carried row at which the attempt begins.
+    /// Returns the carried row at which the attempt begins.
     pub fn carried(&self) -> Row
         ensures { result ≡ self.now.carried }
     {
         self.carried
     }
 
-    /// The ticket of the block's second attempt, at its real row. All else stays.
+    /// Returns the ticket of the block's second attempt, at its real row. All else stays.
     pub fn again(mut self, real: Row) -> Ticket
         requires first { self.attempt ≡ 1 }
         ensures block { result.block ≡ self.block }
@@ -84,7 +84,7 @@ impl Ticket {
         self
     }
 
-    /// The block's lane.
+    /// Returns the block's lane.
     pub fn into_lane(self) -> Lane
         ensures lane { result ≡ self.lane }
         ensures block { result.block ≡ self.block }

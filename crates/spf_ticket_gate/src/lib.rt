@@ -13,13 +13,13 @@ pub enum Place {
     End,
 }
 
-/// What the runtime calls at the begin and at the end of each attempt of a block. It has no effect
+/// What the runtime calls at the start and at the end of each attempt of a block. It has no effect
 /// on any answer.
 ///
 /// A gate always returns and takes no memory: it may hold an attempt for a while, and can't wait
-/// for another thread for ever.
+/// for another thread forever.
 pub trait Gate {
-    /// This attempt of the block begins or ends; attempts count from 1.
+    /// Called where this attempt of the block begins or ends; attempts count from 1.
     fn at(&self, block: u64, attempt: u64, place: Place);
 }
 
@@ -34,7 +34,7 @@ impl Gate for Open {
 /// A gate that holds the first attempt of each of some blocks until all of them have begun, each
 /// for a bounded time.
 ///
-/// No clause can say what an atomic holds that threads share, so what a barrier does is shown by
+/// No clause can say what an atomic shared by threads holds, so what a barrier does is shown by
 /// tests alone.
 #[derive(Drop)]
 pub struct Barrier {
@@ -49,8 +49,8 @@ pub struct Barrier {
 }
 
 impl Barrier {
-    /// A barrier for the blocks below `blocks`, which holds each first attempt for at most `limit`
-    /// iterations. Each of these blocks is to begin its first attempt once.
+    /// Makes a barrier for the blocks below `blocks`, which holds each first attempt for at most
+    /// `limit` iterations. Each of these blocks is to begin its first attempt once.
     pub fn make(blocks: u64, limit: u64) -> Barrier {
         Barrier {
             blocks,
@@ -60,7 +60,7 @@ impl Barrier {
         }
     }
 
-    /// Whether all first attempts had begun before one of them ended.
+    /// Returns whether all first attempts had begun before one of them ended.
     pub fn met(&self) -> bool {
         self.have_all_begun() && self.early.load(Ordering::SeqCst) == 0
     }
@@ -69,7 +69,7 @@ impl Barrier {
         self.begun.load(Ordering::SeqCst) >= self.blocks
     }
 
-    /// A first attempt begins. It goes on once all have begun, or after `limit` iterations.
+    /// Begins a first attempt, which goes on once all have begun, or after `limit` iterations.
     fn begin(&self) {
         self.begun.fetch_add(1, Ordering::SeqCst);
         for _ in 0..self.limit {
@@ -80,7 +80,7 @@ impl Barrier {
         }
     }
 
-    /// A first attempt ends.
+    /// Ends a first attempt.
     fn end(&self) {
         if !self.have_all_begun() {
             self.early.fetch_add(1, Ordering::SeqCst);

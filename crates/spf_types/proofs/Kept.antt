@@ -47,7 +47,7 @@ functions_behind raw sizes place f size h is so has =
     so.faults ∙ ap (λ xs. large_functions all place (map function xs)) (item_at raw place f h is)
     ∙ ap (λ b. when (not (nat_lt place 256 && b)) TooLarge f.line ++ large_functions all (place + 1) (map function (drop (place + 1) raw))) small
 
--- one function more
+-- one more function
 pub one_measured : (raw : List code_function.Function) (sizes : List Size) (place : ℕ) (f : code_function.Function) (size now : Size) (later : List Size) → place < length raw → f ≡ get_or raw place f → AreMeasured raw sizes place → HasSize (counts_before (map function raw) place) (λ m. function_measure m (function f)) size →
     (nat_lt place 256 && nat_le size.nodes 65536) ≡ true → now.nodes ≡ size.nodes → now.depth ≡ size.depth → now.slots ≡ capped (length f.slots.items + size.slots) → later ≡ sizes ++ now ∷ [] → AreMeasured raw later (place + 1)
 one_measured raw sizes place f size now later h is so has small a b c push =

@@ -91,7 +91,7 @@ array_twice arrays functions g i a e h is =
     ∙ ap not (sym (array_place (place_in (map array_name arrays) (array_name a)) (place_in (map function_name functions) (array_name a)) i)
     ∙ ap (λ o. is_array_at o i) (global_named-seen arrays functions (array_name a) ∙ ap (λ z. global_named z (array_name a)) (sym e)))
 
--- so many arrays are after
+-- the first i arrays were passed without a fault
 abbrev pub ArraysBehind : List code_array.Array → ℕ → Type 0
 ArraysBehind raw i = arrays_faults [] (map seen_array raw) ≡ arrays_faults (take i (map array_name raw)) (map seen_array (drop i raw))
 

@@ -1,5 +1,5 @@
-// What the definitions of faults, of spellings and of lawful programs have to do with each other.
-// Each law is the contract of a function that does nothing.
+//! What the definitions of faults, of spellings and of lawful programs have to do with each other.
+//! Each law is the contract of a function that does nothing.
 
 ghost use Rattle.spf_types.specs.Laws.{ScopedProgramsHaveNoFaults, LawfulProgramsHaveNoFaults};
 ghost use Rattle.spf_types.specs.Laws.{FaultlessProgramsAreScoped, SpellingsResolveToTheirPrograms};

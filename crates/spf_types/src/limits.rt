@@ -1,4 +1,4 @@
-// The limits of the language.
+//! The limits of the language.
 
 ghost use Rattle.std.specs.Prelude.{◌≡◌, ◌&&◌, nat_le, nat_lt, length, map, IfOk};
 ghost use Rattle.spf_ast.specs.View.{program as seen_program, array as seen_array};
@@ -34,14 +34,14 @@ fn too_large(line: u32) -> TypeError
     TypeError::Refused { fault, line }
 }
 
-/// Whether the function at a place keeps the limits.
+/// Returns whether the function at a place keeps the limits.
 fn is_function_small(place: usize, size: Size) -> bool
     ensures { result ≡ (nat_lt place 256 && nat_le size.nodes 65536) }
 {
     place < MAX_FUNCTIONS && size.nodes <= MAX_SIZE
 }
 
-/// Whether `main` keeps the limits.
+/// Returns whether `main` keeps the limits.
 fn is_main_small(size: Size) -> bool
     ensures { result
         ≡ (nat_le size.nodes 65536 && (nat_le size.depth 256 && nat_le size.slots 1024)) }
@@ -49,7 +49,7 @@ fn is_main_small(size: Size) -> bool
     size.nodes <= MAX_SIZE && size.depth <= MAX_DEPTH && size.slots <= MAX_SLOTS
 }
 
-/// The sizes of all functions; refuses at the first one that is too large.
+/// The sizes of all functions; refuses the first one that is too large.
 fn sizes_of(alloc: Global, functions: &[Function]) -> Result<Vec<Size>, TypeError>
     ensures answers { Answers (large_functions (all_counts (map seen_function functions.now)).nodes
         0 (map seen_function functions.now)) (λ _. tt {0}) (tt {0}) result }

@@ -1,4 +1,4 @@
-// Arrays, functions and `main`.
+//! Arrays, functions and `main`.
 
 ghost use Rattle.std.specs.Prelude.{◌≡◌, ◌⊎◌, ◌++◌, [], IfOk, IsOkUnless, Err, List, ℕ, length};
 ghost use Rattle.std.specs.Prelude.{map};
@@ -57,7 +57,7 @@ fn new_arrays<'a>(
     Ok(())
 }
 
-/// Whether a name stands for the array at a place.
+/// Returns whether a name stands for the array at a place.
 fn is_array<'a>(globals: &GlobalTable<'a>, name: &'a Name, place: usize) -> bool
     ensures { result ≡ is_array_at (global_named globals.now (seen_name name.now)) place }
 {
@@ -67,7 +67,7 @@ fn is_array<'a>(globals: &GlobalTable<'a>, name: &'a Name, place: usize) -> bool
     }
 }
 
-/// Whether a name stands for the function at a place.
+/// Returns whether a name stands for the function at a place.
 fn is_function<'a>(globals: &GlobalTable<'a>, name: &'a Name, place: usize) -> bool
     ensures { result ≡ is_function_at (global_named globals.now (seen_name name.now)) place }
 {
@@ -77,7 +77,7 @@ fn is_function<'a>(globals: &GlobalTable<'a>, name: &'a Name, place: usize) -> b
     }
 }
 
-/// A function.
+/// Resolves a function.
 fn function_of<'a>(here: &Here<'_, 'a>, raw: &'a RawFunction) -> Result<Function, TypeError>
     ensures { Answers (function_faults (setting here.now) (raw_function raw.now)) seen_function
         (resolved_function here.now.globals.now (raw_function raw.now)) result }
@@ -99,7 +99,7 @@ fn function_of<'a>(here: &Here<'_, 'a>, raw: &'a RawFunction) -> Result<Function
     })
 }
 
-/// Functions, after the arrays.
+/// Resolves functions, after the arrays.
 fn functions_of<'a>(
     alloc: Global,
     globals: &GlobalTable<'a>,
@@ -131,7 +131,7 @@ fn functions_of<'a>(
     Ok(functions)
 }
 
-/// What a program has besides its arrays.
+/// Resolves what a program has besides its arrays.
 fn parts_of(alloc: Global, raw: &RawProgram) -> Result<Parts, TypeError>
     ensures { Answers {A = List function_form × List (List ℕ) × block_form}
         (faults (raw_program raw.now)) (λ p.
@@ -162,7 +162,7 @@ fn parts_of(alloc: Global, raw: &RawProgram) -> Result<Parts, TypeError>
     })
 }
 
-/// The program that a raw one stands for, tested against the limits.
+/// Resolves the program that a raw one stands for, tested against the limits.
 fn resolved_of(alloc: Global, raw: RawProgram) -> Result<Program, TypeError>
     ensures { Answers
         (faults (raw_program raw) ++ limits_passed raw.main_line (resolved (raw_program raw)))
@@ -187,7 +187,7 @@ fn resolved_of(alloc: Global, raw: RawProgram) -> Result<Program, TypeError>
 ///
 /// `Refused` tells the first fault of the program, in the order of its text; where it has none,
 /// `TooLarge` at the first array or function at which it passes a limit, or at `main`.
-/// `OutOfMemory` comes where memory is short, as it is for lists of 2^32 names.
+/// `OutOfMemory` comes where memory runs out, as it does for lists of 2^32 names.
 pub fn resolve(alloc: Global, raw: RawProgram) -> Result<Program, TypeError>
     requires { IsWellFormed (raw_program raw) }
     // What is given is the program that the raw one stands for, and there is no other.

@@ -38,7 +38,7 @@ pub joined_all : (es : List Expression) → joined es no_more ≡ arguments_of e
 joined_all [] = refl
 joined_all (e ∷ es) = ap (argument e) (joined_all es)
 
--- so many raw arguments are resolved, and there is no fault in them
+-- the first `count` raw arguments are resolved, and there is no fault in them
 pub record AreResolved (here : Setting) (ls : List Local) (line : ℕ) (raw : List RawExpr) (done : List Expr) (count : ℕ) : Type 0 where
   pub faults : arguments_faults here (scope ls) line (raw_arguments raw) ≡ arguments_faults here (scope ls) line (raw_arguments (drop count raw))
   pub forms : resolved_arguments here.globals ls (raw_arguments raw) ≡ joined (map expression done) (resolved_arguments here.globals ls (raw_arguments (drop count raw)))
@@ -86,7 +86,7 @@ call_form g ls raw f given place done is at so =
 
 -- ---- predictors
 
--- so many raw predictors are resolved, and there is no fault in them
+-- the first `count` raw predictors are resolved, and there is no fault in them
 pub record AreGuessed (here : Setting) (ls : List Local) (line : ℕ) (raw : List RawPredict) (done : List Predict) (count : ℕ) : Type 0 where
   pub faults : predictors_faults here (scope ls) line (map raw_predictor raw) ≡ predictors_faults here (scope ls) line (map raw_predictor (drop count raw))
   pub forms : resolved_predictors here.globals ls (map raw_predictor raw) ≡ map predictor done ++ resolved_predictors here.globals ls (map raw_predictor (drop count raw))

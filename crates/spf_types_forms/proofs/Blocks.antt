@@ -33,7 +33,7 @@ scope_after-is ls n (r.Fold head body) = scope_each-is false ls n head.carried
 scope_after-is ls n (r.Pair head producer consumer) = scope_each-is false ls n head.carried
 scope_after-is ls n r.Break = refl
 
--- a block and one statement more
+-- a block and one more statement
 pub block_push : (done : List Stmt) (s : Stmt) (rest : Block) → followed_by (block (done ++ s ∷ [])) rest ≡ followed_by (block done) (on_line s.line (statement s.kind) rest)
 block_push [] s rest = refl
 block_push (x ∷ done) s rest = ap (on_line x.line (statement x.kind)) (block_push done s rest)
@@ -42,13 +42,13 @@ pub followed_by-end : (b : Block) → followed_by b end ≡ b
 followed_by-end end = refl
 followed_by-end (on_line n s rest) = ap (on_line n s) (followed_by-end rest)
 
--- so many raw statements are resolved, and there is no fault in them
+-- the first `count` raw statements are resolved, and there is no fault in them
 pub record IsResolved (here : Setting) (start now : Seen) (raw : List RawStmt) (done : List Stmt) (count : ℕ) : Type 0 where
   pub faults : block_faults here (scope start.locals) (raw_block raw) ≡ block_faults here (scope now.locals) (raw_block (drop count raw))
   pub forms : resolved_block here.globals start.locals (length start.slots) (raw_block raw) ≡ followed_by (block done) (resolved_block here.globals now.locals (length now.slots) (raw_block (drop count raw)))
   pub after : after_block start (raw_block raw) ≡ after_block now (raw_block (drop count raw))
 
--- what the rest of a block is, after one statement more
+-- what the rest of a block is, after one more statement
 pub faults_behind : (here : Setting) (now next : Seen) (line : ℕ) (s : r.RawStatement) (rest : r.RawBlock) → next ≡ after_statement now s → block_faults here (scope now.locals) (r.on_line line s rest) ≡ statement_faults here (scope now.locals) line s ++ block_faults here (scope next.locals) rest
 faults_behind here now next line s rest e =
     ap (λ sc. statement_faults here (scope now.locals) line s ++ block_faults here sc rest) (sym (ap (λ (k : Seen). scope k.locals) e ∙ scope_after-is now.locals (length now.slots) s))

@@ -68,7 +68,7 @@ hidden_past : (slots : List (List ℕ)) (sc : Scope) (x y : List ℕ) (slot : �
 hidden_past slots sc x y slot b true e h never n = absurd (never (h ∙ ap Some (same_bytes x y e)))
 hidden_past slots sc x y slot b false e h never n = n
 
--- a slot more, of a new name
+-- one more slot, of a new name
 shows_more : (slots : List (List ℕ)) (visible one other : List ℕ) (sc : Scope) (x : List ℕ) (slot : ℕ) (b : Bool) → Shows slots visible one sc → slice_get slots slot ≡ Some x → IsNameOfNone slots visible x → ((k : ℕ) → Contains one k → Contains other k) → (b ≡ true → Contains other slot) →
     Shows slots (slot ∷ visible) other (record { name = x; fixed = b } ∷ sc)
 shows_more slots visible one other sc x slot b shows e new more fixed = record {

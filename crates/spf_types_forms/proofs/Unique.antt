@@ -74,7 +74,7 @@ predictors_back : (g : Globals) (names : Names) (v : Vocabulary) (ls : List l.Lo
 predictors_back g names v ls s back finds [] h = refl
 predictors_back g names v ls s back finds (p ∷ ps) h = λ j. predictor_back g names v ls s back finds p h.0 j ∷ predictors_back g names v ls s back finds ps h.1 j
 
--- ---- one slot more
+-- ---- one more slot
 
 slot_there : (slots : List (List ℕ)) (n : ℕ) → n < length slots → slice_get slots n ≡ Some (slice_index_or slots n [])
 slot_there [] n h = absurd (omega (arith, h))

@@ -1,4 +1,4 @@
-// Expressions: numbers, and truth values as conditions.
+//! Expressions: numbers, and truth values as conditions.
 
 ghost use Rattle.std.specs.Prelude.{◌≡◌, IfErr, Some, length, map};
 ghost use Rattle.spf_ast.specs.View.{expression as seen_expression, arguments as seen_arguments};
@@ -30,7 +30,7 @@ fn wrong_kind(line: u32) -> TypeError
     TypeError::Refused { fault, line }
 }
 
-/// An expression that gives a number.
+/// Resolves an expression that gives a number.
 #[cycle(number)]
 pub(crate) fn number<'a>(
     here: &Here<'_, 'a>,
@@ -79,8 +79,8 @@ pub(crate) fn number<'a>(
     }
 }
 
-/// An expression that gives a number, in a box. What waits for a later part is held so: where that
-/// part fails, a box is dropped by one call.
+/// Resolves an expression that gives a number, in a box. A value that waits for a later part is
+/// held in this way: where that part fails, a box is dropped by one call.
 #[cycle(number)]
 pub(crate) fn boxed<'a>(
     here: &Here<'_, 'a>,
@@ -97,7 +97,7 @@ pub(crate) fn boxed<'a>(
     Ok(Box::new(here.alloc, expr)?)
 }
 
-/// Arguments.
+/// Resolves arguments.
 #[cycle(number)]
 pub(crate) fn numbers<'a>(
     here: &Here<'_, 'a>,
@@ -118,7 +118,7 @@ pub(crate) fn numbers<'a>(
     Ok(arguments)
 }
 
-/// A condition.
+/// Resolves a condition.
 #[cycle(truth)]
 fn truth<'a>(
     here: &Here<'_, 'a>,
@@ -171,7 +171,7 @@ fn truth<'a>(
     }
 }
 
-/// A condition, in a box.
+/// Resolves a condition, in a box.
 #[cycle(truth)]
 pub(crate) fn boxed_truth<'a>(
     here: &Here<'_, 'a>,
@@ -188,7 +188,7 @@ pub(crate) fn boxed_truth<'a>(
     Ok(Box::new(here.alloc, cond)?)
 }
 
-/// A predictor of one part of a row.
+/// Resolves a predictor of one part of a row.
 fn predictor<'a>(
     here: &Here<'_, 'a>,
     locals: &LocalTable<'a>,
@@ -209,7 +209,7 @@ fn predictor<'a>(
     }
 }
 
-/// The predictors of a row's parts.
+/// Resolves the predictors of a row's parts.
 pub(crate) fn predictors<'a>(
     here: &Here<'_, 'a>,
     locals: &LocalTable<'a>,

@@ -1,4 +1,4 @@
-// What stands before the parts of a construct.
+//! What stands before the parts of a construct.
 
 ghost use Rattle.std.specs.Prelude.{◌≡◌, ◌+◌, ◌∷◌, ◌++◌, [], Bool, ℕ, IfOk, List, None, length};
 ghost use Rattle.std.specs.Prelude.{map};
@@ -82,7 +82,7 @@ fn fold_widths(line: u32, raw: &RawFold) -> Result<(), TypeError>
     Ok(())
 }
 
-/// The predictors of a fold, in which its block number may be used.
+/// Resolves the predictors of a fold, in which its block number may be used.
 fn guess<'a>(
     here: &Here<'_, 'a>,
     locals: &mut LocalTable<'a>,
@@ -105,7 +105,7 @@ fn guess<'a>(
     Ok(predict)
 }
 
-/// What stands before the body of a fold, whose slots are then declared.
+/// Resolves what stands before the body of a fold, whose slots are then declared.
 pub(crate) fn header_of<'a>(
     here: &Here<'_, 'a>,
     locals: &mut LocalTable<'a>,

@@ -1,4 +1,4 @@
-// Statements without blocks.
+//! Statements without blocks.
 
 ghost use Rattle.std.specs.Prelude.{◌≡◌, IfOk, length};
 ghost use Rattle.spf_ast.specs.View.{statement as seen_statement, name as seen_name};
@@ -16,7 +16,7 @@ use spf_types_names::fault::{TypeError, TypeFault};
 use spf_types_names::locals::LocalTable;
 use spf_types_names::names::{Here, assigned, called, declarable, indexed, leaves_loop};
 
-/// A `let`.
+/// Resolves a `let`.
 pub(crate) fn declaration<'a>(
     here: &Here<'_, 'a>,
     locals: &mut LocalTable<'a>,
@@ -39,7 +39,7 @@ pub(crate) fn declaration<'a>(
     Ok(StmtKind::Let(slot, Box::into_inner(value)))
 }
 
-/// An assignment.
+/// Resolves an assignment.
 pub(crate) fn assignment<'a>(
     here: &Here<'_, 'a>,
     locals: &LocalTable<'a>,
@@ -57,7 +57,7 @@ pub(crate) fn assignment<'a>(
     Ok(StmtKind::Assign(slot, value))
 }
 
-/// A store.
+/// Resolves a store.
 pub(crate) fn store<'a>(
     here: &Here<'_, 'a>,
     locals: &LocalTable<'a>,
@@ -79,7 +79,7 @@ pub(crate) fn store<'a>(
     Ok(StmtKind::Store(array, Box::into_inner(index), value))
 }
 
-/// A `fill`.
+/// Resolves a `fill`.
 pub(crate) fn fill<'a>(
     here: &Here<'_, 'a>,
     locals: &LocalTable<'a>,
@@ -103,7 +103,7 @@ pub(crate) fn fill<'a>(
     Ok(StmtKind::Fill(array, Box::into_inner(low), Box::into_inner(high), value))
 }
 
-/// An `emit`.
+/// Resolves an `emit`.
 pub(crate) fn emission<'a>(
     here: &Here<'_, 'a>,
     locals: &LocalTable<'a>,
@@ -123,7 +123,7 @@ pub(crate) fn emission<'a>(
     Ok(StmtKind::Emit(value))
 }
 
-/// A `fail`.
+/// Resolves a `fail`.
 pub(crate) fn failure<'a>(
     here: &Here<'_, 'a>,
     locals: &LocalTable<'a>,
@@ -144,7 +144,7 @@ pub(crate) fn failure<'a>(
     }
 }
 
-/// A `break`.
+/// Resolves a `break`.
 pub(crate) fn departure<'a>(
     here: &Here<'_, 'a>,
     locals: &LocalTable<'a>,
@@ -160,7 +160,7 @@ pub(crate) fn departure<'a>(
 }
 
 #[tactic(auto, using(crate::proofs::Arguments::count_of_raw))]
-/// A call whose answer is dropped.
+/// Resolves a call whose answer is dropped.
 pub(crate) fn call<'a>(
     here: &Here<'_, 'a>,
     locals: &LocalTable<'a>,

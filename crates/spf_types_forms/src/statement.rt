@@ -1,4 +1,4 @@
-// Statements and blocks, which lead to each other.
+//! Statements and blocks, which lead to each other.
 
 ghost use Rattle.std.specs.Prelude.{◌≡◌, ◌∷◌, true, false, IfOk, None, length, map};
 ghost use Rattle.spf_ast.specs.declared.syntax.Fold.{out-Fold};
@@ -32,7 +32,7 @@ use spf_types_names::fault::TypeError;
 use spf_types_names::locals::{LocalTable, row_slots};
 use spf_types_names::names::{Here, declarable};
 
-/// Statements one after another, whose locals may be used after them.
+/// Resolves statements one after another, whose locals may be used after them.
 #[cycle(block)]
 pub fn block<'a>(
     here: &Here<'_, 'a>,
@@ -54,7 +54,7 @@ pub fn block<'a>(
     Ok(statements)
 }
 
-/// A block, whose locals may not be used after it.
+/// Resolves a block, whose locals may not be used after it.
 #[cycle(block)]
 fn inner<'a>(
     here: &Here<'_, 'a>,
@@ -73,7 +73,7 @@ fn inner<'a>(
     Ok(statements)
 }
 
-/// What a statement is.
+/// Resolves a statement's kind.
 #[cycle(block)]
 fn statement_kind<'a>(
     here: &Here<'_, 'a>,
@@ -109,7 +109,7 @@ fn statement_kind<'a>(
     }
 }
 
-/// An `if`.
+/// Resolves an `if`.
 #[cycle(block)]
 fn choice<'a>(
     here: &Here<'_, 'a>,
@@ -134,7 +134,7 @@ fn choice<'a>(
     Ok(StmtKind::If(Box::into_inner(test), first, second))
 }
 
-/// A `for`.
+/// Resolves a `for`.
 #[cycle(block)]
 fn counted<'a>(
     here: &Here<'_, 'a>,
@@ -166,7 +166,7 @@ fn counted<'a>(
     Ok(StmtKind::For(slot, Box::into_inner(low), Box::into_inner(high), body))
 }
 
-/// A `while`.
+/// Resolves a `while`.
 #[cycle(block)]
 fn repeated<'a>(
     here: &Here<'_, 'a>,
@@ -190,7 +190,7 @@ fn repeated<'a>(
     Ok(StmtKind::While(Box::into_inner(test), most, body))
 }
 
-/// Statements, and then a number on a line. The locals may not be used after it.
+/// Resolves statements, and then a number on a line. The locals may not be used after it.
 pub fn valued<'a>(
     here: &Here<'_, 'a>,
     locals: &mut LocalTable<'a>,
@@ -216,7 +216,8 @@ pub fn valued<'a>(
     Ok((statements, value))
 }
 
-/// Statements of a construct's part, and then a row on a line. The locals may not be used after it.
+/// Resolves statements of a construct's part, and then a row on a line. The locals may not be used
+/// after it.
 #[cycle(block)]
 fn rowed<'a>(
     here: &Here<'_, 'a>,
@@ -244,7 +245,7 @@ fn rowed<'a>(
     Ok((statements, parts))
 }
 
-/// The body of a fold and its `next`.
+/// Resolves the body of a fold and its `next`.
 #[cycle(block)]
 fn folded<'a>(
     here: &Here<'_, 'a>,
@@ -279,7 +280,7 @@ fn folded<'a>(
     Ok(answer)
 }
 
-/// A `specfold`.
+/// Resolves a `specfold`.
 #[cycle(block)]
 fn fold<'a>(
     here: &Here<'_, 'a>,
@@ -303,7 +304,7 @@ fn fold<'a>(
     Ok(StmtKind::Fold(Box::new(here.alloc, fold)?))
 }
 
-/// The consumer of a pair.
+/// Resolves the consumer of a pair.
 #[cycle(block)]
 fn consumed<'a>(
     here: &Here<'_, 'a>,
@@ -328,7 +329,7 @@ fn consumed<'a>(
     Ok(consumer)
 }
 
-/// A `spec`.
+/// Resolves a `spec`.
 #[cycle(block)]
 fn pair<'a>(
     here: &Here<'_, 'a>,

@@ -88,7 +88,7 @@ all_new here ls line (x ∷ xs) h =
 
 -- ---- names that are declared
 
--- so many names are declared, without a fault
+-- the first i names are declared, without a fault
 pub record AreDeclared (here : Setting) (start now : Seen) (line : ℕ) (raw : List code_name.Name) (i : ℕ) : Type 0 where
   pub faults : each_declared_faults here (scope start.locals) line (map name raw) ≡ each_declared_faults here (scope now.locals) line (map name (drop i raw))
   pub after : after_names start (map name raw) ≡ after_names now (map name (drop i raw))
@@ -124,7 +124,7 @@ declared_behind here start now line raw i x h is so = so.faults ∙ ap (λ xs. e
 
 -- ---- names that are made usable
 
--- so many names are made usable, and the others are new
+-- the first i names are made usable, and the others are new
 pub record AreShown (start now : Seen) (first : ℕ) (fixed : Bool) (raw : List code_name.Name) (i : ℕ) : Type 0 where
   pub locals : with_each fixed start.locals first (map name raw) ≡ with_each fixed now.locals (first + i) (map name (drop i raw))
   pub slots : now.slots ≡ start.slots

@@ -65,7 +65,7 @@ pub either_assoc : {X : Type 0} (a b c : Option X) → either (either a b) c ≡
 either_assoc (Some x) b c = refl
 either_assoc None b c = refl
 
--- one name more
+-- one more name
 shifted : (a : Option ℕ) (n : ℕ) (b : Bool) → option_map (λ k. k + 1) (either a (cond b (Some n) None)) ≡ either (option_map (λ k. k + 1) a) (cond b (Some (n + 1)) None)
 shifted (Some k) n b = refl
 shifted None n true = refl
@@ -90,7 +90,7 @@ under make n None false = refl
 pub place_in_more : {X : Type 0} (make : ℕ → X) (xs : List (List ℕ)) (y q : List ℕ) → option_map make (place_in (xs ++ y ∷ []) q) ≡ either (option_map make (place_in xs q)) (cond (bytes_eq y q) (Some (make (length xs))) None)
 place_in_more make xs y q = ap (option_map make) (place_in_push xs y q) ∙ under make (length xs) (place_in xs q) (bytes_eq y q)
 
--- one form more of a list of forms with names
+-- one more form of a list of forms with names
 pub name_more : {A X : Type 0} (make : ℕ → X) (f : A → List ℕ) (xs : List A) (i : ℕ) (x : A) (q : List ℕ) → i < length xs → x ≡ get_or xs i x → option_map make (place_in (take (i + 1) (map f xs)) q) ≡ either (option_map make (place_in (take i (map f xs)) q)) (cond (bytes_eq (f x) q) (Some (make i)) None)
 name_more make f xs i x q h e =
     let l : i < length (map f xs) = simp length-map h in
@@ -100,7 +100,7 @@ name_more make f xs i x q h e =
     ∙ place_in_more make (take i (map f xs)) (f x) q
     ∙ ap (λ (k : ℕ). either (option_map make (place_in (take i (map f xs)) q)) (cond (bytes_eq (f x) q) (Some (make k)) None)) n
 
--- what a table has after one form more
+-- what a table has after one more form
 pub table_more : {A X : Type 0} (make : ℕ → X) (f : A → List ℕ) (xs : List A) (i n : ℕ) (x : A) (q : List ℕ) (before first now : Option X) → i < length xs → x ≡ get_or xs i x → n ≡ i →
     before ≡ either first (option_map make (place_in (take i (map f xs)) q)) → now ≡ either before (cond (bytes_eq (f x) q) (Some (make n)) None) →
     now ≡ either first (option_map make (place_in (take (i + 1) (map f xs)) q))
@@ -134,7 +134,7 @@ without_last t u v e h is =
       apart = apart.1;
     }
 
--- the table with one local more
+-- the table with one more local
 pub with_one : (t u : Inside) (v : code_visible.Visible) → u.visible.items ≡ t.visible.items ++ v ∷ [] → binding_of (seen_locals t).locals v.name.now ≡ None → ((q : Bor (List ℕ)) → found u.table q ≡ cond (bytes_eq v.name.now q.now) (Some v.binding) (found t.table q)) → IsLocalTable t → IsLocalTable u
 with_one t u v e new h is =
     let now = ap (λ vs. reverse (map seen_visible vs)) e ∙ reverse_pushed t.visible.items v in
@@ -143,7 +143,7 @@ with_one t u v e new h is =
       apart = subst AreApart (sym now) (new, is.apart);
     }
 
--- one local less than so many
+-- one local fewer
 pub drop_one : {A : Type 0} (n k : ℕ) (xs ys zs : List A) → ys ≡ drop (length xs - length ys) xs → length ys ≤ length xs → zs ≡ drop 1 ys → k < length ys →
     record { left : zs ≡ drop (length xs - length zs) xs; most : length zs ≤ length xs; count : length zs + 1 ≡ length ys }
 drop_one n k xs ys zs e most is lt =

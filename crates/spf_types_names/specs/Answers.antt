@@ -4,7 +4,7 @@ use Rattle.spf_types_names.specs.declared.fault.TypeError.{TypeError}
 use Rattle.spf_types_names.specs.declared.fault.TypeError.TheVariants.{Refused, OutOfMemory}
 use Rattle.spf_types_names.specs.Faults.{Fault, first}
 
--- a refusal is right where it tells the first of the faults, and memory may always be short
+-- a refusal is right where it tells the first of the faults; memory may run out at any time
 abbrev pub Refuses : List Fault → TypeError → Type 0
 Refuses faults (Refused fault line) = first faults ≡ Some (record { what = fault; line = line })
 Refuses faults OutOfMemory = Unit {0}

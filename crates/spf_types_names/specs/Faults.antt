@@ -102,15 +102,15 @@ pub record Visible : Type 0 where
 abbrev pub Scope : Type 0
 Scope = List Visible
 
--- the scope in which this local may be used besides
+-- the scope in which this local may also be used
 abbrev pub showing : List ℕ → Scope → Scope
 showing x scope = record { name = x; fixed = false } ∷ scope
 
--- the scope in which this local may be used besides, but not assigned
+-- the scope in which this local may also be used, but not assigned
 abbrev pub showing_fixed : List ℕ → Scope → Scope
 showing_fixed x scope = record { name = x; fixed = true } ∷ scope
 
--- the scope in which these locals may be used besides, declared from left to right; `fixed` tells whether they may not be assigned
+-- the scope in which these locals may also be used, declared from left to right; `fixed` tells whether they may not be assigned
 abbrev pub showing_each : Bool → Scope → List (List ℕ) → Scope
 showing_each fixed scope [] = scope
 showing_each fixed scope (x ∷ xs) = showing_each fixed (record { name = x; fixed = fixed } ∷ scope) xs
@@ -173,7 +173,7 @@ indexed_faults here scope line x = indexed (global_named here.globals x)
     indexed (Some (outer.Array place)) = []
     indexed _ = at (misuse here scope x) line
 
--- a name that is called with so many arguments
+-- a name that is called with `count` arguments
 abbrev pub callee_faults : Setting → Scope → ℕ → List ℕ → ℕ → List Fault
 callee_faults here scope line x count = called (global_named here.globals x)
   where
@@ -189,7 +189,7 @@ later_faults here line x = later (global_named here.globals x)
     later (Some (outer.Function place)) = when (not (nat_lt place here.place)) CallsLater line
     later _ = []
 
--- a call of a name with so many arguments, which has these faults of its kind
+-- a call of a name with `count` arguments, which has these faults of its kind
 abbrev pub called_faults : Setting → Scope → ℕ → List ℕ → ℕ → List Fault → List Fault
 called_faults here scope line x count kind = callee_faults here scope line x count ++ (kind ++ later_faults here line x)
 

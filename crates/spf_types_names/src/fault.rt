@@ -1,4 +1,4 @@
-// Why a raw program is refused.
+//! Why a raw program is refused.
 
 use std::alloc::{AllocError, AllocFailed};
 use thiserror::Error;

@@ -1,4 +1,4 @@
-// The names of arrays and functions, which are visible in the whole program.
+//! The names of arrays and functions, which are visible in the whole program.
 
 ghost use Rattle.std.specs.Prelude.{◌≡◌, ◌+◌, ℕ, IfOk, IfErr, List, map, if◌then◌else◌};
 ghost use Rattle.std.specs.Str.{bytes_eq};
@@ -43,7 +43,7 @@ impl<'a> Model for GlobalTable<'a> {
     ghost invariant = { IsGlobalTable };
 }
 
-/// A count as a number of 32 bits. A list that is longer would take more memory than there is.
+/// Converts a count to 32 bits. A longer list would take more memory than there is.
 pub fn short(count: usize) -> Result<u32, TypeError>
     ensures value { IfOk result (λ n. n ≡ count) }
     ensures memory { IfErr result (λ e. e ≡ OutOfMemory) }
@@ -51,7 +51,7 @@ pub fn short(count: usize) -> Result<u32, TypeError>
     u32::try_from(count).map_err(|_| TypeError::OutOfMemory)
 }
 
-/// The number that comes so many after another.
+/// Returns the number `count` after `first`.
 pub fn later(first: u32, count: usize) -> Result<u32, TypeError>
     ensures value { IfOk result (λ n. n ≡ first + count) }
     ensures memory { IfErr result (λ e. e ≡ OutOfMemory) }
@@ -79,7 +79,8 @@ fn enter<'a>(
 }
 
 impl<'a> GlobalTable<'a> {
-    /// The table of these arrays and functions. Where two have one name, it stands for the first.
+    /// Makes the table of these arrays and functions. Where two have one name, it stands for the
+    /// first.
     pub fn make(
         alloc: Global,
         arrays: &'a [Array],
@@ -107,7 +108,7 @@ impl<'a> GlobalTable<'a> {
         })
     }
 
-    /// What a name stands for.
+    /// Returns what a name stands for.
     pub fn find(&self, name: &'a Name) -> Option<Outer>
         ensures { result ≡ global_named self.now (seen_name name.now) }
     {
@@ -115,7 +116,7 @@ impl<'a> GlobalTable<'a> {
         self.table.get(&bytes).copied()
     }
 
-    /// How many parameters the function at a place has.
+    /// Returns how many parameters the function at a place has.
     pub fn params(&self, place: u32) -> usize
         ensures { result ≡ params_of self.now place }
     {

@@ -1,4 +1,4 @@
-// The locals that may be used at a place, and the slots that are declared so far.
+//! The locals that may be used at a place, and the slots that are declared so far.
 
 ghost use Rattle.std.specs.Prelude.{◌≡◌, ◌<◌, ◌≤◌, ◌-◌, ◌∷◌, ◌++◌, [], IfOk, IfErr, None, length};
 ghost use Rattle.std.specs.Prelude.{map, drop};
@@ -50,7 +50,7 @@ impl<'a> Model for LocalTable<'a> {
 }
 
 impl<'a> LocalTable<'a> {
-    /// No locals and no slots.
+    /// Makes a table with no locals and no slots.
     pub fn make(alloc: Global) -> Self
         ensures locals { result.locals ≡ [] }
         ensures slots { result.slots ≡ [] }
@@ -62,7 +62,7 @@ impl<'a> LocalTable<'a> {
         }
     }
 
-    /// The local of a name, where one may be used.
+    /// Returns the local of a name, where one may be used.
     pub fn find(&self, name: &'a Name) -> Option<Binding>
         ensures { result ≡ binding_of self.now.locals (seen_name name.now) }
     {
@@ -70,14 +70,14 @@ impl<'a> LocalTable<'a> {
         self.table.get(&bytes).copied()
     }
 
-    /// How many locals may be used.
+    /// Returns how many locals may be used.
     pub fn count(&self) -> usize
         ensures { result ≡ length self.now.locals }
     {
         self.visible.len()
     }
 
-    /// The slot of the next declaration.
+    /// Returns the slot of the next declaration.
     pub fn next_slot(&self) -> Result<u32, TypeError>
         ensures value { IfOk result (λ n. n ≡ length self.now.slots) }
         ensures memory { IfErr result (λ e. e ≡ OutOfMemory) }
@@ -138,7 +138,7 @@ impl<'a> LocalTable<'a> {
         Ok(())
     }
 
-    /// Takes the last local away.
+    /// Removes the last local.
     fn hide(&mut self)
         ensures { self.new ≡ record { locals = drop 1 self.old.locals; slots = self.old.slots } }
     {
@@ -147,7 +147,7 @@ impl<'a> LocalTable<'a> {
         }
     }
 
-    /// Takes locals away until so many are left.
+    /// Removes the last locals until `count` are left.
     pub fn close(&mut self, count: usize)
         ensures { self.new
             ≡ record {
@@ -160,7 +160,7 @@ impl<'a> LocalTable<'a> {
         }
     }
 
-    /// The names of the slots.
+    /// Returns the names of the slots.
     pub fn into_slots(self) -> Vec<Name>
         ensures { map seen_name result.items ≡ self.entry.slots }
     {
@@ -168,7 +168,7 @@ impl<'a> LocalTable<'a> {
     }
 }
 
-/// The slots of names, the first of which has this one.
+/// Returns the slots of names, the first of which has this one.
 pub fn row_slots(alloc: Global, first: u32, names: &[Name]) -> Result<Vec<u32>, TypeError>
     ensures value { IfOk result (λ v. v.items ≡ slots_of_row first (map seen_name names.now)) }
     ensures memory { IfErr result (λ e. e ≡ OutOfMemory) }

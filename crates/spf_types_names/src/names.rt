@@ -1,4 +1,4 @@
-// Names that are declared or used.
+//! Names that are declared or used.
 
 ghost use Rattle.std.specs.Prelude.{◌≡◌, [], Some, None, IfOk, map, not, true, false};
 ghost use Rattle.spf_ast.specs.View.{name as seen_name};
@@ -136,7 +136,7 @@ pub fn leaves_loop<'a>(here: &Here<'_, 'a>, line: u32) -> Result<(), TypeError>
 }
 
 #[tactic(auto, using(crate::proofs::Scopes::scopes))]
-/// The slot of a local that is used as a number.
+/// Returns the slot of a local that is used as a number.
 pub fn used<'a>(
     here: &Here<'_, 'a>,
     locals: &LocalTable<'a>,
@@ -157,7 +157,7 @@ pub fn used<'a>(
 }
 
 #[tactic(auto, using(crate::proofs::Scopes::scopes))]
-/// The slot of a local that is assigned.
+/// Returns the slot of a local that is assigned.
 pub fn assigned<'a>(
     here: &Here<'_, 'a>,
     locals: &LocalTable<'a>,
@@ -183,7 +183,7 @@ pub fn assigned<'a>(
     }
 }
 
-/// The place of an array that is indexed.
+/// Returns the place of an array that is indexed.
 pub fn indexed<'a>(
     here: &Here<'_, 'a>,
     locals: &LocalTable<'a>,
@@ -203,7 +203,7 @@ pub fn indexed<'a>(
     }
 }
 
-/// The place of a function that has so many parameters.
+/// Returns the place of a function that has `count` parameters.
 pub fn callee<'a>(
     here: &Here<'_, 'a>,
     locals: &LocalTable<'a>,
@@ -232,7 +232,7 @@ pub fn callee<'a>(
     }
 }
 
-/// The place of a function that is called with so many arguments.
+/// Returns the place of a function that is called with `count` arguments.
 pub fn called<'a>(
     here: &Here<'_, 'a>,
     locals: &LocalTable<'a>,

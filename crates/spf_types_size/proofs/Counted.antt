@@ -51,7 +51,7 @@ other_item (x ∷ xs) s d (suc k) h = other_item xs s d k (λ same. h (let e : s
 pub added : (n s m : ℕ) → s ≡ capped m → capped (n + s) ≡ capped (n + m)
 added n s m h = omega (arith, h)
 
--- the size of one function more
+-- the size of one more function
 pub table_more : (fs : List Function) (items : List Size) (n : ℕ) (f : Function) (size now : Size) → length items ≡ n → slice_get fs n ≡ Some f → IsTable (counts_before fs n) items → HasSize (counts_before fs n) (λ m. function_measure m f) size →
     now.nodes ≡ size.nodes → now.depth ≡ size.depth → now.slots ≡ capped (length f.slots + size.slots) → IsTable (counts_before fs (suc n)) (items ++ now ∷ [])
 table_more fs items n f size now count at table has a b c = λ k. elim (cases_order k n) [ inl same ↦ subst (λ q. IsSize (get_or (items ++ now ∷ []) q none) ((counts_before fs (suc n)).nodes q) ((counts_before fs (suc n)).depth q) ((counts_before fs (suc n)).slots q)) (sym same) last | inr order ↦ before k (λ same. elim order [ inl l ↦ omega (arith, same, l) | inr g ↦ omega (arith, same, g) ]) ]

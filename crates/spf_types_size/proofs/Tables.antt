@@ -23,7 +23,7 @@ none_counted raw = record { count = refl; table = table_none (map function raw) 
 pub function_there : (raw : List code.Function) (place : ℕ) (f : code.Function) → place < length raw → f ≡ get_or raw place f → slice_get (map function raw) place ≡ Some (function f)
 function_there raw place f h is = slice_get-map function raw place ∙ ap (option_map function) (get_is raw place f h is)
 
--- one function more
+-- one more function
 pub one_counted : (raw : List code.Function) (sizes : List Size) (place : ℕ) (f : code.Function) (size now : Size) (later : List Size) → place < length raw → f ≡ get_or raw place f → AreCounted raw sizes place → HasSize (counts_before (map function raw) place) (λ m. function_measure m (function f)) size →
     now.nodes ≡ size.nodes → now.depth ≡ size.depth → now.slots ≡ capped (length f.slots.items + size.slots) → later ≡ sizes ++ now ∷ [] → AreCounted raw later (place + 1)
 one_counted raw sizes place f size now later h is so has a b c push =

@@ -4,7 +4,7 @@ use Rattle.spf_ast.specs.Syntax.{Function}
 use Rattle.spf_ast.specs.Size.{Measure, by_size, by_depth, by_slots, function_measure, counted_before}
 use Rattle.spf_types_size.specs.declared.size.Size.{Size}
 
--- a count that stands still at the largest number of 64 bits
+-- a count that saturates at the largest number of 64 bits
 abbrev pub capped : ℕ → ℕ
 capped n = min n (2 ^ 64 - 1)
 
@@ -20,7 +20,7 @@ pub record IsWithin (inner outer : Size) : Type 0 where
   pub depth : outer.depth ≡ capped (1 + inner.depth)
   pub slots : outer.slots ≡ inner.slots
 
--- the size of a form that has so many statements and expressions, so many within each other, and so many slots
+-- the size of a form with `nodes` statements and expressions, nested `depth` deep, and `slots` slots
 pub record IsSize (size : Size) (nodes depth slots : ℕ) : Type 0 where
   pub nodes_is : size.nodes ≡ capped nodes
   pub depth_is : size.depth ≡ capped depth

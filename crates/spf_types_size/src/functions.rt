@@ -1,4 +1,4 @@
-// The sizes of functions.
+//! The sizes of functions.
 
 ghost use Rattle.std.specs.Prelude.{◌≡◌, ◌+◌, length, map, IfOk};
 ghost use Rattle.spf_ast.specs.View.{function as seen_function};
@@ -10,8 +10,8 @@ use crate::size::{Size, beside};
 use spf_ast::syntax::Function;
 use std::alloc::{AllocError, Global};
 
-/// The size of a function's body and answer, given those of the functions that it calls; its own
-/// slots aren't counted.
+/// Returns the size of a function's body and answer, given those of the functions that it calls;
+/// its own slots aren't counted.
 pub fn function_size(sizes: &[Size], function: &Function) -> Size
     ensures { (counts : Counts) → IsTable counts sizes.now
         → HasSize counts (λ m. function_measure m (seen_function function.now)) result }
@@ -20,7 +20,7 @@ pub fn function_size(sizes: &[Size], function: &Function) -> Size
     beside(body, expression(sizes, &function.answer))
 }
 
-/// The size of a form together with so many slots of its own.
+/// Returns the size of a form together with `count` slots of its own.
 pub fn with_slots(size: Size, count: usize) -> Size
     ensures nodes { result.nodes ≡ size.nodes }
     ensures depth { result.depth ≡ size.depth }
@@ -33,7 +33,7 @@ pub fn with_slots(size: Size, count: usize) -> Size
     }
 }
 
-/// The sizes of all functions of a program, each with its own slots.
+/// Returns the sizes of all functions of a program, each with its own slots.
 ///
 /// # Errors
 ///

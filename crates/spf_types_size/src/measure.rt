@@ -1,4 +1,4 @@
-// The sizes of forms, given those of the functions that they call.
+//! The sizes of forms, given those of the functions that they call.
 
 ghost use Rattle.std.specs.Prelude.{map};
 ghost use Rattle.spf_ast.specs.declared.syntax.Fold.{out-Fold};
@@ -27,7 +27,7 @@ fn called(sizes: &[Size], function: u32) -> Size
     }
 }
 
-/// An expression.
+/// Measures an expression.
 #[cycle(expression)]
 pub fn expression(sizes: &[Size], expr: &Expr) -> Size
     ensures { (counts : Counts) → IsTable counts sizes.now
@@ -107,7 +107,7 @@ fn predictors(sizes: &[Size], predict: &[Predict]) -> Size
     size
 }
 
-/// Statements one after another.
+/// Measures statements one after another.
 #[cycle(statement)]
 pub fn block(sizes: &[Size], statements: &[Stmt]) -> Size
     ensures { (counts : Counts) → IsTable counts sizes.now

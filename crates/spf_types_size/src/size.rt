@@ -1,14 +1,14 @@
-// How large forms are, with calls unfolded.
+//! How large forms are, with calls unfolded.
 
 ghost use Rattle.spf_types_size.specs.Sizes.{IsBeside, IsWithin};
 
-/// How many statements and expressions a form has, how many of them stand within each other, and
-/// how many slots a chain of its calls has at most. A number that doesn't fit is the largest.
+/// How many statements and expressions a form has, how deeply they are nested, and how many slots a
+/// chain of its calls has at most. A number that doesn't fit is the largest.
 #[derive(Clone, Copy)]
 pub struct Size {
     /// The statements and expressions.
     pub nodes: u64,
-    /// How many of them stand within each other at most.
+    /// How deeply they are nested at most.
     pub depth: u64,
     /// The slots that the longest chain of calls has.
     pub slots: u64,
@@ -21,7 +21,7 @@ pub const NONE: Size = Size {
     slots: 0,
 };
 
-/// The size of two forms beside each other.
+/// Returns the size of two forms beside each other.
 pub fn beside(one: Size, other: Size) -> Size
     ensures { IsBeside one other result }
 {
@@ -32,7 +32,7 @@ pub fn beside(one: Size, other: Size) -> Size
     }
 }
 
-/// The size of a form around others.
+/// Returns the size of a form around others.
 pub fn within(inner: Size) -> Size
     ensures { IsWithin inner result }
 {

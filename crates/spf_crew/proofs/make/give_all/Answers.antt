@@ -57,7 +57,7 @@ loop-ticket-init c = record {
   given = c.requires.own.1;
 }
 
--- the hand after it gave one ticket more
+-- the hand after it gave one more ticket
 record GaveOne (h g : HandValue CrewSetting) (n : ℕ) : Type 0 where
   own : g.own < length g.given
   given : get_or g.given g.own 0 ≡ n + 1

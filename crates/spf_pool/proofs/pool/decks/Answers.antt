@@ -6,7 +6,7 @@ use Rattle.spf_pool.specs.Made.{new_end, capacities_of}
 use Rattle.spf_pool.proofs.Made.{each-snoc}
 use Rattle.spf_pool.proofs.pool.decks.Goals as goal
 
--- a deck more, for the next capacity
+-- one more deck, for the next capacity
 one-more : {K : Type 0} (capacities : List ℕ) (i : ℕ) (before after : List (EndValue K)) (e : EndValue K) → i < length capacities → capacities_of before ≡ take i capacities → after ≡ before ++ e ∷ [] → e.capacity ≡ get_or capacities i 0 → capacities_of after ≡ take (i + 1) capacities
 one-more {K = K} capacities i before after e less are grown is =
     ap capacities_of grown ∙ (map-append (λ (y : EndValue K). y.capacity) before (e ∷ []) ∙ ((λ t. are t ++ is t ∷ []) ∙ sym (take_more capacities i 0 less)))

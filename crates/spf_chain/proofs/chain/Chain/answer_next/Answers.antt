@@ -18,7 +18,7 @@ use Rattle.spf_chain.specs.declared.chain.Chain.TheInside.{Inside}
 use Rattle.spf_chain.proofs.Keeping.{over-set, homes-set-none, next-is, next-value, wrong-home, first-home, IsFirstAt, again-fresh, ended-all, home_value}
 use Rattle.spf_chain.proofs.chain.Chain.answer_next.Goals as goal
 
--- what is so where the next block's report is home
+-- what holds where the next block's report is home
 record AtNext (a : Inside) (real : List ℤ) (r : Report) : Type 0 where
   at : slice_get a.homes.items a.validation.count ≡ Some (Some r)
   low : a.validation.count < length a.homes.items

@@ -15,7 +15,7 @@ returns-clause-same c =
     let flags = c.self.inside.flags.items in
     rw (← c.self.view_is) (padded c.resize.result flags c.resize.new.self.items _ _ (omega (arith, c.if-place-len.false, c.len.ensures)) c.resize.ensures.items)
 
--- a slot is in reach of a table that was made so long
+-- a slot is in reach of a table that was made this long
 in_reach : {E : Type 0} (result : Result (Unit {0}) E) (place long before : ℕ) → long ≡ (if is_ok result then place + 1 else before) → OnOk result (place < long)
 in_reach (Ok u) place long before e = omega arith
 in_reach (Err x) place long before e = tt
