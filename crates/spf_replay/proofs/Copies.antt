@@ -1,9 +1,9 @@
 -- Words that are copied, cell by cell, span by span and block by block.
-use Rattle.std.proofs.Common.{◌≡◌, ◌≢◌, ◌⊎◌, ℕ, zero, suc, ◌≤◌, ◌<◌, ◌+◌, Bool, true, false, List, [], ◌∷◌, length, map, drop, get_or, ℤ, pos, refl, sym, ap, ◌∙◌, subst, arith}
+use Rattle.std.proofs.Common.{◌≡◌, ◌≢◌, ◌⊎◌, ℕ, zero, suc, ◌≤◌, ◌<◌, ◌+◌, Bool, true, false, List, [], ◌∷◌, ◌++◌, length, map, take, drop, append-nil, get_or, ℤ, pos, refl, sym, ap, ◌∙◌, subst, arith}
 use Rattle.std.specs.Prelude.{◌&&◌, ◌||◌, nat_le, nat_lt, if◌then◌else◌, slice_set}
 use Rattle.std.specs.Global.{Vec}
 use Rattle.std.specs.List.{list_any}
-use Rattle.std.proofs.lemmas.List.{get_or-set_same, get_or-set_other, get_or_past, length-set}
+use Rattle.std.proofs.lemmas.List.{get_or-set_same, get_or-set_other, get_or_past, length-set, take_all, drop_all}
 use Rattle.spf_ast_lemmas.proofs.Members.{cases}
 use Rattle.spf_ast.specs.Event.{word_at}
 use Rattle.spf_speculation.proofs.Chain.{same-memory}
@@ -78,3 +78,10 @@ copied-in cells from before after c is h = is c ∙ ap (λ (b : Bool). if b then
 
 pub copied-out : (cells : ℕ → Bool) (from before after : List ℤ) (c : ℕ) → IsCopied cells from before after → cells c ≡ false → word_at after c ≡ word_at before c
 copied-out cells from before after c is h = is c ∙ ap (λ (b : Bool). if b then word_at from c else word_at before c) h
+
+-- a slice that is written back whole
+pub whole-slice : {A : Type 0} (len : ℕ) (xs ys : List A) → length xs ≡ len → length ys ≡ len → take len (xs ++ drop (length xs) ys) ≡ xs
+whole-slice len xs ys one other =
+    let past : length ys ≤ length xs = omega (arith, one, other) in
+    let all : length xs ≤ len = omega (arith, one) in
+    ap (λ l. take len (xs ++ l)) (drop_all (length xs) ys past) ∙ ap (take len) (append-nil xs) ∙ take_all len xs all

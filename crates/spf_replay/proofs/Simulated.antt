@@ -1,7 +1,7 @@
 -- A schedule as it is made, block by block.
-use Rattle.std.proofs.Common.{◌≡◌, ◌≢◌, ◌⊎◌, inl, inr, ℕ, zero, suc, ◌+◌, ◌-◌, ◌%◌, ◌<◌, ◌≤◌, Bool, true, false, List, [], ◌∷◌, ◌++◌, Option, Some, None, length, length-append, append-nil, get_or, take, drop, refl, sym, ap, ◌∙◌, subst, arith}
+use Rattle.std.proofs.Common.{◌≡◌, ◌≢◌, ◌⊎◌, inl, inr, ℕ, zero, suc, ◌+◌, ◌-◌, ◌%◌, ◌<◌, ◌≤◌, Bool, true, false, List, [], ◌∷◌, ◌++◌, Option, Some, None, length, length-append, get_or, drop, refl, sym, ap, ◌∙◌, subst, arith}
 use Rattle.std.specs.Prelude.{if◌then◌else◌, nat_le, slice_get, slice_set}
-use Rattle.std.proofs.lemmas.List.{length-set, take_all}
+use Rattle.std.proofs.lemmas.List.{length-set}
 use Rattle.spf_ast_lemmas.proofs.Members.{cases}
 use Rattle.spf_apps_formats.specs.Draws.{next_state, given_by}
 use Rattle.spf_ast.specs.Carried.{Carried, same_carried}
@@ -265,17 +265,6 @@ turn-made laws e h guess first runners slice after running now_running steps mor
     (subst (AreBlocksOf e (next_situation m.now e n r)) (sym set) (next-blocks e m.now n r q runners m.blocks is runner flag status))
     (next-again laws e h guess m.now n r m.kept is) (next-running e m.now n r running m.running_are is))
     grown goes
-
--- a slice that is written back whole
-pub whole-slice : {A : Type 0} (len : ℕ) (xs ys : List A) → length xs ≡ len → length ys ≡ len → take len (xs ++ drop (length xs) ys) ≡ xs
-whole-slice len xs ys one other =
-    ap (λ l. take len (xs ++ l)) (drop-none (length xs) ys (omega (arith, one, other))) ∙ ap (take len) (append-nil xs) ∙ take_all len xs (omega (arith, one))
-  where
-    drop-none : {A : Type 0} (k : ℕ) (ys : List A) → length ys ≤ k → drop k ys ≡ []
-    drop-none zero [] h = refl
-    drop-none zero (y ∷ ys) h = absurd (omega (arith, h))
-    drop-none (suc k) [] h = refl
-    drop-none (suc k) (y ∷ ys) h = drop-none k ys (omega (arith, h))
 
 -- ---- too many steps
 

@@ -60,7 +60,7 @@ pub record RecordsAll (cells : ℕ → Bool) (seen : List Event) (events : List 
   pub all : now ≡ seen ++ on_cells cells events
   pub unpolled : IsUnpolled events
 
--- these events lead from the first state to the second; where they store only cells whose loads are recorded, they are consistent with the memory that is seen, and make theirs of it
+-- these events lead from the first state to the second; where they store only cells whose loads are recorded, they are consistent with the memory that is seen, and change it to what is seen afterwards
 pub record LeadsInRecord (events : List Event) (a b : InRecord) : Type 0 where
   pub spans : b.spans ≡ a.spans
   pub entry : b.entry ≡ a.entry

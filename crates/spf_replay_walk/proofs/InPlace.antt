@@ -1,7 +1,6 @@
 -- Blocks that are run plainly in place change their cells alone.
-use Rattle.std.proofs.Common.{◌≡◌, ℕ, zero, suc, ◌+◌, ◌<◌, ◌≤◌, true, false, List, ◌++◌, length, take, drop, ap, append-nil, ℤ, pos, ◌+ℤ◌, refl, sym, ◌∙◌, subst, arith}
+use Rattle.std.proofs.Common.{◌≡◌, ℕ, zero, suc, ◌+◌, ◌<◌, ◌≤◌, true, false, List, ◌++◌, length, ap, ℤ, pos, ◌+ℤ◌, refl, sym, ◌∙◌, subst, arith}
 use Rattle.std.proofs.lemmas.Int.{ints}
-use Rattle.std.proofs.lemmas.List.{drop_all, take_all}
 use Rattle.spf_ast.specs.Carried.{Carried}
 use Rattle.spf_ast.specs.Event.{word_at}
 use Rattle.spf_ast.specs.Interaction.{Ending, Value, Trapped}
@@ -16,13 +15,6 @@ use Rattle.spf_speculation.proofs.Within.{length-after}
 use Rattle.spf_replay.specs.Copying.{in_plan, IsCopied, HasOwnSpans}
 use Rattle.spf_replay.proofs.Copies.{mixed}
 use Rattle.spf_replay.proofs.Planned.{unplanned}
-
--- a slice that is written back whole
-pub whole-slice : {A : Type 0} (len : ℕ) (xs ys : List A) → length xs ≡ len → length ys ≡ len → take len (xs ++ drop (length xs) ys) ≡ xs
-whole-slice len xs ys one other =
-    let past : length ys ≤ length xs = omega (arith, one, other) in
-    let all : length xs ≤ len = omega (arith, one) in
-    ap (λ l. take len (xs ++ l)) (drop_all (length xs) ys past) ∙ ap (take len) (append-nil xs) ∙ take_all len xs all
 
 -- a block keeps a cell, and so do all after it
 keeps-on : (x : Ending Carried) (v : Carried) (memory m : List ℤ) (others : Carried → Chained) (c : ℕ)

@@ -8,9 +8,8 @@ use Rattle.spf_ast.specs.Event.{word_at}
 use Rattle.spf_region.specs.Cells.{in_spans}
 use Rattle.spf_speculation.proofs.Within.{true-or-false}
 use Rattle.spf_replay.specs.Entered.{entry_of}
-use Rattle.spf_replay.proofs.Copies.{copied-in, copied-out}
+use Rattle.spf_replay.proofs.Copies.{copied-in, copied-out, whole-slice}
 use Rattle.spf_replay.proofs.EnteredBlocks.{can-run, context-of}
-use Rattle.spf_replay.proofs.Simulated.{whole-slice}
 use Rattle.spf_replay.proofs.runner.record_block.Goals as goal
 
 pub record_attempt-record-requires-clause-can : goal.record_attempt-record-requires-clause-can

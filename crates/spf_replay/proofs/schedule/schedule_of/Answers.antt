@@ -9,7 +9,8 @@ use Rattle.spf_replay.specs.Entered.{entry_of}
 use Rattle.spf_replay.specs.Runners.{AreBlocksOf}
 use Rattle.spf_replay.specs.Schedule.{attempt_events, piece, beginning}
 use Rattle.spf_replay.specs.SeenSteps.{seen_steps}
-use Rattle.spf_replay.proofs.Simulated.{IsMade, made-begins, made-whole, found-inside, found-next, turn-blocks, turn-made, whole-slice, steps-more, too-many, weights, made-less, guess_of, has-guesses}
+use Rattle.spf_replay.proofs.Copies.{whole-slice}
+use Rattle.spf_replay.proofs.Simulated.{IsMade, made-begins, made-whole, found-inside, found-next, turn-blocks, turn-made, steps-more, too-many, weights, made-less, guess_of, has-guesses}
 use Rattle.spf_replay.proofs.schedule.schedule_of.Goals as goal
 
 pub loop-alloc-init : goal.loop-alloc-init

@@ -7,9 +7,9 @@ use Rattle.spf_check.specs.Accepting.{IsAccepted}
 use Rattle.spf_exec_instance.specs.Instance.{program_of}
 use Rattle.spf_engine_laws.proofs.Constructs.{emits-none}
 use Rattle.spf_replay.specs.Copying.{in_plan}
-use Rattle.spf_replay.proofs.Copies.{copied-in}
+use Rattle.spf_replay.proofs.Copies.{copied-in, whole-slice}
 use Rattle.spf_replay_walk.specs.Places.{entry_at, spans_of}
-use Rattle.spf_replay_walk.proofs.InPlace.{restored, whole-slice}
+use Rattle.spf_replay_walk.proofs.InPlace.{restored}
 use Rattle.spf_replay_walk.proofs.plainly.run_plainly.Goals as goal
 
 pub run_blocks-requires-clause-silent : goal.run_blocks-requires-clause-silent

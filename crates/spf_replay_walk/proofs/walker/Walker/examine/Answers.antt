@@ -18,10 +18,11 @@ use Rattle.spf_engine_laws.specs.Passed.{PassedConstruct, real_rows_from}
 use Rattle.spf_engine_laws.proofs.Constructs.{emits-none}
 use Rattle.spf_speculation_entry.specs.Entry.{IsEntry, plain_blocks}
 use Rattle.spf_replay.specs.Copying.{HasOwnSpans}
+use Rattle.spf_replay.proofs.Copies.{whole-slice}
 use Rattle.spf_replay.proofs.Planned.{own-planned}
 use Rattle.spf_replay_walk.specs.Places.{entry_at, guess_at, spans_of}
 use Rattle.spf_replay_walk.specs.Visiting.{AreGuesses, VisitsFrom}
-use Rattle.spf_replay_walk.proofs.InPlace.{put-back, whole-slice}
+use Rattle.spf_replay_walk.proofs.InPlace.{put-back}
 use Rattle.spf_replay_walk.proofs.Passing.{are-guesses, few-reals, some-blocks, counted-are}
 use Rattle.spf_replay_walk.proofs.walker.Walker.examine.Goals as goal
 
