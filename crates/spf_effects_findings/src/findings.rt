@@ -52,6 +52,13 @@ pub fn last_of_one(low: i64, high: i64, end_low: i64, end_high: i64) -> Option<i
     last_between(low, end_low)
 }
 
+/// An offset that lies between these, both included.
+#[derive(Clone, Copy)]
+struct Between {
+    low: i64,
+    high: i64,
+}
+
 /// What is read before it is surely written, what may be written, and what is surely written so
 /// far.
 #[derive(Drop)]
@@ -213,28 +220,27 @@ impl Findings {
         }
     }
 
-    /// Adds that the elements from an offset between `low` and `high` up to but excluding one
-    /// between `end_low` and `end_high` are surely written, where each end is a single offset.
+    /// Adds that the elements from a first offset up to but excluding an end offset are surely
+    /// written, where each is a single offset.
     fn surely_write_between(
         &mut self,
         alloc: Global,
         array: u32,
         factor: i64,
-        low: i64,
-        high: i64,
-        end_low: i64,
-        end_high: i64,
+        first: Between,
+        end: Between,
     ) -> Result<(), AllocError>
         ensures { OnOk result (Extends
-            (surely_writes_between array factor low high end_low end_high) self.old self.new) }
+            (surely_writes_between array factor first.low first.high end.low end.high) self.old
+            self.new) }
     {
-        match last_of_one(low, high, end_low, end_high) {
+        match last_of_one(first.low, first.high, end.low, end.high) {
             None => Ok(()),
             Some(last) => {
                 let range = Range::Affine {
                     array,
                     factor,
-                    from: low,
+                    from: first.low,
                     to: last,
                 };
                 self.written.add(alloc, range)
@@ -242,23 +248,21 @@ impl Findings {
         }
     }
 
-    /// Adds a write of the elements from an offset between `low` and `high` up to but excluding one
-    /// between `end_low` and `end_high`.
+    /// Adds a write of the elements from a first offset up to but excluding an end offset.
     fn write_between(
         &mut self,
         alloc: Global,
         array: u32,
         factor: i64,
-        low: i64,
-        high: i64,
-        end_low: i64,
-        end_high: i64,
+        first: Between,
+        end: Between,
     ) -> Result<(), AllocError>
-        ensures { OnOk result (Extends (may_write_between array factor low end_high
-            then surely_writes_between array factor low high end_low end_high) self.old self.new) }
+        ensures { OnOk result (Extends (may_write_between array factor first.low end.high
+            then surely_writes_between array factor first.low first.high end.low end.high) self.old
+            self.new) }
     {
-        self.may_write_between(alloc, array, factor, low, end_high)?;
-        self.surely_write_between(alloc, array, factor, low, high, end_low, end_high)
+        self.may_write_between(alloc, array, factor, first.low, end.high)?;
+        self.surely_write_between(alloc, array, factor, first, end)
     }
 
     /// Adds a write of a range whose ends have these bounds; the last end is excluded.
@@ -281,7 +285,12 @@ impl Findings {
                 },
             ) => {
                 if is_same(factor, other_factor) {
-                    return self.write_between(alloc, array, factor, low, high, end_low, end_high);
+                    let first = Between { low, high };
+                    let end = Between {
+                        low: end_low,
+                        high: end_high,
+                    };
+                    return self.write_between(alloc, array, factor, first, end);
                 }
                 self.may_write_whole(alloc, array)
             }

@@ -99,18 +99,15 @@ fn zeros(carried: &[u32]) -> Row
 fn perform_fold<M: Memory>(
     instance: &Instance,
     code: &ConstructCode,
-    line: u32,
+    block: &Block,
     fold: &Fold,
-    part: Part,
-    number: i64,
-    row: Row,
     registers: &mut [i64],
     memory: &mut M,
 ) -> Result<Row, Halt>
     requires cells { M.cell_count memory.old
         ≡ cell_count_of (program_of instance.now) (length instance.now.input) }
     requires code { IsFoldCode (callable_of (program_of instance.now))
-        (rooms (program_of instance.now)) (length (program_of instance.now).slots) line
+        (rooms (program_of instance.now)) (length (program_of instance.now).slots) block.now.construct.line
         (fold_head fold.now) (seen_block (out-Fold fold.now).body.items) code.now }
     requires room { length (program_of instance.now).slots
         + statement_needs (rooms (program_of instance.now))
@@ -118,23 +115,24 @@ fn perform_fold<M: Memory>(
         ≤ length registers.old }
     requires orderly { StatementIsOrderly
         (fold_form (fold_head fold.now) (seen_block (out-Fold fold.now).body.items)) }
-    requires run { part ≢ Predictor }
+    requires run { block.now.part ≢ Predictor }
     ensures performs { Performs M.leads M.stop M.may_lack_memory (part_means
         (environment_of (program_of instance.now) instance.now.input)
-        (fold_construct line (fold_head fold.now) (seen_block (out-Fold fold.now).body.items)) part
-        number row
+        (fold_construct block.now.construct.line (fold_head fold.now)
+        (seen_block (out-Fold fold.now).body.items)) block.now.part block.now.number block.now.value
         (state (main_slots (program_of instance.now) registers.old) (M.output memory.old)))
         memory.old memory.new result
         (state (main_slots (program_of instance.now) registers.new) (M.output memory.new)) }
     ensures kept { LeavesOtherSlots
-        (fold_construct line (fold_head fold.now) (seen_block (out-Fold fold.now).body.items)) part
+        (fold_construct block.now.construct.line (fold_head fold.now)
+        (seen_block (out-Fold fold.now).body.items)) block.now.part
         (main_slots (program_of instance.now) registers.old)
         (main_slots (program_of instance.now) registers.new) }
 {
-    match part {
+    match block.part {
         Part::Body => {
-            write(registers, fold.block, number);
-            set_carried(registers, &fold.carried, row.words());
+            write(registers, fold.block, block.number);
+            set_carried(registers, &fold.carried, block.value.words());
             entry::row_of(instance, &code.first, registers, memory)
         }
         Part::Predictor => unreachable!(),
@@ -147,17 +145,15 @@ fn perform_fold<M: Memory>(
 fn perform_pair<M: Memory>(
     instance: &Instance,
     code: &ConstructCode,
-    line: u32,
+    block: &Block,
     pair: &Pair,
-    part: Part,
-    row: Row,
     registers: &mut [i64],
     memory: &mut M,
 ) -> Result<Row, Halt>
     requires cells { M.cell_count memory.old
         ≡ cell_count_of (program_of instance.now) (length instance.now.input) }
     requires code { IsPairCode (callable_of (program_of instance.now))
-        (rooms (program_of instance.now)) (length (program_of instance.now).slots) line
+        (rooms (program_of instance.now)) (length (program_of instance.now).slots) block.now.construct.line
         (pair_head pair.now) (seen_block (out-Pair pair.now).producer.items)
         (seen_block (out-Pair pair.now).consumer.items) code.now }
     requires room { length (program_of instance.now).slots
@@ -167,27 +163,28 @@ fn perform_pair<M: Memory>(
     requires orderly { StatementIsOrderly (pair_form (pair_head pair.now)
         (seen_block (out-Pair pair.now).producer.items)
         (seen_block (out-Pair pair.now).consumer.items)) }
-    requires run { part ≢ Predictor }
+    requires run { block.now.part ≢ Predictor }
     ensures performs { (number : ℤ)
         → Performs M.leads M.stop M.may_lack_memory (part_means
-        (environment_of (program_of instance.now) instance.now.input) (pair_construct line
-        (pair_head pair.now) (seen_block (out-Pair pair.now).producer.items)
-        (seen_block (out-Pair pair.now).consumer.items)) part number row
+        (environment_of (program_of instance.now) instance.now.input)
+        (pair_construct block.now.construct.line (pair_head pair.now)
+        (seen_block (out-Pair pair.now).producer.items)
+        (seen_block (out-Pair pair.now).consumer.items)) block.now.part number block.now.value
         (state (main_slots (program_of instance.now) registers.old) (M.output memory.old)))
         memory.old memory.new result
         (state (main_slots (program_of instance.now) registers.new) (M.output memory.new)) }
-    ensures kept { LeavesOtherSlots (pair_construct line (pair_head pair.now)
+    ensures kept { LeavesOtherSlots (pair_construct block.now.construct.line (pair_head pair.now)
         (seen_block (out-Pair pair.now).producer.items)
-        (seen_block (out-Pair pair.now).consumer.items)) part
+        (seen_block (out-Pair pair.now).consumer.items)) block.now.part
         (main_slots (program_of instance.now) registers.old)
         (main_slots (program_of instance.now) registers.new) }
 {
-    match part {
+    match block.part {
         Part::Producer => entry::row_of(instance, &code.first, registers, memory),
         Part::Consumer => {
-            set_carried(registers, &pair.carried, row.words());
+            set_carried(registers, &pair.carried, block.value.words());
             entry::run(instance, &code.consumer, registers, memory)?;
-            Ok(row)
+            Ok(block.value)
         }
         Part::Predictor => unreachable!(),
         Part::Body => Ok(zeros(&pair.carried)),
@@ -222,29 +219,9 @@ fn perform_part<M: Memory>(
         (main_slots (program_of instance.now) registers.old)
         (main_slots (program_of instance.now) registers.new) }
 {
-    let line = block.construct.line;
     match block.construct.kind {
-        ConstructKind::Fold(fold) => perform_fold(
-            instance,
-            code,
-            line,
-            fold,
-            block.part,
-            block.number,
-            block.value,
-            registers,
-            memory,
-        ),
-        ConstructKind::Pair(pair) => perform_pair(
-            instance,
-            code,
-            line,
-            pair,
-            block.part,
-            block.value,
-            registers,
-            memory,
-        ),
+        ConstructKind::Fold(fold) => perform_fold(instance, code, block, fold, registers, memory),
+        ConstructKind::Pair(pair) => perform_pair(instance, code, block, pair, registers, memory),
     }
 }
 
@@ -386,94 +363,6 @@ fn guess_of<M: Memory>(
     )
 }
 
-/// Performs the guess of one part of a fold's row.
-fn fold_guess<M: Memory>(
-    instance: &Instance,
-    code: &ConstructCode,
-    line: u32,
-    fold: &Fold,
-    number: i64,
-    place: u32,
-    registers: &mut [i64],
-    memory: &mut M,
-) -> Result<i64, Halt>
-    requires cells { M.cell_count memory.old
-        ≡ cell_count_of (program_of instance.now) (length instance.now.input) }
-    requires code { IsFoldCode (callable_of (program_of instance.now))
-        (rooms (program_of instance.now)) (length (program_of instance.now).slots) line
-        (fold_head fold.now) (seen_block (out-Fold fold.now).body.items) code.now }
-    requires room { length (program_of instance.now).slots
-        + statement_needs (rooms (program_of instance.now))
-        (fold_form (fold_head fold.now) (seen_block (out-Fold fold.now).body.items))
-        ≤ length registers.old }
-    ensures performs { Performs M.leads M.stop M.may_lack_memory (guess_part_means
-        (environment_of (program_of instance.now) instance.now.input)
-        (fold_construct line (fold_head fold.now) (seen_block (out-Fold fold.now).body.items)) place
-        number (state (main_slots (program_of instance.now) registers.old) (M.output memory.old)))
-        memory.old memory.new result
-        (state (main_slots (program_of instance.now) registers.new) (M.output memory.new)) }
-    ensures kept { LeavesOtherSlots
-        (fold_construct line (fold_head fold.now) (seen_block (out-Fold fold.now).body.items))
-        Predictor (main_slots (program_of instance.now) registers.old)
-        (main_slots (program_of instance.now) registers.new) }
-{
-    write(registers, fold.block, number);
-    guess_of(
-        instance,
-        &code.guesses,
-        line,
-        &fold.predict,
-        place,
-        registers,
-        memory,
-    )
-}
-
-/// Performs the guess of one part of a pair's row.
-fn pair_guess<M: Memory>(
-    instance: &Instance,
-    code: &ConstructCode,
-    line: u32,
-    pair: &Pair,
-    place: u32,
-    registers: &mut [i64],
-    memory: &mut M,
-) -> Result<i64, Halt>
-    requires cells { M.cell_count memory.old
-        ≡ cell_count_of (program_of instance.now) (length instance.now.input) }
-    requires code { IsPairCode (callable_of (program_of instance.now))
-        (rooms (program_of instance.now)) (length (program_of instance.now).slots) line
-        (pair_head pair.now) (seen_block (out-Pair pair.now).producer.items)
-        (seen_block (out-Pair pair.now).consumer.items) code.now }
-    requires room { length (program_of instance.now).slots
-        + statement_needs (rooms (program_of instance.now)) (pair_form (pair_head pair.now)
-        (seen_block (out-Pair pair.now).producer.items)
-        (seen_block (out-Pair pair.now).consumer.items)) ≤ length registers.old }
-    ensures performs { (number : ℤ)
-        → Performs M.leads M.stop M.may_lack_memory (guess_part_means
-        (environment_of (program_of instance.now) instance.now.input) (pair_construct line
-        (pair_head pair.now) (seen_block (out-Pair pair.now).producer.items)
-        (seen_block (out-Pair pair.now).consumer.items)) place number
-        (state (main_slots (program_of instance.now) registers.old) (M.output memory.old)))
-        memory.old memory.new result
-        (state (main_slots (program_of instance.now) registers.new) (M.output memory.new)) }
-    ensures kept { LeavesOtherSlots (pair_construct line (pair_head pair.now)
-        (seen_block (out-Pair pair.now).producer.items)
-        (seen_block (out-Pair pair.now).consumer.items)) Predictor
-        (main_slots (program_of instance.now) registers.old)
-        (main_slots (program_of instance.now) registers.new) }
-{
-    guess_of(
-        instance,
-        &code.guesses,
-        line,
-        &pair.predict,
-        place,
-        registers,
-        memory,
-    )
-}
-
 /// Performs the guess of one part of a top construct's row.
 fn perform_guess_at<M: Memory>(
     instance: &Instance,
@@ -503,12 +392,30 @@ fn perform_guess_at<M: Memory>(
         (main_slots (program_of instance.now) registers.new) }
 {
     let line = construct.line;
+    let codes = &code.guesses;
     match construct.kind {
-        ConstructKind::Fold(fold) => fold_guess(
-            instance, code, line, fold, number, place, registers, memory,
-        ),
+        ConstructKind::Fold(fold) => {
+            write(registers, fold.block, number);
+            guess_of(
+                instance,
+                codes,
+                line,
+                &fold.predict,
+                place,
+                registers,
+                memory,
+            )
+        }
         ConstructKind::Pair(pair) => {
-            pair_guess(instance, code, line, pair, place, registers, memory)
+            guess_of(
+                instance,
+                codes,
+                line,
+                &pair.predict,
+                place,
+                registers,
+                memory,
+            )
         }
     }
 }

@@ -123,17 +123,17 @@ pub(crate) fn push_fill(
     names: &Names,
     indent: &[u8],
     array: u32,
-    low: &Expr,
-    high: &Expr,
+    bounds: (&Expr, &Expr),
     value: &Expr,
 ) -> Result<(), AllocError>
     ensures { IfOk result (λ _. text.new.items ≡ text.old.items
         ++ statement_text indent.now (spelled_statement (vocabulary_of names.now)
-        (fill_form array (expression low.now) (expression high.now) (expression value.now)))) }
+        (fill_form array (expression bounds.entry.0.now) (expression bounds.entry.1.now)
+        (expression value.now)))) }
 {
     push(text, indent)?;
     push(text, b"fill ")?;
-    push_slice(alloc, text, names, array, low, high)?;
+    push_slice(alloc, text, names, array, bounds.0, bounds.1)?;
     push(text, b" = ")?;
     push_expression(alloc, text, names, value)?;
     push(text, b";\n")

@@ -85,7 +85,7 @@ fn push_statement(
             push_store(alloc, text, names, indent, *array, index, value)
         }
         StmtKind::Fill(array, low, high, value) => {
-            push_fill(alloc, text, names, indent, *array, low, high, value)
+            push_fill(alloc, text, names, indent, *array, (low, high), value)
         }
         StmtKind::Emit(value) => push_with_word(alloc, text, names, indent, b"emit ", value),
         StmtKind::Fail(number) => push_fail(alloc, text, indent, *number),

@@ -71,8 +71,6 @@ pub(crate) fn run_plainly(
         ≡ word_at (plain_blocks (entry_at place.entry header.now cells.items)).memory cell) }
     ensures spare { IsSpare place.entry.instance.now spare.new }
 {
-    // Law: the blocks of an accepted program's constructs can be run as attempts.
-    spf_chain::laws::accepted_constructs_can_run();
     // Law: functions emit nothing, and there are fewer than 2^32 top constructs.
     spf_ast::laws::lawful_programs_are_quiet_and_small();
     // Law: a form has exactly one plain run on a memory.

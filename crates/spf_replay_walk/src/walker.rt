@@ -142,8 +142,6 @@ impl<'a> Walker<'a> {
         ensures count { length hosts.new.items ≡ length hosts.old.items }
         ensures spare { IsSpare place.entry.instance.now spare.new }
     {
-        // Law: the blocks of an accepted program's constructs can be run as attempts.
-        spf_chain::laws::accepted_constructs_can_run();
         // Law: functions emit nothing, and there are fewer than 2^32 top constructs.
         spf_ast::laws::lawful_programs_are_quiet_and_small();
         // Law: no `break` of a lawful program leaves `main` or a part.

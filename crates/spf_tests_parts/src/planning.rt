@@ -11,7 +11,6 @@ use spf_parse::parse;
 use spf_region::span::{Plan, Span};
 use spf_types::resolve;
 use std::alloc::Global;
-use std::test::Fail;
 
 // The checked program of a text.
 fn checked(alloc: Global, text: &str) -> Option<Checked> {
@@ -34,30 +33,44 @@ fn span(from: u64, to: u64) -> Span {
     Span { from, to }
 }
 
+/// Returns whether two blocks, the first one of this number, have these spans.
+fn have_spans(alloc: Global, text: &str, low: i32, wanted: [&[Span]; 2]) -> bool {
+    match planned(alloc, text, low) {
+        None => false,
+        Some(plan) => {
+            plan.blocks.len() == 2
+                && [plan.blocks[0].as_slice(), plan.blocks[1].as_slice()] == wanted
+        }
+    }
+}
+
 #[test]
-fn blocks_have_the_spans_of_what_they_may_write(rt: HostRuntime) -> Result<(), Fail> {
-    let alloc = rt.alloc();
+fn blocks_have_the_spans_of_what_they_may_write(rt: HostRuntime) {
     let rows: [(&str, i32, &[Span], &[Span]); 5] = [
         (
-            "array a[5]; array out[6]; main { specfold s = 0 for k in 0..3 predict 1 { fill out[2*k..2*k + 2] = 0; out[2*k + (s & 1)] = 7; next s + 1; } }",
+            "array a[5]; array out[6]; main { specfold s = 0 for k in 0..3 predict 1 { \
+                fill out[2*k..2*k + 2] = 0; out[2*k + (s & 1)] = 7; next s + 1; } }",
             1,
             &[span(7, 9)],
             &[span(9, 11)],
         ),
         (
-            "array out[6]; main { specfold s = 0 for k in 0..3 predict 1 { fill out[2*k..2*k + 2] = 0; next s + 1; } }",
+            "array out[6]; main { specfold s = 0 for k in 0..3 predict 1 { \
+                fill out[2*k..2*k + 2] = 0; next s + 1; } }",
             -1,
             &[],
             &[span(0, 2)],
         ),
         (
-            "array out[8]; main { specfold s = 0 for k in 0..2 predict 1 { out[4*k] = s; out[4*k + 2] = s; next s; } }",
+            "array out[8]; main { specfold s = 0 for k in 0..2 predict 1 { out[4*k] = s; \
+                out[4*k + 2] = s; next s; } }",
             0,
             &[span(0, 1), span(2, 3)],
             &[span(4, 5), span(6, 7)],
         ),
         (
-            "array out[4]; main { spec x = { out[3] = 1; give 3; } predict 4 { out[0] = x; out[1] = x; } }",
+            "array out[4]; main { spec x = { out[3] = 1; give 3; } predict 4 { out[0] = x; \
+                out[1] = x; } }",
             7,
             &[span(3, 4)],
             &[span(0, 2)],
@@ -70,12 +83,9 @@ fn blocks_have_the_spans_of_what_they_may_write(rt: HostRuntime) -> Result<(), F
         ),
     ];
     for (text, low, first, second) in rows {
-        let Some(plan) = planned(alloc, text, low) else {
-            return Err(Fail::new(text));
-        };
-        assert!(rt; plan.blocks.len() == 2, "{text}");
-        let spans = [plan.blocks[0].as_slice(), plan.blocks[1].as_slice()];
-        assert!(rt; spans == [first, second], "{text}");
+        assert!(rt;
+            have_spans(rt.alloc(), text, low, [first, second]),
+            "{text}"
+        );
     }
-    Ok(())
 }

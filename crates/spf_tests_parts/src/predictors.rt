@@ -24,6 +24,31 @@ fn follow<R: Abort, P: Predictor>(rt: &R, predictor: &mut P, rows: &[(i64, i64, 
     }
 }
 
+/// What a `Most` for two values is told: the smallest of the values that were told most often is
+/// guessed; 9 has no room.
+const MOST: [(i64, i64, [i64; 3]); 10] = [
+    (1, 5, [5; 3]),
+    (1, 3, [3; 3]),
+    (1, 5, [5; 3]),
+    (1, 9, [5; 3]),
+    (1, 9, [5; 3]),
+    (1, 9, [5; 3]),
+    (1, 3, [3; 3]),
+    (1, 3, [3; 3]),
+    (1, 5, [3; 3]),
+    (1, 5, [5; 3]),
+];
+
+/// What a `Table` of two blocks is told; block 3 has no room.
+const TABLE: [(i64, i64, [i64; 3]); 6] = [
+    (1, 7, [7, 0, 0]),
+    (2, 8, [7, 8, 0]),
+    (3, 9, [7, 8, 0]),
+    (1, 6, [6, 8, 0]),
+    (3, 9, [6, 8, 0]),
+    (2, 0, [6, 0, 0]),
+];
+
 #[test]
 fn each_kind_answers_by_its_rule(rt: HostRuntime) -> Result<(), Fail> {
     let mut fixed = Fixed::make(-7);
@@ -51,36 +76,8 @@ fn each_kind_answers_by_its_rule(rt: HostRuntime) -> Result<(), Fail> {
             (3, 9, [9; 3]),
         ],
     );
-    // the smallest of the values that were told most often; 9 has no room
-    follow(
-        &rt,
-        &mut most,
-        &[
-            (1, 5, [5; 3]),
-            (1, 3, [3; 3]),
-            (1, 5, [5; 3]),
-            (1, 9, [5; 3]),
-            (1, 9, [5; 3]),
-            (1, 9, [5; 3]),
-            (1, 3, [3; 3]),
-            (1, 3, [3; 3]),
-            (1, 5, [3; 3]),
-            (1, 5, [5; 3]),
-        ],
-    );
-    // block 3 has no room
-    follow(
-        &rt,
-        &mut table,
-        &[
-            (1, 7, [7, 0, 0]),
-            (2, 8, [7, 8, 0]),
-            (3, 9, [7, 8, 0]),
-            (1, 6, [6, 8, 0]),
-            (3, 9, [6, 8, 0]),
-            (2, 0, [6, 0, 0]),
-        ],
-    );
+    follow(&rt, &mut most, &MOST);
+    follow(&rt, &mut table, &TABLE);
     Ok(())
 }
 

@@ -26,52 +26,54 @@ fn is_cut_into(alloc: Global, text: &[u8], kinds: &[TokenKind]) -> bool {
     }
 }
 
+/// Texts, and the kinds of their tokens.
+const CUT: [(&[u8], &[TokenKind]); 13] = [
+    (b"", &[]),
+    (b" \t\r\n", &[]),
+    (b"# alone", &[]),
+    (b"#\x80 . @ \x00\n#", &[]),
+    (b"a # b\nc", &[NAME, NAME]),
+    (b"1..2", &[TokenKind::Number(1), DOTS, TokenKind::Number(2)]),
+    (
+        b"a<<=b",
+        &[
+            NAME,
+            TokenKind::Sign(Sign::ShiftLeft),
+            TokenKind::Sign(Sign::Assign),
+            NAME,
+        ],
+    ),
+    (b"12ab", &[TokenKind::Number(12), NAME]),
+    (b"9223372036854775807", &[TokenKind::Number(i64::MAX)]),
+    (
+        b"00000000000000000000000000000000000000000000000012",
+        &[TokenKind::Number(12)],
+    ),
+    (b"mainx for_ _if In a1", &[NAME, NAME, NAME, NAME, NAME]),
+    (
+        b"main for version",
+        &[
+            TokenKind::Keyword(Keyword::Main),
+            TokenKind::Keyword(Keyword::For),
+            TokenKind::Keyword(Keyword::Version),
+        ],
+    ),
+    (
+        b"!=!&&&||^",
+        &[
+            TokenKind::Sign(Sign::NotEqual),
+            TokenKind::Sign(Sign::Not),
+            TokenKind::Sign(Sign::AndAnd),
+            TokenKind::Sign(Sign::And),
+            TokenKind::Sign(Sign::OrOr),
+            TokenKind::Sign(Sign::Xor),
+        ],
+    ),
+];
+
 #[test]
 fn cuts_texts_into_tokens(rt: HostRuntime) {
-    let cases: [(&[u8], &[TokenKind]); 13] = [
-        (b"", &[]),
-        (b" \t\r\n", &[]),
-        (b"# alone", &[]),
-        (b"#\x80 . @ \x00\n#", &[]),
-        (b"a # b\nc", &[NAME, NAME]),
-        (b"1..2", &[TokenKind::Number(1), DOTS, TokenKind::Number(2)]),
-        (
-            b"a<<=b",
-            &[
-                NAME,
-                TokenKind::Sign(Sign::ShiftLeft),
-                TokenKind::Sign(Sign::Assign),
-                NAME,
-            ],
-        ),
-        (b"12ab", &[TokenKind::Number(12), NAME]),
-        (b"9223372036854775807", &[TokenKind::Number(i64::MAX)]),
-        (
-            b"00000000000000000000000000000000000000000000000012",
-            &[TokenKind::Number(12)],
-        ),
-        (b"mainx for_ _if In a1", &[NAME, NAME, NAME, NAME, NAME]),
-        (
-            b"main for version",
-            &[
-                TokenKind::Keyword(Keyword::Main),
-                TokenKind::Keyword(Keyword::For),
-                TokenKind::Keyword(Keyword::Version),
-            ],
-        ),
-        (
-            b"!=!&&&||^",
-            &[
-                TokenKind::Sign(Sign::NotEqual),
-                TokenKind::Sign(Sign::Not),
-                TokenKind::Sign(Sign::AndAnd),
-                TokenKind::Sign(Sign::And),
-                TokenKind::Sign(Sign::OrOr),
-                TokenKind::Sign(Sign::Xor),
-            ],
-        ),
-    ];
-    for (text, kinds) in cases {
+    for (text, kinds) in CUT {
         assert!(rt; is_cut_into(rt.alloc(), text, kinds), "in {text:?}");
     }
 }

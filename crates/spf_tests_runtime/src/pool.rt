@@ -197,59 +197,62 @@ fn in_four<R: Threads + Sync>(
     Ok((all.len(), totals(&all), ends(&mut all)))
 }
 
+/// One hand alone.
+const ALONE: [(Call, u64); 11] = [
+    (Call::Give(0, 1), 0),
+    (Call::Give(0, 2), 0),
+    (Call::Give(0, 3), 0),
+    (Call::Give(0, 4), 4),
+    (Call::Next(0), 1),
+    (Call::Next(0), 2),
+    (Call::Next(0), 3),
+    (Call::Next(0), 1000),
+    (Call::Next(0), 1000),
+    (Call::Give(0, 5), 5),
+    (Call::Next(1), 3000),
+];
+
+/// A thief takes the oldest item, and can give none.
+const THIEF: [(Call, u64); 11] = [
+    (Call::Give(1, 71), 71),
+    (Call::Give(0, 1), 0),
+    (Call::Give(0, 2), 0),
+    (Call::Give(0, 3), 0),
+    (Call::Give(0, 4), 4),
+    (Call::Next(1), 1),
+    (Call::Next(0), 2),
+    (Call::Next(0), 3),
+    (Call::Next(0), 1000),
+    (Call::Give(0, 5), 5),
+    (Call::Next(2), 3000),
+];
+
+/// The own deque comes first, and each has a capacity of its own.
+const OWN_FIRST: [(Call, u64); 14] = [
+    (Call::Next(1), 1000),
+    (Call::Give(0, 1), 0),
+    (Call::Give(1, 71), 0),
+    (Call::Give(0, 2), 0),
+    (Call::Give(0, 3), 3),
+    (Call::Give(1, 72), 0),
+    (Call::Give(2, 91), 91),
+    (Call::Next(1), 71),
+    (Call::Next(0), 1),
+    (Call::Next(2), 2),
+    (Call::Next(0), 72),
+    (Call::Next(1), 1000),
+    (Call::Next(2), 1000),
+    (Call::Next(3), 3000),
+];
+
 #[test]
 fn hands_answer_in_turn(rt: HostRuntime) {
     let alloc = rt.alloc();
-    // one hand alone
-    let alone = [
-        (Call::Give(0, 1), 0),
-        (Call::Give(0, 2), 0),
-        (Call::Give(0, 3), 0),
-        (Call::Give(0, 4), 4),
-        (Call::Next(0), 1),
-        (Call::Next(0), 2),
-        (Call::Next(0), 3),
-        (Call::Next(0), 1000),
-        (Call::Next(0), 1000),
-        (Call::Give(0, 5), 5),
-        (Call::Next(1), 3000),
-    ];
-    // a thief takes the oldest item, and can give none
-    let thief = [
-        (Call::Give(1, 71), 71),
-        (Call::Give(0, 1), 0),
-        (Call::Give(0, 2), 0),
-        (Call::Give(0, 3), 0),
-        (Call::Give(0, 4), 4),
-        (Call::Next(1), 1),
-        (Call::Next(0), 2),
-        (Call::Next(0), 3),
-        (Call::Next(0), 1000),
-        (Call::Give(0, 5), 5),
-        (Call::Next(2), 3000),
-    ];
-    // the own deque comes first, and each has a capacity of its own
-    let own_first = [
-        (Call::Next(1), 1000),
-        (Call::Give(0, 1), 0),
-        (Call::Give(1, 71), 0),
-        (Call::Give(0, 2), 0),
-        (Call::Give(0, 3), 3),
-        (Call::Give(1, 72), 0),
-        (Call::Give(2, 91), 91),
-        (Call::Next(1), 71),
-        (Call::Next(0), 1),
-        (Call::Next(2), 2),
-        (Call::Next(0), 72),
-        (Call::Next(1), 1000),
-        (Call::Next(2), 1000),
-        (Call::Next(3), 3000),
-    ];
     assert_eq!(rt;
         [
-            first_wrong(alloc, &[3], &alone),
-            first_wrong(alloc, &[3, 0], &thief),
-            first_wrong(alloc, &[2, 3, 0], &own_first),
+            first_wrong(alloc, &[3], &ALONE),
+            first_wrong(alloc, &[3, 0], &THIEF),
+            first_wrong(alloc, &[2, 3, 0], &OWN_FIRST),
         ],
         [Ok(None), Ok(None), Ok(None)]
     );

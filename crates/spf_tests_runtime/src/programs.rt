@@ -30,29 +30,33 @@ pub(crate) const GUESSED: &[u8] =
 /// Each block fills its span and stores one of its cells, which its carried word chooses. Block 2
 /// begins at a wrong guess.
 pub(crate) const SCATTERED: &[u8] =
-    b"array out[6]; main { specfold s = 0 for k in 0..3 predict 1 { fill out[2*k..2*k + 2] = 0; out[2*k + (s & 1)] = 7; next s + 1; } for i in 0..6 { emit out[i]; } }";
+    b"array out[6]; main { specfold s = 0 for k in 0..3 predict 1 { fill out[2*k..2*k + 2] = 0; \
+        out[2*k + (s & 1)] = 7; next s + 1; } for i in 0..6 { emit out[i]; } }";
 
 /// The consumer begins at a wrong guess.
 pub(crate) const PAIR: &[u8] =
-    b"array out[2]; main { spec x = { give 3; } predict 4 { out[0] = x; out[1] = x * x; } emit out[1]; }";
+    b"array out[2]; main { spec x = { give 3; } predict 4 { out[0] = x; out[1] = x * x; } \
+        emit out[1]; }";
 
 /// The first block traps.
 pub(crate) const TRAPS: &[u8] =
     b"array out[1]; main { specfold s = 0 for k in -1..1 predict 0 { out[k] = 1; next 0; } }";
 
 /// Two folds whose guesses are those of host 0.
-pub(crate) const HOSTED: &[u8] =
-    b"main { specfold s = 7 for k in 0..3 predict host 0 { next s; } specfold t = 7 for k in 0..3 predict host 0 { next t; } emit s; emit t; }";
+pub(crate) const HOSTED: &[u8] = b"main { specfold s = 7 for k in 0..3 predict host 0 { next s; } \
+        specfold t = 7 for k in 0..3 predict host 0 { next t; } emit s; emit t; }";
 
 /// Each block goes on by one word of a sequence in which a word is the sum of the two before it.
 /// The guess of block 1 is right; those of the others are right in one part at most.
 pub(crate) const SUMS: &[u8] =
-    b"main { specfold (a, b) = (0, 1) for k in 0..5 predict (k, 1) { next (b, a + b); } emit a; emit b; }";
+    b"main { specfold (a, b) = (0, 1) for k in 0..5 predict (k, 1) { next (b, a + b); } emit a; \
+        emit b; }";
 
 /// The blocks of `SUMS`; the guesses of blocks 1 and 2 are right, and that of block 3 in its second
 /// part alone.
 pub(crate) const HALF_GUESSED: &[u8] =
-    b"main { specfold (a, b) = (0, 1) for k in 0..5 predict (1, k) { next (b, a + b); } emit a; emit b; }";
+    b"main { specfold (a, b) = (0, 1) for k in 0..5 predict (1, k) { next (b, a + b); } emit a; \
+        emit b; }";
 
 /// The consumer begins at a guess that is right in its first part alone.
 pub(crate) const PAIR_OF_WORDS: &[u8] =
@@ -60,11 +64,15 @@ pub(crate) const PAIR_OF_WORDS: &[u8] =
 
 /// Two folds over rows of two words, whose guesses are both those of host 0.
 pub(crate) const HOSTED_WORDS: &[u8] =
-    b"main { specfold (a, b) = (7, 1) for k in 0..3 predict (host 0, host 0) { next (a, b); } specfold (c, d) = (7, 1) for k in 0..3 predict (host 0, host 0) { next (c, d); } emit a; emit c; }";
+    b"main { specfold (a, b) = (7, 1) for k in 0..3 predict (host 0, host 0) { next (a, b); } \
+        specfold (c, d) = (7, 1) for k in 0..3 predict (host 0, host 0) { next (c, d); } \
+        emit a; emit c; }";
 
 /// Each block breaks off a loop, the second one before its first store. The guess is wrong.
 pub(crate) const BREAKING: &[u8] =
-    b"version 2; array out[4]; main { specfold s = 0 for k in 0..2 predict 0 { fill out[2*k..2*k + 2] = 0; for i in 2*k..2*k + 2 { if i > s { break; } out[i] = 1; } next 1; } for i in 0..4 { emit out[i]; } }";
+    b"version 2; array out[4]; main { specfold s = 0 for k in 0..2 predict 0 { \
+        fill out[2*k..2*k + 2] = 0; for i in 2*k..2*k + 2 { if i > s { break; } out[i] = 1; } \
+        next 1; } for i in 0..4 { emit out[i]; } }";
 
 /// Arrays with one cell too many.
 pub(crate) const WIDE: &[u8] =

@@ -33,7 +33,8 @@ use std::thread::Threads;
 /// Each block fills its span and stores one of its cells, which its carried value chooses. Block 2
 /// begins at a wrong guess.
 const SCATTERED: &[u8] =
-    b"array out[6]; main { specfold s = 0 for k in 0..3 predict 1 { fill out[2*k..2*k + 2] = 0; out[2*k + (s & 1)] = 7; next s + 1; } }";
+    b"array out[6]; main { specfold s = 0 for k in 0..3 predict 1 { fill out[2*k..2*k + 2] = 0; \
+        out[2*k + (s & 1)] = 7; next s + 1; } }";
 
 /// Block 1 traps.
 const TRAPPING: &[u8] =
@@ -41,7 +42,8 @@ const TRAPPING: &[u8] =
 
 /// Each of many blocks iterates, and nearly no guess is right.
 const MANY: &[u8] =
-    b"main { specfold s = 1 for k in 0..600 predict 0 { let t = s; for i in 0..50 { t = (t * 5 + i) % 1009; } next t; } emit s & 255; }";
+    b"main { specfold s = 1 for k in 0..600 predict 0 { let t = s; for i in 0..50 { \
+        t = (t * 5 + i) % 1009; } next t; } emit s & 255; }";
 
 /// A program's first construct, which carries rows of one word, and what it comes to.
 #[derive(Drop)]

@@ -1,5 +1,6 @@
-use Rattle.std.proofs.Common.{◌≡◌, ◌+◌, ◌≤◌, max, length, w64, sym, subst, arith, ap, ◌∙◌}
+use Rattle.std.proofs.Common.{rules, ◌≡◌, ◌+◌, ◌≤◌, max, length, w64, sym, subst, arith, ap, ◌∙◌}
 use Rattle.std.proofs.lemmas.Int.{to_z-of_z}
+use mir.Val.{SFits}
 use Rattle.spf_ast.specs.declared.syntax.Fold.{out-Fold}
 use Rattle.spf_ast.specs.Carried.{IsWidth, with_carried}
 use Rattle.spf_ast.specs.View.{fold_head, block}
@@ -25,10 +26,11 @@ returns-in-Body-clause-performs g c =
     let own = length p.slots in
     let env = environment_of p c.args.instance.now.input in
     let form = block_row env body head.next_line head.next in
-    let written = rw (to_z-of_z w64 c.args.number c.ranges.number) at c.write.ensures in
+    let fits : SFits w64 c.args.block.now.number = search rules in
+    let written = rw (to_z-of_z w64 c.args.block.now.number fits) at c.write.ensures in
     let carried = rw (c.deref.ensures.value, c.words.ensures) at c.set_carried.ensures in
-    let first = ap (main_slots p) written ∙ take_set own c.args.registers.now head.block c.args.number in
-    let slots = ap (main_slots p) carried ∙ take_carried own head.carried c.args.row c.write.new.registers ∙ ap (with_carried head.carried c.args.row) first in
+    let first = ap (main_slots p) written ∙ take_set own c.args.registers.now head.block c.args.block.now.number in
+    let slots = ap (main_slots p) carried ∙ take_carried own head.carried c.args.block.now.value c.write.new.registers ∙ ap (with_carried head.carried c.args.block.now.value) first in
     let room = own + max (block_needs (rooms p) body) (arguments_need (rooms p) head.next) in
     rw c.in-Body.is
     (from_slots form slots
@@ -41,13 +43,14 @@ returns-in-Body-clause-kept g c =
     let head = fold_head c.args.fold.now in
     let body = block (out-Fold c.args.fold.now).body.items in
     let own = length p.slots in
-    let written = rw (to_z-of_z w64 c.args.number c.ranges.number) at c.write.ensures in
+    let fits : SFits w64 c.args.block.now.number = search rules in
+    let written = rw (to_z-of_z w64 c.args.block.now.number fits) at c.write.ensures in
     let carried = rw (c.deref.ensures.value, c.words.ensures) at c.set_carried.ensures in
     let made = code c.args.code.now.first.nodes.items in
     rw c.in-Body.is
-    (body-leaves c.args.line head body (main_slots p c.args.registers.now) c.args.number c.args.row
-    (ap (main_slots p) written ∙ take_set own c.args.registers.now head.block c.args.number)
-    (ap (main_slots p) carried ∙ take_carried own head.carried c.args.row c.write.new.registers)
+    (body-leaves c.args.block.now.construct.line head body (main_slots p c.args.registers.now) c.args.block.now.number c.args.block.now.value
+    (ap (main_slots p) written ∙ take_set own c.args.registers.now head.block c.args.block.now.number)
+    (ap (main_slots p) carried ∙ take_carried own head.carried c.args.block.now.value c.write.new.registers)
     (leaves_slots own (λ r. code_sets r made) (block_changes body) c.set_carried.new.slots c.row_of.new.registers c.row_of.ensures.others (λ r l e. c.requires.code.blocks_set r (l, e))))
 
 pub row_of-requires-clause-fits : goal.row_of-requires-clause-fits

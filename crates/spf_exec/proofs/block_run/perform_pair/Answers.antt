@@ -42,7 +42,7 @@ returns-in-Producer-clause-kept g c =
     let env = environment_of p c.args.instance.now.input in
     let made = code c.args.code.now.first.nodes.items in
     rw c.in-Producer.is
-    (producer-leaves c.args.line head a b (leaves_slots own (λ r. code_sets r made) (block_changes a) c.args.registers.now c.row_of.new.registers c.row_of.ensures.others (λ r l e. c.requires.code.gives_sets r (l, e))))
+    (producer-leaves c.args.block.now.construct.line head a b (leaves_slots own (λ r. code_sets r made) (block_changes a) c.args.registers.now c.row_of.new.registers c.row_of.ensures.others (λ r l e. c.requires.code.gives_sets r (l, e))))
 
 pub returns-in_err-run-in-Consumer-clause-performs : goal.returns-in_err-run-in-Consumer-clause-performs
 returns-in_err-run-in-Consumer-clause-performs g c =
@@ -53,8 +53,8 @@ returns-in_err-run-in-Consumer-clause-performs g c =
     let own = length p.slots in
     let env = environment_of p c.args.instance.now.input in
     let carried = rw (c.deref.ensures.value, c.words.ensures) at c.set_carried.ensures in
-    let slots = ap (main_slots p) carried ∙ take_carried own head.carried c.args.row c.args.registers.now in
-    rw c.in-Consumer.is (λ number. along (whole-then (block_means env b) (gives {A = Carried} c.args.row)) (exit_halt _ c.from_residual.ensures.1 (from_slots (wholly (block_means env b)) slots
+    let slots = ap (main_slots p) carried ∙ take_carried own head.carried c.args.block.now.value c.args.registers.now in
+    rw c.in-Consumer.is (λ number. along (whole-then (block_means env b) (gives {A = Carried} c.args.block.now.value)) (exit_halt _ c.from_residual.ensures.1 (from_slots (wholly (block_means env b)) slots
     (rw c.deref-in-Consumer.ensures.value at c.in_err-run-in-Consumer.ensures.performs (own + block_needs (rooms p) b) (block_means env b)
     (runs_block p c.args.instance.now.input b (code c.args.code.now.consumer.items) c.requires.orderly.4 c.requires.code.takes) (omega (arith, c.requires.room, c.set_carried.auto.slots))))))
 
@@ -67,9 +67,9 @@ returns-in_ok-run-in-Consumer-clause-performs g c =
     let own = length p.slots in
     let env = environment_of p c.args.instance.now.input in
     let carried = rw (c.deref.ensures.value, c.words.ensures) at c.set_carried.ensures in
-    let slots = ap (main_slots p) carried ∙ take_carried own head.carried c.args.row c.args.registers.now in
+    let slots = ap (main_slots p) carried ∙ take_carried own head.carried c.args.block.now.value c.args.registers.now in
     rw c.in-Consumer.is (λ number.
-    along (whole-then (block_means env b) (gives {A = Carried} c.args.row)) (then_value _ g.met.M.Memory.laws (from_slots (wholly (block_means env b)) slots
+    along (whole-then (block_means env b) (gives {A = Carried} c.args.block.now.value)) (then_value _ g.met.M.Memory.laws (from_slots (wholly (block_means env b)) slots
     (rw c.deref-in-Consumer.ensures.value at c.in_ok-run-in-Consumer.ensures.performs (own + block_needs (rooms p) b) (block_means env b)
     (runs_block p c.args.instance.now.input b (code c.args.code.now.consumer.items) c.requires.orderly.4 c.requires.code.takes) (omega (arith, c.requires.room, c.set_carried.auto.slots))))
     (at_once g.met.M.Memory.laws _ _ _)))
@@ -83,10 +83,10 @@ returns-in_err-run-in-Consumer-clause-kept g c =
     let own = length p.slots in
     let env = environment_of p c.args.instance.now.input in
     let carried = rw (c.deref.ensures.value, c.words.ensures) at c.set_carried.ensures in
-    let slots = ap (main_slots p) carried ∙ take_carried own head.carried c.args.row c.args.registers.now in
+    let slots = ap (main_slots p) carried ∙ take_carried own head.carried c.args.block.now.value c.args.registers.now in
     let made = code c.args.code.now.consumer.items in
     rw c.in-Consumer.is
-    (consumer-leaves c.args.line head a b (main_slots p c.args.registers.now) c.args.row slots
+    (consumer-leaves c.args.block.now.construct.line head a b (main_slots p c.args.registers.now) c.args.block.now.value slots
     (leaves_slots own (λ r. code_sets r made) (block_changes b) c.set_carried.new.slots c.run.new.registers (rw c.deref-in-Consumer.ensures.value at c.run.ensures.others) (λ r l e. c.requires.code.takes_sets r (l, e))))
 
 pub returns-in_ok-run-in-Consumer-clause-kept : goal.returns-in_ok-run-in-Consumer-clause-kept
@@ -98,10 +98,10 @@ returns-in_ok-run-in-Consumer-clause-kept g c =
     let own = length p.slots in
     let env = environment_of p c.args.instance.now.input in
     let carried = rw (c.deref.ensures.value, c.words.ensures) at c.set_carried.ensures in
-    let slots = ap (main_slots p) carried ∙ take_carried own head.carried c.args.row c.args.registers.now in
+    let slots = ap (main_slots p) carried ∙ take_carried own head.carried c.args.block.now.value c.args.registers.now in
     let made = code c.args.code.now.consumer.items in
     rw c.in-Consumer.is
-    (consumer-leaves c.args.line head a b (main_slots p c.args.registers.now) c.args.row slots
+    (consumer-leaves c.args.block.now.construct.line head a b (main_slots p c.args.registers.now) c.args.block.now.value slots
     (leaves_slots own (λ r. code_sets r made) (block_changes b) c.set_carried.new.slots c.run.new.registers (rw c.deref-in-Consumer.ensures.value at c.run.ensures.others) (λ r l e. c.requires.code.takes_sets r (l, e))))
 
 pub row_of-requires-clause-fits : goal.row_of-requires-clause-fits
