@@ -2,7 +2,6 @@
 //! the blocks are validated in order.
 #![tactic(auto)]
 
-pub mod block;
 mod cells;
 pub mod chain;
 pub mod file;
@@ -11,4 +10,5 @@ pub mod history;
 pub mod laws;
 mod place;
 pub mod start;
+pub mod validated;
 mod validation;

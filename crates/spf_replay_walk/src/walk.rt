@@ -35,7 +35,7 @@ pub struct Walked {
 }
 
 /// The outcome of a run that came to its end.
-fn outcome_at_end(run: Run) -> Outcome
+fn finished(run: Run) -> Outcome
     ensures { seen_outcome result ≡ Done run.cells run.output }
 {
     let (cells, output) = run.finish();
@@ -43,7 +43,7 @@ fn outcome_at_end(run: Run) -> Outcome
 }
 
 /// The outcome of a run that trapped.
-fn outcome_at_trap(run: Run, trap: Trap) -> Outcome
+fn trapped(run: Run, trap: Trap) -> Outcome
     ensures { seen_outcome result ≡ Stopped trap run.output }
 {
     let (_, output) = run.finish();
@@ -117,11 +117,11 @@ pub fn walk<V: Visitor>(
         match walker.take_step(&mut run, &mut spare, visitor, &mut stats, hosts)? {
             Step::Next => {}
             Step::Finished => {
-                let outcome = outcome_at_end(run);
+                let outcome = finished(run);
                 return Ok(Walked { outcome, stats });
             }
             Step::Trapped(trap) => {
-                let outcome = outcome_at_trap(run, trap);
+                let outcome = trapped(run, trap);
                 return Ok(Walked { outcome, stats });
             }
         }
