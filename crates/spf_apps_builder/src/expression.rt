@@ -38,7 +38,7 @@ pub fn length() -> Result<Expr, AllocError>
 }
 
 /// A value in a box.
-fn boxed(alloc: Global, value: Result<Expr, AllocError>) -> Result<Box<Expr>, AllocError>
+fn into_box(alloc: Global, value: Result<Expr, AllocError>) -> Result<Box<Expr>, AllocError>
     ensures { (e : Expression) → IfOk value (λ v. expression v ≡ e)
         → IfOk result (λ b. expression b.value ≡ e) }
 {
@@ -55,8 +55,8 @@ pub fn binary(
     ensures { (a b : Expression) → IfOk left (λ e. expression e ≡ a)
         → IfOk right (λ e. expression e ≡ b) → IfOk result (λ e. expression e ≡ Binary op a b) }
 {
-    let left = boxed(alloc, left);
-    let right = boxed(alloc, right)?;
+    let left = into_box(alloc, left);
+    let right = into_box(alloc, right)?;
     Ok(Expr::Binary(op, left?, right))
 }
 
@@ -65,7 +65,7 @@ pub fn input(alloc: Global, index: Result<Expr, AllocError>) -> Result<Expr, All
     ensures { (a : Expression) → IfOk index (λ e. expression e ≡ a)
         → IfOk result (λ e. expression e ≡ Input a) }
 {
-    Ok(Expr::Input(boxed(alloc, index)?))
+    Ok(Expr::Input(into_box(alloc, index)?))
 }
 
 /// Builds a read of an element of an array.
@@ -73,7 +73,7 @@ pub fn load(alloc: Global, array: u32, index: Result<Expr, AllocError>) -> Resul
     ensures { (a : Expression) → IfOk index (λ e. expression e ≡ a)
         → IfOk result (λ e. expression e ≡ Load array a) }
 {
-    Ok(Expr::Load(array, boxed(alloc, index)?))
+    Ok(Expr::Load(array, into_box(alloc, index)?))
 }
 
 /// Builds a call of a function with one argument.
@@ -99,8 +99,8 @@ pub fn call_with_two(
         → IfOk second (λ e. expression e ≡ b)
         → IfOk result (λ e. expression e ≡ Call function (argument a (argument b no_more))) }
 {
-    let first = boxed(alloc, first);
-    let second = boxed(alloc, second)?;
+    let first = into_box(alloc, first);
+    let second = into_box(alloc, second)?;
     let given = vec![in alloc; Box::into_inner(first?), Box::into_inner(second)]?;
     Ok(Expr::Call(function, given))
 }
@@ -115,7 +115,7 @@ pub fn compare(
     ensures { (a b : Expression) → IfOk left (λ e. expression e ≡ a)
         → IfOk right (λ e. expression e ≡ b) → IfOk result (λ c. condition c ≡ Compare test a b) }
 {
-    let left = boxed(alloc, left);
-    let right = boxed(alloc, right)?;
+    let left = into_box(alloc, left);
+    let right = into_box(alloc, right)?;
     Ok(Cond::Compare(test, left?, right))
 }

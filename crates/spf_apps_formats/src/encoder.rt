@@ -104,7 +104,7 @@ fn first_without_word(lengths: &[u8], symbols: &[u8]) -> Option<usize>
 }
 
 /// The code words of symbols, in bytes.
-fn encoded(alloc: Global, lengths: &[u8], symbols: &[u8]) -> Result<Vec<u8>, AllocError>
+fn code_words(alloc: Global, lengths: &[u8], symbols: &[u8]) -> Result<Vec<u8>, AllocError>
     requires count { length lengths.now ≡ 256 }
     requires lengths { AreCodeLengths lengths.now }
     ensures { IfOk result (λ bytes. Holds (code_words lengths.now symbols.now) bytes.items) }
@@ -126,7 +126,7 @@ pub(crate) fn encode(alloc: Global, lengths: &[u8], symbols: &[u8]) -> Result<Ve
     requires words { HaveWords lengths.now (length symbols.now) symbols.now }
     ensures { IfOk result (λ file. Encodes lengths.now symbols.now file.items) }
 {
-    let words = encoded(alloc, lengths, symbols)?;
+    let words = code_words(alloc, lengths, symbols)?;
     let mut file = Vec::new(alloc);
     file.extend_from_slice(SIGNATURE)?;
     file.extend_from_slice(lengths)?;

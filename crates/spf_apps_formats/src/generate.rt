@@ -79,7 +79,7 @@ fn push_packet(file: &mut Vec<u8>, draws: &mut Draws) -> Result<(), AllocError>
 }
 
 /// Packets of PackBits: the fewest that together have the size.
-fn packed(alloc: Global, seed: u64, size: u64) -> Result<Vec<u8>, AllocError>
+fn packets(alloc: Global, seed: u64, size: u64) -> Result<Vec<u8>, AllocError>
     ensures { IfOk result (λ file. IsPacked seed size file.items) }
 {
     let mut file = Vec::new(alloc);
@@ -91,7 +91,7 @@ fn packed(alloc: Global, seed: u64, size: u64) -> Result<Vec<u8>, AllocError>
 }
 
 /// Bytes of a table, each picked by a draw.
-fn picked(alloc: Global, seed: u64, size: u64, table: &[u8]) -> Result<Vec<u8>, AllocError>
+fn drawn_bytes(alloc: Global, seed: u64, size: u64, table: &[u8]) -> Result<Vec<u8>, AllocError>
     requires { length table.now ≡ 16 }
     ensures bytes { IfOk result (λ bytes. bytes.items ≡ picked_bytes table.now size seed) }
     ensures count { IfOk result (λ bytes. length bytes.items ≡ size) }
@@ -123,7 +123,7 @@ fn huffman_coded(alloc: Global, seed: u64, size: u64) -> Result<Vec<u8>, AllocEr
     ensures { IfOk result
         (λ file. Encodes five_lengths (picked_bytes five_symbols size seed) file.items) }
 {
-    let symbols = picked(alloc, seed, size, &FIVE_SYMBOLS)?;
+    let symbols = drawn_bytes(alloc, seed, size, &FIVE_SYMBOLS)?;
     encode(alloc, &five_lengths_array(), &symbols)
 }
 
@@ -135,8 +135,8 @@ pub fn generate(alloc: Global, kind: Kind, seed: u64, size: u64) -> Result<Vec<u
     ensures { IfOk result (λ file. IsGenerated kind seed size file.items) }
 {
     match kind {
-        Kind::Unpack => packed(alloc, seed, size),
+        Kind::Unpack => packets(alloc, seed, size),
         Kind::Unhuff => huffman_coded(alloc, seed, size),
-        Kind::Lex => picked(alloc, seed, size, &LETTERS),
+        Kind::Lex => drawn_bytes(alloc, seed, size, &LETTERS),
     }
 }

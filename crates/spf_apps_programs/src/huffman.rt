@@ -346,7 +346,7 @@ fn with_byte(alloc: Global, high: Result<Expr, AllocError>, place: u64) -> Resul
 }
 
 /// The count of symbols in the header.
-fn wanted(alloc: Global) -> Result<Expr, AllocError>
+fn symbol_count(alloc: Global) -> Result<Expr, AllocError>
     ensures { IfOk result (λ e. expression e ≡ wanted_form) }
 {
     let first = input(alloc, number(260));
@@ -393,7 +393,7 @@ fn output(alloc: Global) -> Result<Vec<Stmt>, AllocError>
     let none = declare(GOT, number(0));
     let short = only(alloc, 52, too_few(alloc));
     let symbols = on_line(alloc, 49, symbols_out(alloc), short);
-    let wanted = declare(WANTED, wanted(alloc));
+    let wanted = declare(WANTED, symbol_count(alloc));
     on_line(alloc, 47, wanted, on_line(alloc, 48, none, symbols))
 }
 

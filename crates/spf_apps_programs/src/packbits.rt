@@ -72,7 +72,7 @@ fn header(alloc: Global) -> Result<Vec<Stmt>, AllocError>
 }
 
 /// A byte that is copied.
-fn copied(alloc: Global) -> Result<Vec<Stmt>, AllocError>
+fn copy_byte(alloc: Global) -> Result<Vec<Stmt>, AllocError>
     ensures { IfOk result (λ v. seen_block v.items ≡ copied_form) }
 {
     let once = store(TIMES, local(PLACE), number(1));
@@ -81,7 +81,7 @@ fn copied(alloc: Global) -> Result<Vec<Stmt>, AllocError>
 }
 
 /// A byte that is repeated.
-fn repeated(alloc: Global) -> Result<Vec<Stmt>, AllocError>
+fn repeat_byte(alloc: Global) -> Result<Vec<Stmt>, AllocError>
     ensures { IfOk result (λ v. seen_block v.items ≡ repeated_form) }
 {
     let times = binary(alloc, Op::Sub, number(0), local(LEFT));
@@ -94,7 +94,11 @@ fn data_byte(alloc: Global) -> Result<Vec<Stmt>, AllocError>
     ensures { IfOk result (λ v. seen_block v.items ≡ data_form) }
 {
     let is_copied = compare(alloc, Test::Gt, local(LEFT), number(0));
-    only(alloc, 17, choose(is_copied, copied(alloc), repeated(alloc)))
+    only(
+        alloc,
+        17,
+        choose(is_copied, copy_byte(alloc), repeat_byte(alloc)),
+    )
 }
 
 /// A byte of the input.

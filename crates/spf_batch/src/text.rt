@@ -41,7 +41,7 @@ fn trap_line(alloc: Global, name: &str, trap: Trap, size: usize) -> Result<Strin
 }
 
 /// A line, then an output and byte 0A.
-fn joined(line: String, output: &[u8]) -> Result<Vec<u8>, AllocError>
+fn join(line: String, output: &[u8]) -> Result<Vec<u8>, AllocError>
     ensures { IfOk result (λ bytes. bytes.items ≡ string_bytes line ++ (output.now ++ 10 ∷ [])) }
 {
     let mut bytes = line.into_bytes();
@@ -55,9 +55,9 @@ pub(crate) fn answer(alloc: Global, name: &str, outcome: &Outcome) -> Result<Vec
     ensures { IfOk result (λ bytes. bytes.items ≡ answer_of name.now (seen_outcome outcome.now)) }
 {
     match outcome {
-        Outcome::Done { output, .. } => joined(done_line(alloc, name, output.len())?, output),
+        Outcome::Done { output, .. } => join(done_line(alloc, name, output.len())?, output),
         Outcome::Trapped { trap, output } => {
-            joined(trap_line(alloc, name, *trap, output.len())?, output)
+            join(trap_line(alloc, name, *trap, output.len())?, output)
         }
     }
 }

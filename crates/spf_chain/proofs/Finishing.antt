@@ -5,8 +5,8 @@ use lib.ListN.{get_elem?}
 use Rattle.spf_ast.specs.declared.outcome.Trap.{Trap}
 use Rattle.spf_ast.specs.Event.{Event, IsConsistent}
 use Rattle.spf_exec.specs.declared.stop.Stop.{Stop}
-use Rattle.spf_chain.specs.declared.validated.Settled.{Settled}
-use Rattle.spf_chain.specs.declared.validated.Settled.TheVariants as settled
+use Rattle.spf_chain.specs.declared.block.Settled.{Settled}
+use Rattle.spf_chain.specs.declared.block.Settled.TheVariants as settled
 use Rattle.spf_ast_lemmas.proofs.Indices.{at-index}
 use Rattle.spf_cells.specs.declared.view.Setting.{Setting}
 use Rattle.spf_cells.specs.Log.{events}

@@ -3,9 +3,9 @@ use Rattle.std.proofs.Common.{◌≡◌, ◌<◌, ◌≤◌, ℕ, ◌-◌, zero,
 use Rattle.std.specs.Prelude.{map}
 use Rattle.std.proofs.lemmas.Option.{slice_get_within}
 use Rattle.std.proofs.lemmas.List.{append-nil}
-use Rattle.spf_chain.specs.declared.validated.Settled.{Settled}
-use Rattle.spf_chain.specs.declared.validated.Settled.TheVariants as settled
-use Rattle.spf_chain.specs.declared.validated.Validated.{Validated}
+use Rattle.spf_chain.specs.declared.block.Settled.{Settled}
+use Rattle.spf_chain.specs.declared.block.Settled.TheVariants as settled
+use Rattle.spf_chain.specs.declared.block.ChainBlock.{ChainBlock}
 use Rattle.spf_speculation_entry.specs.Entry.{plain_blocks}
 use Rattle.spf_chain.specs.declared.chain.Chain.TheInside.{Inside}
 use Rattle.spf_speculation_entry.specs.Sites.{entry_at, guess_at}
@@ -19,9 +19,9 @@ use Rattle.spf_chain.specs.Histories.{IsHistory, HasItsPlaces, AreExclusive}
 use Rattle.spf_chain.proofs.Keeping.{both-at, out-above, next-is}
 use Rattle.spf_chain.proofs.Raising.{not-both-settled}
 
-map-get : (xs : List Validated) (n : ℕ) (b : Validated) → slice_get xs n ≡ Some b → slice_get (map (λ (x : Validated). x.real) xs) n ≡ Some b.real
+map-get : (xs : List ChainBlock) (n : ℕ) (b : ChainBlock) → slice_get xs n ≡ Some b → slice_get (map (λ (x : ChainBlock). x.row) xs) n ≡ Some b.row
 map-get [] n b at = absurd cc
-map-get (x ∷ xs) zero b at = let e : x ≡ b = cc in ap (λ (z : Validated). Some z.real) e
+map-get (x ∷ xs) zero b at = let e : x ≡ b = cc in ap (λ (z : ChainBlock). Some z.row) e
 map-get (x ∷ xs) (suc n) b at = map-get xs n b at
 
 first-get : (xs ys : List (List ℤ)) (n : ℕ) (v : List ℤ) → slice_get xs n ≡ Some v → slice_get (xs ++ ys) n ≡ Some v
@@ -29,7 +29,7 @@ first-get [] ys n v at = absurd cc
 first-get (x ∷ xs) ys zero v at = at
 first-get (x ∷ xs) ys (suc n) v at = first-get xs ys n v at
 
-take-get : (k : ℕ) (xs : List Validated) (n : ℕ) (b : Validated) → slice_get (take k xs) n ≡ Some b → slice_get xs n ≡ Some b
+take-get : (k : ℕ) (xs : List ChainBlock) (n : ℕ) (b : ChainBlock) → slice_get (take k xs) n ≡ Some b → slice_get xs n ≡ Some b
 take-get zero xs n b at = absurd cc
 take-get (suc k) [] n b at = absurd cc
 take-get (suc k) (x ∷ xs) zero b at = at
@@ -54,7 +54,7 @@ history-inside a h n b at =
     let p = plain-first a h a.validation.settled refl in record {
       block = l.block;
       guess = l.guess;
-      real_value = ap (λ xs. slice_get xs n) p.1 ∙ first-get (reals a.validation.count a.validation.blocks.items) p.0 n b.real (map-get (take a.validation.count a.validation.blocks.items) n b at);
+      real_value = ap (λ xs. slice_get xs n) p.1 ∙ first-get (reals a.validation.count a.validation.blocks.items) p.0 n b.row (map-get (take a.validation.count a.validation.blocks.items) n b at);
     }
 
 pub history-is : (a : Inside) (v : ChainValue) → IsKept a → chain_value a ≡ v → IsHistory v

@@ -8,8 +8,8 @@ use Rattle.spf_ast.specs.Event.{Event, Load, Store, Turn, IsConsistent}
 use Rattle.spf_ast.specs.Interaction.{Performed, Ended, Stopped, Ending, HasReadAll}
 use Rattle.spf_exec.specs.declared.stop.Stop.{Stop}
 use Rattle.spf_exec.specs.declared.stop.Stop.TheVariants as stop
-use Rattle.spf_chain.specs.declared.validated.Settled.{Settled}
-use Rattle.spf_chain.specs.declared.validated.Settled.TheVariants as settled
+use Rattle.spf_chain.specs.declared.block.Settled.{Settled}
+use Rattle.spf_chain.specs.declared.block.Settled.TheVariants as settled
 use Rattle.spf_chain.specs.Homes.{result_of}
 use Rattle.spf_chain.proofs.Lists.{set_cases, set_other}
 use Rattle.spf_cells.specs.declared.view.Setting.{Setting}

@@ -7,13 +7,13 @@ use Rattle.std.specs.Prelude.{Some, None, ℤ, slice_get}
 use Rattle.std.specs.List.{Contains}
 use Rattle.std.proofs.lemmas.Option.{slice_get_within}
 use Rattle.spf_ast.specs.declared.outcome.Trap.{Trap}
-use Rattle.spf_chain.specs.declared.validated.Settled.{Settled}
-use Rattle.spf_chain.specs.declared.validated.Settled.TheVariants.{Carried, Trapped}
+use Rattle.spf_chain.specs.declared.block.Settled.{Settled}
+use Rattle.spf_chain.specs.declared.block.Settled.TheVariants.{Carried, Trapped}
 use Rattle.spf_speculation_entry.specs.Entry.{begins_at}
 use Rattle.spf_speculation_entry.specs.Sites.{entry_at, guess_at}
 use Rattle.std.specs.Prelude.{false}
 use Rattle.spf_speculation.specs.Prefixes.{PrefixesHaveRealValues}
-use Rattle.spf_chain.specs.declared.validated.Validated.{Validated}
+use Rattle.spf_chain.specs.declared.block.ChainBlock.{ChainBlock}
 use Rattle.spf_chain.specs.Sites.{IsGround}
 use Rattle.spf_chain.specs.Homes.{log_in, AreHomes}
 use Rattle.spf_chain.specs.Standing.{reals, TrappedAt, StandsAt}
@@ -108,10 +108,10 @@ kept-raised P a w h g = kept-with a w h (ap (λ (z : WardenValue). z.table) g.sa
 -- ---- which flags
 
 -- the next block, where it is out with its first attempt
-pub next-raise : (a : Inside) (v : ChainValue) (real : List ℤ) (b : Validated) → IsKept a → chain_value a ≡ v → v.settled ≡ Carried real → a.again ≡ false → slice_get a.homes.items a.validation.count ≡ Some None
-    → slice_get a.validation.blocks.items a.validation.count ≡ Some b → (b.real ≢ real → IsToRaise v (next_block v)) × (IsToRaise v (next_block v) → b.real ≢ real)
+pub next-raise : (a : Inside) (v : ChainValue) (real : List ℤ) (b : ChainBlock) → IsKept a → chain_value a ≡ v → v.settled ≡ Carried real → a.again ≡ false → slice_get a.homes.items a.validation.count ≡ Some None
+    → slice_get a.validation.blocks.items a.validation.count ≡ Some b → (b.row ≢ real → IsToRaise v (next_block v)) × (IsToRaise v (next_block v) → b.row ≢ real)
 next-raise a v real b h is carried off out at =
-    let first : b.real ≡ begins_at (entry_at a.site.value) (guess_at a.site.value) a.validation.count = (h.listed a.validation.count b at).first (omega arith) in
+    let first : b.row ≡ begins_at (entry_at a.site.value) (guess_at a.site.value) a.validation.count = (h.listed a.validation.count b at).first (omega arith) in
     let f : next_block (chain_value a) ≡ a.validation.count = next-is a (chain_value a) h refl in
     let mine : a.validation.settled ≡ Carried real = ap (λ (w : ChainValue). w.settled) is ∙ carried in (
       λ ne. subst (λ (w : ChainValue). IsToRaise w (next_block w)) is record {

@@ -27,7 +27,7 @@ use Rattle.spf_speculation_entry.specs.Sites.{construct_or_none, entry_at, guess
 use Rattle.spf_ticket.specs.Tickets.{IsFresh, first}
 use Rattle.spf_ticket.specs.declared.ticket.Ticket.{Ticket}
 use Rattle.spf_guess_statistics.specs.declared.guess.Guess.{Guess}
-use Rattle.spf_chain.specs.declared.validated.Validated.{Validated}
+use Rattle.spf_chain.specs.declared.block.ChainBlock.{ChainBlock}
 use Rattle.spf_chain.specs.Sites.{IsGround}
 use Rattle.spf_chain.specs.declared.chain.Chain.TheInside.{Inside}
 use Rattle.spf_chain.specs.Chains.{ChainValue, cells_of, next_block}
@@ -82,8 +82,8 @@ ascends i c l low blocks size plan p same = record {
 
 -- ---- tickets
 
-pub fresh-first : (s : Site) (k : CellsValue) (blocks : List Validated) (frame : List ℤ) (n : ℕ) (t : Ticket) → IsFirstTicket (new_lane k n) s.low blocks frame n t
-    → ((b : Validated) → slice_get blocks n ≡ Some b → IsListed s 0 n b) → n < s.blocks → length frame ≡ frame_size (program s.program) → s.slots ≡ main_slots (program s.program) frame
+pub fresh-first : (s : Site) (k : CellsValue) (blocks : List ChainBlock) (frame : List ℤ) (n : ℕ) (t : Ticket) → IsFirstTicket (new_lane k n) s.low blocks frame n t
+    → ((b : ChainBlock) → slice_get blocks n ≡ Some b → IsListed s 0 n b) → n < s.blocks → length frame ≡ frame_size (program s.program) → s.slots ≡ main_slots (program s.program) frame
     → IsFresh (entry_at s) (guess_at s) k t
 fresh-first s k blocks frame n t is listed low size slots =
     let e = entry_at s in
@@ -112,7 +112,7 @@ started a v s w m cells frame tickets h is new warden are size slots =
     let ground : IsGround s cells = subst (λ (x : Site). IsGround x cells) site (subst (IsGround a.site.value) inside h.ground) in
     let none : a.validation.count ≡ 0 = sym (next-is a v h is) ∙ ap next_block new in
     let many : length a.validation.blocks.items ≡ s.blocks = h.size ∙ h.stands.blocks ∙ ap (λ (x : Site). x.blocks) site in
-    let listed : (n : ℕ) (b : Validated) → slice_get a.validation.blocks.items n ≡ Some b → IsListed s 0 n b
+    let listed : (n : ℕ) (b : ChainBlock) → slice_get a.validation.blocks.items n ≡ Some b → IsListed s 0 n b
     = λ n b at. subst (λ (x : Site). IsListed x 0 n b) site (subst (λ k. IsListed a.site.value k n b) none (h.listed n b at)) in
     let blocks-of : length cells.setting.plan ≡ s.blocks = ground.made.blocks in
     record {

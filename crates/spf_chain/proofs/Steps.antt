@@ -7,9 +7,9 @@ use Rattle.spf_ast.specs.Event.{Event, IsConsistent}
 use Rattle.spf_ast.specs.Interaction.{State, Performed, Ended, Ending, Value, Trapped}
 use Rattle.spf_exec.specs.declared.stop.Stop.{Stop}
 use Rattle.spf_exec.specs.declared.stop.Stop.TheVariants as stop
-use Rattle.spf_chain.specs.declared.validated.Settled.{Settled}
-use Rattle.spf_chain.specs.declared.validated.Settled.TheVariants as settled
-use Rattle.spf_chain.specs.declared.validated.Validated.{Validated}
+use Rattle.spf_chain.specs.declared.block.Settled.{Settled}
+use Rattle.spf_chain.specs.declared.block.Settled.TheVariants as settled
+use Rattle.spf_chain.specs.declared.block.ChainBlock.{ChainBlock}
 use Rattle.spf_chain.specs.Homes.{result_of}
 use Rattle.spf_chain.proofs.Lists.{set_cases, set_other}
 use Rattle.spf_cells.specs.Log.{events}
@@ -84,8 +84,8 @@ home-log e guess c n v r o h carried known =
 -- ---- one more block
 
 -- a block with its real row
-abbrev pub with_real : Validated → Carried → Validated
-with_real b v = record { block = b.block; guess = b.guess; real = v }
+abbrev pub with_real : ChainBlock → Carried → ChainBlock
+with_real b v = record { block = b.block; guess = b.guess; row = v }
 
 known-somewhere : (homes : List (Option Report)) (k : ℕ) (v : Carried) (o : Settled) (x : Option (Option Report)) → slice_get homes k ≡ x → known_in v x ≡ Some o
     → (r : Report) × (slice_get homes k ≡ Some (Some r)) × (r.ticket.carried ≡ v) × (result_of r.stop ≡ Some o)
@@ -107,7 +107,7 @@ stands-on grow end e guess homes k v values (settled.Trapped t) h low f real is 
   ends = end e guess (log_in homes) k values v f.memory t [] h f.prefix low (subst (IsRealLog e guess k v (log_in homes k)) real.ends real.real) is;
 }
 
-pub one-more : PrefixesGrow → PrefixesEnd → (e : Entry) (guess : ℕ → Carried) (c : CellsValue) (homes : List (Option Report)) (bs : List Validated) (k : ℕ) (v : Carried) (o : Settled) (b : Validated)
+pub one-more : PrefixesGrow → PrefixesEnd → (e : Entry) (guess : ℕ → Carried) (c : CellsValue) (homes : List (Option Report)) (bs : List ChainBlock) (k : ℕ) (v : Carried) (o : Settled) (b : ChainBlock)
     → IsEntry e → AreHomes e guess c homes → length homes ≡ e.header.blocks → length bs ≡ length homes → k < length homes
     → PrefixAt e guess (log_in homes) k (reals k bs) v → known_in v (slice_get homes k) ≡ Some o
     → StandsAt e guess (log_in homes) (k + 1) (reals (k + 1) (set bs k (with_real b v))) o
@@ -117,7 +117,7 @@ one-more grow end e guess c homes bs k v o b h are many size low f known =
     let log : events r.0.ticket.lane.log ≡ log_in homes k = ap home_log (sym r.1) in
     let real : RealLogTo e guess k v (log_in homes k) o = subst (λ l. RealLogTo e guess k v l o) log (home-log e guess c k v r.0 o home r.2 r.3) in
     let values : reals (k + 1) (set bs k (with_real b v)) ≡ reals k bs ++ v ∷ [] =
-    ap (map (λ x. x.real)) (take_more_set bs k (with_real b v) (omega (arith, low, size))) ∙ map-append (λ x. x.real) (take k bs) (with_real b v ∷ []) in
+    ap (map (λ x. x.row)) (take_more_set bs k (with_real b v) (omega (arith, low, size))) ∙ map-append (λ x. x.row) (take k bs) (with_real b v ∷ []) in
     let more : suc k ≡ k + 1 = omega arith in
     subst (λ l. StandsAt e guess (log_in homes) (k + 1) l o) (sym values)
     (subst (λ n. StandsAt e guess (log_in homes) n (reals k bs ++ v ∷ []) o) more
@@ -128,7 +128,7 @@ pub there : (homes : List (Option Report)) (i : ℕ) (home : Option Report) → 
 there homes i home low read = slice_get-get_or homes i home low ∙ ap (λ x. Some x) (sym read)
 
 -- the same, as code does it
-pub one-more-at : PrefixesGrow → PrefixesEnd → (e : Entry) (guess : ℕ → Carried) (c : CellsValue) (homes : List (Option Report)) (bs : List Validated) (k i : ℕ) (s o : Settled) (v w : Carried) (b : Validated) (home : Option Report)
+pub one-more-at : PrefixesGrow → PrefixesEnd → (e : Entry) (guess : ℕ → Carried) (c : CellsValue) (homes : List (Option Report)) (bs : List ChainBlock) (k i : ℕ) (s o : Settled) (v w : Carried) (b : ChainBlock) (home : Option Report)
     → IsEntry e → AreHomes e guess c homes → length homes ≡ e.header.blocks → length bs ≡ length homes
     → StandsAt e guess (log_in homes) k (reals k bs) s → k ≡ i → s ≡ settled.Carried v → w ≡ v → i < length homes → home ≡ get_or homes i home → Some o ≡ known_at w home
     → StandsAt e guess (log_in homes) (i + 1) (reals (i + 1) (set bs i (with_real b w))) o
@@ -159,7 +159,7 @@ pub past-none : (homes : List (Option Report)) (k : ℕ) (v : Carried) → lengt
 past-none homes k v h = ap (known_in v) (slice_get_past homes k h)
 
 -- one more of the listed blocks was validated
-pub grows-more : (k : ℕ) (xs : List Validated) (j i : ℕ) (ys : List Validated) (b : Validated) (w : Carried) → Grows k xs j ys → j ≡ i → slice_get ys i ≡ Some b → Grows k xs (i + 1) (set ys i (with_real b w))
+pub grows-more : (k : ℕ) (xs : List ChainBlock) (j i : ℕ) (ys : List ChainBlock) (b : ChainBlock) (w : Carried) → Grows k xs j ys → j ≡ i → slice_get ys i ≡ Some b → Grows k xs (i + 1) (set ys i (with_real b w))
 grows-more k xs j i ys b w g is at = record {
   further = omega (arith, g.further, is);
   size = length-set ys i (with_real b w) ∙ g.size;
@@ -168,10 +168,10 @@ grows-more k xs j i ys b w g is at = record {
   given = λ n c here. elim (set_cases ys i n (with_real b w) c here) [
     | inl e ↦
         let a = g.given i b at in
-        (a.0, ap (slice_get xs) e.0 ∙ a.1, ap (λ (x : Validated). x.block) e.1 ∙ a.2, ap (λ (x : Validated). x.guess) e.1 ∙ a.3)
+        (a.0, ap (slice_get xs) e.0 ∙ a.1, ap (λ (x : ChainBlock). x.block) e.1 ∙ a.2, ap (λ (x : ChainBlock). x.guess) e.1 ∙ a.3)
     | inr there ↦ g.given n c there
   ];
 }
 
-pub grows-none : (k : ℕ) (xs : List Validated) → Grows k xs k xs
+pub grows-none : (k : ℕ) (xs : List ChainBlock) → Grows k xs k xs
 grows-none k xs = record { further = omega arith; size = refl; first = λ n low. refl; rest = λ n low. refl; given = λ n b at. (b, at, refl, refl) }

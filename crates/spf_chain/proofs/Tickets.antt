@@ -4,7 +4,7 @@ use Rattle.std.proofs.lemmas.Int.{ints}
 use Rattle.spf_cells.specs.Values.{LaneValue, CellsValue}
 use Rattle.spf_cells.specs.Made.{new_lane, new_lanes}
 use Rattle.spf_ticket.specs.declared.ticket.Ticket.{Ticket}
-use Rattle.spf_chain.specs.declared.validated.Validated.{Validated}
+use Rattle.spf_chain.specs.declared.block.ChainBlock.{ChainBlock}
 use Rattle.spf_chain.specs.Beginning.{IsFirstTicket, AreFirstTickets}
 use Rattle.spf_ast_lemmas.proofs.Indices.{index-within, last-index, earlier-index, one-longer, last_or_before}
 use Rattle.spf_ast_lemmas.proofs.Members.{some_is}
@@ -31,7 +31,7 @@ next-lane k n lanes ys rest l new split =
     (r.0 ∙ ap (new_lane k) here, r.1)
 
 -- one more ticket
-pub more-tickets : (k : CellsValue) (low : ℤ) (blocks : List Validated) (frame : List ℤ) (n : ℕ) (old new : List Ticket) (t : Ticket)
+pub more-tickets : (k : CellsValue) (low : ℤ) (blocks : List ChainBlock) (frame : List ℤ) (n : ℕ) (old new : List Ticket) (t : Ticket)
     → AreFirstTickets k low blocks frame n old → IsFirstTicket (new_lane k n) low blocks frame n t → new ≡ old ++ t ∷ [] → AreFirstTickets k low blocks frame (n + 1) new
 more-tickets k low blocks frame n old new t are one added = record {
   size = ap length added ∙ one-longer old t n are.size;
@@ -47,7 +47,7 @@ more-tickets k low blocks frame n old new t are one added = record {
       ];
 }
 
-pub no-tickets : (k : CellsValue) (low : ℤ) (blocks : List Validated) (frame : List ℤ) → AreFirstTickets k low blocks frame 0 []
+pub no-tickets : (k : CellsValue) (low : ℤ) (blocks : List ChainBlock) (frame : List ℤ) → AreFirstTickets k low blocks frame 0 []
 no-tickets k low blocks frame = record { size = refl; each = λ i x at. absurd cc }
 
 -- a smaller block number fits too

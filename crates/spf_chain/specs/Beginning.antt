@@ -11,8 +11,8 @@ use Rattle.spf_speculation_entry.specs.Sites.{entry_at, guess_at}
 use Rattle.spf_ticket.specs.Tickets.{IsFresh}
 use Rattle.spf_ticket.specs.declared.ticket.Ticket.{Ticket}
 use Rattle.spf_guess_statistics.specs.declared.guess.Guess.{Guess}
-use Rattle.spf_chain.specs.declared.validated.Settled.TheVariants.{Carried}
-use Rattle.spf_chain.specs.declared.validated.Validated.{Validated}
+use Rattle.spf_chain.specs.declared.block.Settled.TheVariants.{Carried}
+use Rattle.spf_chain.specs.declared.block.ChainBlock.{ChainBlock}
 use Rattle.spf_chain.specs.Sites.{IsGround}
 use Rattle.spf_chain.specs.Chains.{ChainValue, cells_of}
 
@@ -26,9 +26,9 @@ first_value start None = start
 first_value start (Some guess) = guess
 
 -- each block from n on with its guess and the row of its first attempt
-abbrev pub unvalidated : ℕ → carried.Carried → List (Option carried.Carried) → List Validated
+abbrev pub unvalidated : ℕ → carried.Carried → List (Option carried.Carried) → List ChainBlock
 unvalidated n start [] = []
-unvalidated n start (g ∷ gs) = record { block = n; guess = g; real = first_value start g } ∷ unvalidated (n + 1) start gs
+unvalidated n start (g ∷ gs) = record { block = n; guess = g; row = first_value start g } ∷ unvalidated (n + 1) start gs
 
 -- the warden's cells were made for the site, which has this start row and these guesses; the warden has all flags and took nothing over
 pub record IsBegin (s : Site) (w : WardenValue) (start : carried.Carried) (guesses : List Guess) : Type 0 where
@@ -58,16 +58,16 @@ site_of i construct h frame entry guesses = record {
 }
 
 -- the ticket of the first attempt of block n: at the block's first row, with this lane and this frame
-pub record IsFirstTicket (lane : LaneValue) (low : ℤ) (blocks : List Validated) (frame : List ℤ) (n : ℕ) (t : Ticket) : Type 0 where
+pub record IsFirstTicket (lane : LaneValue) (low : ℤ) (blocks : List ChainBlock) (frame : List ℤ) (n : ℕ) (t : Ticket) : Type 0 where
   pub block : t.block ≡ n
   pub number : t.number ≡ low +ℤ pos n
   pub attempt : t.attempt ≡ 1
-  pub carried : (b : Validated) × (slice_get blocks n ≡ Some b) × (t.carried ≡ b.real)
+  pub carried : (b : ChainBlock) × (slice_get blocks n ≡ Some b) × (t.carried ≡ b.row)
   pub own_lane : t.lane ≡ lane
   pub own_frame : t.frame ≡ frame
 
 -- these are the tickets of the first attempts of the first `count` blocks, in their order, with lanes that have logged nothing
-pub record AreFirstTickets (cells : CellsValue) (low : ℤ) (blocks : List Validated) (frame : List ℤ) (count : ℕ) (tickets : List Ticket) : Type 0 where
+pub record AreFirstTickets (cells : CellsValue) (low : ℤ) (blocks : List ChainBlock) (frame : List ℤ) (count : ℕ) (tickets : List Ticket) : Type 0 where
   pub size : length tickets ≡ count
   pub each : (n : ℕ) (t : Ticket) → slice_get tickets n ≡ Some t → IsFirstTicket (new_lane cells n) low blocks frame n t
 

@@ -26,9 +26,9 @@ use Rattle.std.specs.Prelude.{
 use Rattle.spf_ast_lemmas.specs.Counts.{one_more}
 use Rattle.spf_ast.specs.declared.outcome.Trap.{Trap}
 use Rattle.spf_cells.specs.Values.{CellsValue, WardenValue}
-use Rattle.spf_chain.specs.declared.validated.Settled.{Settled}
-use Rattle.spf_chain.specs.declared.validated.Settled.TheVariants.{Carried, Trapped}
-use Rattle.spf_chain.specs.declared.validated.Validated.{Validated}
+use Rattle.spf_chain.specs.declared.block.Settled.{Settled}
+use Rattle.spf_chain.specs.declared.block.Settled.TheVariants.{Carried, Trapped}
+use Rattle.spf_chain.specs.declared.block.ChainBlock.{ChainBlock}
 use Rattle.spf_speculation_entry.specs.Entry.{begins_at}
 use Rattle.spf_ticket.specs.Tickets.{IsFresh}
 use Rattle.spf_ticket.specs.declared.ticket.Report.{Report}
@@ -49,7 +49,7 @@ pub record ChainValue : Type 0 where
   pub warden : WardenValue
   pub homes : List (Option Report)
   pub again : Bool
-  pub history : List Validated
+  pub history : List ChainBlock
   pub settled : Settled
   pub reports : ℕ
 
@@ -140,12 +140,12 @@ sent_again c = record c { homes = slice_set c.homes (next_block c) None; again =
 
 -- the validated blocks are a prefix of the plain run, at their real rows; it goes on with this row, or its last block trapped
 abbrev pub IsPrefix : ChainValue → Type 0
-IsPrefix c = StandsAt (entry_at c.site) (guess_at c.site) (log_in c.homes) (next_block c) (map (λ b. b.real) c.history) c.settled
+IsPrefix c = StandsAt (entry_at c.site) (guess_at c.site) (log_in c.homes) (next_block c) (map (λ b. b.row) c.history) c.settled
 
 -- blocks that are home and were run at their real rows are validated in order, and no further block can be
 pub record Validates (before after : ChainValue) : Type 0 where
   pub same : after ≡ record before { history = after.history; settled = after.settled }
-  pub more : List Validated
+  pub more : List ChainBlock
   pub grown : after.history ≡ before.history ++ more
   pub prefix : IsPrefix after
   pub done : (v : carried.Carried) → after.settled ≡ Carried v → known_in v (slice_get after.homes (next_block after)) ≡ None

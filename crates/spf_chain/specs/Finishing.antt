@@ -11,8 +11,8 @@ use Rattle.spf_speculation.specs.Steps.{Step, Merges}
 use Rattle.spf_speculation.specs.Runs.{IsSpeculativeRun}
 use Rattle.spf_speculation_lanes.specs.Lanes.{logs_in}
 use Rattle.spf_ticket.specs.declared.ticket.Report.{Report}
-use Rattle.spf_chain.specs.declared.validated.Settled.{Settled}
-use Rattle.spf_chain.specs.declared.validated.Settled.TheVariants.{Carried, Trapped}
+use Rattle.spf_chain.specs.declared.block.Settled.{Settled}
+use Rattle.spf_chain.specs.declared.block.Settled.TheVariants.{Carried, Trapped}
 use Rattle.spf_chain.specs.Chains.{ChainValue}
 
 -- the lanes of the reports that are home
@@ -30,7 +30,7 @@ result_as (Trapped t) = Err t
 -- guesses, its history's real rows and what it came to
 abbrev pub EveryMergingRuns : ChainValue → (ℕ → List Event) → Type 0
 EveryMergingRuns c logs = (steps : List Step) → Merges c.site.blocks logs steps
-    → IsSpeculativeRun (entry_at c.site) (guess_at c.site) steps (map (λ b. b.real) c.history) (result_as c.settled)
+    → IsSpeculativeRun (entry_at c.site) (guess_at c.site) steps (map (λ b. b.row) c.history) (result_as c.settled)
 
 -- The chain came to this, with these logs, and its lanes were written back to a memory. The plain run of the site's
 -- blocks has the same real rows and the same result, and where none traps and the memory was that of the entry, the
@@ -38,9 +38,9 @@ EveryMergingRuns c logs = (steps : List Step) → Merges c.site.blocks logs step
 -- speculative run.
 pub record IsFinished (c : ChainValue) (s : Settled) (trace : List (List LogEntry)) (before after : List ℤ) : Type 0 where
   pub settled : s ≡ c.settled
-  pub values : map (λ b. b.real) c.history ≡ (plain_blocks (entry_at c.site)).values
+  pub values : map (λ b. b.row) c.history ≡ (plain_blocks (entry_at c.site)).values
   pub result : (plain_blocks (entry_at c.site)).result ≡ result_as s
   pub memory : (v : carried.Carried) → s ≡ Carried v → before ≡ c.site.memory → after ≡ (plain_blocks (entry_at c.site)).memory
   pub logs : length trace ≡ c.site.blocks
   pub merging : (steps : List Step) → Merges c.site.blocks (logs_in trace) steps
-      → IsSpeculativeRun (entry_at c.site) (guess_at c.site) steps (map (λ b. b.real) c.history) (result_as s)
+      → IsSpeculativeRun (entry_at c.site) (guess_at c.site) steps (map (λ b. b.row) c.history) (result_as s)

@@ -4,18 +4,18 @@ use Rattle.spf_ast.specs.Carried.{Carried}
 use Rattle.spf_speculation_entry.specs.Entry.{plain_blocks}
 use Rattle.spf_speculation_entry.specs.Sites.{entry_at, guess_given}
 use Rattle.spf_ticket.specs.declared.ticket.Report.{Report}
-use Rattle.spf_chain.specs.declared.validated.Validated.{Validated}
+use Rattle.spf_chain.specs.declared.block.ChainBlock.{ChainBlock}
 use Rattle.spf_chain.specs.Chains.{ChainValue, next_block, IsOut, NeedsRerun, WaitsFor, HasEnded}
 
 -- block n is validated with the guess that was given for it, at its real row in the plain run
-pub record IsValidated (c : ChainValue) (n : ℕ) (b : Validated) : Type 0 where
+pub record IsValidated (c : ChainValue) (n : ℕ) (b : ChainBlock) : Type 0 where
   pub block : b.block ≡ n
   pub guess : b.guess ≡ guess_given c.site n
-  pub real_value : slice_get (plain_blocks (entry_at c.site)).values n ≡ Some b.real
+  pub real_value : slice_get (plain_blocks (entry_at c.site)).values n ≡ Some b.row
 
 -- the history has the blocks from 0 on, each once and in order
 abbrev pub IsHistory : ChainValue → Type 0
-IsHistory c = (n : ℕ) (b : Validated) → slice_get c.history n ≡ Some b → IsValidated c n b
+IsHistory c = (n : ℕ) (b : ChainBlock) → slice_get c.history n ≡ Some b → IsValidated c n b
 
 -- there is a place for the report of each block; the validated blocks are some of them, and none of these is out
 pub record HasItsPlaces (c : ChainValue) : Type 0 where

@@ -9,8 +9,8 @@ use Rattle.spf_cells.specs.Values.{CellsValue}
 use Rattle.spf_speculation_entry.specs.Entry.{Entry}
 use Rattle.spf_ticket.specs.Tickets.{IsLawfulReport}
 use Rattle.spf_ticket.specs.declared.ticket.Report.{Report}
-use Rattle.spf_chain.specs.declared.validated.Settled.{Settled}
-use Rattle.spf_chain.specs.declared.validated.Settled.TheVariants as settled
+use Rattle.spf_chain.specs.declared.block.Settled.{Settled}
+use Rattle.spf_chain.specs.declared.block.Settled.TheVariants as settled
 
 -- what an attempt came to: the next carried row, or its trap; one that was cancelled came to nothing
 abbrev pub result_of : Stop → Option Settled

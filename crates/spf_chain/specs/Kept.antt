@@ -2,8 +2,8 @@
 use Rattle.std.specs.Prelude.{◌≡◌, ℕ, ◌≤◌, true, [], length, Some, None, slice_get}
 use Rattle.spf_ast.specs.Carried as carried
 use Rattle.spf_cells.specs.Values.{CellsValue}
-use Rattle.spf_chain.specs.declared.validated.Settled.TheVariants.{Carried}
-use Rattle.spf_chain.specs.declared.validated.Validated.{Validated}
+use Rattle.spf_chain.specs.declared.block.Settled.TheVariants.{Carried}
+use Rattle.spf_chain.specs.declared.block.ChainBlock.{ChainBlock}
 use Rattle.spf_speculation_entry.specs.Entry.{begins_at}
 use Rattle.spf_chain.specs.declared.chain.Chain.TheInside.{Inside}
 use Rattle.spf_speculation_entry.specs.declared.site.Site.{Site}
@@ -30,10 +30,10 @@ abbrev pub cells_inside : Inside → CellsValue
 cells_inside a = record { table = a.warden.table; setting = a.warden.setting }
 
 -- each block has its index and the guess that was given for it, and where it isn't validated the row of its first attempt
-pub record IsListed (s : Site) (count n : ℕ) (b : Validated) : Type 0 where
+pub record IsListed (s : Site) (count n : ℕ) (b : ChainBlock) : Type 0 where
   pub block : b.block ≡ n
   pub guess : b.guess ≡ guess_given s n
-  pub first : count ≤ n → b.real ≡ begins_at (entry_at s) (guess_at s) n
+  pub first : count ≤ n → b.row ≡ begins_at (entry_at s) (guess_at s) n
 
 -- its cells are those of its site, no lane was taken over, the reports that are home are lawful, and blocks are
 -- validated over them; a second attempt is out only where the next block has a real row and is out
@@ -46,5 +46,5 @@ pub record IsKept (a : Inside) : Type 0 where
   pub within : a.validation.count ≤ length a.homes.items
   pub homes : AreHomes (entry_at a.site.value) (guess_at a.site.value) (cells_inside a) a.homes.items
   pub stands : StandsOver (entry_at a.site.value) (guess_at a.site.value) a.homes.items a.validation
-  pub listed : (n : ℕ) (b : Validated) → slice_get a.validation.blocks.items n ≡ Some b → IsListed a.site.value a.validation.count n b
+  pub listed : (n : ℕ) (b : ChainBlock) → slice_get a.validation.blocks.items n ≡ Some b → IsListed a.site.value a.validation.count n b
   pub second : a.again ≡ true → (v : carried.Carried) × (a.validation.settled ≡ Carried v) × (slice_get a.homes.items a.validation.count ≡ Some None)

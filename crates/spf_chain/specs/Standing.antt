@@ -6,15 +6,15 @@ use Rattle.spf_ast.specs.Event.{Event}
 use Rattle.spf_speculation_entry.specs.Entry.{Entry}
 use Rattle.spf_speculation.specs.Prefixes.{IsValidatedPrefix, EndsAt}
 use Rattle.spf_ticket.specs.declared.ticket.Report.{Report}
-use Rattle.spf_chain.specs.declared.validated.Settled.{Settled}
-use Rattle.spf_chain.specs.declared.validated.Settled.TheVariants.{Carried, Trapped}
-use Rattle.spf_chain.specs.declared.validated.Validated.{Validated}
+use Rattle.spf_chain.specs.declared.block.Settled.{Settled}
+use Rattle.spf_chain.specs.declared.block.Settled.TheVariants.{Carried, Trapped}
+use Rattle.spf_chain.specs.declared.block.ChainBlock.{ChainBlock}
 use Rattle.spf_chain.specs.declared.validation.Validation.{Validation}
 use Rattle.spf_chain.specs.Homes.{known_in, log_in}
 
 -- the real rows of the first blocks
-abbrev pub reals : ℕ → List Validated → List carried.Carried
-reals count blocks = map (λ b. b.real) (take count blocks)
+abbrev pub reals : ℕ → List ChainBlock → List carried.Carried
+reals count blocks = map (λ b. b.row) (take count blocks)
 
 -- the first n blocks are a validated prefix, on some memory
 pub record PrefixAt (e : Entry) (guess : ℕ → carried.Carried) (logs : ℕ → List Event) (n : ℕ)
@@ -46,16 +46,16 @@ abbrev pub IsDone : List (Option Report) → ℕ → Settled → Type 0
 IsDone homes k s = (v : carried.Carried) → s ≡ Carried v → known_in v (slice_get homes k) ≡ None
 
 -- the validated blocks
-abbrev pub history_of : Validation → List Validated
+abbrev pub history_of : Validation → List ChainBlock
 history_of x = take x.count x.blocks.items
 
 -- of these blocks k were validated, and then j: those before stay, each block keeps its index and its guess, and each that isn't validated all it has
-pub record Grows (k : ℕ) (xs : List Validated) (j : ℕ) (ys : List Validated) : Type 0 where
+pub record Grows (k : ℕ) (xs : List ChainBlock) (j : ℕ) (ys : List ChainBlock) : Type 0 where
   pub further : k ≤ j
   pub size : length ys ≡ length xs
   pub first : (n : ℕ) → n < k → slice_get ys n ≡ slice_get xs n
   pub rest : (n : ℕ) → j ≤ n → slice_get ys n ≡ slice_get xs n
-  pub given : (n : ℕ) (b : Validated) → slice_get ys n ≡ Some b → (a : Validated) × (slice_get xs n ≡ Some a) × (b.block ≡ a.block) × (b.guess ≡ a.guess)
+  pub given : (n : ℕ) (b : ChainBlock) → slice_get ys n ≡ Some b → (a : ChainBlock) × (slice_get xs n ≡ Some a) × (b.block ≡ a.block) × (b.guess ≡ a.guess)
 
 abbrev pub GrowsTo : Validation → Validation → Type 0
 GrowsTo x y = Grows x.count x.blocks.items y.count y.blocks.items

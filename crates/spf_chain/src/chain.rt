@@ -2,7 +2,7 @@
 ghost use Rattle.std.specs.Prelude.{◌≡◌, ◌↔◌, IsTrue};
 ghost use Rattle.spf_chain.specs.declared.chain.Filed.TheVariants.{Ended as HasSaidEnded};
 
-use crate::validated::Validated;
+use crate::block::ChainBlock;
 use crate::validation::Validation;
 use spf_cells::lane::Lane;
 use spf_cells::warden::Warden;

@@ -1,7 +1,7 @@
 //! Files reports.
 ghost use Rattle.std.specs.Prelude.{◌≡◌, ◌≢◌, ◌<◌, ◌≤◌, ◌==◌, ◌↔◌, IsTrue, if◌then◌else◌, ℕ, false};
 ghost use Rattle.std.specs.Prelude.{length, slice_get, Some, None, MatchOption};
-ghost use Rattle.spf_chain.specs.declared.validated.Settled.TheVariants.{Carried as Gave, Trapped};
+ghost use Rattle.spf_chain.specs.declared.block.Settled.TheVariants.{Carried as Gave, Trapped};
 ghost use Rattle.spf_ast.specs.Carried.{Carried as CarriedValue};
 ghost use Rattle.std.specs.List.{Contains};
 ghost use Rattle.spf_cells.specs.Values.{IsWardenOf};
@@ -14,8 +14,8 @@ ghost use Rattle.spf_chain.specs.Chains.{next_block, IsOut, came_home, Validates
 ghost use Rattle.spf_chain.specs.Chains.{IsExact, HasTrapped, IsSameChain};
 ghost use Rattle.spf_ast_lemmas.specs.Counts.{one_more};
 
+use crate::block::Settled;
 use crate::chain::{Chain, Filed};
-use crate::validated::Settled;
 use spf_ast::row::Row;
 use spf_cells::cells::Cells;
 use spf_cells::warden::Warden;
@@ -189,7 +189,7 @@ impl Chain {
         if !is_out(&self.homes, next_block) {
             return false;
         }
-        !self.validation.blocks[next_block].real.is_same(&real)
+        !self.validation.blocks[next_block].row.is_same(&real)
     }
 
     // Raises the next block's flag where that is to be done.

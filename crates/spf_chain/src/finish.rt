@@ -6,8 +6,8 @@ ghost use Rattle.spf_chain.specs.Chains.{HasEnded, cells_of};
 ghost use Rattle.spf_chain.specs.Homes.{log_in};
 ghost use Rattle.spf_chain.specs.Finishing.{lanes_in, EveryMergingRuns, IsFinished};
 
+use crate::block::Settled;
 use crate::chain::Chain;
-use crate::validated::Settled;
 use spf_cells::cells::Cells;
 use spf_cells::finish::Trace;
 use spf_cells::lane::Lane;
@@ -38,7 +38,7 @@ impl Chain {
     pub fn merged_logs_are_speculative_runs(&self)
         requires ended { HasEnded self.now }
         ensures merging { EveryMergingRuns self.now (log_in self.now.homes) }
-        ensures values { map (λ b. b.real) self.now.history
+        ensures values { map (λ b. b.row) self.now.history
             ≡ (plain_blocks (entry_at self.now.site)).values }
     {
         // Law: the plain run stands where the validated prefix leaves it.

@@ -2,12 +2,12 @@
 ghost use Rattle.std.specs.Prelude.{◌≡◌};
 ghost use Rattle.spf_chain.specs.Histories.{IsHistory, HasItsPlaces, AreExclusive};
 
+use crate::block::ChainBlock;
 use crate::chain::Chain;
-use crate::validated::Validated;
 
 impl Chain {
     /// Returns the validated blocks, from block 0 on. No block that is out is among them.
-    pub fn history(&self) -> &[Validated]
+    pub fn history(&self) -> &[ChainBlock]
         ensures history { result.now ≡ self.now.history }
         ensures validated { IsHistory self.now }
         ensures places { HasItsPlaces self.now }

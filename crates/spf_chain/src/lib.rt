@@ -2,6 +2,7 @@
 //! the blocks are validated in order.
 #![tactic(auto)]
 
+pub mod block;
 mod cells;
 pub mod chain;
 pub mod file;
@@ -10,5 +11,4 @@ pub mod history;
 pub mod laws;
 mod place;
 pub mod start;
-pub mod validated;
 mod validation;

@@ -2,7 +2,7 @@
 ghost use Rattle.std.specs.Prelude.{◌≡◌};
 ghost use Rattle.spf_chain.specs.Homes.{result_of, known_at};
 
-use crate::validated::Settled;
+use crate::block::Settled;
 use spf_ast::row::Row;
 use spf_exec::stop::Stop;
 use spf_ticket::ticket::Report;

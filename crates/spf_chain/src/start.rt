@@ -16,9 +16,9 @@ ghost use Rattle.spf_speculation_entry.specs.declared.site.Site.{Site as SeenSit
 ghost use Rattle.spf_chain.specs.Beginning.{IsBegin, begun, guesses_for, unvalidated, site_of};
 ghost use Rattle.spf_chain.specs.Beginning.{IsFirstTicket, AreFirstTickets, IsStarted};
 
+use crate::block::{ChainBlock, Settled};
 use crate::cells::cells_for;
 use crate::chain::Chain;
-use crate::validated::{Settled, Validated};
 use crate::validation::Validation;
 use spf_ast::row::Row;
 use spf_cells::cells::Cells;
@@ -66,22 +66,22 @@ fn are_bytes(input: &[u8])
 }
 
 /// Each block with its guess and the row of its first attempt.
-fn blocks_of(alloc: Global, start: Row, guesses: &[Guess]) -> Result<Vec<Validated>, AllocError>
+fn blocks_of(alloc: Global, start: Row, guesses: &[Guess]) -> Result<Vec<ChainBlock>, AllocError>
     requires { length guesses.now ≤ 4095 }
     ensures { IfOk result (λ r. r.items ≡ unvalidated 0 start (guesses_for guesses.now)) }
 {
     let mut blocks = Vec::with_capacity(alloc, guesses.len() + 1)?;
-    blocks.push(Validated {
+    blocks.push(ChainBlock {
         block: 0,
         guess: None,
-        real: start,
+        row: start,
     })?;
     for guess in guesses {
         let block = blocks.len() as u64;
-        blocks.push(Validated {
+        blocks.push(ChainBlock {
             block,
             guess: Some(guess.value),
-            real: guess.value,
+            row: guess.value,
         })?;
     }
     Ok(blocks)
@@ -111,7 +111,7 @@ fn number_at(low: i64, block: usize) -> i64
 fn first_ticket(
     alloc: Global,
     lane: Lane,
-    blocks: &[Validated],
+    blocks: &[ChainBlock],
     block: usize,
     low: i64,
     frame: &Frame,
@@ -124,7 +124,7 @@ fn first_ticket(
 {
     let number = number_at(low, block);
     let own = frame.copy(alloc)?;
-    Ok(Ticket::make(block as u64, number, blocks[block].real, lane, own))
+    Ok(Ticket::make(block as u64, number, blocks[block].row, lane, own))
 }
 
 /// The tickets of the first attempts of these blocks, in their order.
@@ -132,7 +132,7 @@ fn tickets_of(
     alloc: Global,
     cells: &Cells,
     lanes: Vec<Lane>,
-    blocks: &[Validated],
+    blocks: &[ChainBlock],
     low: i64,
     frame: &Frame,
 ) -> Result<Vec<Ticket>, AllocError>

@@ -4,12 +4,12 @@ ghost use Rattle.spf_ast.specs.Carried.{Carried as CarriedValue};
 ghost use Rattle.spf_ast.specs.declared.outcome.Trap.{Trap as SeenTrap};
 ghost use Rattle.spf_speculation_entry.specs.Entry.{Entry, IsEntry};
 ghost use Rattle.spf_cells.specs.Values.{CellsValue};
-ghost use Rattle.spf_chain.specs.declared.validated.Settled.TheVariants.{Trapped};
+ghost use Rattle.spf_chain.specs.declared.block.Settled.TheVariants.{Trapped};
 ghost use Rattle.spf_chain.specs.Homes.{AreHomes};
 ghost use Rattle.spf_chain.specs.Standing.{StandsOver, IsDone, GrowsTo};
 
+use crate::block::{ChainBlock, Settled};
 use crate::place::result_at;
-use crate::validated::{Settled, Validated};
 use spf_ticket::ticket::Report;
 
 /// How far the blocks of a chain are validated.
@@ -17,7 +17,7 @@ use spf_ticket::ticket::Report;
 pub(crate) struct Validation {
     // each block with its guess: the first `count` with their real rows, the others with those of
     // their first attempts
-    pub(crate) blocks: Vec<Validated>,
+    pub(crate) blocks: Vec<ChainBlock>,
     // how many blocks are validated
     pub(crate) count: usize,
     // the real row of the next block, or the trap of the last validated one
@@ -49,7 +49,7 @@ impl Validation {
             let Some(result) = result_at(&homes[block], real) else {
                 return;
             };
-            self.blocks[block].real = real;
+            self.blocks[block].row = real;
             self.count = block + 1;
             self.settled = result;
         }

@@ -116,7 +116,7 @@ impl ConstructEffects {
         ensures { result ≡ first_overlap self.now }
     {
         match &self.producer {
-            None => self.guessed.may.unseparated(),
+            None => self.guessed.may.first_unseparated(),
             Some(producer) => first_meeting(&self.guessed.may, producer),
         }
     }

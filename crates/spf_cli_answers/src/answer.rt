@@ -40,7 +40,7 @@ use crate::message::{
 };
 use crate::reading::{Unread, read_program, refusal_line};
 use crate::replaying::{replay_files, sim_files};
-use crate::reply::{Reply, replied};
+use crate::reply::{Reply, reply_with};
 use crate::status::Status;
 use crate::texts::{build_file, show_file};
 use spf_ast::outcome::Outcome;
@@ -113,7 +113,7 @@ pub(crate) fn push_line(messages: &mut Vec<Vec<u8>>, line: String) -> Result<(),
 }
 
 /// An answer with one line, and nothing on the output.
-fn said(alloc: Global, status: Status, line: Vec<u8>) -> Result<Answer, AllocError>
+fn answer_with_line(alloc: Global, status: Status, line: Vec<u8>) -> Result<Answer, AllocError>
     ensures { IfOk result (λ a. seen_answer a ≡ refused_answer (status_number status) line.items) }
 {
     let mut messages = Vec::new(alloc);
@@ -126,25 +126,25 @@ fn said(alloc: Global, status: Status, line: Vec<u8>) -> Result<Answer, AllocErr
 }
 
 /// An answer with one line, given as text, and nothing on the output.
-pub(crate) fn refused(alloc: Global, status: Status, line: String) -> Result<Answer, AllocError>
+pub(crate) fn refuse(alloc: Global, status: Status, line: String) -> Result<Answer, AllocError>
     ensures { IfOk result
         (λ a. seen_answer a ≡ refused_answer (status_number status) (string_bytes line)) }
 {
-    said(alloc, status, line.into_bytes())
+    answer_with_line(alloc, status, line.into_bytes())
 }
 
 /// The answer where the words aren't understood.
 fn not_understood(alloc: Global) -> Result<Answer, AllocError>
     ensures { IfOk result (λ a. seen_answer a ≡ not_understood_answer) }
 {
-    refused(alloc, Status::NotUnderstood, words_line(alloc)?)
+    refuse(alloc, Status::NotUnderstood, words_line(alloc)?)
 }
 
 /// The answer where a file can't be fetched.
-fn failed(alloc: Global, name: &str) -> Result<Answer, AllocError>
+fn answer_unfetched(alloc: Global, name: &str) -> Result<Answer, AllocError>
     ensures { IfOk result (λ a. seen_answer a ≡ file_failed name.now) }
 {
-    refused(alloc, Status::FileFailed, failed_line(alloc, name)?)
+    refuse(alloc, Status::FileFailed, failed_line(alloc, name)?)
 }
 
 /// The content of a file.
@@ -161,9 +161,9 @@ pub(crate) fn fetch<F: Files>(
 {
     match files.fetch(alloc, name, limit) {
         Ok(content) => Ok(content),
-        Err(FetchError::Missing) => Err(Exit::Answered(failed(alloc, name)?)),
-        Err(FetchError::Failed) => Err(Exit::Answered(failed(alloc, name)?)),
-        Err(FetchError::TooLong) => Err(Exit::Answered(refused(
+        Err(FetchError::Missing) => Err(Exit::Answered(answer_unfetched(alloc, name)?)),
+        Err(FetchError::Failed) => Err(Exit::Answered(answer_unfetched(alloc, name)?)),
+        Err(FetchError::TooLong) => Err(Exit::Answered(refuse(
             alloc,
             Status::OverLimit,
             long_line(alloc, name, limit)?,
@@ -179,7 +179,7 @@ pub(crate) fn read(alloc: Global, text: &[u8]) -> Result<Program, Exit>
 {
     match read_program(alloc, text) {
         Ok(program) => Ok(program),
-        Err(Unread::Refused(refusal)) => Err(Exit::Answered(refused(
+        Err(Unread::Refused(refusal)) => Err(Exit::Answered(refuse(
             alloc,
             Status::NoProgram,
             refusal_line(alloc, refusal)?,
@@ -189,10 +189,10 @@ pub(crate) fn read(alloc: Global, text: &[u8]) -> Result<Program, Exit>
 }
 
 /// The answer where a program keeps the rules.
-fn accepted(alloc: Global) -> Result<Answer, AllocError>
+fn answer_accepted(alloc: Global) -> Result<Answer, AllocError>
     ensures { IfOk result (λ a. seen_answer a ≡ accepted_answer) }
 {
-    said(alloc, Status::Done, b"accepted\n".to_vec(alloc)?)
+    answer_with_line(alloc, Status::Done, b"accepted\n".to_vec(alloc)?)
 }
 
 /// The answer where a top construct of a program breaks a rule.
@@ -201,7 +201,7 @@ fn rule_refused(alloc: Global, program: &Program, refusal: Refusal) -> Result<An
         ≡ rule_refused_answer (seen_program program.now) refusal.rule refusal.line refusal.range) }
 {
     let line = rule_line(alloc, &program.arrays, refusal)?;
-    said(alloc, Status::Refused, line)
+    answer_with_line(alloc, Status::Refused, line)
 }
 
 /// What is left where a program isn't accepted.
@@ -271,7 +271,7 @@ fn push_arrays(
 }
 
 /// The answer of a run that ended so.
-fn ran(
+fn answer_of_run(
     alloc: Global,
     options: Options,
     instance: &Instance,
@@ -331,7 +331,7 @@ fn not_run(alloc: Global, program: &Program, error: RunError) -> Exit
 fn too_many(alloc: Global, count: u128, limit: u32) -> Result<Answer, AllocError>
     ensures { IfOk result (λ a. seen_answer a ≡ too_many_cells count limit) }
 {
-    refused(
+    refuse(
         alloc,
         Status::OverLimit,
         too_many_line(alloc, count, limit)?,
@@ -342,11 +342,11 @@ fn too_many(alloc: Global, count: u128, limit: u32) -> Result<Answer, AllocError
 pub(crate) fn without_host(alloc: Global, host: u64) -> Result<Answer, AllocError>
     ensures { IfOk result (λ a. seen_answer a ≡ host_missing host) }
 {
-    refused(alloc, Status::OverLimit, host_line(alloc, host)?)
+    refuse(alloc, Status::OverLimit, host_line(alloc, host)?)
 }
 
 /// The answer where a run by blocks did not reach its end.
-pub(crate) fn unfinished(
+pub(crate) fn answer_of_error(
     alloc: Global,
     program: &Program,
     error: EngineError,
@@ -382,7 +382,7 @@ fn run_plainly(
         Err(error) => return Err(not_run(alloc, program, error)),
     };
     let outcome = plain_run::run_instance(alloc, &instance)?;
-    Ok(ran(alloc, options, &instance, outcome, Stats::none())?)
+    Ok(answer_of_run(alloc, options, &instance, outcome, Stats::none())?)
 }
 
 /// How many workers run the blocks: as many as the words say, otherwise 4.
@@ -422,7 +422,7 @@ fn check_file<F: Files>(alloc: Global, program: &str, files: &mut F) -> Result<A
     let text = fetch(alloc, files, program, MAX_PROGRAM)?;
     let parsed = read(alloc, &text)?;
     accept(alloc, parsed)?;
-    Ok(accepted(alloc)?)
+    Ok(answer_accepted(alloc)?)
 }
 
 /// The answer of `explain` over a file.
@@ -487,9 +487,9 @@ impl<'a, R: Threads + Wait + Sync, G: Gate + Sync> Context<'a, R, G> {
             self.rt, self.alloc, checked, input, workers, hosts, self.gate,
         ) {
             Ok(run) => run,
-            Err(error) => return unfinished(self.alloc, checked.program(), error),
+            Err(error) => return answer_of_error(self.alloc, checked.program(), error),
         };
-        Ok(ran(self.alloc, options, &instance, report.outcome, report.stats)?)
+        Ok(answer_of_run(self.alloc, options, &instance, report.outcome, report.stats)?)
     }
 
     /// The answer of `run` over an accepted program, on the file of an input.
@@ -554,29 +554,33 @@ impl<'a, R: Threads + Wait + Sync, G: Gate + Sync> Context<'a, R, G> {
                 program,
                 input,
                 options,
-            } => replied(self.run_files(program, input, options, files, hosts)),
-            Command::Check { program } => replied(check_file(self.alloc, program, files)),
-            Command::Explain { program } => replied(explain_file(self.alloc, program, files)),
-            Command::Print { program } => replied(print_file(self.alloc, program, files)),
-            Command::Unpack { input, options } => replied(self.unpack_file(input, options, files)),
-            Command::Unhuff { input, options } => replied(self.unhuff_file(input, options, files)),
+            } => reply_with(self.run_files(program, input, options, files, hosts)),
+            Command::Check { program } => reply_with(check_file(self.alloc, program, files)),
+            Command::Explain { program } => reply_with(explain_file(self.alloc, program, files)),
+            Command::Print { program } => reply_with(print_file(self.alloc, program, files)),
+            Command::Unpack { input, options } => reply_with(self.unpack_file(
+                input, options, files,
+            )),
+            Command::Unhuff { input, options } => reply_with(self.unhuff_file(
+                input, options, files,
+            )),
             Command::Lex {
                 machine,
                 input,
                 options,
-            } => replied(self.lex_files(machine, input, options, files)),
-            Command::Show { machine } => replied(show_file(self.alloc, machine, files)),
-            Command::Build { text } => replied(build_file(self.alloc, text, files)),
+            } => reply_with(self.lex_files(machine, input, options, files)),
+            Command::Show { machine } => reply_with(show_file(self.alloc, machine, files)),
+            Command::Build { text } => reply_with(build_file(self.alloc, text, files)),
             Command::Sim {
                 program,
                 input,
                 seed,
-            } => replied(sim_files(self.alloc, program, input, seed, files, hosts)),
+            } => reply_with(sim_files(self.alloc, program, input, seed, files, hosts)),
             Command::Replay {
                 program,
                 input,
                 log,
-            } => replied(replay_files(self.alloc, program, input, log, files, hosts)),
+            } => reply_with(replay_files(self.alloc, program, input, log, files, hosts)),
             Command::Batch {
                 program,
                 list,
@@ -591,7 +595,7 @@ impl<'a, R: Threads + Wait + Sync, G: Gate + Sync> Context<'a, R, G> {
                 seed,
                 size,
                 workers,
-            } => replied(self.demo(kind, seed, size, workers)),
+            } => reply_with(self.demo(kind, seed, size, workers)),
         }
     }
 }

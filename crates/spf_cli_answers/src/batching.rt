@@ -14,7 +14,7 @@ ghost use Rattle.spf_cli_answers.specs.Status.{status_number};
 ghost use Rattle.spf_cli_answers.specs.Whole.{Handed, WholeOf};
 
 use crate::answer::{
-    Answer, Exit, MAX_INPUT, MAX_PROGRAM, accept, fetch, read, refused, without_host, worker_count,
+    Answer, Exit, MAX_INPUT, MAX_PROGRAM, accept, fetch, read, refuse, without_host, worker_count,
 };
 use crate::batch::Batch;
 use crate::context::Context;
@@ -46,7 +46,7 @@ pub struct Ending {
 fn not_a_name(alloc: Global, number: u64) -> Result<Answer, AllocError>
     ensures { IfOk result (λ a. seen_answer a ≡ not_a_name_answer number) }
 {
-    refused(alloc, Status::WrongFormat, not_name_line(alloc, number)?)
+    refuse(alloc, Status::WrongFormat, not_name_line(alloc, number)?)
 }
 
 /// The names of a list.

@@ -25,7 +25,7 @@ ghost use Rattle.spf_cli_answers.specs.Whole.{demo_input, by_blocks, handed, blo
 ghost use Rattle.spf_cli_answers.specs.Whole.{run_options as run_options_of, Lexing, WholeOf};
 ghost use Rattle.spf_cli_answers.specs.Answering.{seen_answer, IsFollowed, AnswersWith};
 
-use crate::answer::{Answer, Exit, MAX_INPUT, fetch, refused, unfinished};
+use crate::answer::{Answer, Exit, MAX_INPUT, answer_of_error, fetch, refuse};
 use crate::context::Context;
 use crate::message::{not_huf1_line, not_lex1_line, sum_line, trap_line};
 use crate::status::Status;
@@ -79,7 +79,7 @@ fn run_options(options: DecodeOptions) -> Options
 }
 
 /// The rules accept the program, so this fails only when memory runs out.
-fn accepted(alloc: Global, program: Program) -> Result<Checked, AllocError>
+fn accept_built_in(alloc: Global, program: Program) -> Result<Checked, AllocError>
     requires lawful { IsLawful (seen_program program) }
     requires accepted { IsAccepted (seen_program program) }
     ensures same { IfOk result (λ checked. checked ≡ program) }
@@ -94,14 +94,14 @@ fn accepted(alloc: Global, program: Program) -> Result<Checked, AllocError>
 fn not_huf1(alloc: Global, place: u64) -> Result<Answer, AllocError>
     ensures { IfOk result (λ a. seen_answer a ≡ not_huf1_answer place) }
 {
-    refused(alloc, Status::WrongFormat, not_huf1_line(alloc, place)?)
+    refuse(alloc, Status::WrongFormat, not_huf1_line(alloc, place)?)
 }
 
 /// The answer where a machine isn't LEX1.
 pub(crate) fn not_lex1(alloc: Global, place: u64) -> Result<Answer, AllocError>
     ensures { IfOk result (λ a. seen_answer a ≡ not_lex1_answer place) }
 {
-    refused(alloc, Status::WrongFormat, not_lex1_line(alloc, place)?)
+    refuse(alloc, Status::WrongFormat, not_lex1_line(alloc, place)?)
 }
 
 /// The sum of bytes.
@@ -116,7 +116,7 @@ fn sum(bytes: &[u8]) -> u128
 }
 
 /// The answer of a demo that ended so.
-fn shown(alloc: Global, outcome: Outcome, stats: Stats) -> Result<Answer, AllocError>
+fn answer_of_demo(alloc: Global, outcome: Outcome, stats: Stats) -> Result<Answer, AllocError>
     ensures { IfOk result (λ a. seen_answer a ≡ shown_answer (seen_outcome outcome) stats) }
 {
     match outcome {
@@ -128,7 +128,7 @@ fn shown(alloc: Global, outcome: Outcome, stats: Stats) -> Result<Answer, AllocE
                 messages: Vec::new(alloc),
             })
         }
-        Outcome::Trapped { trap, .. } => refused(alloc, Status::Trapped, trap_line(alloc, trap)?),
+        Outcome::Trapped { trap, .. } => refuse(alloc, Status::Trapped, trap_line(alloc, trap)?),
     }
 }
 
@@ -166,7 +166,7 @@ impl<'a, R: Threads + Wait + Sync, G: Gate + Sync> Context<'a, R, G> {
             (IsOnly (Decodes (seen_decode_options options) (seen_program program) input.now))
             result }
     {
-        let checked = accepted(self.alloc, program)?;
+        let checked = accept_built_in(self.alloc, program)?;
         let mut hosts: Vec<Box<dyn Predictor>> = Vec::new(self.alloc);
         let options = run_options(options);
         self.run_by_blocks(options, &checked, input, &mut hosts)
@@ -273,9 +273,9 @@ impl<'a, R: Threads + Wait + Sync, G: Gate + Sync> Context<'a, R, G> {
             self.rt, self.alloc, checked, input, workers, &mut hosts, self.gate,
         ) {
             Ok(report) => report,
-            Err(error) => return unfinished(self.alloc, checked.program(), error),
+            Err(error) => return answer_of_error(self.alloc, checked.program(), error),
         };
-        Ok(shown(self.alloc, report.outcome, report.stats)?)
+        Ok(answer_of_demo(self.alloc, report.outcome, report.stats)?)
     }
 
     /// The answer of `demo`.
@@ -292,7 +292,7 @@ impl<'a, R: Threads + Wait + Sync, G: Gate + Sync> Context<'a, R, G> {
         // Law: a kind, a seed and a size have one input.
         spf_apps_formats::laws::each_demo_input_is_generated_once();
         let program = demo_decoder(self.alloc, kind)?;
-        let checked = accepted(self.alloc, program)?;
+        let checked = accept_built_in(self.alloc, program)?;
         let file = generate(self.alloc, kind, seed, size)?;
         let input = whole_input(self.alloc, kind, file)?;
         self.demonstrate(&checked, &input, workers)

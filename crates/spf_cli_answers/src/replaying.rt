@@ -21,7 +21,7 @@ ghost use Rattle.spf_cli_answers.specs.Status.{status_number};
 ghost use Rattle.spf_cli_answers.specs.Whole.{handed, Replays, Simulates, WholeOf};
 
 use crate::answer::{
-    Answer, Exit, MAX_INPUT, MAX_PROGRAM, accept, fetch, push_line, read, refused, unfinished,
+    Answer, Exit, MAX_INPUT, MAX_PROGRAM, accept, answer_of_error, fetch, push_line, read, refuse,
 };
 use crate::message::{not_log_line, stats_line, steps_line, trap_line, verdict_line};
 use crate::status::Status;
@@ -59,7 +59,7 @@ fn push_trap(
 }
 
 /// The answer where a run was simulated.
-fn simulated(alloc: Global, made: &Simulated) -> Result<Answer, AllocError>
+fn answer_of_simulation(alloc: Global, made: &Simulated) -> Result<Answer, AllocError>
     requires { AreOfFewBlocks (sections_of made.now.log.items) }
     ensures { IfOk result (λ a. seen_answer a ≡ simulated_answer (seen_outcome made.now.outcome)
         made.now.stats (bytes_of (seen_log made.now.log.items))) }
@@ -80,7 +80,7 @@ fn simulated(alloc: Global, made: &Simulated) -> Result<Answer, AllocError>
 fn too_many_steps(alloc: Global) -> Result<Answer, AllocError>
     ensures { IfOk result (λ a. seen_answer a ≡ too_many_steps_answer) }
 {
-    refused(alloc, Status::OverLimit, steps_line(alloc)?)
+    refuse(alloc, Status::OverLimit, steps_line(alloc)?)
 }
 
 /// The answer of a simulation of an accepted program on an input.
@@ -98,10 +98,10 @@ fn simulate(
     spf_replay::laws::each_run_has_one_schedule();
     let instance = match set_up(alloc, checked, input, hosts.len() as u64) {
         Ok(instance) => instance,
-        Err(error) => return unfinished(alloc, checked.program(), error),
+        Err(error) => return answer_of_error(alloc, checked.program(), error),
     };
     match simulate_instance(alloc, checked, &instance, hosts, seed)? {
-        Some(made) => Ok(simulated(alloc, &made)?),
+        Some(made) => Ok(answer_of_simulation(alloc, &made)?),
         None => Ok(too_many_steps(alloc)?),
     }
 }
@@ -110,7 +110,7 @@ fn simulate(
 fn not_a_log(alloc: Global, place: u64) -> Result<Answer, AllocError>
     ensures { IfOk result (λ a. seen_answer a ≡ not_a_log_answer place) }
 {
-    refused(alloc, Status::WrongFormat, not_log_line(alloc, place)?)
+    refuse(alloc, Status::WrongFormat, not_log_line(alloc, place)?)
 }
 
 /// The log that a file is.
@@ -136,7 +136,7 @@ fn fetch_log<F: Files>(alloc: Global, name: &str, files: &mut F) -> Result<Vec<V
 }
 
 /// The answer with the verdict on a log.
-fn judged(alloc: Global, verdict: Verdict) -> Result<Answer, AllocError>
+fn answer_of_verdict(alloc: Global, verdict: Verdict) -> Result<Answer, AllocError>
     ensures { IfOk result (λ a. seen_answer a ≡ judged_answer verdict) }
 {
     let status = match verdict {
@@ -165,10 +165,10 @@ fn judge(
     spf_replay::verdict::verdicts_are_exact();
     let instance = match set_up(alloc, checked, input, hosts.len() as u64) {
         Ok(instance) => instance,
-        Err(error) => return unfinished(alloc, checked.program(), error),
+        Err(error) => return answer_of_error(alloc, checked.program(), error),
     };
     let verdict = replay_instance(alloc, checked, &instance, hosts, log)?;
-    Ok(judged(alloc, verdict)?)
+    Ok(answer_of_verdict(alloc, verdict)?)
 }
 
 /// The program in a file, where the rules accept it.

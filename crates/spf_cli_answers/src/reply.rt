@@ -16,7 +16,7 @@ pub enum Reply {
 }
 
 /// An answer as a reply.
-pub(crate) fn replied(answer: Result<Answer, Exit>) -> Result<Reply, Exit>
+pub(crate) fn reply_with(answer: Result<Answer, Exit>) -> Result<Reply, Exit>
     ensures reply { result ≡ reply_of answer }
     ensures answer { IfOk result (λ reply. IsBatch reply → ⊥) }
 {

@@ -7,7 +7,7 @@ ghost use Rattle.spf_cli_answers.specs.Answer.{written as written_answer};
 ghost use Rattle.spf_cli_answers.specs.Whole.{Handed, WholeOf};
 ghost use Rattle.spf_cli_answers.specs.Answering.{seen_answer, IsFollowed, AnswersWith};
 
-use crate::answer::{Answer, Exit, fetch, refused};
+use crate::answer::{Answer, Exit, fetch, refuse};
 use crate::decoding::{MAX_MACHINE, not_lex1};
 use crate::message::not_machine_line;
 use crate::status::Status;
@@ -34,7 +34,7 @@ fn written(alloc: Global, output: Vec<u8>) -> Answer
 fn not_a_machine(alloc: Global) -> Result<Answer, AllocError>
     ensures { IfOk result (λ a. seen_answer a ≡ not_a_machine_answer) }
 {
-    refused(alloc, Status::WrongFormat, not_machine_line(alloc)?)
+    refuse(alloc, Status::WrongFormat, not_machine_line(alloc)?)
 }
 
 /// The answer of `show` over a file.

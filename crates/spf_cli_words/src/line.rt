@@ -21,7 +21,7 @@ fn positional<'a>(alloc: Global, name: &'a str) -> Arg<'a>
 }
 
 /// `--name VALUE`.
-fn valued<'a>(alloc: Global, name: &'a str) -> Arg<'a>
+fn option_with_value<'a>(alloc: Global, name: &'a str) -> Arg<'a>
     ensures { IsRule (valued_rule name.now) result }
 {
     Arg::new(alloc, name).long(name)
@@ -66,8 +66,8 @@ fn with_decode_options<'a>(
     ensures { (app : App) → IfOk command.entry (IsLine app)
         → IfOk result (IsLine (with_decode_rules app)) }
 {
-    let command = add_argument(command, valued(alloc, "block"));
-    let command = add_argument(command, valued(alloc, "workers"));
+    let command = add_argument(command, option_with_value(alloc, "block"));
+    let command = add_argument(command, option_with_value(alloc, "workers"));
     add_argument(command, flag(alloc, "stats"))
 }
 
@@ -80,7 +80,7 @@ fn with_run_options<'a>(
     ensures { (app : App) → IfOk command.entry (IsLine app)
         → IfOk result (IsLine (with_run_rules app)) }
 {
-    let command = add_argument(command, valued(alloc, "workers"));
+    let command = add_argument(command, option_with_value(alloc, "workers"));
     let command = add_argument(command, flag(alloc, "stats"));
     let command = add_argument(command, flag(alloc, "cells"));
     add_argument(command, flag(alloc, "plain"))
@@ -132,7 +132,7 @@ fn batch_line<'a>(alloc: Global) -> Result<Command<'a>, AllocError>
 {
     let command = Command::new(alloc, "batch").arg(positional(alloc, "program"));
     let command = add_argument(command, positional(alloc, "list"));
-    add_argument(command, valued(alloc, "workers"))
+    add_argument(command, option_with_value(alloc, "workers"))
 }
 
 /// `NAME PROGRAM INPUT LAST`, where the last argument has this name.

@@ -62,12 +62,12 @@ pub(crate) fn tell(
         Cond::Compare(test, left, right) => compare(scope, line, free, *test, left, right, out),
         Cond::Both(first, second) => {
             tell(scope, line, free, first, out)?;
-            let then = told(scope, line, free, second)?;
+            let then = code_telling(scope, line, free, second)?;
             add(out, Node::Branch(free, then, Vec::new(scope.alloc)))
         }
         Cond::Either(first, second) => {
             tell(scope, line, free, first, out)?;
-            let otherwise = told(scope, line, free, second)?;
+            let otherwise = code_telling(scope, line, free, second)?;
             add(out, Node::Branch(free, Vec::new(scope.alloc), otherwise))
         }
         Cond::Not(inner) => {
@@ -79,7 +79,7 @@ pub(crate) fn tell(
 
 /// Returns code of its own that has the register `free` say whether a condition holds.
 #[cycle(condition)]
-pub(crate) fn told(
+pub(crate) fn code_telling(
     scope: &Scope,
     line: u32,
     free: u32,

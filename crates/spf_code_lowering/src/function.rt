@@ -1,10 +1,11 @@
 //! Lowering of functions.
 
-ghost use Rattle.std.specs.Prelude.{◌≡◌, ℕ, length, map, IfOk};
+ghost use Rattle.std.specs.Prelude.{◌≡◌, ℕ, [], length, map, IfOk};
 ghost use Rattle.spf_ast.specs.View.{function as seen_function};
 ghost use Rattle.spf_ast.specs.Meaning.{callable_before};
 ghost use Rattle.spf_code.specs.NodeView.{code};
 ghost use Rattle.spf_code_lowering.specs.Lowering.{IsCodeOf, AreCodesOf};
+ghost use Rattle.spf_code_lowering.specs.Tables.{HaveNoTables};
 
 use crate::expression::{Scope, hold};
 use crate::statement::block;
@@ -33,6 +34,7 @@ pub fn function(
     ensures code { (calls : ℕ → ℕ) → IfOk result (λ f.
         IsCodeOf (callable_before (map seen_function functions.now) index) calls
         (seen_function source.now) (code f.code.items) f.register) }
+    ensures table { IfOk result (λ f. f.table.items ≡ []) }
 {
     let own = slot_count(source)?;
     let scope = Scope {
@@ -47,6 +49,7 @@ pub fn function(
         slots: own,
         code: made,
         register: held.register,
+        table: Vec::new(alloc),
     })
 }
 
@@ -59,6 +62,7 @@ pub fn functions(alloc: Global, sources: &[Function]) -> Result<Vec<FunctionCode
     ensures count { IfOk result (λ codes. length codes.items ≡ length sources.now) }
     ensures codes { (calls : ℕ → ℕ)
         → IfOk result (λ codes. AreCodesOf (map seen_function sources.now) calls codes.items) }
+    ensures tables { IfOk result (λ codes. HaveNoTables codes.items) }
 {
     let mut codes = Vec::new(alloc);
     for index in 0..sources.len() {

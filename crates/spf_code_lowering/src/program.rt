@@ -12,6 +12,7 @@ ghost use Rattle.spf_ast.specs.View.{program as seen_program, fold_head, pair_he
 ghost use Rattle.spf_ast.specs.Meaning.{callable_before};
 ghost use Rattle.spf_code.specs.Code.{code_sets};
 ghost use Rattle.spf_code.specs.NodeView.{code};
+ghost use Rattle.spf_code_lowering.specs.Tables.{HaveNoTables};
 ghost use Rattle.spf_code_lowering.specs.Lowering.{IsRowCode, IsExpressionCode, IsGuessCode};
 ghost use Rattle.spf_code_lowering.specs.Lowering.{AreGuessCodes, IsFoldCode, IsPairCode};
 ghost use Rattle.spf_code_lowering.specs.Lowering.{IsConstructCode, AreConstructCodes};
@@ -235,7 +236,8 @@ fn statement_codes(scope: &Scope, main: &[Stmt]) -> Result<Vec<Vec<Node>>, Alloc
 ///
 /// `AllocError` where there is no memory for the code.
 pub fn lower(alloc: Global, program: &Program) -> Result<ProgramCode, AllocError>
-    ensures { IfOk result (λ code. IsCodeOfProgram (seen_program program.now) code) }
+    ensures code { IfOk result (λ code. IsCodeOfProgram (seen_program program.now) code) }
+    ensures tables { IfOk result (λ code. HaveNoTables code.functions.items) }
 {
     let functions = functions(alloc, &program.functions)?;
     let scope = Scope {

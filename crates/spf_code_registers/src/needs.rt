@@ -17,7 +17,7 @@ ghost use Rattle.spf_code_registers.specs.Counted.{capped, IsTable};
 use spf_ast::syntax::{Cond, Expr, Fold, Pair, Predict, Stmt, StmtKind};
 
 /// The registers that a call of a function needs, or 0 where it isn't there.
-fn called(rooms: &[u64], function: u32) -> u64
+fn call_needs(rooms: &[u64], function: u32) -> u64
     ensures { (calls : ℕ → ℕ) → IsTable calls rooms.now → result ≡ capped (calls function) }
 {
     match rooms.get(function as usize) {
@@ -38,7 +38,7 @@ pub fn expression(rooms: &[u64], expr: &Expr) -> u64
         Expr::Load(_, index) => expression(rooms, index).saturating_add(1),
         Expr::Call(function, given) => {
             let most = arguments(rooms, given);
-            most.max(called(rooms, *function))
+            most.max(call_needs(rooms, *function))
         }
         Expr::Neg(inner) => expression(rooms, inner).saturating_add(1),
         Expr::Binary(_, left, right) => {
@@ -154,7 +154,7 @@ fn statement(rooms: &[u64], kind: &StmtKind) -> u64
         }
         StmtKind::Call(function, given) => {
             let most = arguments(rooms, given);
-            most.max(called(rooms, *function)).saturating_add(1)
+            most.max(call_needs(rooms, *function)).saturating_add(1)
         }
         StmtKind::Fold(parts) => fold(rooms, parts),
         StmtKind::Pair(parts) => pair(rooms, parts),

@@ -1,8 +1,8 @@
 -- Whether a chain has ended, as a truth value that the crew's words agree with.
 use Rattle.std.specs.Prelude.{Bool, true, false, ◌&&◌, ◌||◌, ◌==◌, List, [], ◌∷◌, Option, Some, None}
 use Rattle.spf_ticket.specs.declared.ticket.Report.{Report}
-use Rattle.spf_chain.specs.declared.validated.Settled.{Settled}
-use Rattle.spf_chain.specs.declared.validated.Settled.TheVariants.{Carried, Trapped}
+use Rattle.spf_chain.specs.declared.block.Settled.{Settled}
+use Rattle.spf_chain.specs.declared.block.Settled.TheVariants.{Carried, Trapped}
 use Rattle.spf_chain.specs.Chains.{ChainValue, next_block}
 
 -- every report is home

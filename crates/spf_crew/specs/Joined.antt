@@ -14,4 +14,4 @@ joined_down (suc n) logs = steps_of n (logs n) ++ joined_down n logs
 
 -- the steps are a speculative run of the chain's blocks, with the chain's guesses, real values and result
 abbrev pub IsRunOf : ChainValue → List Step → Type 0
-IsRunOf c steps = IsSpeculativeRun (entry_at c.site) (guess_at c.site) steps (map (λ b. b.real) c.history) (result_as c.settled)
+IsRunOf c steps = IsSpeculativeRun (entry_at c.site) (guess_at c.site) steps (map (λ b. b.row) c.history) (result_as c.settled)

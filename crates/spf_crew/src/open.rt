@@ -24,10 +24,10 @@ use std::alloc::{AllocError, Global};
 pub(crate) fn key_of(chain: &Chain, mates: u64) -> GhostKey<CrewSetting>
     ensures { result.value ≡ setting_of chain.now mates }
 {
-    named(chain, mates)
+    setting_key(chain, mates)
 }
 
-fn named(chain: &Chain, mates: u64) -> GhostKey<CrewSetting>
+fn setting_key(chain: &Chain, mates: u64) -> GhostKey<CrewSetting>
     ghost setting: { CrewSetting }
     ensures { result.value ≡ setting }
 {

@@ -15,7 +15,7 @@ ghost use Rattle.spf_effects_findings.specs.Parts.{guess_finds, guesses_find, ou
 ghost use Rattle.spf_effects_findings.specs.Parts.{part_effects};
 ghost use Rattle.spf_effects_walk.specs.Settings.{setting};
 
-use crate::effects::{Effects, gathered, no_effects};
+use crate::effects::{Effects, gather, no_effects};
 use spf_ast::construct::{ConstructKind, TopConstruct};
 use spf_ast::syntax::{Expr, Fold, Pair, Part, Predict, Program, Stmt};
 use spf_effects_findings::findings::Findings;
@@ -138,7 +138,7 @@ fn effects_and(
 {
     let mut found = Findings::new(context.alloc);
     block_and_row(context, bounds, statements, last, &mut found)?;
-    gathered(context.alloc, found, statements)
+    gather(context.alloc, found, statements)
 }
 
 /// The effects of a block.
@@ -153,7 +153,7 @@ fn block_effects(
 {
     let mut found = Findings::new(context.alloc);
     block(context, bounds, statements, &mut found)?;
-    gathered(context.alloc, found, statements)
+    gather(context.alloc, found, statements)
 }
 
 /// The effects of the guesses of a row's parts.
@@ -170,7 +170,7 @@ fn predictor_effects(
     for part in predict {
         guess(context, bounds, part, &mut found)?;
     }
-    gathered(context.alloc, found, &[])
+    gather(context.alloc, found, &[])
 }
 
 /// Examines the guess of one part of a row. A predictor that is supplied does nothing here.

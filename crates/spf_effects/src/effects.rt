@@ -42,7 +42,7 @@ pub(crate) fn no_effects(alloc: Global) -> Effects
 }
 
 /// The effects of a part with these statements in which this was found.
-pub(crate) fn gathered(
+pub(crate) fn gather(
     alloc: Global,
     found: Findings,
     statements: &[Stmt],

@@ -22,7 +22,7 @@ fn is_same(low: i64, high: i64) -> bool
 }
 
 /// A list with the same offsets and whole arrays.
-fn copied(alloc: Global, list: &RangeList) -> Result<RangeList, AllocError>
+fn copy_of(alloc: Global, list: &RangeList) -> Result<RangeList, AllocError>
     ensures offsets { IfOk result (λ copy. offsets_of copy ≡ offsets_of list.now) }
     ensures wholes { IfOk result (λ copy. wholes_of copy ≡ wholes_of list.now) }
 {
@@ -104,7 +104,7 @@ impl Findings {
         ensures offsets { IfOk result (λ copy. offsets_of copy ≡ offsets_of self.now.written) }
         ensures wholes { IfOk result (λ copy. wholes_of copy ≡ wholes_of self.now.written) }
     {
-        copied(alloc, &self.written)
+        copy_of(alloc, &self.written)
     }
 
     /// Takes this list for what is surely written, and gives the one that was.

@@ -16,7 +16,7 @@ pub(crate) fn binary_bound(op: Op, left: Bound, right: Bound) -> Bound
         Op::Sub => left.minus(right),
         Op::Mul => left.times(right),
         Op::Rem => left.rem(right),
-        Op::And => left.masked(right),
+        Op::And => left.mask(right),
         Op::Div | Op::Or | Op::Xor | Op::Shl | Op::Shr => Bound::Unknown,
     }
 }

@@ -64,7 +64,7 @@ pub fn expression(
         Expr::Call(function, given) => call(context, bounds, *function, given, found),
         Expr::Neg(inner) => {
             let inner = expression(context, bounds, inner, found)?;
-            Ok(inner.negated())
+            Ok(inner.negate())
         }
         Expr::Binary(op, left, right) => {
             let left = expression(context, bounds, left, found)?;

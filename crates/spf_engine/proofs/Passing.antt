@@ -16,8 +16,8 @@ use Rattle.spf_check_rules.specs.Rules.{KeepsTheRules}
 use Rattle.spf_speculation_entry.specs.Entry.{Entry, plain_blocks}
 use Rattle.spf_ast_laws.specs.Chained.{chained, is_trap}
 use Rattle.spf_exec_instance.specs.Frame.{main_slots}
-use Rattle.spf_chain.specs.declared.validated.Settled.{Settled}
-use Rattle.spf_chain.specs.declared.validated.Settled.TheVariants.{Carried, Trapped}
+use Rattle.spf_chain.specs.declared.block.Settled.{Settled}
+use Rattle.spf_chain.specs.declared.block.Settled.TheVariants.{Carried, Trapped}
 use Rattle.spf_chain.specs.Finishing.{result_as}
 use Rattle.spf_engine_construct.specs.declared.construct.ConstructReport.{ConstructReport}
 use Rattle.spf_engine_construct.specs.Coming.{ComesTo}

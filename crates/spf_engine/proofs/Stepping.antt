@@ -16,8 +16,8 @@ use Rattle.spf_engine_laws.specs.Progress.{Progress, GoesOn, HasCome}
 use Rattle.spf_engine.specs.declared.account.Account.{Account}
 use Rattle.spf_engine_laws.specs.Laws.{RunsAdvance, IsPausedSo, PassedHaveTheTraces}
 use Rattle.spf_engine_laws.specs.Traces.{Trace, AreTraces}
-use Rattle.spf_chain.specs.declared.validated.Settled.{Settled}
-use Rattle.spf_chain.specs.declared.validated.Settled.TheVariants.{Carried, Trapped}
+use Rattle.spf_chain.specs.declared.block.Settled.{Settled}
+use Rattle.spf_chain.specs.declared.block.Settled.TheVariants.{Carried, Trapped}
 use Rattle.spf_engine_construct.specs.Guesses.{AreAtMost}
 use Rattle.spf_guess_statistics.specs.declared.stats.Stats.{Stats}
 use Rattle.spf_guess_statistics.specs.Statistics.{none, plus}

@@ -47,7 +47,7 @@ pub struct RunReport {
 }
 
 /// The report of a run that came to its end.
-fn finished(run: Run, account: Account) -> RunReport
+fn report_at_end(run: Run, account: Account) -> RunReport
     ensures outcome { seen_outcome result.outcome ≡ Done run.cells run.output }
     ensures stats { result.stats ≡ account.stats }
     ensures bounded { AreAtMost result.stats most_counted }
@@ -62,7 +62,7 @@ fn finished(run: Run, account: Account) -> RunReport
 }
 
 /// The report of a run that trapped.
-fn trapped(run: Run, trap: Trap, account: Account) -> RunReport
+fn report_at_trap(run: Run, trap: Trap, account: Account) -> RunReport
     ensures outcome { seen_outcome result.outcome ≡ Stopped trap run.output }
     ensures stats { result.stats ≡ account.stats }
     ensures bounded { AreAtMost result.stats most_counted }
@@ -126,8 +126,8 @@ pub fn run_instance<R: Threads + Wait + Sync, G: Gate + Sync>(
     loop {
         match runner.take_step(&mut run, &mut account, hosts)? {
             Step::Next => {}
-            Step::Finished => return Ok(finished(run, account)),
-            Step::Trapped(trap) => return Ok(trapped(run, trap, account)),
+            Step::Finished => return Ok(report_at_end(run, account)),
+            Step::Trapped(trap) => return Ok(report_at_trap(run, trap, account)),
         }
     }
 }

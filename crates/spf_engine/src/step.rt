@@ -11,7 +11,7 @@ ghost use Rattle.spf_engine.specs.Runs.{IsSettledSo, Arrives, CanBeRun, ComesNea
 
 use spf_ast::construct::TopConstruct;
 use spf_ast::outcome::Trap;
-use spf_chain::validated::Settled;
+use spf_chain::block::Settled;
 use spf_check::checked::Checked;
 use spf_exec::pieces::{Header, Pause, Run};
 use spf_exec_instance::instance::Instance;

@@ -19,8 +19,8 @@ use Rattle.spf_speculation.specs.Runs.{IsSpeculativeRun}
 use Rattle.spf_speculation_lanes.specs.Lanes.{logs_in}
 use Rattle.spf_speculation.specs.Alike.{RunsSeeTheGuessesOfTheirBlocks}
 use Rattle.spf_guess_statistics.specs.declared.guess.Guess as code_guess
-use Rattle.spf_chain.specs.declared.validated.Settled.{Settled}
-use Rattle.spf_chain.specs.declared.validated.Validated.{Validated}
+use Rattle.spf_chain.specs.declared.block.Settled.{Settled}
+use Rattle.spf_chain.specs.declared.block.ChainBlock.{ChainBlock}
 use Rattle.spf_chain.specs.Beginning.{site_of}
 use Rattle.spf_chain.specs.Chains.{ChainValue}
 use Rattle.spf_chain.specs.Finishing.{result_as, IsFinished}
@@ -45,8 +45,8 @@ entry-is at h guesses is = λ i. record {
 }
 
 -- validated blocks have as many real rows
-pub row-count : (rows : List Carried) (history : List Validated) → rows ≡ real_values history → length rows ≡ length history
-row-count rows history is = ap length is ∙ length-map history (λ (b : Validated). b.real)
+pub row-count : (rows : List Carried) (history : List ChainBlock) → rows ≡ real_values history → length rows ≡ length history
+row-count rows history is = ap length is ∙ length-map history (λ (b : ChainBlock). b.row)
 
 -- the guesses of the site are those that were taken
 same-guesses : (guess : ℕ → Guess) (at : Stand) (h : Header) (guesses : List code_guess.Guess) → map seen_guess guesses ≡ guesses_from guess 1 (h.blocks - 1)
@@ -65,7 +65,7 @@ pub comes : (guess : ℕ → Guess) (p : Program) (at : Stand) (h : Header) (gue
 comes guess p at h guesses there c same taken law settled trace before after f entry stats counted few =
     let s = site_of at.instance.now at.index h at.frame.now at.cells.now guesses in
     let site : entry_at c.site ≡ entry_of at h = ap entry_at same ∙ entry-is at h guesses there.construct in
-    let size = length-map c.history (λ (b : Validated). b.real) in
+    let size = length-map c.history (λ (b : ChainBlock). b.row) in
     let some = there.some in
     let values : real_values c.history ≡ (plain_blocks (entry_of at h)).values = f.values ∙ ap (λ x. (plain_blocks x).values) site in
     record {

@@ -15,9 +15,9 @@ use Rattle.spf_speculation_entry.specs.Entry.{Entry, plain_blocks}
 use Rattle.spf_speculation.specs.Steps.{Step, Merges}
 use Rattle.spf_speculation.specs.Runs.{IsSpeculativeRun}
 use Rattle.spf_speculation_lanes.specs.Lanes.{logs_in}
-use Rattle.spf_chain.specs.declared.validated.Settled.TheVariants.{Carried}
+use Rattle.spf_chain.specs.declared.block.Settled.TheVariants.{Carried}
 use Rattle.spf_cells.specs.declared.view.LogEntry.{LogEntry}
-use Rattle.spf_chain.specs.declared.validated.Settled.{Settled}
+use Rattle.spf_chain.specs.declared.block.Settled.{Settled}
 use Rattle.spf_chain.specs.Chains.{cells_of, HasEnded}
 use Rattle.spf_chain.specs.Finishing.{result_as, IsFinished}
 use Rattle.spf_guess_statistics.specs.Guess.{Guess}

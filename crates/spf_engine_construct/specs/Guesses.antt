@@ -8,7 +8,7 @@ use Rattle.spf_exec.specs.declared.pieces.Header.{Header}
 use Rattle.spf_exec_instance.specs.Frame.{main_slots}
 use Rattle.spf_exec_instance.specs.Instance.{program_of}
 use Rattle.spf_guess_statistics.specs.declared.guess.Guess as code_guess
-use Rattle.spf_chain.specs.declared.validated.Validated.{Validated}
+use Rattle.spf_chain.specs.declared.block.ChainBlock.{ChainBlock}
 use Rattle.spf_guess_statistics.specs.declared.stats.Stats.{Stats}
 use Rattle.spf_guess_statistics.specs.Guess.{Guess, Hosts, no_hosts, Telling, told_to, guess_for}
 use Rattle.spf_guess_statistics.specs.Statistics.{Guessed, is_hit, how_many}
@@ -64,8 +64,8 @@ piece_of guess count size i = guesses_from guess (1 + i * size) (min size (count
 -- ---- counts
 
 -- the real rows of validated blocks
-abbrev pub real_values : List Validated → List Carried
-real_values history = map (λ b. b.real) history
+abbrev pub real_values : List ChainBlock → List Carried
+real_values history = map (λ b. b.row) history
 
 -- blocks with their guesses, as far as there are both
 abbrev pub paired : List Guess → List Carried → List Guessed

@@ -21,8 +21,8 @@ use crate::telling::tell_history;
 use spf_ast::row::Row;
 use spf_cells::cells::Cells;
 use spf_cells::finish::Trace;
+use spf_chain::block::{ChainBlock, Settled};
 use spf_chain::chain::Chain;
-use spf_chain::validated::{Settled, Validated};
 use spf_check::checked::Checked;
 use spf_crew_threads::workers::Workers;
 use spf_exec::frame::Frame;
@@ -99,12 +99,12 @@ fn run_from<R: Threads + Wait + Sync, G: Gate + Sync>(
 }
 
 /// The real rows of validated blocks.
-fn real_rows(alloc: Global, history: &[Validated]) -> Result<Vec<Row>, AllocError>
+fn real_rows(alloc: Global, history: &[ChainBlock]) -> Result<Vec<Row>, AllocError>
     ensures rows { IfOk result (λ r. r.items ≡ real_values history.now) }
 {
     let mut rows = Vec::with_capacity(alloc, history.len())?;
     for block in history {
-        rows.push(block.real)?;
+        rows.push(block.row)?;
     }
     Ok(rows)
 }

@@ -36,5 +36,5 @@ pub fn run_at_gate<R: Threads + Wait + Sync>(
         rt, alloc, &words, &mut files, &mut out, &mut err, hosts, &gate,
     );
     let is_right = status == 0 && out.bytes() == [32].as_slice() && err.bytes().is_empty();
-    Ok((is_right, gate.met()))
+    Ok((is_right, gate.have_met()))
 }

@@ -3,9 +3,10 @@
 ghost use Rattle.std.specs.Prelude.{◌≡◌, ◌<◌, ◌≤◌, ◌^◌, length, IfOk, IfErr, IsErrAnd};
 ghost use Rattle.spf_ast.specs.View.{program as seen_program};
 ghost use Rattle.spf_ast.specs.GoingOn.{IsOrderly};
-ghost use Rattle.spf_ast.specs.Program.{cell_count_of, max_cells};
+ghost use Rattle.spf_ast.specs.Program.{cell_count_of, extents_of, max_cells};
 ghost use Rattle.spf_exec_instance.specs.declared.layout.RunError.TheVariants.{OutOfMemory};
 ghost use Rattle.spf_code_lowering.specs.Lowering.{IsCodeOfProgram};
+ghost use Rattle.spf_code_lowering.specs.Tables.{HaveAnswers};
 ghost use Rattle.spf_exec_instance.specs.Frame.{frame_size as size_of_frame};
 ghost use Rattle.spf_exec_instance.specs.Layout.{IsLayoutOf};
 ghost use Rattle.spf_exec_instance.specs.Instance.{program_of};
@@ -107,6 +108,9 @@ impl<'a> Instance<'a> {
     pub fn code(&self) -> &ProgramCode
         ensures code { IsCodeOfProgram (program_of self.now) result.now }
         ensures orderly { IsOrderly (program_of self.now) }
+        ensures tables { HaveAnswers self.now.input
+            (extents_of (program_of self.now) (length self.now.input))
+            (program_of self.now).functions result.now.functions.items }
     {
         &self.code
     }

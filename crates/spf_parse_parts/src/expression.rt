@@ -14,7 +14,7 @@ ghost use Rattle.spf_parse_parts.specs.Answers.{ahead, Answers, Answered, reach,
 ghost use Rattle.spf_parse_parts.specs.Answers.{value_before, after_operand};
 
 use crate::fault::Fault;
-use crate::step::{after, expect, followed, is_next, name, next, number, open, operator};
+use crate::step::{after, expect, followed_by, is_next, name, next, number, open, operator};
 use spf_ast::raw::RawExpr;
 use spf_ast::syntax::{Op, Test};
 use spf_parse_grammar::Lexeme;
@@ -73,7 +73,7 @@ fn join(
 
 /// Parses a name alone, indexed or called.
 #[cycle(expression)]
-fn named<'b, 'a>(
+fn operand_by_name<'b, 'a>(
     alloc: Global,
     tokens: &'b [Lexeme<'a>],
     nesting: u32,
@@ -104,7 +104,7 @@ fn named<'b, 'a>(
 /// Parses an operand that begins with a sign: one with a unary sign, or an expression in
 /// parentheses.
 #[cycle(expression)]
-fn signed<'b, 'a>(
+fn operand_by_sign<'b, 'a>(
     alloc: Global,
     tokens: &'b [Lexeme<'a>],
     sign: Sign,
@@ -154,7 +154,7 @@ fn operand<'b, 'a>(
             let (value, rest) = number(tokens)?;
             Ok((Box::new(alloc, RawExpr::Number(value))?, rest))
         }
-        TokenKind::Name => named(alloc, tokens, nesting),
+        TokenKind::Name => operand_by_name(alloc, tokens, nesting),
         TokenKind::Keyword(word) => match word {
             Keyword::Len => {
                 let rest = expect(tokens, TokenKind::Keyword(Keyword::Len))?;
@@ -173,7 +173,7 @@ fn operand<'b, 'a>(
             }
             _ => Err(Fault::Unexpected(tokens.len())),
         },
-        TokenKind::Sign(sign) => signed(alloc, tokens, sign, nesting),
+        TokenKind::Sign(sign) => operand_by_sign(alloc, tokens, sign, nesting),
     }
 }
 
@@ -221,12 +221,12 @@ fn level<'b, 'a>(
     ensures used_in { IfOk result (λ x. x.1 ≤ 32) }
 {
     let (first, rest) = operand(alloc, tokens, nesting)?;
-    continued(alloc, first, rest, rank, nesting, used)
+    rest_of_expression(alloc, first, rest, rank, nesting, used)
 }
 
 /// Parses an expression of this rank, of which the first operand is read.
 #[cycle(expression)]
-pub(crate) fn continued<'b, 'a>(
+pub(crate) fn rest_of_expression<'b, 'a>(
     alloc: Global,
     operand: Box<RawExpr>,
     tokens: &'b [Lexeme<'a>],
@@ -245,7 +245,7 @@ pub(crate) fn continued<'b, 'a>(
     if rank == 0 {
         return Ok((operand, used, tokens));
     }
-    let (left, so_far, rest) = continued(alloc, operand, tokens, rank - 1, nesting, used)?;
+    let (left, so_far, rest) = rest_of_expression(alloc, operand, tokens, rank - 1, nesting, used)?;
     if rank == COMPARISONS {
         return comparison(alloc, left, rest, nesting, so_far);
     }
@@ -337,5 +337,5 @@ pub(crate) fn value<'b, 'a>(
     ensures { Answered 0 (value_before nesting end) (lexemes tokens.now)
         (λ x. raw_expression x.0.value) (λ x. lexemes x.1.now) result }
 {
-    followed(expr(alloc, tokens, nesting), end)
+    followed_by(expr(alloc, tokens, nesting), end)
 }

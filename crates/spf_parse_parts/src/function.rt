@@ -11,8 +11,8 @@ ghost use Rattle.spf_parse_parts.specs.Answers.{Answers};
 
 use crate::expression::value;
 use crate::fault::Fault;
-use crate::statement::{CLOSE_BRACE, SEMICOLON, opened};
-use crate::step::{after, expect, followed, line_of, name, number, open};
+use crate::statement::{CLOSE_BRACE, SEMICOLON, open_block};
+use crate::step::{after, expect, followed_by, line_of, name, number, open};
 use spf_ast::raw::RawFunction;
 use spf_ast::syntax::{Array, Name};
 use spf_parse_grammar::Lexeme;
@@ -99,10 +99,10 @@ pub fn function<'b, 'a>(
     let (name, after_name) = name(alloc, rest)?;
     let inner = open(after_name, Sign::OpenParen, 0)?;
     let (params, after_params) = parameters(alloc, inner)?;
-    let (body, after_body) = opened(alloc, after_params, 0, breaks)?;
+    let (body, after_body) = open_block(alloc, after_params, 0, breaks)?;
     let answer_line = line_of(after_body);
     let answer_at = expect(after_body, TokenKind::Keyword(Keyword::Return))?;
-    let (answer, end) = followed(value(alloc, answer_at, 1, SEMICOLON), CLOSE_BRACE)?;
+    let (answer, end) = followed_by(value(alloc, answer_at, 1, SEMICOLON), CLOSE_BRACE)?;
     let function = RawFunction {
         name,
         params,

@@ -12,9 +12,9 @@ ghost use Rattle.spf_parse_parts.specs.Answers.{Answers, Answered, Continues, re
 ghost use Rattle.spf_parse_parts.specs.Answers.{row_from, row_after, guess_from_bracket};
 ghost use Rattle.spf_parse_parts.specs.Answers.{guess_from, guess_after};
 
-use crate::expression::{LOOSEST, continued, expr};
+use crate::expression::{LOOSEST, expr, rest_of_expression};
 use crate::fault::Fault;
-use crate::step::{after, count, expect, followed, is_next, name, open};
+use crate::step::{after, count, expect, followed_by, is_next, name, open};
 use spf_ast::raw::{RawExpr, RawPredict};
 use spf_ast::syntax::Name;
 use spf_parse_grammar::Lexeme;
@@ -47,7 +47,7 @@ pub(crate) fn names<'b, 'a>(
         return Ok((found, end));
     }
     let inner = open(tokens, Sign::OpenParen, nesting)?;
-    let (first, second_at) = followed(name(alloc, inner), COMMA)?;
+    let (first, second_at) = followed_by(name(alloc, inner), COMMA)?;
     found.push(first)?;
     let (second, mut rest) = name(alloc, second_at)?;
     found.push(second)?;
@@ -67,7 +67,7 @@ pub(crate) fn names<'b, 'a>(
 
 /// Parses what comes after an opening parenthesis: an expression that goes on after its bracket, or
 /// the first part of a row and its comma. Also tells whether it is a whole expression.
-fn bracketed<'b, 'a>(
+fn after_parenthesis<'b, 'a>(
     alloc: Global,
     tokens: &'b [Lexeme<'a>],
     nesting: u32,
@@ -84,7 +84,7 @@ fn bracketed<'b, 'a>(
         let end = expect(rest, COMMA)?;
         return Ok(((first, false), end));
     };
-    let (whole, _, end) = continued(alloc, first, closed, LOOSEST, nesting, 0)?;
+    let (whole, _, end) = rest_of_expression(alloc, first, closed, LOOSEST, nesting, 0)?;
     Ok(((whole, true), end))
 }
 
@@ -105,7 +105,7 @@ pub(crate) fn row<'b, 'a>(
         return Ok((found, end));
     }
     let inner = open(tokens, Sign::OpenParen, nesting)?;
-    let ((first, is_whole), second_at) = bracketed(alloc, inner, nesting)?;
+    let ((first, is_whole), second_at) = after_parenthesis(alloc, inner, nesting)?;
     found.push(Box::into_inner(first))?;
     if is_whole {
         return Ok((found, second_at));
@@ -138,7 +138,7 @@ pub(crate) fn row_up_to<'b, 'a>(
     ensures { Answered 0 (row_before nesting end) (lexemes tokens.now)
         (λ x. map raw_expression x.0.items) (λ x. lexemes x.1.now) result }
 {
-    followed(row(alloc, tokens, nesting), end)
+    followed_by(row(alloc, tokens, nesting), end)
 }
 
 /// Parses a predictor: the number of one that is supplied, or an expression.
@@ -171,10 +171,10 @@ fn bracketed_predictor<'b, 'a>(
         (λ x. guess_after nesting (raw_predictor x.0.0) x.0.1) (λ x. lexemes x.1.now) result }
 {
     if let Some(rest) = after(tokens, TokenKind::Keyword(Keyword::Host)) {
-        let (n, end) = followed(count(rest), COMMA)?;
+        let (n, end) = followed_by(count(rest), COMMA)?;
         return Ok(((RawPredict::Host(n), false), end));
     }
-    let ((g, is_whole), end) = bracketed(alloc, tokens, nesting)?;
+    let ((g, is_whole), end) = after_parenthesis(alloc, tokens, nesting)?;
     Ok(((RawPredict::Expr(Box::into_inner(g)), is_whole), end))
 }
 

@@ -17,7 +17,7 @@ use crate::expression::{arguments, expr, value};
 use crate::fault::Fault;
 use crate::row::{guess, names, row_up_to};
 use crate::step::{
-    after, begins_statement, count, expect, followed, is_next, line_of, name, next, number, open,
+    after, begins_statement, count, expect, followed_by, is_next, line_of, name, next, number, open,
 };
 use spf_ast::raw::{RawExpr, RawFold, RawPair, RawPredict, RawStmt, RawStmtKind};
 use spf_ast::syntax::Name;
@@ -66,7 +66,7 @@ fn store_form<'b, 'a>(
         (λ x. raw_statement x.0) (λ x. lexemes x.1.now) result }
 {
     let inner = open(tokens, Sign::OpenBracket, nesting)?;
-    let (index, rest) = followed(value(alloc, inner, nesting + 1, CLOSE_BRACKET), ASSIGN)?;
+    let (index, rest) = followed_by(value(alloc, inner, nesting + 1, CLOSE_BRACKET), ASSIGN)?;
     let (a, end) = value(alloc, rest, nesting, SEMICOLON)?;
     let store = RawStmtKind::Store(target, Box::into_inner(index), Box::into_inner(a));
     Ok((store, end))
@@ -84,7 +84,7 @@ fn call_form<'b, 'a>(
         (λ x. raw_statement x.0) (λ x. lexemes x.1.now) result }
 {
     let inner = open(tokens, Sign::OpenParen, nesting)?;
-    let (given, end) = followed(arguments(alloc, inner, nesting + 1), SEMICOLON)?;
+    let (given, end) = followed_by(arguments(alloc, inner, nesting + 1), SEMICOLON)?;
     Ok((RawStmtKind::Call(function, given), end))
 }
 
@@ -119,7 +119,7 @@ fn let_form<'b, 'a>(
         (λ x. lexemes x.1.now) result }
 {
     let rest = expect(tokens, TokenKind::Keyword(Keyword::Let))?;
-    let (x, start) = followed(name(alloc, rest), ASSIGN)?;
+    let (x, start) = followed_by(name(alloc, rest), ASSIGN)?;
     let (a, end) = value(alloc, start, nesting, SEMICOLON)?;
     Ok((RawStmtKind::Let(x, Box::into_inner(a)), end))
 }
@@ -138,7 +138,7 @@ fn fill_form<'b, 'a>(
     let (x, after_name) = name(alloc, rest)?;
     let inner = open(after_name, Sign::OpenBracket, nesting)?;
     let (low, after_low) = value(alloc, inner, nesting + 1, DOTS)?;
-    let (high, start) = followed(value(alloc, after_low, nesting + 1, CLOSE_BRACKET), ASSIGN)?;
+    let (high, start) = followed_by(value(alloc, after_low, nesting + 1, CLOSE_BRACKET), ASSIGN)?;
     let (a, end) = value(alloc, start, nesting, SEMICOLON)?;
     let fill = RawStmtKind::Fill(
         x,
@@ -243,7 +243,7 @@ fn for_form<'b, 'a>(
         (λ x. raw_statement x.0) (λ x. lexemes x.1.now) result }
 {
     let rest = expect(tokens, TokenKind::Keyword(Keyword::For))?;
-    let (x, range) = followed(name(alloc, rest), TokenKind::Keyword(Keyword::In))?;
+    let (x, range) = followed_by(name(alloc, rest), TokenKind::Keyword(Keyword::In))?;
     let (low, after_low) = value(alloc, range, nesting, DOTS)?;
     let (high, after_high) = expr(alloc, after_low, nesting)?;
     let (body, end) = block(alloc, after_high, nesting, breaks)?;
@@ -292,9 +292,9 @@ fn fold_head<'b, 'a>(
         (λ x. lexemes x.1.now) result }
 {
     let rest = expect(tokens, TokenKind::Keyword(Keyword::Specfold))?;
-    let (carried, row_at) = followed(names(alloc, rest, nesting), ASSIGN)?;
+    let (carried, row_at) = followed_by(names(alloc, rest, nesting), ASSIGN)?;
     let (start, after_start) = row_up_to(alloc, row_at, nesting, TokenKind::Keyword(Keyword::For))?;
-    let (block, range) = followed(name(alloc, after_start), TokenKind::Keyword(Keyword::In))?;
+    let (block, range) = followed_by(name(alloc, after_start), TokenKind::Keyword(Keyword::In))?;
     let (low, after_low) = value(alloc, range, nesting, DOTS)?;
     let (high, after_high) = value(
         alloc,
@@ -327,7 +327,13 @@ fn fold_form<'b, 'a>(
         (λ x. raw_statement x.0) (λ x. lexemes x.1.now) result }
 {
     let (head, rest) = fold_head(alloc, tokens, nesting)?;
-    let ((body, next_line, next), end) = ended(alloc, rest, nesting, breaks, Keyword::Next)?;
+    let ((body, next_line, next), end) = block_with_row(
+        alloc,
+        rest,
+        nesting,
+        breaks,
+        Keyword::Next,
+    )?;
     let head = Box::into_inner(head);
     let fold = RawFold {
         carried: head.carried,
@@ -346,7 +352,7 @@ fn fold_form<'b, 'a>(
 /// Parses statements in braces whose last one begins with this word and has a row, with the line of
 /// that word.
 #[cycle(statement)]
-fn ended<'b, 'a>(
+fn block_with_row<'b, 'a>(
     alloc: Global,
     tokens: &'b [Lexeme<'a>],
     nesting: u32,
@@ -359,10 +365,10 @@ fn ended<'b, 'a>(
         (λ x. (map stated x.0.0.items, x.0.1, map raw_expression x.0.2.items))
         (λ x. lexemes x.1.now) result }
 {
-    let (body, rest) = opened(alloc, tokens, nesting, breaks)?;
+    let (body, rest) = open_block(alloc, tokens, nesting, breaks)?;
     let line = line_of(rest);
     let last = expect(rest, TokenKind::Keyword(word))?;
-    let (a, end) = followed(row_up_to(alloc, last, nesting + 1, SEMICOLON), CLOSE_BRACE)?;
+    let (a, end) = followed_by(row_up_to(alloc, last, nesting + 1, SEMICOLON), CLOSE_BRACE)?;
     Ok(((body, line, a), end))
 }
 
@@ -379,9 +385,9 @@ fn pair_form<'b, 'a>(
         (λ x. raw_statement x.0) (λ x. lexemes x.1.now) result }
 {
     let rest = expect(tokens, TokenKind::Keyword(Keyword::Spec))?;
-    let (carried, open_at) = followed(names(alloc, rest, nesting), ASSIGN)?;
-    let ((producer, give_line, give), guess_at) = followed(
-        ended(alloc, open_at, nesting, breaks, Keyword::Give),
+    let (carried, open_at) = followed_by(names(alloc, rest, nesting), ASSIGN)?;
+    let ((producer, give_line, give), guess_at) = followed_by(
+        block_with_row(alloc, open_at, nesting, breaks, Keyword::Give),
         TokenKind::Keyword(Keyword::Predict),
     )?;
     let (predict, after_guess) = guess(alloc, guess_at, nesting)?;
@@ -409,13 +415,13 @@ pub fn block<'b, 'a>(
     ensures { Answers (block_part breaks nesting) (lexemes tokens.now) (λ x. raw_block x.0.items)
         (λ x. lexemes x.1.now) result }
 {
-    let (inside, end) = followed(opened(alloc, tokens, nesting, breaks), CLOSE_BRACE)?;
+    let (inside, end) = followed_by(open_block(alloc, tokens, nesting, breaks), CLOSE_BRACE)?;
     Ok((inside, end))
 }
 
 /// Parses an opening brace, and statements as long as one begins.
 #[cycle(statement)]
-pub(crate) fn opened<'b, 'a>(
+pub(crate) fn open_block<'b, 'a>(
     alloc: Global,
     tokens: &'b [Lexeme<'a>],
     nesting: u32,

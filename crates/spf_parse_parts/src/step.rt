@@ -74,7 +74,7 @@ pub fn expect<'b, 'a>(tokens: &'b [Lexeme<'a>], kind: TokenKind) -> Result<&'b [
 }
 
 /// What was read, with the tokens after the next one, where that is of this kind.
-pub(crate) fn followed<'b, 'a, T: Drop>(
+pub(crate) fn followed_by<'b, 'a, T: Drop>(
     read: Result<(T, &'b [Lexeme<'a>]), Fault>,
     end: TokenKind,
 ) -> Result<(T, &'b [Lexeme<'a>]), Fault>

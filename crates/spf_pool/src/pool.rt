@@ -24,11 +24,11 @@ use std::alloc::{AllocError, Global};
 fn tag_for<K>(key: &GhostKey<K>, counter: &Counter) -> GhostKey<Tag<K>>
     ensures { result.value ≡ tag_of key.now.value (ledger_of counter.now) }
 {
-    named(key, counter)
+    tag_key(key, counter)
 }
 
 // A ghost value is named by a call's arguments alone, so they are passed here.
-fn named<K>(key: &GhostKey<K>, counter: &Counter) -> GhostKey<Tag<K>>
+fn tag_key<K>(key: &GhostKey<K>, counter: &Counter) -> GhostKey<Tag<K>>
     ghost value: { Tag K }
     ensures { result.value ≡ value }
 {

@@ -64,7 +64,7 @@ fn small_product(a: i64, b: i64) -> Option<i64>
     }
 }
 
-fn known(factor: Option<i64>, low: Option<i64>, high: Option<i64>) -> Bound
+fn bound_of(factor: Option<i64>, low: Option<i64>, high: Option<i64>) -> Bound
     ensures { result ≡ known factor low high }
 {
     match (factor, low, high) {
@@ -78,7 +78,7 @@ fn known_between(factor: Option<i64>, one: Option<i64>, other: Option<i64>) -> B
     ensures { result ≡ known_between factor one other }
 {
     match (one, other) {
-        (Some(a), Some(b)) => known(factor, Some(a.min(b)), Some(a.max(b))),
+        (Some(a), Some(b)) => bound_of(factor, Some(a.min(b)), Some(a.max(b))),
         _ => Bound::Unknown,
     }
 }
@@ -90,7 +90,7 @@ fn masked_by(constant: Option<i64>, other: Bound) -> Bound
     match constant {
         Some(c) => {
             if 0 <= c {
-                known(Some(0), Some(0), small(c))
+                bound_of(Some(0), Some(0), small(c))
             } else {
                 other
             }
@@ -108,9 +108,9 @@ fn remainder_by(dividend: Bound, constant: Option<i64>) -> Bound
             if c <= 0 {
                 Bound::Unknown
             } else if dividend.is_at_least_zero() {
-                known(Some(0), Some(0), small(c - 1))
+                bound_of(Some(0), Some(0), small(c - 1))
             } else {
-                known(Some(0), small(-(c - 1)), small(c - 1))
+                bound_of(Some(0), small(-(c - 1)), small(c - 1))
             }
         }
         None => Bound::Unknown,
@@ -122,7 +122,7 @@ impl Bound {
     pub fn number(n: i64) -> Bound
         ensures number { result ≡ number n }
     {
-        known(Some(0), small(n), small(n))
+        bound_of(Some(0), small(n), small(n))
     }
 
     /// Returns the bound of a sum.
@@ -138,7 +138,7 @@ impl Bound {
                     high: other_high,
                 },
             ) => {
-                known(
+                bound_of(
                     small_sum(factor, other_factor),
                     small_sum(low, other_low),
                     small_sum(high, other_high),
@@ -161,7 +161,7 @@ impl Bound {
                     high: other_high,
                 },
             ) => {
-                known(
+                bound_of(
                     small_difference(factor, other_factor),
                     small_difference(low, other_high),
                     small_difference(high, other_low),
@@ -172,12 +172,12 @@ impl Bound {
     }
 
     /// Returns the bound of the negated number.
-    pub fn negated(self) -> Bound
+    pub fn negate(self) -> Bound
         ensures negated { result ≡ negated self }
     {
         match self {
             Bound::Known { factor, low, high } => {
-                known(
+                bound_of(
                     small_negative(factor),
                     small_negative(high),
                     small_negative(low),
@@ -204,7 +204,7 @@ impl Bound {
     }
 
     /// The bound of the number times a constant.
-    fn scaled(self, c: i64) -> Bound
+    fn scale(self, c: i64) -> Bound
         ensures { result ≡ scaled self c }
     {
         match self {
@@ -222,8 +222,8 @@ impl Bound {
         ensures times { result ≡ times self other }
     {
         match (self.constant(), other.constant()) {
-            (_, Some(c)) => self.scaled(c),
-            (Some(c), None) => other.scaled(c),
+            (_, Some(c)) => self.scale(c),
+            (Some(c), None) => other.scale(c),
             (None, None) => Bound::Unknown,
         }
     }
@@ -248,7 +248,7 @@ impl Bound {
 
     /// Returns the bound of the bitwise and, where one side is a constant of at least 0. It is
     /// known for every other side.
-    pub fn masked(self, other: Bound) -> Bound
+    pub fn mask(self, other: Bound) -> Bound
         ensures masked { result ≡ masked self other }
     {
         masked_by(other.constant(), masked_by(self.constant(), Bound::Unknown))

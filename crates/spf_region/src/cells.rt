@@ -29,7 +29,7 @@ fn at_block(factor: i64, k: i64, offset: i64) -> i128
 }
 
 // How many of the cells of an array stand before a place.
-fn clamped(place: i128, size: u64) -> u64
+fn clamp(place: i128, size: u64) -> u64
     ensures value { pos result ≡ int_max (pos 0) (int_min place (pos size)) }
     ensures size { result ≤ size }
 {
@@ -59,8 +59,8 @@ fn span_of(range: &Range, base: u64, size: u64, k: i64) -> Span
             to,
             ..
         } => {
-            let first = clamped(at_block(factor, k, from), size);
-            let end = clamped(at_block(factor, k, to) + 1, size);
+            let first = clamp(at_block(factor, k, from), size);
+            let end = clamp(at_block(factor, k, to) + 1, size);
             Span {
                 from: base + first,
                 to: base + end,

@@ -8,7 +8,7 @@ ghost use Rattle.spf_region.specs.Ranges.{whole_in_both, covers, has_array, firs
 ghost use Rattle.spf_region.specs.Ranges.{first_meeting, IsNormal};
 
 use crate::cells::spans_at;
-use crate::merge::{added, merged, met};
+use crate::merge::{add_range, intersect, merge};
 use crate::query::{covers_offsets, first_meeting, first_unseparated, has_array};
 use crate::range::Range;
 use crate::span::Span;
@@ -65,7 +65,7 @@ impl RangeList {
         if range.is_empty() {
             return Ok(());
         }
-        let more = added(alloc, range, ranges)?;
+        let more = add_range(alloc, range, ranges)?;
         self.items = more;
         Ok(())
     }
@@ -85,7 +85,7 @@ impl RangeList {
         ensures normal { IfOk result (λ list. IsNormal list) }
     {
         Ok(RangeList {
-            items: merged(alloc, &self.items, &other.items)?,
+            items: merge(alloc, &self.items, &other.items)?,
         })
     }
 
@@ -102,7 +102,7 @@ impl RangeList {
         ensures normal { IfOk result (λ list. IsNormal list) }
     {
         Ok(RangeList {
-            items: met(alloc, &self.items, &other.items)?,
+            items: intersect(alloc, &self.items, &other.items)?,
         })
     }
 
@@ -130,7 +130,7 @@ impl RangeList {
     }
 
     /// Returns the first range that isn't separate from each range of the list, itself included.
-    pub fn unseparated(&self) -> Option<Range>
+    pub fn first_unseparated(&self) -> Option<Range>
         ensures first { result ≡ first_unseparated self.now }
     {
         first_unseparated(&self.items)

@@ -192,7 +192,7 @@ fn overlap(range: &Range, other: &Range) -> Option<Range>
 }
 
 // The ranges of both lists by where they begin.
-fn interleaved(alloc: Global, left: &[Range], right: &[Range]) -> Result<Vec<Range>, AllocError>
+fn interleave(alloc: Global, left: &[Range], right: &[Range]) -> Result<Vec<Range>, AllocError>
     ensures { IfOk result (λ all. all.items ≡ interleaved left.now right.now) }
 {
     let mut all = Vec::new(alloc);
@@ -212,7 +212,7 @@ fn interleaved(alloc: Global, left: &[Range], right: &[Range]) -> Result<Vec<Ran
 }
 
 // The ranges of a list, of which each begins no later than the next, joined where they touch.
-fn coalesced(alloc: Global, ranges: &[Range]) -> Result<Vec<Range>, AllocError>
+fn coalesce(alloc: Global, ranges: &[Range]) -> Result<Vec<Range>, AllocError>
     ensures { IfOk result (λ joined. joined.items ≡ coalesced ranges.now) }
 {
     let mut joined = Vec::new(alloc);
@@ -234,7 +234,7 @@ fn coalesced(alloc: Global, ranges: &[Range]) -> Result<Vec<Range>, AllocError>
 }
 
 /// The list in normal form of what either of two such lists has.
-pub(crate) fn merged(
+pub(crate) fn merge(
     alloc: Global,
     left: &[Range],
     right: &[Range],
@@ -249,12 +249,16 @@ pub(crate) fn merged(
         has_array list.items ≡ whole_in_either (has_array left.now) (has_array right.now)) }
     ensures normal { IfOk result (λ list. IsNormal list.items) }
 {
-    let all = interleaved(alloc, left, right)?;
-    coalesced(alloc, &all)
+    let all = interleave(alloc, left, right)?;
+    coalesce(alloc, &all)
 }
 
 /// The list in normal form of what a range that isn't empty and such a list have.
-pub(crate) fn added(alloc: Global, range: Range, ranges: &[Range]) -> Result<Vec<Range>, AllocError>
+pub(crate) fn add_range(
+    alloc: Global,
+    range: Range,
+    ranges: &[Range],
+) -> Result<Vec<Range>, AllocError>
     requires filled { is_empty range ≡ false }
     requires normal { IsNormal ranges.now }
     ensures offsets { IfOk result
@@ -265,8 +269,8 @@ pub(crate) fn added(alloc: Global, range: Range, ranges: &[Range]) -> Result<Vec
         (λ list. has_array list.items ≡ array_joined range (has_array ranges.now)) }
     ensures normal { IfOk result (λ list. IsNormal list.items) }
 {
-    let all = interleaved(alloc, &[range], ranges)?;
-    coalesced(alloc, &all)
+    let all = interleave(alloc, &[range], ranges)?;
+    coalesce(alloc, &all)
 }
 
 // The common ranges of two lists in normal form.
@@ -289,7 +293,11 @@ fn common_ranges(alloc: Global, left: &[Range], right: &[Range]) -> Result<Vec<R
 }
 
 /// The list in normal form of what both of two such lists have.
-pub(crate) fn met(alloc: Global, left: &[Range], right: &[Range]) -> Result<Vec<Range>, AllocError>
+pub(crate) fn intersect(
+    alloc: Global,
+    left: &[Range],
+    right: &[Range],
+) -> Result<Vec<Range>, AllocError>
     requires left { IsNormal left.now }
     requires right { IsNormal right.now }
     ensures offsets { IfOk result

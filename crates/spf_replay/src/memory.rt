@@ -2,7 +2,7 @@
 
 ghost use Rattle.std.specs.Prelude.{◌≡◌, ◌≤◌, length};
 
-use crate::reader::{event_at, is_in, is_store, loaded, polled};
+use crate::reader::{event_at, is_in, is_store, number_polled, word_loaded};
 use spf_exec_memory::memory::{Emitted, Memory};
 use spf_region::span::Span;
 use spf_replay_log::log::Event;
@@ -54,7 +54,7 @@ impl<'a> Memory for LogMemory<'a> {
         if !self.fits {
             return 0;
         }
-        match loaded(event_at(self.log, self.at), cell) {
+        match word_loaded(event_at(self.log, self.at), cell) {
             Some(word) => {
                 self.at += 1;
                 word
@@ -81,7 +81,7 @@ impl<'a> Memory for LogMemory<'a> {
         if !self.fits {
             return Some(self.attempt);
         }
-        match polled(event_at(self.log, self.at)) {
+        match number_polled(event_at(self.log, self.at)) {
             Some(number) => {
                 self.at += 1;
                 if number >= self.attempt {

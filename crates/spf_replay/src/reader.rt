@@ -27,7 +27,7 @@ pub(crate) fn event_at(log: &[Event], at: usize) -> Option<Event>
 }
 
 /// The word that an event gave, where it is a load of this cell.
-pub(crate) fn loaded(event: Option<Event>, cell: u64) -> Option<i64>
+pub(crate) fn word_loaded(event: Option<Event>, cell: u64) -> Option<i64>
     ensures { (rest : List AskedEvent) → next_load cell (with_front event rest)
         ≡ option_map (λ word. (word, rest)) result }
 {
@@ -53,7 +53,7 @@ pub(crate) fn is_store(event: Option<Event>, cell: u64, value: i64) -> bool
 }
 
 /// The number that an event polled, where it is a turn.
-pub(crate) fn polled(event: Option<Event>) -> Option<u64>
+pub(crate) fn number_polled(event: Option<Event>) -> Option<u64>
     ensures { (rest : List AskedEvent) → next_turn (with_front event rest)
         ≡ option_map (λ number. (number, rest)) result }
 {

@@ -18,7 +18,7 @@ use Rattle.spf_exec_instance.specs.Instance.{program_of}
 use Rattle.spf_exec_instance.specs.Layout.{LayoutValue, IsLayoutOf}
 use Rattle.spf_exec.specs.declared.pieces.Header as code_header
 use Rattle.spf_exec.specs.Pieces.{Stand, IsRunOf, seen_header}
-use Rattle.spf_chain.specs.declared.validated.Settled.{Settled}
+use Rattle.spf_chain.specs.declared.block.Settled.{Settled}
 use Rattle.spf_chain.specs.Finishing.{result_as}
 use Rattle.spf_engine_laws.specs.Passed.{PassedConstruct, where_blocks}
 use Rattle.spf_engine_laws.specs.Progress.{BlocksComeTo}

@@ -45,7 +45,7 @@ fn no_at(n: usize) -> Verdict
 }
 
 /// Returns the verdict that the section that comes next isn't one of the construct that was passed.
-fn refused(next: usize) -> Judged
+fn refuse(next: usize) -> Judged
     ensures { result.verdict ≡ No next }
 {
     Judged {
@@ -111,7 +111,7 @@ fn judge_next(
             next,
             verdict: Verdict::Yes,
         }),
-        None => Ok(refused(judged.next)),
+        None => Ok(refuse(judged.next)),
     }
 }
 

@@ -10,7 +10,7 @@ ghost use Rattle.spf_replay_walk.specs.Places.{entry_at, spans_of, IsPlaced, IsS
 use crate::place::{Place, Spare};
 use spf_ast::outcome::Trap;
 use spf_ast::row::Row;
-use spf_chain::validated::Settled;
+use spf_chain::block::Settled;
 use spf_check::checked::Checked;
 use spf_exec::pieces::Header;
 use spf_exec_memory::plain::Plain;

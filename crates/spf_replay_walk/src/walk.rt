@@ -35,7 +35,7 @@ pub struct Walked {
 }
 
 /// The outcome of a run that came to its end.
-fn finished(run: Run) -> Outcome
+fn outcome_at_end(run: Run) -> Outcome
     ensures { seen_outcome result ≡ Done run.cells run.output }
 {
     let (cells, output) = run.finish();
@@ -43,7 +43,7 @@ fn finished(run: Run) -> Outcome
 }
 
 /// The outcome of a run that trapped.
-fn trapped(run: Run, trap: Trap) -> Outcome
+fn outcome_at_trap(run: Run, trap: Trap) -> Outcome
     ensures { seen_outcome result ≡ Stopped trap run.output }
 {
     let (_, output) = run.finish();
@@ -117,11 +117,11 @@ pub fn walk<V: Visitor>(
         match walker.take_step(&mut run, &mut spare, visitor, &mut stats, hosts)? {
             Step::Next => {}
             Step::Finished => {
-                let outcome = finished(run);
+                let outcome = outcome_at_end(run);
                 return Ok(Walked { outcome, stats });
             }
             Step::Trapped(trap) => {
-                let outcome = trapped(run, trap);
+                let outcome = outcome_at_trap(run, trap);
                 return Ok(Walked { outcome, stats });
             }
         }

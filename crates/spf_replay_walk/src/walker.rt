@@ -26,7 +26,7 @@ use crate::place::{Place, Spare};
 use crate::plainly::run_plainly;
 use crate::visitor::Visitor;
 use spf_ast::construct::TopConstruct;
-use spf_chain::validated::Settled;
+use spf_chain::block::Settled;
 use spf_check::checked::Checked;
 use spf_engine::step::{Arrival, Step, arrive, settle};
 use spf_engine_construct::counts::count_blocks;

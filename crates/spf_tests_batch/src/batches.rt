@@ -42,7 +42,7 @@ fn read(alloc: Global, text: &[u8]) -> Option<Program>
 }
 
 /// A program that the rules accept.
-fn accepted(alloc: Global, text: &[u8]) -> Result<Checked, Fail> {
+fn accept(alloc: Global, text: &[u8]) -> Result<Checked, Fail> {
     let Some(program) = read(alloc, text) else {
         return Err(Fail::new("no program"));
     };
@@ -82,7 +82,7 @@ fn run<R: Threads + Wait + Sync>(
     if listed.len() > 1000 {
         return Err(Fail::new("too many names"));
     }
-    let checked = accepted(alloc, LAST_BYTE)?;
+    let checked = accept(alloc, LAST_BYTE)?;
     let names = names(alloc, listed)?;
     if names.len() > 1000 {
         return Err(Fail::new("too many names"));

@@ -166,13 +166,16 @@ fn a_barrier_is_met_where_all_first_attempts_begin_before_one_ends(rt: HostRunti
     ];
     let two = Barrier::make(2, 10);
     pass(&two, &ends[..1]);
-    let early = two.met();
+    let early = two.have_met();
     pass(&two, &ends[1..]);
     let three = Barrier::make(3, 10);
     pass(&three, &ends);
     pass(&three, &[(2, 1, Place::Begin), (2, 1, Place::End)]);
     pass(&Open, &ends);
-    assert_eq!(rt; [early, two.met(), three.met()], [false, true, false]);
+    assert_eq!(rt;
+        [early, two.have_met(), three.have_met()],
+        [false, true, false]
+    );
 }
 
 #[test]
@@ -188,7 +191,7 @@ fn a_barrier_counts_first_attempts_of_its_blocks_alone(rt: HostRuntime) {
             (2, 1, Place::End),
         ],
     );
-    let early = barrier.met();
+    let early = barrier.have_met();
     pass(&barrier, &[(1, 1, Place::Begin)]);
-    assert_eq!(rt; [early, barrier.met()], [false, true]);
+    assert_eq!(rt; [early, barrier.have_met()], [false, true]);
 }

@@ -160,7 +160,7 @@ fn the_toy_machine_is_a_machine(rt: HostRuntime) -> Result<(), Fail> {
 
 /// What the check says of the first bytes of the toy machine and one more byte, where one byte is
 /// set to another.
-fn changed(
+fn check_changed(
     alloc: Global,
     at: usize,
     byte: u8,
@@ -200,7 +200,7 @@ fn a_machine_is_refused_at_what_is_wrong_first(rt: HostRuntime) {
     ];
     for (at, byte, count, place) in cases {
         assert_eq!(rt;
-            changed(rt.alloc(), at, byte, count),
+            check_changed(rt.alloc(), at, byte, count),
             Ok(Err(place)),
             "byte {at} of {count} is {byte}"
         );

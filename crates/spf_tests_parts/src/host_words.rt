@@ -15,7 +15,7 @@ fn words_of(alloc: Global, texts: &[&str]) -> Result<Vec<String>, AllocError> {
 type Asked = (usize, [Option<HostKind>; 2], u64);
 
 /// What words ask for.
-fn asked(alloc: Global, texts: &[&str]) -> Result<Asked, WordsError> {
+fn ask(alloc: Global, texts: &[&str]) -> Result<Asked, WordsError> {
     let words = words_of(alloc, texts)?;
     let found = read_hosts(alloc, &words)?;
     let kinds = found.kinds.as_slice();
@@ -43,7 +43,7 @@ fn pairs_are_read_up_to_the_command(rt: HostRuntime) {
         ),
     ];
     for (words, wanted) in rows {
-        assert_eq!(rt; asked(rt.alloc(), words), wanted, "of {words:?}");
+        assert_eq!(rt; ask(rt.alloc(), words), wanted, "of {words:?}");
     }
 }
 
@@ -79,6 +79,6 @@ fn each_text_names_its_kind(rt: HostRuntime) {
             Some(_) => Ok((1, [kind, None], 2)),
             None => Err(WordsError::NotUnderstood),
         };
-        assert_eq!(rt; asked(rt.alloc(), &["--host", text]), wanted, "{text}");
+        assert_eq!(rt; ask(rt.alloc(), &["--host", text]), wanted, "{text}");
     }
 }

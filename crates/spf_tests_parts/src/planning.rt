@@ -13,7 +13,7 @@ use spf_types::resolve;
 use std::alloc::Global;
 
 // The checked program of a text.
-fn checked(alloc: Global, text: &str) -> Option<Checked> {
+fn check_text(alloc: Global, text: &str) -> Option<Checked> {
     let raw = parse(alloc, text.as_bytes()).ok()?;
     let program = resolve(alloc, raw).ok()?;
     check(alloc, program).ok()
@@ -21,8 +21,8 @@ fn checked(alloc: Global, text: &str) -> Option<Checked> {
 
 // The spans of the first two blocks of its first construct, for an empty input, from the block
 // number `low` on.
-fn planned(alloc: Global, text: &str, low: i32) -> Option<Plan> {
-    let checked = checked(alloc, text)?;
+fn plan_text(alloc: Global, text: &str, low: i32) -> Option<Plan> {
+    let checked = check_text(alloc, text)?;
     let found = layout(alloc, checked.program(), 0).ok()?;
     // A plan is asked for a construct that is there.
     find_construct(&checked.program().main, 0)?;
@@ -35,7 +35,7 @@ fn span(from: u64, to: u64) -> Span {
 
 /// Returns whether two blocks, the first one of this number, have these spans.
 fn have_spans(alloc: Global, text: &str, low: i32, wanted: [&[Span]; 2]) -> bool {
-    match planned(alloc, text, low) {
+    match plan_text(alloc, text, low) {
         None => false,
         Some(plan) => {
             plan.blocks.len() == 2

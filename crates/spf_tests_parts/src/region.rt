@@ -12,7 +12,7 @@ use std::test::Fail;
 
 const EDGE: i64 = 1 << 40;
 
-fn known(factor: i64, low: i64, high: i64) -> Bound {
+fn bound(factor: i64, low: i64, high: i64) -> Bound {
     Bound::Known { factor, low, high }
 }
 
@@ -65,7 +65,7 @@ fn bound(word: Option<&str>) -> Option<Bound> {
     let factor = number(numbers.next())?;
     let low = number(numbers.next())?;
     let high = number(numbers.next())?;
-    Some(known(factor, low, high))
+    Some(bound(factor, low, high))
 }
 
 /// Returns whether a row of sums is right.
@@ -86,7 +86,7 @@ fn is_right_product(row: &str) -> Option<bool> {
     let product = bound(words.next())?;
     let remainder = bound(words.next())?;
     let mask = bound(words.next())?;
-    Some([x.times(y), x.rem(y), x.masked(y)] == [product, remainder, mask])
+    Some([x.times(y), x.rem(y), x.mask(y)] == [product, remainder, mask])
 }
 
 #[test]
@@ -102,18 +102,18 @@ fn bounds_are_computed(rt: HostRuntime) {
 #[test]
 fn numbers_and_negatives(rt: HostRuntime) {
     let rows = [
-        (EDGE, known(0, EDGE, EDGE), known(0, -EDGE, -EDGE)),
-        (-EDGE, known(0, -EDGE, -EDGE), known(0, EDGE, EDGE)),
+        (EDGE, bound(0, EDGE, EDGE), bound(0, -EDGE, -EDGE)),
+        (-EDGE, bound(0, -EDGE, -EDGE), bound(0, EDGE, EDGE)),
         (EDGE + 1, Bound::Unknown, Bound::Unknown),
         (-EDGE - 1, Bound::Unknown, Bound::Unknown),
     ];
     for (n, bound, negative) in rows {
         let number = Bound::number(n);
-        assert_eq!(rt; [number, number.negated()], [bound, negative]);
+        assert_eq!(rt; [number, number.negate()], [bound, negative]);
     }
     assert_eq!(rt;
-        [known(3, -1, 2).negated(), known(0, i64::MIN, 0).negated()],
-        [known(-3, -2, 1), Bound::Unknown]
+        [bound(3, -1, 2).negate(), bound(0, i64::MIN, 0).negate()],
+        [bound(-3, -2, 1), Bound::Unknown]
     );
 }
 
@@ -148,9 +148,9 @@ fn common_part(alloc: Global, one: &[Range], other: &[Range]) -> Result<RangeLis
 }
 
 /// The first of these ranges that isn't separated.
-fn unseparated(alloc: Global, ranges: &[Range]) -> Result<Option<Range>, AllocError> {
+fn find_unseparated(alloc: Global, ranges: &[Range]) -> Result<Option<Range>, AllocError> {
     let list = list_of(alloc, ranges)?;
-    Ok(list.unseparated())
+    Ok(list.first_unseparated())
 }
 
 /// The first of these ranges that meets one of two others.
@@ -218,9 +218,9 @@ fn common_parts_and_breaks(rt: HostRuntime) -> Result<(), Fail> {
     let other = [affine(0, 0, 2, 2), affine(1, 1, 0, 0)];
     assert_eq!(rt;
         [
-            unseparated(alloc, &[affine(0, 1, 0, 1)]),
-            unseparated(alloc, &[affine(0, 2, 0, 1)]),
-            unseparated(alloc, &still),
+            find_unseparated(alloc, &[affine(0, 1, 0, 1)]),
+            find_unseparated(alloc, &[affine(0, 2, 0, 1)]),
+            find_unseparated(alloc, &still),
             meeting(alloc, &still, &other, &[]),
             meeting(alloc, &other, &still, &[]),
             meeting(alloc, &still, &other, &[affine(0, 0, 4, 9)]),

@@ -172,7 +172,7 @@ fn mixed_lanes(alloc: Global) -> Result<(Cells, Warden, Lane, Lane), AllocError>
 }
 
 /// Which of the cells up to 8 the lane has.
-fn held(lane: &Lane) -> [bool; 9] {
+fn cells_held(lane: &Lane) -> [bool; 9] {
     let mut held = [false; 9];
     for cell in 0..9 {
         held[cell] = lane.has(cell as u64);
@@ -203,8 +203,8 @@ fn store_and_load(cells: &Cells, lane: &mut Lane, values: &[(u64, i64)]) -> [i64
 #[test]
 fn spans_out_of_order(rt: HostRuntime) -> Result<(), Fail> {
     let (cells, warden, mut one, mut two) = mixed_lanes(rt.alloc())?;
-    assert!(rt; held(&one) == [true, true, false, true, false, false, true, true, false]);
-    assert!(rt; held(&two) == [false, false, true, false, true, true, false, false, false]);
+    assert!(rt; cells_held(&one) == [true, true, false, true, false, false, true, true, false]);
+    assert!(rt; cells_held(&two) == [false, false, true, false, true, true, false, false, false]);
     let values = [(7, 97), (2, 92), (0, 90), (5, 95), (3, 93)];
     let first = store_and_load(&cells, &mut one, &values);
     let second = store_and_load(&cells, &mut two, &values);
@@ -251,7 +251,7 @@ fn four_blocks(alloc: Global) -> Result<Plan, AllocError>
 }
 
 /// The cells of these blocks, with their warden and lanes. The odd blocks may be raised.
-fn interleaved(alloc: Global) -> Result<(Cells, Warden, Vec<Lane>), AllocError>
+fn interleaved_cells(alloc: Global) -> Result<(Cells, Warden, Vec<Lane>), AllocError>
     ensures warden { IfOk result (λ r. IsWardenOf r.0 r.1 × (r.1.view.taken ≡ [])) }
     ensures lanes { IfOk result (λ r. AreAllLanes r.0 r.2.items) }
     ensures tables { IfOk result (λ r. All (λ l. l.table ≡ r.0.table) r.2.items) }
@@ -350,8 +350,12 @@ fn count_and_raise<R: Threads + Sync>(
 }
 
 /// What all cells hold after four lanes counted while the warden raised.
-fn counted<R: Threads + Sync>(rt: &R, alloc: Global, seed: u64) -> Result<[i64; 8], AllocError> {
-    let (cells, mut warden, mut lanes) = interleaved(alloc)?;
+fn count_in_threads<R: Threads + Sync>(
+    rt: &R,
+    alloc: Global,
+    seed: u64,
+) -> Result<[i64; 8], AllocError> {
+    let (cells, mut warden, mut lanes) = interleaved_cells(alloc)?;
     count_and_raise(rt, &cells, &mut warden, lanes.as_mut_slice(), seed);
     let mut into = [0; 8];
     let _trace = cells.finish(warden, lanes, &mut into);
@@ -362,7 +366,7 @@ fn counted<R: Threads + Sync>(rt: &R, alloc: Global, seed: u64) -> Result<[i64; 
 fn four_lanes_in_threads(rt: HostRuntime) -> Result<(), Fail> {
     for round in 1..21u64 {
         let seed = random_after(round) ^ (random_after(round + 20) << 24);
-        let into = counted(&rt, rt.alloc(), seed)?;
+        let into = count_in_threads(&rt, rt.alloc(), seed)?;
         assert!(rt; into == [20000, 20010, 20020, 20030, 20040, 20050, 20060, 20070]);
     }
     Ok(())

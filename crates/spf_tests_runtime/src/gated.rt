@@ -53,7 +53,7 @@ fn attempt_both<R: Threads + Sync, G: Gate + Sync>(
 }
 
 /// Both attempts on fresh cells, and the memory after them.
-fn gated<R: Threads + Sync, G: Gate + Sync>(
+fn run_gated<R: Threads + Sync, G: Gate + Sync>(
     rt: &R,
     alloc: Global,
     gate: &G,
@@ -71,21 +71,21 @@ fn gated<R: Threads + Sync, G: Gate + Sync>(
 #[test]
 fn a_barrier_is_met_by_two_threads(rt: HostRuntime) -> Result<(), Fail> {
     let barrier = Barrier::make(2, LONG);
-    assert!(rt; gated(&rt, rt.alloc(), &barrier)? == [9, 2, 3, 9]);
-    assert!(rt; barrier.met());
+    assert!(rt; run_gated(&rt, rt.alloc(), &barrier)? == [9, 2, 3, 9]);
+    assert!(rt; barrier.have_met());
     Ok(())
 }
 
 #[test]
 fn a_barrier_that_is_not_met_lets_go(rt: HostRuntime) -> Result<(), Fail> {
     let barrier = Barrier::make(3, 1000);
-    assert!(rt; gated(&rt, rt.alloc(), &barrier)? == [9, 2, 3, 9]);
-    assert!(rt; !barrier.met());
+    assert!(rt; run_gated(&rt, rt.alloc(), &barrier)? == [9, 2, 3, 9]);
+    assert!(rt; !barrier.have_met());
     Ok(())
 }
 
 #[test]
 fn an_open_gate_changes_no_answer(rt: HostRuntime) -> Result<(), Fail> {
-    assert!(rt; gated(&rt, rt.alloc(), &Open)? == [9, 2, 3, 9]);
+    assert!(rt; run_gated(&rt, rt.alloc(), &Open)? == [9, 2, 3, 9]);
     Ok(())
 }

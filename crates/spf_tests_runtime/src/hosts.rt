@@ -1,7 +1,7 @@
 //! What hosts are asked and told in whole runs.
 ghost use Rattle.spf_tests_runtime.specs.Digits.{digits};
 
-use crate::programs::{HOSTED, HOSTED_WORDS, WIDE, accepted, counts, gave, no_attempts, run};
+use crate::programs::{HOSTED, HOSTED_WORDS, WIDE, accept, counts, gave, no_attempts, run};
 use spf_engine::error::EngineError;
 use spf_engine::run::run_program;
 use spf_guess::{Fixed, Last, Predictor, Table};
@@ -121,7 +121,7 @@ fn a_table_learns_by_block(rt: HostRuntime) -> Result<(), Fail> {
 fn a_missing_host_is_named(rt: HostRuntime) -> Result<(), Fail> {
     let attempts = no_attempts();
     let mut hosts = Vec::new(rt.alloc());
-    let checked = accepted(rt.alloc(), HOSTED)?;
+    let checked = accept(rt.alloc(), HOSTED)?;
     let run = run_program(&rt, rt.alloc(), &checked, &[], 2, &mut hosts, &attempts);
     assert!(rt; matches!(run, Err(EngineError::NoHost { number: 0 })));
     assert!(rt; attempts.first.load(Ordering::SeqCst) == 0);
@@ -132,7 +132,7 @@ fn a_missing_host_is_named(rt: HostRuntime) -> Result<(), Fail> {
 fn cells_are_counted_before_hosts(rt: HostRuntime) -> Result<(), Fail> {
     let attempts = no_attempts();
     let mut hosts = Vec::new(rt.alloc());
-    let checked = accepted(rt.alloc(), WIDE)?;
+    let checked = accept(rt.alloc(), WIDE)?;
     let run = run_program(&rt, rt.alloc(), &checked, &[], 2, &mut hosts, &attempts);
     assert!(rt; matches!(run, Err(EngineError::TooManyCells { count: 4_194_305 })));
     Ok(())

@@ -72,7 +72,7 @@ fn number(found: Next<Numbered>) -> u64 {
 }
 
 /// The number of the item that came back, or 0.
-fn refused(given: Result<(), Numbered>) -> u64 {
+fn number_refused(given: Result<(), Numbered>) -> u64 {
     match given {
         Ok(()) => 0,
         Err(item) => item.number,
@@ -86,7 +86,7 @@ fn answer(all: &mut [Busy], call: Call) -> u64 {
         return 3000;
     };
     match call {
-        Call::Give(_, number) => refused(busy.hand.give(Numbered { number })),
+        Call::Give(_, number) => number_refused(busy.hand.give(Numbered { number })),
         Call::Next(_) => number(busy.hand.next()),
     }
 }

@@ -120,7 +120,7 @@ fn read(alloc: Global, text: &[u8]) -> Option<Program>
 }
 
 /// A program that the rules accept.
-pub(crate) fn accepted(alloc: Global, text: &[u8]) -> Result<Checked, Fail> {
+pub(crate) fn accept(alloc: Global, text: &[u8]) -> Result<Checked, Fail> {
     let Some(program) = read(alloc, text) else {
         return Err(Fail::new("no program"));
     };
@@ -142,7 +142,7 @@ pub(crate) fn run<R: Threads + Wait + Sync, G: Gate + Sync>(
     if workers == 0 || workers > 64 {
         return Err(Fail::new("a number of workers"));
     }
-    let checked = accepted(alloc, text)?;
+    let checked = accept(alloc, text)?;
     match run_program(rt, alloc, &checked, &[], workers, hosts, gate) {
         Ok(report) => Ok(report),
         Err(_) => Err(Fail::new("no run")),

@@ -9,7 +9,7 @@ fn two_workers_attempt_two_blocks_at_once(rt: HostRuntime) -> Result<(), Fail> {
     let mut hosts = Vec::new(rt.alloc());
     let report = run(&rt, rt.alloc(), GUESSED, 2, &mut hosts, &barrier)?;
     assert!(rt; gave(&report.outcome, &[32]));
-    assert!(rt; barrier.met());
+    assert!(rt; barrier.have_met());
     Ok(())
 }
 
@@ -19,6 +19,6 @@ fn one_worker_attempts_one_block_at_a_time(rt: HostRuntime) -> Result<(), Fail> 
     let mut hosts = Vec::new(rt.alloc());
     let report = run(&rt, rt.alloc(), GUESSED, 1, &mut hosts, &barrier)?;
     assert!(rt; gave(&report.outcome, &[32]));
-    assert!(rt; !barrier.met());
+    assert!(rt; !barrier.have_met());
     Ok(())
 }

@@ -11,7 +11,7 @@ ghost use Rattle.spf_speculation_entry.specs.Sites.{entry_at};
 ghost use Rattle.spf_exec_instance.specs.Instance.{program_of};
 ghost use Rattle.spf_ticket.specs.Tickets.{IsJobOf};
 
-use crate::programs::accepted;
+use crate::programs::accept;
 use spf_ast::construct::{ConstructKind, TopConstruct};
 use spf_ast::row::Row;
 use spf_cells::cells::Cells;

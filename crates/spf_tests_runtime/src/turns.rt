@@ -8,7 +8,7 @@ ghost use Rattle.spf_ast.specs.Program.{cell_count_of};
 ghost use Rattle.spf_crew.specs.Mates.{IsMateOf};
 ghost use Rattle.spf_exec_instance.specs.Instance.{program_of};
 
-use crate::programs::accepted;
+use crate::programs::accept;
 use crate::starting::start;
 use spf_ast::construct::find_construct;
 use spf_check::checked::Checked;
@@ -100,7 +100,7 @@ fn turns_over(
 
 /// What two mates answer over `DOUBLING`'s blocks, of which the later ones begin at these guesses.
 fn turns(alloc: Global, guesses: &[i64], order: &[usize]) -> Result<Vec<u64>, Fail> {
-    let checked = accepted(alloc, DOUBLING)?;
+    let checked = accept(alloc, DOUBLING)?;
     let program = checked.program();
     // Law: no `break` of a lawful program leaves `main` or a part.
     spf_ast::laws::breaks_stay_in_their_loops();

@@ -13,13 +13,13 @@ ghost use Rattle.spf_exec_instance.specs.Instance.{program_of};
 ghost use Rattle.spf_ticket.specs.Tickets.{IsJobOf};
 
 use crate::own_threads::run_on_threads;
-use crate::programs::accepted;
+use crate::programs::accept;
 use crate::starting::{Started, start};
 use spf_ast::construct::find_construct;
 use spf_ast::row::Row;
 use spf_cells::cells::Cells;
+use spf_chain::block::Settled;
 use spf_chain::chain::Chain;
-use spf_chain::validated::Settled;
 use spf_check::checked::Checked;
 use spf_crew_threads::workers::Workers;
 use spf_exec_instance::instance::Instance;
@@ -92,7 +92,7 @@ fn finish(alloc: Global, chain: Chain, cells: Cells, size: usize) -> Result<Came
 {
     let mut values = Vec::new(alloc);
     for validated in chain.history() {
-        values.push(word_of(validated.real))?;
+        values.push(word_of(validated.row))?;
     }
     let mut memory = vec![in alloc; 0i64; size]?;
     let (settled, _trace) = chain.finish(cells, memory.as_mut_slice());
@@ -163,7 +163,7 @@ fn run<R: Threads + Wait + Sync>(
     if workers == 0 || workers > 64 {
         return Err(Fail::new("a number of workers"));
     }
-    let checked = accepted(alloc, case.text)?;
+    let checked = accept(alloc, case.text)?;
     let program = checked.program();
     // Law: no `break` of a lawful program leaves `main` or a part.
     spf_ast::laws::breaks_stay_in_their_loops();

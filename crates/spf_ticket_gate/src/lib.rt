@@ -61,7 +61,7 @@ impl Barrier {
     }
 
     /// Returns whether all first attempts had begun before one of them ended.
-    pub fn met(&self) -> bool {
+    pub fn have_met(&self) -> bool {
         self.have_all_begun() && self.early.load(Ordering::SeqCst) == 0
     }
 

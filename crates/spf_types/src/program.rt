@@ -23,7 +23,7 @@ ghost use Rattle.spf_types_names.specs.declared.fault.TypeFault.{TypeFault as Fa
 use crate::limits::keeps_limits;
 use spf_ast::raw::{RawFunction, RawProgram};
 use spf_ast::syntax::{Array, Function, Name, Program, Stmt};
-use spf_types_forms::statement::{block, valued};
+use spf_types_forms::statement::{block, statements_and_number};
 use spf_types_names::fault::{TypeError, TypeFault};
 use spf_types_names::globals::{GlobalTable, Outer, short};
 use spf_types_names::locals::LocalTable;
@@ -85,7 +85,13 @@ fn function_of<'a>(here: &Here<'_, 'a>, raw: &'a RawFunction) -> Result<Function
     let alloc = here.alloc;
     let mut locals = LocalTable::make(alloc);
     declared_each(here, &mut locals, raw.line, &raw.params)?;
-    let (body, answer) = valued(here, &mut locals, &raw.body, raw.answer_line, &raw.answer)?;
+    let (body, answer) = statements_and_number(
+        here,
+        &mut locals,
+        &raw.body,
+        raw.answer_line,
+        &raw.answer,
+    )?;
     let params = short(raw.params.len())?;
     let bytes = raw.name.bytes.to_vec(alloc)?;
     Ok(Function {

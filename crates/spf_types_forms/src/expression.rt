@@ -20,7 +20,7 @@ use spf_ast::raw::{RawExpr, RawPredict};
 use spf_ast::syntax::{Cond, Expr, Predict};
 use spf_types_names::fault::{TypeError, TypeFault};
 use spf_types_names::locals::LocalTable;
-use spf_types_names::names::{Here, called, callee, indexed, used};
+use spf_types_names::names::{Here, array_indexed, callee, function_called, slot_used};
 
 /// A value of the wrong kind.
 fn wrong_kind(line: u32) -> TypeError
@@ -46,31 +46,31 @@ pub(crate) fn number<'a>(
     match raw {
         RawExpr::Number(n) => Ok(Expr::Number(*n)),
         RawExpr::Local(name) => {
-            let slot = used(here, locals, line, name)?;
+            let slot = slot_used(here, locals, line, name)?;
             Ok(Expr::Local(slot))
         }
         RawExpr::Len => Ok(Expr::Len),
         RawExpr::Input(index) => {
-            let index = boxed(here, locals, line, index)?;
+            let index = boxed_expression(here, locals, line, index)?;
             Ok(Expr::Input(index))
         }
         RawExpr::Load(name, index) => {
-            let array = indexed(here, locals, line, name)?;
-            let index = boxed(here, locals, line, index)?;
+            let array = array_indexed(here, locals, line, name)?;
+            let index = boxed_expression(here, locals, line, index)?;
             Ok(Expr::Load(array, index))
         }
         RawExpr::Call(name, given) => {
-            let function = called(here, locals, line, name, given.len())?;
+            let function = function_called(here, locals, line, name, given.len())?;
             let arguments = numbers(here, locals, line, given)?;
             Ok(Expr::Call(function, arguments))
         }
         RawExpr::Neg(inner) => {
-            let inner = boxed(here, locals, line, inner)?;
+            let inner = boxed_expression(here, locals, line, inner)?;
             Ok(Expr::Neg(inner))
         }
         RawExpr::Binary(op, left, right) => {
-            let left = boxed(here, locals, line, left)?;
-            let right = boxed(here, locals, line, right)?;
+            let left = boxed_expression(here, locals, line, left)?;
+            let right = boxed_expression(here, locals, line, right)?;
             Ok(Expr::Binary(*op, left, right))
         }
         RawExpr::Compare(..) | RawExpr::Both(..) | RawExpr::Either(..) | RawExpr::Not(_) => {
@@ -82,7 +82,7 @@ pub(crate) fn number<'a>(
 /// Resolves an expression that gives a number, in a box. A value that waits for a later part is
 /// held in this way: where that part fails, a box is dropped by one call.
 #[cycle(number)]
-pub(crate) fn boxed<'a>(
+pub(crate) fn boxed_expression<'a>(
     here: &Here<'_, 'a>,
     locals: &LocalTable<'a>,
     line: u32,
@@ -133,8 +133,8 @@ fn truth<'a>(
 {
     match raw {
         RawExpr::Compare(test, left, right) => {
-            let left = boxed(here, locals, line, left)?;
-            let right = boxed(here, locals, line, right)?;
+            let left = boxed_expression(here, locals, line, left)?;
+            let right = boxed_expression(here, locals, line, right)?;
             Ok(Cond::Compare(*test, left, right))
         }
         RawExpr::Both(first, second) => {
@@ -152,11 +152,11 @@ fn truth<'a>(
             Ok(Cond::Not(inner))
         }
         RawExpr::Local(name) => {
-            used(here, locals, line, name)?;
+            slot_used(here, locals, line, name)?;
             Err(wrong_kind(line))
         }
         RawExpr::Load(name, _) => {
-            indexed(here, locals, line, name)?;
+            array_indexed(here, locals, line, name)?;
             Err(wrong_kind(line))
         }
         RawExpr::Call(name, given) => {

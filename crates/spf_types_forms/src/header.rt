@@ -19,7 +19,7 @@ ghost use Rattle.spf_types_names.specs.Resolved.{resolved_arguments, resolved_ex
 ghost use Rattle.spf_types_names.specs.Resolved.{resolved_predictors};
 ghost use Rattle.spf_types_names.specs.Answers.{Answers};
 
-use crate::expression::{boxed, numbers, predictors};
+use crate::expression::{boxed_expression, numbers, predictors};
 use spf_ast::raw::{RawFold, RawPair};
 use spf_ast::syntax::{Expr, Predict};
 use spf_types_names::fault::TypeError;
@@ -145,8 +145,8 @@ pub(crate) fn header_of<'a>(
     let block = new_names(here, locals, line, raw)?;
     fold_widths(line, raw)?;
     let start = numbers(here, locals, line, &raw.start)?;
-    let low = boxed(here, locals, line, &raw.low)?;
-    let high = boxed(here, locals, line, &raw.high)?;
+    let low = boxed_expression(here, locals, line, &raw.low)?;
+    let high = boxed_expression(here, locals, line, &raw.high)?;
     let predict = guess(here, locals, line, raw, block)?;
     let carried = row_slots(here.alloc, first, &raw.carried)?;
     Ok(Header {

@@ -9,12 +9,14 @@ ghost use Rattle.spf_types_names.specs.Faults.{statement_faults};
 ghost use Rattle.spf_types_names.specs.Resolved.{scope, resolved_statement, after_statement};
 ghost use Rattle.spf_types_names.specs.Answers.{Answers};
 
-use crate::expression::{boxed, number, numbers};
+use crate::expression::{boxed_expression, number, numbers};
 use spf_ast::raw::RawExpr;
 use spf_ast::syntax::{Name, StmtKind};
 use spf_types_names::fault::{TypeError, TypeFault};
 use spf_types_names::locals::LocalTable;
-use spf_types_names::names::{Here, assigned, called, declarable, indexed, leaves_loop};
+use spf_types_names::names::{
+    Here, array_indexed, declarable, function_called, leaves_loop, slot_assigned,
+};
 
 /// Resolves a `let`.
 pub(crate) fn declaration<'a>(
@@ -33,7 +35,7 @@ pub(crate) fn declaration<'a>(
         (raw_form.Let (seen_name name.now) (raw_expression value.now))) }
 {
     declarable(here, locals, line, name)?;
-    let value = boxed(here, locals, line, value)?;
+    let value = boxed_expression(here, locals, line, value)?;
     let slot = locals.declare(here.alloc, name)?;
     locals.show(name, slot, false)?;
     Ok(StmtKind::Let(slot, Box::into_inner(value)))
@@ -52,7 +54,7 @@ pub(crate) fn assignment<'a>(
         (resolved_statement here.now.globals.now locals.now.locals (length locals.now.slots)
         (raw_form.Assign (seen_name name.now) (raw_expression value.now))) result }
 {
-    let slot = assigned(here, locals, line, name)?;
+    let slot = slot_assigned(here, locals, line, name)?;
     let value = number(here, locals, line, value)?;
     Ok(StmtKind::Assign(slot, value))
 }
@@ -73,8 +75,8 @@ pub(crate) fn store<'a>(
         (raw_form.Store (seen_name name.now) (raw_expression index.now) (raw_expression value.now)))
         result }
 {
-    let array = indexed(here, locals, line, name)?;
-    let index = boxed(here, locals, line, index)?;
+    let array = array_indexed(here, locals, line, name)?;
+    let index = boxed_expression(here, locals, line, index)?;
     let value = number(here, locals, line, value)?;
     Ok(StmtKind::Store(array, Box::into_inner(index), value))
 }
@@ -96,9 +98,9 @@ pub(crate) fn fill<'a>(
         (raw_form.Fill (seen_name name.now) (raw_expression low.now) (raw_expression high.now)
         (raw_expression value.now))) result }
 {
-    let array = indexed(here, locals, line, name)?;
-    let low = boxed(here, locals, line, low)?;
-    let high = boxed(here, locals, line, high)?;
+    let array = array_indexed(here, locals, line, name)?;
+    let low = boxed_expression(here, locals, line, low)?;
+    let high = boxed_expression(here, locals, line, high)?;
     let value = number(here, locals, line, value)?;
     Ok(StmtKind::Fill(array, Box::into_inner(low), Box::into_inner(high), value))
 }
@@ -173,7 +175,7 @@ pub(crate) fn call<'a>(
         (resolved_statement here.now.globals.now locals.now.locals (length locals.now.slots)
         (raw_form.Do (seen_name name.now) (raw_arguments given.now))) result }
 {
-    let function = called(here, locals, line, name, given.len())?;
+    let function = function_called(here, locals, line, name, given.len())?;
     let arguments = numbers(here, locals, line, given)?;
     Ok(StmtKind::Call(function, arguments))
 }

@@ -23,7 +23,7 @@ ghost use Rattle.spf_types_names.specs.Resolved.{resolved_statement, resolved_bl
 ghost use Rattle.spf_types_names.specs.Resolved.{after_statement, after_block, after_inner};
 ghost use Rattle.spf_types_names.specs.Answers.{Answers};
 
-use crate::expression::{boxed, boxed_truth, numbers, predictors};
+use crate::expression::{boxed_expression, boxed_truth, numbers, predictors};
 use crate::header::{Header, header_of, pair_names, pair_widths};
 use crate::simple::{assignment, call, declaration, departure, emission, failure, fill, store};
 use spf_ast::raw::{RawExpr, RawFold, RawPair, RawStmt, RawStmtKind};
@@ -99,9 +99,9 @@ fn statement_kind<'a>(
         RawStmtKind::Fail(number) => failure(here, locals, line, *number),
         RawStmtKind::If(test, first, second) => choice(here, locals, line, test, first, second),
         RawStmtKind::For(name, low, high, body) => {
-            counted(here, locals, line, name, low, high, body)
+            for_loop(here, locals, line, name, low, high, body)
         }
-        RawStmtKind::While(test, most, body) => repeated(here, locals, line, test, *most, body),
+        RawStmtKind::While(test, most, body) => while_loop(here, locals, line, test, *most, body),
         RawStmtKind::Call(name, given) => call(here, locals, line, name, given),
         RawStmtKind::Fold(raw) => fold(here, locals, line, raw),
         RawStmtKind::Pair(raw) => pair(here, locals, line, raw),
@@ -136,7 +136,7 @@ fn choice<'a>(
 
 /// Resolves a `for`.
 #[cycle(block)]
-fn counted<'a>(
+fn for_loop<'a>(
     here: &Here<'_, 'a>,
     locals: &mut LocalTable<'a>,
     line: u32,
@@ -155,8 +155,8 @@ fn counted<'a>(
         (raw_block body.now))) }
 {
     declarable(here, locals, line, name)?;
-    let low = boxed(here, locals, line, low)?;
-    let high = boxed(here, locals, line, high)?;
+    let low = boxed_expression(here, locals, line, low)?;
+    let high = boxed_expression(here, locals, line, high)?;
     let count = locals.count();
     let slot = locals.declare(here.alloc, name)?;
     locals.show(name, slot, true)?;
@@ -168,7 +168,7 @@ fn counted<'a>(
 
 /// Resolves a `while`.
 #[cycle(block)]
-fn repeated<'a>(
+fn while_loop<'a>(
     here: &Here<'_, 'a>,
     locals: &mut LocalTable<'a>,
     line: u32,
@@ -191,7 +191,7 @@ fn repeated<'a>(
 }
 
 /// Resolves statements, and then a number on a line. The locals may not be used after it.
-pub fn valued<'a>(
+pub fn statements_and_number<'a>(
     here: &Here<'_, 'a>,
     locals: &mut LocalTable<'a>,
     raw: &'a [RawStmt],
@@ -211,7 +211,7 @@ pub fn valued<'a>(
 {
     let count = locals.count();
     let statements = block(here, locals, raw)?;
-    let value = boxed(here, locals, line, value)?;
+    let value = boxed_expression(here, locals, line, value)?;
     locals.close(count);
     Ok((statements, value))
 }
@@ -219,7 +219,7 @@ pub fn valued<'a>(
 /// Resolves statements of a construct's part, and then a row on a line. The locals may not be used
 /// after it.
 #[cycle(block)]
-fn rowed<'a>(
+fn statements_and_row<'a>(
     here: &Here<'_, 'a>,
     locals: &mut LocalTable<'a>,
     raw: &'a [RawStmt],
@@ -247,7 +247,7 @@ fn rowed<'a>(
 
 /// Resolves the body of a fold and its `next`.
 #[cycle(block)]
-fn folded<'a>(
+fn fold_body<'a>(
     here: &Here<'_, 'a>,
     locals: &mut LocalTable<'a>,
     raw: &'a RawFold,
@@ -275,7 +275,7 @@ fn folded<'a>(
     let count = locals.count();
     locals.show_each(&raw.carried, first, true)?;
     locals.show(&raw.block, block, true)?;
-    let answer = rowed(here, locals, &raw.body, raw.next_line, &raw.next)?;
+    let answer = statements_and_row(here, locals, &raw.body, raw.next_line, &raw.next)?;
     locals.close(count);
     Ok(answer)
 }
@@ -298,7 +298,7 @@ fn fold<'a>(
         (raw_form.Fold (raw_fold_head raw.now) (raw_block (out-RawFold raw.now).body.items))) }
 {
     let header = header_of(here, locals, line, raw)?;
-    let (body, next) = folded(here, locals, raw, header.first, header.block)?;
+    let (body, next) = fold_body(here, locals, raw, header.first, header.block)?;
     locals.show_each(&raw.carried, header.first, false)?;
     let fold = fold_of(header, body, next, raw.next_line);
     Ok(StmtKind::Fold(Box::new(here.alloc, fold)?))
@@ -306,7 +306,7 @@ fn fold<'a>(
 
 /// Resolves the consumer of a pair.
 #[cycle(block)]
-fn consumed<'a>(
+fn consumer<'a>(
     here: &Here<'_, 'a>,
     locals: &mut LocalTable<'a>,
     raw: &'a RawPair,
@@ -351,9 +351,15 @@ fn pair<'a>(
     pair_names(here, locals, line, raw)?;
     pair_widths(line, raw)?;
     let carried = row_slots(here.alloc, first, &raw.carried)?;
-    let (producer, give) = rowed(here, locals, &raw.producer, raw.give_line, &raw.give)?;
+    let (producer, give) = statements_and_row(
+        here,
+        locals,
+        &raw.producer,
+        raw.give_line,
+        &raw.give,
+    )?;
     let predict = predictors(here, locals, line, &raw.predict)?;
-    let consumer = consumed(here, locals, raw, first)?;
+    let consumer = consumer(here, locals, raw, first)?;
     locals.show_each(&raw.carried, first, false)?;
     let pair = pair_of(carried, producer, give, raw.give_line, predict, consumer);
     Ok(StmtKind::Pair(Box::new(here.alloc, pair)?))

@@ -137,7 +137,7 @@ pub fn leaves_loop<'a>(here: &Here<'_, 'a>, line: u32) -> Result<(), TypeError>
 
 #[tactic(auto, using(crate::proofs::Scopes::scopes))]
 /// Returns the slot of a local that is used as a number.
-pub fn used<'a>(
+pub fn slot_used<'a>(
     here: &Here<'_, 'a>,
     locals: &LocalTable<'a>,
     line: u32,
@@ -158,7 +158,7 @@ pub fn used<'a>(
 
 #[tactic(auto, using(crate::proofs::Scopes::scopes))]
 /// Returns the slot of a local that is assigned.
-pub fn assigned<'a>(
+pub fn slot_assigned<'a>(
     here: &Here<'_, 'a>,
     locals: &LocalTable<'a>,
     line: u32,
@@ -184,7 +184,7 @@ pub fn assigned<'a>(
 }
 
 /// Returns the place of an array that is indexed.
-pub fn indexed<'a>(
+pub fn array_indexed<'a>(
     here: &Here<'_, 'a>,
     locals: &LocalTable<'a>,
     line: u32,
@@ -233,7 +233,7 @@ pub fn callee<'a>(
 }
 
 /// Returns the place of a function that is called with `count` arguments.
-pub fn called<'a>(
+pub fn function_called<'a>(
     here: &Here<'_, 'a>,
     locals: &LocalTable<'a>,
     line: u32,

@@ -17,7 +17,7 @@ use crate::size::{NONE, Size, beside, within};
 use spf_ast::syntax::{Cond, Expr, Fold, Pair, Predict, Stmt, StmtKind};
 
 /// The size of a function, or none where it isn't there.
-fn called(sizes: &[Size], function: u32) -> Size
+fn function_size(sizes: &[Size], function: u32) -> Size
     ensures { (counts : Counts) → IsTable counts sizes.now
         → IsSize result (counts.nodes function) (counts.depth function) (counts.slots function) }
 {
@@ -39,7 +39,7 @@ pub fn expression(sizes: &[Size], expr: &Expr) -> Size
         Expr::Load(_, index) => within(expression(sizes, index)),
         Expr::Call(function, given) => {
             let parts = arguments(sizes, given);
-            within(beside(parts, called(sizes, *function)))
+            within(beside(parts, function_size(sizes, *function)))
         }
         Expr::Neg(inner) => within(expression(sizes, inner)),
         Expr::Binary(_, left, right) => {
@@ -153,7 +153,7 @@ fn statement(sizes: &[Size], kind: &StmtKind) -> Size
         }
         StmtKind::Call(function, given) => {
             let parts = arguments(sizes, given);
-            within(beside(parts, called(sizes, *function)))
+            within(beside(parts, function_size(sizes, *function)))
         }
         StmtKind::Fold(parts) => fold(sizes, parts),
         StmtKind::Pair(parts) => pair(sizes, parts),

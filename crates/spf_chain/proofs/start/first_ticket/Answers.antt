@@ -1,13 +1,13 @@
 use Rattle.std.proofs.Common.{◌≡◌, ◌∙◌, ◌+ℤ◌, arith, ap, get_or, pos, w64, to_z, of_z}
 use Rattle.std.proofs.lemmas.Int.{to_z-of_z}
 use Rattle.std.proofs.lemmas.Option.{slice_get-get_or}
-use Rattle.spf_chain.specs.declared.validated.Validated.{Validated}
+use Rattle.spf_chain.specs.declared.block.ChainBlock.{ChainBlock}
 use Rattle.spf_chain.proofs.start.first_ticket.Goals as goal
 
 pub returns : goal.returns
 returns c =
     let bs = c.args.blocks.now in
-    let d : Validated = c.index-blocks-block.result in
+    let d : ChainBlock = c.index-blocks-block.result in
     let number : to_z w64 (of_z w64 c.number_at-number.result) ≡ c.number_at-number.result = grind (arith, to_z-of_z) in
     let low : to_z w64 (of_z w64 c.args.low) ≡ c.args.low = to_z-of_z w64 c.args.low c.ranges.low in
     record {

@@ -45,8 +45,8 @@ returns g c given =
     let next = λ (p : Program). CheckedBy p (Ends (Is accepted)) in
     let text = c.in_ok-text.text.items in
     let p = program c.in_ok-parsed.parsed in
-    let a = c.in_ok-accepted.field-0 in
+    let a = c.in_ok-answer_accepted.field-0 in
     answers_fetch c.args.program.now max_program (λ t. Read t next) text old new new (Ok a) c.in_ok-text.ensures.content
     (answers_read text p next new new (Ok a) (rw c.deref.ensures.value at c.in_ok-parsed.ensures.program)
     (answers_accepted c.rules_say_one_thing.ensures p (Ends (Is accepted)) new new (Ok a) c.in_ok-accept.ensures.accepted
-    (followed_end (Is accepted) new (seen_answer a) (only_same (seen_answer a) accepted (c.in_ok-accepted.ensures {u = tt})))))
+    (followed_end (Is accepted) new (seen_answer a) (only_same (seen_answer a) accepted (c.in_ok-answer_accepted.ensures {u = tt})))))

@@ -25,4 +25,4 @@ returns c given =
     let counted : none ≡ stats_of options given p c.args.input.now = ap (λ b. if b then none else (tally given.hosts p c.args.input.now).stats) (sym plain) in
     let asked : host_wanted options given p ≡ None = ap (λ b. if b then None else missing_host given.count (constructs_in p.main)) plain in
     run_done (ran options p (length c.args.input.now)) options given p c.args.input.now _ (λ many. c.in-Ok.ensures.too_many many) asked
-    (c.in_ok-ran.ensures ∙ (λ i. ran options (same i) (length (content i)) (came i) ((c.none.ensures ∙ counted) i)))
+    (c.in_ok-answer_of_run.ensures ∙ (λ i. ran options (same i) (length (content i)) (came i) ((c.none.ensures ∙ counted) i)))

@@ -26,7 +26,7 @@ returns-in-Err g c =
     let count : c.len.result ≡ given.count = sym (length-map c.args.hosts.now.items (λ h. (goal.Predictor-dyn g (h.vtable, h.value)).answer h.value) ∙ len) in
     let missing : cell_count_of p (length c.args.input.now) ≤ max_cells p → IsMissing (missing_host given.count (constructs_in p.main)) c.in-Err.error =
     λ fits. subst (λ n. IsMissing (missing_host n (constructs_in p.main)) c.in-Err.error) count (c.in-Err.ensures.missing fits) in
-    answers_with (IsOnly (Replays given p c.args.input.now (sections_of c.args.log.now))) (SaysWhy (seen_program c.program.result.now) c.in-Err.error) c.unfinished.result c.unfinished.ensures
+    answers_with (IsOnly (Replays given p c.args.input.now (sections_of c.args.log.now))) (SaysWhy (seen_program c.program.result.now) c.in-Err.error) c.answer_of_error.result c.answer_of_error.ensures
     (λ a says. started_left (missing_host given.count (constructs_in p.main)) p c.args.input.now (Ruled given.hosts p c.args.input.now (sections_of c.args.log.now)) c.in-Err.error a (λ over. c.in-Err.ensures.too_many over) missing
     (subst (λ q. SaysWhy (seen_program q) c.in-Err.error a) c.program.ensures.program says))
 
@@ -40,5 +40,5 @@ returns g c =
     let few : max_cells p < cell_count_of p (length c.args.input.now) → ⊥ = not_above (cell_count_of p (length c.args.input.now)) (max_cells p) c.in-Ok.ensures.few in
     let verdict : IsVerdict (expected given.hosts p c.args.input.now) (seen_log c.args.log.now) c.in_ok-verdict.verdict =
     subst (λ (x : Program × List ℕ). IsVerdict (expected given.hosts x.0 x.1) (seen_log c.args.log.now) c.in_ok-verdict.verdict) (λ i. (c.in-Ok.ensures.program i, c.in-Ok.ensures.input i)) c.in_ok-verdict.ensures.verdict in
-    started_done (missing_host given.count (constructs_in p.main)) p c.args.input.now (Ruled given.hosts p c.args.input.now (sections_of c.args.log.now)) (seen_answer c.in_ok-judged.field-0) few complete
-    (ruled_so c.verdicts_are_exact.ensures.one given.hosts p c.args.input.now (sections_of c.args.log.now) c.in_ok-verdict.verdict (seen_answer c.in_ok-judged.field-0) verdict c.in_ok-judged.ensures)
+    started_done (missing_host given.count (constructs_in p.main)) p c.args.input.now (Ruled given.hosts p c.args.input.now (sections_of c.args.log.now)) (seen_answer c.in_ok-answer_of_verdict.field-0) few complete
+    (ruled_so c.verdicts_are_exact.ensures.one given.hosts p c.args.input.now (sections_of c.args.log.now) c.in_ok-verdict.verdict (seen_answer c.in_ok-answer_of_verdict.field-0) verdict c.in_ok-answer_of_verdict.ensures)

@@ -25,7 +25,7 @@ returns-in-Err g c =
     let count : c.len.result ≡ given.count = sym (length-map c.args.hosts.now.items (λ h. (goal.Predictor-dyn g (h.vtable, h.value)).answer h.value) ∙ len) in
     let missing : cell_count_of p (length c.args.input.now) ≤ max_cells p → IsMissing (missing_host given.count (constructs_in p.main)) c.in-Err.error =
     λ fits. subst (λ n. IsMissing (missing_host n (constructs_in p.main)) c.in-Err.error) count (c.in-Err.ensures.missing fits) in
-    answers_with (IsOnly (Simulates given c.args.seed p c.args.input.now)) (SaysWhy (seen_program c.program.result.now) c.in-Err.error) c.unfinished.result c.unfinished.ensures
+    answers_with (IsOnly (Simulates given c.args.seed p c.args.input.now)) (SaysWhy (seen_program c.program.result.now) c.in-Err.error) c.answer_of_error.result c.answer_of_error.ensures
     (λ a says. started_left (missing_host given.count (constructs_in p.main)) p c.args.input.now (Drawn given.hosts p c.args.input.now c.args.seed) c.in-Err.error a (λ over. c.in-Err.ensures.too_many over) missing
     (subst (λ q. SaysWhy (seen_program q) c.in-Err.error a) c.program.ensures.program says))
 
@@ -38,9 +38,9 @@ returns-in-Some g c =
     let complete : missing_host given.count (constructs_in p.main) ≡ None = subst (λ n. missing_host n (constructs_in p.main) ≡ None) count c.in-Ok.ensures.complete in
     let few : max_cells p < cell_count_of p (length c.args.input.now) → ⊥ = not_above (cell_count_of p (length c.args.input.now)) (max_cells p) c.in-Ok.ensures.few in
     let came : ComesTo given.hosts (program_of c.in-Ok.instance) c.in-Ok.instance.input c.args.seed (Some c.in-Some.made) = subst (ComesTo given.hosts (program_of c.in-Ok.instance) c.in-Ok.instance.input c.args.seed) c.in-Some.is c.in_ok-made.ensures.simulated in
-    let a = seen_answer c.in_ok-simulated-in-Some.field-0 in
+    let a = seen_answer c.in_ok-answer_of_simulation-in-Some.field-0 in
     started_done (missing_host given.count (constructs_in p.main)) p c.args.input.now (Drawn given.hosts p c.args.input.now c.args.seed) a few complete
-    (drawn_by c.each_run_has_one_schedule.ensures.one given.hosts p (program_of c.in-Ok.instance) c.args.input.now c.in-Ok.instance.input c.args.seed c.in-Some.made a c.in-Ok.ensures.program c.in-Ok.ensures.input came c.in_ok-simulated-in-Some.ensures)
+    (drawn_by c.each_run_has_one_schedule.ensures.one given.hosts p (program_of c.in-Ok.instance) c.args.input.now c.in-Ok.instance.input c.args.seed c.in-Some.made a c.in-Ok.ensures.program c.in-Ok.ensures.input came c.in_ok-answer_of_simulation-in-Some.ensures)
 
 pub returns : goal.returns
 returns g c =

@@ -17,4 +17,4 @@ pub returns : goal.returns
 returns c =
     let program = with-arg-if c.arg-command.result _ _ bare (positional (codes "program")) c.arg-command.ensures (c.new.ensures.app, c.new.ensures.local) c.positional.ensures in
     let list = c.add_argument-command.ensures named (positional (codes "list")) program c.positional-2.ensures in
-    c.add_argument.ensures given (valued (codes "workers")) list c.valued.ensures
+    c.add_argument.ensures given (valued (codes "workers")) list c.option_with_value.ensures

@@ -8,7 +8,7 @@ returns c = λ app is.
     let one = with_rule app (valued (codes "workers")) in
     let two = with_rule one (flag (codes "stats")) in
     let three = with_rule two (flag (codes "cells")) in
-    let workers = c.add_argument-command.ensures app (valued (codes "workers")) is c.valued.ensures in
+    let workers = c.add_argument-command.ensures app (valued (codes "workers")) is c.option_with_value.ensures in
     let stats = c.add_argument-command-2.ensures one (flag (codes "stats")) workers c.flag.ensures in
     let cells = c.add_argument-command-3.ensures two (flag (codes "cells")) stats c.flag-2.ensures in
     c.add_argument.ensures three (flag (codes "plain")) cells c.flag-3.ensures

@@ -12,7 +12,7 @@ expression-returns-in-Call t c = λ calls h.
     let given = c.deref-in-Call.result.now in
     same_needs (needs calls) (expression c.args.expr.now) (Call f (arguments given)) c.max.result
     (ap expression c.in-Call.is ∙ expression-call f c.in-Call.given ∙ ap (λ es. Call f (arguments es)) (sym c.deref-in-Call.ensures.value))
-    (more_of_two (arguments_need calls (arguments given)) (calls f) c.arguments-most.result c.called.result c.max.result (c.arguments-most.ensures calls h) (c.called.ensures calls h) c.max.ensures)
+    (more_of_two (arguments_need calls (arguments given)) (calls f) c.arguments-most.result c.call_needs.result c.max.result (c.arguments-most.ensures calls h) (c.call_needs.ensures calls h) c.max.ensures)
 
 pub arguments-loop-expr-init : goal.arguments-loop-expr-init
 arguments-loop-expr-init t c = λ calls h. none_behind (arguments_from calls c.args.given.now 0)

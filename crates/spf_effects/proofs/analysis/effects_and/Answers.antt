@@ -6,4 +6,4 @@ use Rattle.spf_effects.proofs.analysis.effects_and.Goals as goal
 
 pub returns : goal.returns
 returns c =
-    effects_are c.gathered.result (block_then_row (setting c.args.context.now) c.args.bounds.now (block c.args.statements.now) (arguments c.args.last.now)) (block c.args.statements.now) c.new-found.result c.block_and_row.new.found c.new-found.ensures (c.in_ok-block_and_row.ensures {u = tt}).finds c.gathered.ensures
+    effects_are c.gather.result (block_then_row (setting c.args.context.now) c.args.bounds.now (block c.args.statements.now) (arguments c.args.last.now)) (block c.args.statements.now) c.new-found.result c.block_and_row.new.found c.new-found.ensures (c.in_ok-block_and_row.ensures {u = tt}).finds c.gather.ensures

@@ -21,5 +21,5 @@ returns c =
     let g = setting c.args.context.now in
     let finds = guesses_find g c.args.bounds.now (map predictor c.args.predict.now) in
     let none : Lists = record { uncovered = []; may = []; written = [] } in
-    effects_are c.gathered.result finds end none c.loop-part.found refl
-    (guesses_end g c.args.bounds.now c.args.predict.now none c.loop-part.part-index c.loop-part.found c.loop-part-test.false c.loop-part.invariant) c.gathered.ensures
+    effects_are c.gather.result finds end none c.loop-part.found refl
+    (guesses_end g c.args.bounds.now c.args.predict.now none c.loop-part.part-index c.loop-part.found c.loop-part-test.false c.loop-part.invariant) c.gather.ensures

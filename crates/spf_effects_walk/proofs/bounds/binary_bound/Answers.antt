@@ -21,7 +21,7 @@ pub returns-in-Rem : goal.returns-in-Rem
 returns-in-Rem c = where_is _ _ c.args.left c.args.right _ c.in-Rem.is c.rem.ensures.remainder
 
 pub returns-in-And : goal.returns-in-And
-returns-in-And c = where_is _ _ c.args.left c.args.right _ c.in-And.is c.masked.ensures.masked
+returns-in-And c = where_is _ _ c.args.left c.args.right _ c.in-And.is c.mask.ensures.masked
 
 pub returns-in-Div : goal.returns-in-Div
 returns-in-Div c = elim c.in-Div.is [

@@ -175,7 +175,7 @@ expression-returns-in-Call-clause-finds t c =
 
 pub expression-returns-in_ok-inner-in-Neg-clause-bound : goal.expression-returns-in_ok-inner-in-Neg-clause-bound
 expression-returns-in_ok-inner-in-Neg-clause-bound t c =
-    rw (c.negated.ensures.negated, c.in-Neg.is, ← c.deref-in-Neg.ensures) (ap negated (c.in_ok-inner-in-Neg.ensures {u = tt}).bound)
+    rw (c.negate.ensures.negated, c.in-Neg.is, ← c.deref-in-Neg.ensures) (ap negated (c.in_ok-inner-in-Neg.ensures {u = tt}).bound)
 
 pub expression-returns-in_ok-inner-in-Neg-clause-finds : goal.expression-returns-in_ok-inner-in-Neg-clause-finds
 expression-returns-in_ok-inner-in-Neg-clause-finds t c =

@@ -48,20 +48,20 @@ loop-account-preserved g c =
 pub returns-in-Finished-clause-outcome : goal.returns-in-Finished-clause-outcome
 returns-in-Finished-clause-outcome g c =
     let i = c.loop-account.invariant in
-    c.finished.ensures.outcome
+    c.report_at_end.ensures.outcome
     ∙ (finishes-so c.runs_in_pieces_go_on.ensures.traces _ (program_of c.args.instance.now) c.args.instance.now.input c.in_ok-take_step.field-0 c.take_step.new.run c.take_step.new.account _ (c.in_ok-take_step.ensures.steps _ i.progress i.agrees i.told i.goes) c.in-Finished.is).outcome_is
 
 pub returns-in-Finished-clause-statistics : goal.returns-in-Finished-clause-statistics
 returns-in-Finished-clause-statistics g c =
     let i = c.loop-account.invariant in
-    c.finished.ensures.stats
+    c.report_at_end.ensures.stats
     ∙ (finishes-so c.runs_in_pieces_go_on.ensures.traces _ (program_of c.args.instance.now) c.args.instance.now.input c.in_ok-take_step.field-0 c.take_step.new.run c.take_step.new.account _ (c.in_ok-take_step.ensures.steps _ i.progress i.agrees i.told i.goes) c.in-Finished.is).stats
 
 pub returns-in-Finished-clause-traces : goal.returns-in-Finished-clause-traces
 returns-in-Finished-clause-traces g c =
     let i = c.loop-account.invariant in
     let hosts = (handed_in (map (λ h. (goal.Predictor-dyn g (h.vtable, h.value)).answer h.value) c.args.hosts.now.items)) in
-    subst (AreTraces hosts (program_of c.args.instance.now) c.args.instance.now.input (constructs_in (program_of c.args.instance.now).main) (reals (program_of c.args.instance.now) c.args.instance.now.input) []) (sym c.finished.ensures.traces)
+    subst (AreTraces hosts (program_of c.args.instance.now) c.args.instance.now.input (constructs_in (program_of c.args.instance.now).main) (reals (program_of c.args.instance.now) c.args.instance.now.input) []) (sym c.report_at_end.ensures.traces)
     (finishes-so c.runs_in_pieces_go_on.ensures.traces hosts (program_of c.args.instance.now) c.args.instance.now.input c.in_ok-take_step.field-0 c.take_step.new.run c.take_step.new.account _ (c.in_ok-take_step.ensures.steps _ i.progress i.agrees i.told i.goes) c.in-Finished.is).traces
 
 pub returns-in-Finished-clause-told : goal.returns-in-Finished-clause-told
@@ -72,20 +72,20 @@ returns-in-Finished-clause-told g c =
 pub returns-in-Trapped-clause-outcome : goal.returns-in-Trapped-clause-outcome
 returns-in-Trapped-clause-outcome g c =
     let i = c.loop-account.invariant in
-    c.trapped.ensures.outcome
+    c.report_at_trap.ensures.outcome
     ∙ (traps-so c.runs_in_pieces_go_on.ensures.traces _ (program_of c.args.instance.now) c.args.instance.now.input c.in_ok-take_step.field-0 c.in-Trapped.trap c.take_step.new.run c.take_step.new.account _ (c.in_ok-take_step.ensures.steps _ i.progress i.agrees i.told i.goes) c.in-Trapped.is).outcome_is
 
 pub returns-in-Trapped-clause-statistics : goal.returns-in-Trapped-clause-statistics
 returns-in-Trapped-clause-statistics g c =
     let i = c.loop-account.invariant in
-    c.trapped.ensures.stats
+    c.report_at_trap.ensures.stats
     ∙ (traps-so c.runs_in_pieces_go_on.ensures.traces _ (program_of c.args.instance.now) c.args.instance.now.input c.in_ok-take_step.field-0 c.in-Trapped.trap c.take_step.new.run c.take_step.new.account _ (c.in_ok-take_step.ensures.steps _ i.progress i.agrees i.told i.goes) c.in-Trapped.is).stats
 
 pub returns-in-Trapped-clause-traces : goal.returns-in-Trapped-clause-traces
 returns-in-Trapped-clause-traces g c =
     let i = c.loop-account.invariant in
     let hosts = (handed_in (map (λ h. (goal.Predictor-dyn g (h.vtable, h.value)).answer h.value) c.args.hosts.now.items)) in
-    subst (AreTraces hosts (program_of c.args.instance.now) c.args.instance.now.input (constructs_in (program_of c.args.instance.now).main) (reals (program_of c.args.instance.now) c.args.instance.now.input) []) (sym c.trapped.ensures.traces)
+    subst (AreTraces hosts (program_of c.args.instance.now) c.args.instance.now.input (constructs_in (program_of c.args.instance.now).main) (reals (program_of c.args.instance.now) c.args.instance.now.input) []) (sym c.report_at_trap.ensures.traces)
     (traps-so c.runs_in_pieces_go_on.ensures.traces hosts (program_of c.args.instance.now) c.args.instance.now.input c.in_ok-take_step.field-0 c.in-Trapped.trap c.take_step.new.run c.take_step.new.account _ (c.in_ok-take_step.ensures.steps _ i.progress i.agrees i.told i.goes) c.in-Trapped.is).traces
 
 pub returns-in-Trapped-clause-told : goal.returns-in-Trapped-clause-told

@@ -3,7 +3,7 @@ use Rattle.spf_ast.specs.ConstructView.{construct as seen_construct}
 use Rattle.spf_ast.specs.Lawful.{IsLawful}
 use Rattle.spf_ast.specs.Pieces.{construct_first, rest_from}
 use Rattle.spf_ast.specs.Program.{environment_of}
-use Rattle.spf_chain.specs.declared.validated.Settled.TheVariants.{Carried}
+use Rattle.spf_chain.specs.declared.block.Settled.TheVariants.{Carried}
 use Rattle.spf_check.specs.Accepting.{IsAccepted}
 use Rattle.spf_exec.specs.Pieces.{moment_of, seen_header}
 use Rattle.spf_exec_instance.specs.Instance.{program_of}

@@ -8,7 +8,7 @@ use Rattle.spf_exec.specs.Pieces.{seen_header}
 use Rattle.spf_speculation_entry.specs.declared.site.Site.{Site}
 use Rattle.spf_speculation_entry.specs.Entry.{plain_blocks}
 use Rattle.spf_speculation_entry.specs.Sites.{entry_at}
-use Rattle.spf_chain.specs.declared.validated.Validated.{Validated}
+use Rattle.spf_chain.specs.declared.block.ChainBlock.{ChainBlock}
 use Rattle.spf_guess_statistics.specs.declared.guess.Guess as code_guess
 use Rattle.spf_chain.specs.Beginning.{site_of}
 use Rattle.spf_guess_statistics.specs.Guess.{tells}
@@ -37,7 +37,7 @@ count_blocks-stats-requires-clause-few g c =
     let within = c.history-history.ensures.places.within in
     let blocks = ap (λ (s : Site). s.blocks) c.in_ok-chain.ensures.site in
     let few = c.requires.there.few in
-    let history = ap (λ (l : List Validated). length l) c.history-history.ensures.history in
+    let history = ap (λ (l : List ChainBlock). length l) c.history-history.ensures.history in
     let size = row-count c.deref-2.result.now _ (c.deref-2.ensures.value ∙ c.in_ok-reals.ensures.rows) in
     omega (arith, within, blocks, few, history, size)
 
@@ -46,7 +46,7 @@ count_blocks-stats-requires-clause-enough g c =
     let within = c.history-history.ensures.places.within in
     let blocks = ap (λ (s : Site). s.blocks) c.in_ok-chain.ensures.site in
     let size = c.in_ok-guesses.ensures.size in
-    let history = ap (λ (l : List Validated). length l) c.history-history.ensures.history in
+    let history = ap (λ (l : List ChainBlock). length l) c.history-history.ensures.history in
     let rows = row-count c.deref-2.result.now _ (c.deref-2.ensures.value ∙ c.in_ok-reals.ensures.rows) in
     let guesses = ap (λ (l : List code_guess.Guess). length l) c.deref-3.ensures.value in
     omega (arith, within, blocks, size, history, rows, guesses)
@@ -55,7 +55,7 @@ pub tell_history-requires-clause-few : goal.tell_history-requires-clause-few
 tell_history-requires-clause-few g c =
     let within = c.history-history.ensures.places.within in
     let blocks = ap (λ (s : Site). s.blocks) c.in_ok-chain.ensures.site in
-    let history = ap (λ (l : List Validated). length l) c.history-history.ensures.history in
+    let history = ap (λ (l : List ChainBlock). length l) c.history-history.ensures.history in
     let rows = row-count c.deref-4.result.now _ (c.deref-4.ensures.value ∙ c.in_ok-reals.ensures.rows) in
     omega (arith, within, blocks, history, rows)
 
@@ -67,7 +67,7 @@ returns-clause-came g c = λ before telling were settled trace memory after fini
     = c.in_ok-chain.ensures.site ∙ ap (site_of c.args.at.instance.now c.args.at.index c.args.header.now c.args.at.frame.now c.args.at.cells.now) c.deref.ensures.value in
     let counted : c.count_blocks-stats.result ≡ counts_of (length c.in_ok-chain.chain.history) (paired (map seen_guess items) (drop 1 (real_values c.in_ok-chain.chain.history)))
     = c.count_blocks-stats.ensures.counts ∙ (λ i. counts_of (length (rows i)) (paired (map seen_guess (c.deref-3.ensures.value i)) (drop 1 (rows i))))
-    ∙ ap (λ n. counts_of n (paired (map seen_guess items) (drop 1 (real_values c.in_ok-chain.chain.history)))) (length-map c.in_ok-chain.chain.history (λ (b : Validated). b.real)) in
+    ∙ ap (λ n. counts_of n (paired (map seen_guess items) (drop 1 (real_values c.in_ok-chain.chain.history)))) (length-map c.in_ok-chain.chain.history (λ (b : ChainBlock). b.row)) in
     let within = c.history-history.ensures.places.within in
     let blocks = ap (λ (s : Site). s.blocks) c.in_ok-chain.ensures.site in
     comes (block_guess before telling c.args.at c.args.header.now) (seen_program c.args.checked.now) c.args.at c.args.header.now items c.requires.there

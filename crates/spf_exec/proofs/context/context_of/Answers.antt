@@ -16,7 +16,7 @@ returns-clause-fits c =
     let input = c.args.instance.now.input in
     subst (λ (x : List ℕ × List FunctionCode). FitsProgram p input (setting_before x.0 c.extents.result.now x.1 (length x.1)))
     (λ t. (sym c.input.ensures.same t, sym c.deref.ensures.value t))
-    (fits_main p input c.extents.result.now c.code.result.now c.code.ensures.code c.code.ensures.orderly (c.extents.ensures ∙ c.layout.ensures.extents))
+    (fits_main p input c.extents.result.now c.code.result.now c.code.ensures.code c.code.ensures.orderly c.code.ensures.tables (c.extents.ensures ∙ c.layout.ensures.extents))
 
 pub returns-clause-within : goal.returns-clause-within
 returns-clause-within c =

@@ -165,48 +165,48 @@ level-returns-in_err-first-clause-answers t c =
 pub level-returns-clause-answers : goal.level-returns-clause-answers
 level-returns-clause-answers t c =
     let l = go (λ x. follows_operand (suc c.args.rank) c.args.nesting c.args.rank x c.args.used (λ y. give y) (λ y. omega arith)) (level_start c.args.nesting c.args.rank c.args.used) c.in_ok-first.ensures in
-    through _ _ c.continued.result l c.continued.ensures.answers
+    through _ _ c.rest_of_expression.result l c.rest_of_expression.ensures.answers
 
-pub continued-returns-then-rank-eq0-clause-answers : goal.continued-returns-then-rank-eq0-clause-answers
-continued-returns-then-rank-eq0-clause-answers t c =
+pub rest_of_expression-returns-then-rank-eq0-clause-answers : goal.rest_of_expression-returns-then-rank-eq0-clause-answers
+rest_of_expression-returns-then-rank-eq0-clause-answers t c =
     rw c.if-rank-eq0.true start
 
-pub continued-returns-in_err-left-clause-answers : goal.continued-returns-in_err-left-clause-answers
-continued-returns-in_err-left-clause-answers t c =
+pub rest_of_expression-returns-in_err-left-clause-answers : goal.rest_of_expression-returns-in_err-left-clause-answers
+rest_of_expression-returns-in_err-left-clause-answers t c =
     let r = c.args.rank - 1 in
     let is : c.args.rank ≡ suc (c.args.rank - 1) = omega (arith, c.if-rank-eq0.false) in
     let p = err_from_is_err_and c.from_residual.result c.from_residual.ensures.1 in
     rw (p.1, p.2) (continued_halts (lexemes c.args.tokens.now) c.args.nesting c.args.rank (c.args.rank - 1) (raw_expression c.args.operand.value) c.args.used c.in_err-left.field-0.0 is c.in_err-left.ensures.answers)
 
-pub continued-returns-then-rank-eq-COMPARISONS-clause-answers : goal.continued-returns-then-rank-eq-COMPARISONS-clause-answers
-continued-returns-then-rank-eq-COMPARISONS-clause-answers t c =
+pub rest_of_expression-returns-then-rank-eq-COMPARISONS-clause-answers : goal.rest_of_expression-returns-then-rank-eq-COMPARISONS-clause-answers
+rest_of_expression-returns-then-rank-eq-COMPARISONS-clause-answers t c =
     let e = c.if-rank-eq-COMPARISONS.true in
     let l = go_rule {R = after_operand c.args.nesting 6 (raw_expression c.args.operand.value) c.args.used (λ x. give x)} (of_rank c.args.nesting 6 true) (rank_follows c.args.nesting 6 true) (continued_start c.args.nesting 7 6 (raw_expression c.args.operand.value) c.args.used refl) (rw e at c.in_ok-left.ensures.answers) in
     rw e (through _ _ c.comparison.result l c.comparison.ensures.answers)
 
-pub continued-returns-clause-answers : goal.continued-returns-clause-answers
-continued-returns-clause-answers t c =
+pub rest_of_expression-returns-clause-answers : goal.rest_of_expression-returns-clause-answers
+rest_of_expression-returns-clause-answers t c =
     let is : c.args.rank ≡ suc (c.args.rank - 1) = omega (arith, c.if-rank-eq0.false) in
     let l = continued_further c.args.nesting c.args.rank (c.args.rank - 1) (raw_expression c.args.operand.value) c.args.used is (λ h. c.if-rank-eq-COMPARISONS.false (omega (arith, is, h))) c.in_ok-left.ensures.answers in
     continued_through _ _ c.chain.result c.args.rank (c.args.rank - 1) is l c.chain.ensures.answers
 
-pub named-returns-in_err-x : goal.named-returns-in_err-x
-named-returns-in_err-x t c =
+pub operand_by_name-returns-in_err-x : goal.operand_by_name-returns-in_err-x
+operand_by_name-returns-in_err-x t c =
     let p = err_from_is_err_and c.from_residual.result c.from_residual.ensures.1 in
     rw (p.1, p.2) (halt c.in_err-x.field-0.0 (λ x. anything 1 (named c.args.nesting x)) (λ x. refl)
     start
     c.in_err-x.ensures)
 
-pub named-returns-in_err-inner : goal.named-returns-in_err-inner
-named-returns-in_err-inner t c =
+pub operand_by_name-returns-in_err-inner : goal.operand_by_name-returns-in_err-inner
+operand_by_name-returns-in_err-inner t c =
     let b = decide (Some (kind.Sign sign.OpenBracket)) (c.is_next.ensures.0 c.if-is_next.true) _ (go (λ x. anything 1 (named c.args.nesting x)) start c.in_ok-x.ensures) in
     let p = err_from_is_err_and c.from_residual-in_err-inner.result c.from_residual-in_err-inner.ensures.1 in
     rw (p.1, p.2) (halt0 c.in_err-inner.field-0.0 refl (λ x. refl)
     b
     c.in_err-inner.ensures.answers)
 
-pub named-returns-in_err-index : goal.named-returns-in_err-index
-named-returns-in_err-index t c =
+pub operand_by_name-returns-in_err-index : goal.operand_by_name-returns-in_err-index
+operand_by_name-returns-in_err-index t c =
     let b = decide (Some (kind.Sign sign.OpenBracket)) (c.is_next.ensures.0 c.if-is_next.true) _ (go (λ x. anything 1 (named c.args.nesting x)) start c.in_ok-x.ensures) in
     let l = go0 refl b c.in_ok-inner.ensures.answers in
     let p = err_from_is_err_and c.from_residual-in_err-index.result c.from_residual-in_err-index.ensures.1 in
@@ -214,22 +214,22 @@ named-returns-in_err-index t c =
     l
     c.in_err-index.ensures)
 
-pub named-returns-then-is_next : goal.named-returns-then-is_next
-named-returns-then-is_next t c =
+pub operand_by_name-returns-then-is_next : goal.operand_by_name-returns-then-is_next
+operand_by_name-returns-then-is_next t c =
     let b = decide (Some (kind.Sign sign.OpenBracket)) (c.is_next.ensures.0 c.if-is_next.true) _ (go (λ x. anything 1 (named c.args.nesting x)) start c.in_ok-x.ensures) in
     let l = go0 refl b c.in_ok-inner.ensures.answers in
     rw c.in_ok-new.ensures.ok (go_rule0 (value_before (c.args.nesting + 1) (kind.Sign sign.CloseBracket)) _ l c.in_ok-index.ensures)
 
-pub named-returns-in_err-inner-2 : goal.named-returns-in_err-inner-2
-named-returns-in_err-inner-2 t c =
+pub operand_by_name-returns-in_err-inner-2 : goal.operand_by_name-returns-in_err-inner-2
+operand_by_name-returns-in_err-inner-2 t c =
     let b = decide (Some (kind.Sign sign.OpenParen)) (c.is_next-2.ensures.0 c.if-is_next-2.true) _ (go (λ x. anything 1 (named c.args.nesting x)) start c.in_ok-x.ensures) in
     let p = err_from_is_err_and c.from_residual-in_err-inner-2.result c.from_residual-in_err-inner-2.ensures.1 in
     rw (p.1, p.2) (halt0 c.in_err-inner-2.field-0.0 refl (λ x. refl)
     b
     c.in_err-inner-2.ensures.answers)
 
-pub named-returns-in_err-given : goal.named-returns-in_err-given
-named-returns-in_err-given t c =
+pub operand_by_name-returns-in_err-given : goal.operand_by_name-returns-in_err-given
+operand_by_name-returns-in_err-given t c =
     let b = decide (Some (kind.Sign sign.OpenParen)) (c.is_next-2.ensures.0 c.if-is_next-2.true) _ (go (λ x. anything 1 (named c.args.nesting x)) start c.in_ok-x.ensures) in
     let l = go0 refl b c.in_ok-inner-2.ensures.answers in
     let p = err_from_is_err_and c.from_residual-in_err-given.result c.from_residual-in_err-given.ensures.1 in
@@ -237,14 +237,14 @@ named-returns-in_err-given t c =
     l
     c.in_err-given.ensures)
 
-pub named-returns-then-is_next-2 : goal.named-returns-then-is_next-2
-named-returns-then-is_next-2 t c =
+pub operand_by_name-returns-then-is_next-2 : goal.operand_by_name-returns-then-is_next-2
+operand_by_name-returns-then-is_next-2 t c =
     let b = decide (Some (kind.Sign sign.OpenParen)) (c.is_next-2.ensures.0 c.if-is_next-2.true) _ (go (λ x. anything 1 (named c.args.nesting x)) start c.in_ok-x.ensures) in
     let l = go0 refl b c.in_ok-inner-2.ensures.answers in
     rw (c.in_ok-new-2.ensures.ok, raw_expression-call c.in_ok-x.x c.in_ok-given.given) (go0 refl l c.in_ok-given.ensures)
 
-pub named-returns : goal.named-returns
-named-returns t c =
+pub operand_by_name-returns : goal.operand_by_name-returns
+operand_by_name-returns t c =
     rw c.in_ok-new-3.ensures.ok (name_alone c.args.nesting (seen_name c.in_ok-x.x) (λ h. absurd (search (rules, c.is_next.ensures.1 h))) (λ h. absurd (search (rules, c.is_next-2.ensures.1 h))) (go (λ x. anything 1 (named c.args.nesting x)) start c.in_ok-x.ensures))
 
 pub operand-returns-in_default : goal.operand-returns-in_default
@@ -315,22 +315,22 @@ operand-returns-in_ok-new-in-Input t c =
 pub operand-returns-in-Name : goal.operand-returns-in-Name
 operand-returns-in-Name t c =
     let b = operand_start c.args.nesting (Some kind.Name) (sym c.next.ensures ∙ c.in-Some.is ∙ ap Some c.in-Name.is) in
-    through _ _ c.named.result b c.named.ensures
+    through _ _ c.operand_by_name.result b c.operand_by_name.ensures
 
 pub operand-returns-in_default-word : goal.operand-returns-in_default-word
 operand-returns-in_default-word t c =
     length_fails c.args.tokens.now c.args.tokens.now (word_operand c.args.nesting _ c.in-Keyword.word (sym c.next.ensures ∙ c.in-Some.is ∙ ap Some c.in-Keyword.is) c.in_default-word.not-Len c.in_default-word.not-Input)
 
-pub signed-returns-in_err-inner-in-Minus : goal.signed-returns-in_err-inner-in-Minus
-signed-returns-in_err-inner-in-Minus t c =
+pub operand_by_sign-returns-in_err-inner-in-Minus : goal.operand_by_sign-returns-in_err-inner-in-Minus
+operand_by_sign-returns-in_err-inner-in-Minus t c =
     let b = operand_start c.args.nesting (Some (kind.Sign sign.Minus)) (c.requires.is_next ∙ ap (λ s. Some (kind.Sign s)) c.in-Minus.is) in
     let p = err_from_is_err_and c.from_residual.result c.from_residual.ensures.1 in
     rw (p.1, p.2) (halt c.in_err-inner-in-Minus.field-0.0 (λ x. omega arith) (λ x. refl)
     b
     c.in_err-inner-in-Minus.ensures.answers)
 
-pub signed-returns-in_err-a-in-Minus : goal.signed-returns-in_err-a-in-Minus
-signed-returns-in_err-a-in-Minus t c =
+pub operand_by_sign-returns-in_err-a-in-Minus : goal.operand_by_sign-returns-in_err-a-in-Minus
+operand_by_sign-returns-in_err-a-in-Minus t c =
     let b = operand_start c.args.nesting (Some (kind.Sign sign.Minus)) (c.requires.is_next ∙ ap (λ s. Some (kind.Sign s)) c.in-Minus.is) in
     let l = go (λ x. omega arith) b c.in_ok-inner-in-Minus.ensures.answers in
     let p = err_from_is_err_and c.from_residual-in_err-a-in-Minus.result c.from_residual-in_err-a-in-Minus.ensures.1 in
@@ -338,22 +338,22 @@ signed-returns-in_err-a-in-Minus t c =
     l
     c.in_err-a-in-Minus.ensures)
 
-pub signed-returns-in_ok-new-in-Minus : goal.signed-returns-in_ok-new-in-Minus
-signed-returns-in_ok-new-in-Minus t c =
+pub operand_by_sign-returns-in_ok-new-in-Minus : goal.operand_by_sign-returns-in_ok-new-in-Minus
+operand_by_sign-returns-in_ok-new-in-Minus t c =
     let b = operand_start c.args.nesting (Some (kind.Sign sign.Minus)) (c.requires.is_next ∙ ap (λ s. Some (kind.Sign s)) c.in-Minus.is) in
     let l = go (λ x. omega arith) b c.in_ok-inner-in-Minus.ensures.answers in
     rw c.in_ok-new-in-Minus.ensures.ok (go (λ x. omega arith) l c.in_ok-a-in-Minus.ensures)
 
-pub signed-returns-in_err-inner-in-Not : goal.signed-returns-in_err-inner-in-Not
-signed-returns-in_err-inner-in-Not t c =
+pub operand_by_sign-returns-in_err-inner-in-Not : goal.operand_by_sign-returns-in_err-inner-in-Not
+operand_by_sign-returns-in_err-inner-in-Not t c =
     let b = operand_start c.args.nesting (Some (kind.Sign sign.Not)) (c.requires.is_next ∙ ap (λ s. Some (kind.Sign s)) c.in-Not.is) in
     let p = err_from_is_err_and c.from_residual-in_err-inner-in-Not.result c.from_residual-in_err-inner-in-Not.ensures.1 in
     rw (p.1, p.2) (halt c.in_err-inner-in-Not.field-0.0 (λ x. omega arith) (λ x. refl)
     b
     c.in_err-inner-in-Not.ensures.answers)
 
-pub signed-returns-in_err-a-in-Not : goal.signed-returns-in_err-a-in-Not
-signed-returns-in_err-a-in-Not t c =
+pub operand_by_sign-returns-in_err-a-in-Not : goal.operand_by_sign-returns-in_err-a-in-Not
+operand_by_sign-returns-in_err-a-in-Not t c =
     let b = operand_start c.args.nesting (Some (kind.Sign sign.Not)) (c.requires.is_next ∙ ap (λ s. Some (kind.Sign s)) c.in-Not.is) in
     let l = go (λ x. omega arith) b c.in_ok-inner-in-Not.ensures.answers in
     let p = err_from_is_err_and c.from_residual-in_err-a-in-Not.result c.from_residual-in_err-a-in-Not.ensures.1 in
@@ -361,30 +361,30 @@ signed-returns-in_err-a-in-Not t c =
     l
     c.in_err-a-in-Not.ensures)
 
-pub signed-returns-in_ok-new-in-Not : goal.signed-returns-in_ok-new-in-Not
-signed-returns-in_ok-new-in-Not t c =
+pub operand_by_sign-returns-in_ok-new-in-Not : goal.operand_by_sign-returns-in_ok-new-in-Not
+operand_by_sign-returns-in_ok-new-in-Not t c =
     let b = operand_start c.args.nesting (Some (kind.Sign sign.Not)) (c.requires.is_next ∙ ap (λ s. Some (kind.Sign s)) c.in-Not.is) in
     let l = go (λ x. omega arith) b c.in_ok-inner-in-Not.ensures.answers in
     rw c.in_ok-new-in-Not.ensures.ok (go (λ x. omega arith) l c.in_ok-a-in-Not.ensures)
 
-pub signed-returns-in_err-inner-in-OpenParen : goal.signed-returns-in_err-inner-in-OpenParen
-signed-returns-in_err-inner-in-OpenParen t c =
+pub operand_by_sign-returns-in_err-inner-in-OpenParen : goal.operand_by_sign-returns-in_err-inner-in-OpenParen
+operand_by_sign-returns-in_err-inner-in-OpenParen t c =
     let b = operand_start c.args.nesting (Some (kind.Sign sign.OpenParen)) (c.requires.is_next ∙ ap (λ s. Some (kind.Sign s)) c.in-OpenParen.is) in
     let p = err_from_is_err_and c.from_residual-in_err-inner-in-OpenParen.result c.from_residual-in_err-inner-in-OpenParen.ensures.1 in
     rw (p.1, p.2) (halt c.in_err-inner-in-OpenParen.field-0.0 (λ x. omega arith) (λ x. refl)
     b
     c.in_err-inner-in-OpenParen.ensures.answers)
 
-pub signed-returns-in_ok-inner-in-OpenParen : goal.signed-returns-in_ok-inner-in-OpenParen
-signed-returns-in_ok-inner-in-OpenParen t c =
+pub operand_by_sign-returns-in_ok-inner-in-OpenParen : goal.operand_by_sign-returns-in_ok-inner-in-OpenParen
+operand_by_sign-returns-in_ok-inner-in-OpenParen t c =
     let b = operand_start c.args.nesting (Some (kind.Sign sign.OpenParen)) (c.requires.is_next ∙ ap (λ s. Some (kind.Sign s)) c.in-OpenParen.is) in
     let l = go (λ x. omega arith) b c.in_ok-inner-in-OpenParen.ensures.answers in
     through_rule (value_before (c.args.nesting + 1) (kind.Sign sign.CloseParen)) _ _ c.value.result (omega arith) l c.value.ensures
 
-pub signed-returns-in_default : goal.signed-returns-in_default
-signed-returns-in_default t c =
+pub operand_by_sign-returns-in_default : goal.operand_by_sign-returns-in_default
+operand_by_sign-returns-in_default t c =
     length_fails c.args.tokens.now c.args.tokens.now (sign_operand c.args.nesting _ c.args.sign c.requires.is_next c.in_default.not-Minus c.in_default.not-Not c.in_default.not-OpenParen)
 
 pub value-returns : goal.value-returns
 value-returns t c =
-    followed_by (all (expression c.args.nesting)) (lexemes c.args.tokens.now) c.expr.result c.followed.result c.args.end (λ x. x.0) (λ e. raw_expression e.value) (λ x. lexemes x.1.now) (λ x. c.requires.ends) c.followed.ensures.refused c.followed.ensures.kept c.followed.ensures.token c.expr.ensures
+    followed_by (all (expression c.args.nesting)) (lexemes c.args.tokens.now) c.expr.result c.followed_by.result c.args.end (λ x. x.0) (λ e. raw_expression e.value) (λ x. lexemes x.1.now) (λ x. c.requires.ends) c.followed_by.ensures.refused c.followed_by.ensures.kept c.followed_by.ensures.token c.expr.ensures

@@ -8,11 +8,11 @@ use Rattle.spf_parse_grammar.specs.Rules.{all}
 use Rattle.spf_parse_parts.specs.Answers.{Leads}
 use Rattle.spf_parse_parts.proofs.expression.+expression.Given as goal
 
-abbrev pub decreases-named : goal.decreases-named
-decreases-named l = (64 - l.nesting) * 64 + 1
+abbrev pub decreases-operand_by_name : goal.decreases-operand_by_name
+decreases-operand_by_name l = (64 - l.nesting) * 64 + 1
 
-abbrev pub decreases-signed : goal.decreases-signed
-decreases-signed l = (64 - l.nesting) * 64 + 1
+abbrev pub decreases-operand_by_sign : goal.decreases-operand_by_sign
+decreases-operand_by_sign l = (64 - l.nesting) * 64 + 1
 
 abbrev pub decreases-operand : goal.decreases-operand
 decreases-operand l = (64 - l.nesting) * 64 + 2
@@ -20,8 +20,8 @@ decreases-operand l = (64 - l.nesting) * 64 + 2
 abbrev pub decreases-level : goal.decreases-level
 decreases-level l = (64 - l.nesting) * 64 + (3 * l.rank + 5)
 
-abbrev pub decreases-continued : goal.decreases-continued
-decreases-continued l = (64 - l.nesting) * 64 + (3 * l.rank + 4)
+abbrev pub decreases-rest_of_expression : goal.decreases-rest_of_expression
+decreases-rest_of_expression l = (64 - l.nesting) * 64 + (3 * l.rank + 4)
 
 abbrev pub decreases-chain : goal.decreases-chain
 decreases-chain l = (64 - l.nesting) * 64 + (3 * l.rank + 6)

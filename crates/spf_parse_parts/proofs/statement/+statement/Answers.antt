@@ -202,13 +202,13 @@ pair_form-returns-in_err-producer t c =
     let p = err_from_is_err_and c.from_residual-in_err-producer.result c.from_residual-in_err-producer.ensures.1 in
     rw (p.1, p.2) (halt_rule0 (then_token (ended_statements c.args.breaks c.args.nesting word.Give) (kind.Keyword word.Predict)) (pair_rest c.args.breaks c.args.nesting (map seen_name c.in_ok-carried.carried.items)) c.in_err-producer.field-0.0 (λ x. refl)
     l2
-    (followed_by0 (ended_statements c.args.breaks c.args.nesting word.Give) (lexemes c.in_ok-carried.open_at.now) c.ended.result _ (kind.Keyword word.Predict) (λ x. x.0) (λ e. (map stated e.0.items, e.1, map raw_expression e.2.items)) (λ x. lexemes x.1.now) c.in_err-producer.ensures.refused c.in_err-producer.ensures.kept c.in_err-producer.ensures.token c.ended.ensures))
+    (followed_by0 (ended_statements c.args.breaks c.args.nesting word.Give) (lexemes c.in_ok-carried.open_at.now) c.block_with_row.result _ (kind.Keyword word.Predict) (λ x. x.0) (λ e. (map stated e.0.items, e.1, map raw_expression e.2.items)) (λ x. lexemes x.1.now) c.in_err-producer.ensures.refused c.in_err-producer.ensures.kept c.in_err-producer.ensures.token c.block_with_row.ensures))
 
 pub pair_form-returns-in_err-predict : goal.pair_form-returns-in_err-predict
 pair_form-returns-in_err-predict t c =
     let l0 = go0 refl (start {n = 11} {F = rules.pair_form c.args.breaks c.args.nesting}) c.in_ok-rest.ensures in
     let l2 = go_rule0 (then_token (all (names c.args.nesting)) (kind.Sign sign.Assign)) _ l0 (followed_by0 (all (names c.args.nesting)) (lexemes c.in_ok-rest.rest.now) c.names.result _ (kind.Sign sign.Assign) (λ x. x.0) (λ v. map seen_name v.items) (λ x. lexemes x.1.now) c.in_ok-carried.ensures.refused c.in_ok-carried.ensures.kept c.in_ok-carried.ensures.token c.names.ensures) in
-    let m = go_rule0 (then_token (ended_statements c.args.breaks c.args.nesting word.Give) (kind.Keyword word.Predict)) (pair_rest c.args.breaks c.args.nesting (map seen_name c.in_ok-carried.carried.items)) l2 (followed_by0 (ended_statements c.args.breaks c.args.nesting word.Give) (lexemes c.in_ok-carried.open_at.now) c.ended.result _ (kind.Keyword word.Predict) (λ x. x.0) (λ e. (map stated e.0.items, e.1, map raw_expression e.2.items)) (λ x. lexemes x.1.now) c.in_ok-producer.ensures.refused c.in_ok-producer.ensures.kept c.in_ok-producer.ensures.token c.ended.ensures) in
+    let m = go_rule0 (then_token (ended_statements c.args.breaks c.args.nesting word.Give) (kind.Keyword word.Predict)) (pair_rest c.args.breaks c.args.nesting (map seen_name c.in_ok-carried.carried.items)) l2 (followed_by0 (ended_statements c.args.breaks c.args.nesting word.Give) (lexemes c.in_ok-carried.open_at.now) c.block_with_row.result _ (kind.Keyword word.Predict) (λ x. x.0) (λ e. (map stated e.0.items, e.1, map raw_expression e.2.items)) (λ x. lexemes x.1.now) c.in_ok-producer.ensures.refused c.in_ok-producer.ensures.kept c.in_ok-producer.ensures.token c.block_with_row.ensures) in
     let p = err_from_is_err_and c.from_residual-in_err-predict.result c.from_residual-in_err-predict.ensures.1 in
     rw (p.1, p.2) (halt c.in_err-predict.field-0.0 (λ x. ten_fourteen) (λ x. refl)
     m
@@ -218,7 +218,7 @@ pub pair_form-returns-in_err-consumer : goal.pair_form-returns-in_err-consumer
 pair_form-returns-in_err-consumer t c =
     let l0 = go0 refl (start {n = 11} {F = rules.pair_form c.args.breaks c.args.nesting}) c.in_ok-rest.ensures in
     let l2 = go_rule0 (then_token (all (names c.args.nesting)) (kind.Sign sign.Assign)) _ l0 (followed_by0 (all (names c.args.nesting)) (lexemes c.in_ok-rest.rest.now) c.names.result _ (kind.Sign sign.Assign) (λ x. x.0) (λ v. map seen_name v.items) (λ x. lexemes x.1.now) c.in_ok-carried.ensures.refused c.in_ok-carried.ensures.kept c.in_ok-carried.ensures.token c.names.ensures) in
-    let m = go_rule0 (then_token (ended_statements c.args.breaks c.args.nesting word.Give) (kind.Keyword word.Predict)) (pair_rest c.args.breaks c.args.nesting (map seen_name c.in_ok-carried.carried.items)) l2 (followed_by0 (ended_statements c.args.breaks c.args.nesting word.Give) (lexemes c.in_ok-carried.open_at.now) c.ended.result _ (kind.Keyword word.Predict) (λ x. x.0) (λ e. (map stated e.0.items, e.1, map raw_expression e.2.items)) (λ x. lexemes x.1.now) c.in_ok-producer.ensures.refused c.in_ok-producer.ensures.kept c.in_ok-producer.ensures.token c.ended.ensures) in
+    let m = go_rule0 (then_token (ended_statements c.args.breaks c.args.nesting word.Give) (kind.Keyword word.Predict)) (pair_rest c.args.breaks c.args.nesting (map seen_name c.in_ok-carried.carried.items)) l2 (followed_by0 (ended_statements c.args.breaks c.args.nesting word.Give) (lexemes c.in_ok-carried.open_at.now) c.block_with_row.result _ (kind.Keyword word.Predict) (λ x. x.0) (λ e. (map stated e.0.items, e.1, map raw_expression e.2.items)) (λ x. lexemes x.1.now) c.in_ok-producer.ensures.refused c.in_ok-producer.ensures.kept c.in_ok-producer.ensures.token c.block_with_row.ensures) in
     let n = go (λ x. ten_fourteen) m c.in_ok-predict.ensures in
     let p = err_from_is_err_and c.from_residual-in_err-consumer.result c.from_residual-in_err-consumer.ensures.1 in
     rw (p.1, p.2) (halt0 c.in_err-consumer.field-0.0 refl (λ x. refl)
@@ -229,28 +229,28 @@ pub pair_form-returns : goal.pair_form-returns
 pair_form-returns t c =
     let l0 = go0 refl (start {n = 11} {F = rules.pair_form c.args.breaks c.args.nesting}) c.in_ok-rest.ensures in
     let l2 = go_rule0 (then_token (all (names c.args.nesting)) (kind.Sign sign.Assign)) _ l0 (followed_by0 (all (names c.args.nesting)) (lexemes c.in_ok-rest.rest.now) c.names.result _ (kind.Sign sign.Assign) (λ x. x.0) (λ v. map seen_name v.items) (λ x. lexemes x.1.now) c.in_ok-carried.ensures.refused c.in_ok-carried.ensures.kept c.in_ok-carried.ensures.token c.names.ensures) in
-    let m = go_rule0 (then_token (ended_statements c.args.breaks c.args.nesting word.Give) (kind.Keyword word.Predict)) (pair_rest c.args.breaks c.args.nesting (map seen_name c.in_ok-carried.carried.items)) l2 (followed_by0 (ended_statements c.args.breaks c.args.nesting word.Give) (lexemes c.in_ok-carried.open_at.now) c.ended.result _ (kind.Keyword word.Predict) (λ x. x.0) (λ e. (map stated e.0.items, e.1, map raw_expression e.2.items)) (λ x. lexemes x.1.now) c.in_ok-producer.ensures.refused c.in_ok-producer.ensures.kept c.in_ok-producer.ensures.token c.ended.ensures) in
+    let m = go_rule0 (then_token (ended_statements c.args.breaks c.args.nesting word.Give) (kind.Keyword word.Predict)) (pair_rest c.args.breaks c.args.nesting (map seen_name c.in_ok-carried.carried.items)) l2 (followed_by0 (ended_statements c.args.breaks c.args.nesting word.Give) (lexemes c.in_ok-carried.open_at.now) c.block_with_row.result _ (kind.Keyword word.Predict) (λ x. x.0) (λ e. (map stated e.0.items, e.1, map raw_expression e.2.items)) (λ x. lexemes x.1.now) c.in_ok-producer.ensures.refused c.in_ok-producer.ensures.kept c.in_ok-producer.ensures.token c.block_with_row.ensures) in
     let n = go (λ x. ten_fourteen) m c.in_ok-predict.ensures in
     let made = ap out-RawPair c.in_ok-new.ensures.ok ∙ out-roll-RawPair _ in
     rw (raw_statement-pair c.in_ok-new.field-0, made, block_is c.in_ok-producer.producer.items) (go0 refl n c.in_ok-consumer.ensures)
 
-pub ended-returns-in_err-body : goal.ended-returns-in_err-body
-ended-returns-in_err-body t c =
+pub block_with_row-returns-in_err-body : goal.block_with_row-returns-in_err-body
+block_with_row-returns-in_err-body t c =
     let p = err_from_is_err_and c.from_residual.result c.from_residual.ensures.1 in
     rw (p.1, p.2) (halt_rule 12 (opened_statements c.args.breaks c.args.nesting) _ c.in_err-body.field-0.0 (λ x. c.requires.ends) (λ x. refl)
     start
     c.in_err-body.ensures)
 
-pub ended-returns-in_err-last : goal.ended-returns-in_err-last
-ended-returns-in_err-last t c =
+pub block_with_row-returns-in_err-last : goal.block_with_row-returns-in_err-last
+block_with_row-returns-in_err-last t c =
     let l0 = go_rule {R = opened_statements c.args.breaks c.args.nesting} _ (λ x. c.requires.ends) start c.in_ok-body.ensures in
     let p = err_from_is_err_and c.from_residual-in_err-last.result c.from_residual-in_err-last.ensures.1 in
     rw (p.1, p.2) (halt0 c.in_err-last.field-0.0 refl (λ x. refl)
     l0
     c.in_err-last.ensures)
 
-pub ended-returns-in_err-a : goal.ended-returns-in_err-a
-ended-returns-in_err-a t c =
+pub block_with_row-returns-in_err-a : goal.block_with_row-returns-in_err-a
+block_with_row-returns-in_err-a t c =
     let l0 = go_rule {R = opened_statements c.args.breaks c.args.nesting} _ (λ x. c.requires.ends) start c.in_ok-body.ensures in
     let l1 = go0 refl l0 c.in_ok-last.ensures in
     let p = err_from_is_err_and c.from_residual-in_err-a.result c.from_residual-in_err-a.ensures.1 in
@@ -258,12 +258,12 @@ ended-returns-in_err-a t c =
     l1
     (followed_by0 (row_before (c.args.nesting + 1) (kind.Sign sign.Semicolon)) (lexemes c.in_ok-last.last.now) c.row_up_to.result _ (kind.Sign sign.CloseBrace) (λ x. x.0) (λ v. map raw_expression v.items) (λ x. lexemes x.1.now) c.in_err-a.ensures.refused c.in_err-a.ensures.kept c.in_err-a.ensures.token c.row_up_to.ensures))
 
-pub ended-row_up_to-requires-clause-nesting_in : goal.ended-row_up_to-requires-clause-nesting_in
-ended-row_up_to-requires-clause-nesting_in t c =
+pub block_with_row-row_up_to-requires-clause-nesting_in : goal.block_with_row-row_up_to-requires-clause-nesting_in
+block_with_row-row_up_to-requires-clause-nesting_in t c =
     omega (arith, opened_below c.args.breaks c.args.nesting c.in_ok-body.ensures)
 
-pub ended-returns : goal.ended-returns
-ended-returns t c =
+pub block_with_row-returns : goal.block_with_row-returns
+block_with_row-returns t c =
     let l0 = go_rule {R = opened_statements c.args.breaks c.args.nesting} _ (λ x. c.requires.ends) start c.in_ok-body.ensures in
     let l1 = go0 refl l0 c.in_ok-last.ensures in
     let l3 = go_rule0 (then_token (row_before (c.args.nesting + 1) (kind.Sign sign.Semicolon)) (kind.Sign sign.CloseBrace)) _ l1 (followed_by0 (row_before (c.args.nesting + 1) (kind.Sign sign.Semicolon)) (lexemes c.in_ok-last.last.now) c.row_up_to.result _ (kind.Sign sign.CloseBrace) (λ x. x.0) (λ v. map raw_expression v.items) (λ x. lexemes x.1.now) c.in_ok-a.ensures.refused c.in_ok-a.ensures.kept c.in_ok-a.ensures.token c.row_up_to.ensures) in
@@ -274,11 +274,11 @@ block-returns-in_err-inside t c =
     let p = err_from_is_err_and c.from_residual.result c.from_residual.ensures.1 in
     rw (p.1, p.2) (halt_rule0 (then_token (opened_statements c.args.breaks c.args.nesting) (kind.Sign sign.CloseBrace)) _ c.in_err-inside.field-0.0 (λ x. refl)
     (unfold_part (block c.args.breaks c.args.nesting) (λ x. give x) start)
-    (followed_by (opened_statements c.args.breaks c.args.nesting) (lexemes c.args.tokens.now) c.opened.result _ (kind.Sign sign.CloseBrace) (λ x. x.0) (λ v. map stated v.items) (λ x. lexemes x.1.now) (λ x. twelve_fourteen) c.in_err-inside.ensures.refused c.in_err-inside.ensures.kept c.in_err-inside.ensures.token c.opened.ensures))
+    (followed_by (opened_statements c.args.breaks c.args.nesting) (lexemes c.args.tokens.now) c.open_block.result _ (kind.Sign sign.CloseBrace) (λ x. x.0) (λ v. map stated v.items) (λ x. lexemes x.1.now) (λ x. twelve_fourteen) c.in_err-inside.ensures.refused c.in_err-inside.ensures.kept c.in_err-inside.ensures.token c.open_block.ensures))
 
 pub block-returns : goal.block-returns
 block-returns t c =
-    let l1 = go_rule0 (then_token (opened_statements c.args.breaks c.args.nesting) (kind.Sign sign.CloseBrace)) _ (unfold_part (block c.args.breaks c.args.nesting) (λ x. give x) start) (followed_by (opened_statements c.args.breaks c.args.nesting) (lexemes c.args.tokens.now) c.opened.result _ (kind.Sign sign.CloseBrace) (λ x. x.0) (λ v. map stated v.items) (λ x. lexemes x.1.now) (λ x. twelve_fourteen) c.in_ok-inside.ensures.refused c.in_ok-inside.ensures.kept c.in_ok-inside.ensures.token c.opened.ensures) in
+    let l1 = go_rule0 (then_token (opened_statements c.args.breaks c.args.nesting) (kind.Sign sign.CloseBrace)) _ (unfold_part (block c.args.breaks c.args.nesting) (λ x. give x) start) (followed_by (opened_statements c.args.breaks c.args.nesting) (lexemes c.args.tokens.now) c.open_block.result _ (kind.Sign sign.CloseBrace) (λ x. x.0) (λ v. map stated v.items) (λ x. lexemes x.1.now) (λ x. twelve_fourteen) c.in_ok-inside.ensures.refused c.in_ok-inside.ensures.kept c.in_ok-inside.ensures.token c.open_block.ensures) in
     rw (block_is c.in_ok-inside.inside.items) l1
 
 pub otherwise-returns-in-Some : goal.otherwise-returns-in-Some
@@ -363,29 +363,29 @@ pub form-returns-in-Sign : goal.form-returns-in-Sign
 form-returns-in-Sign t c =
     length_fails c.args.tokens.now c.args.tokens.now (form_none c.args.breaks c.args.nesting _ _ (sym c.next.ensures ∙ c.in-Some.is ∙ ap Some c.in-Sign.is) refl)
 
-pub opened-returns-in_err-rest : goal.opened-returns-in_err-rest
-opened-returns-in_err-rest t c =
+pub open_block-returns-in_err-rest : goal.open_block-returns-in_err-rest
+open_block-returns-in_err-rest t c =
     let p = err_from_is_err_and c.from_residual.result c.from_residual.ensures.1 in
     rw (p.1, p.2) (halt0 c.in_err-rest.field-0.0 refl (λ x. refl)
     start
     c.in_err-rest.ensures.answers)
 
-pub opened-inside-init : goal.opened-inside-init
-opened-inside-init t c =
+pub open_block-inside-init : goal.open_block-inside-init
+open_block-inside-init t c =
     record { leads = rw c.new-inside.ensures.items (go0 refl start c.in_ok-rest.ensures.answers); below = omega (arith, c.in_ok-rest.ensures.below) }
 
-pub opened-returns-in_err-kind : goal.opened-returns-in_err-kind
-opened-returns-in_err-kind t c =
+pub open_block-returns-in_err-kind : goal.open_block-returns-in_err-kind
+open_block-returns-in_err-kind t c =
     let l = next_statement c.args.breaks (c.args.nesting + 1) (map stated c.inside.inside.items) (sym c.begins_statement.ensures ∙ c.inside-test.true) c.inside.invariant.leads in
     let p = err_from_is_err_and c.from_residual-in_err-kind.result c.from_residual-in_err-kind.ensures.1 in
     rw (p.1, p.2) (halt c.in_err-kind.field-0.0 (λ x. (eleven_twelve, λ y. below_twelve)) (λ x. refl) l (lined_refuses 11 (form c.args.breaks (c.args.nesting + 1)) _ c.in_err-kind.field-0.0 (form_some c.args.breaks (c.args.nesting + 1)) c.in_err-kind.ensures))
 
-pub opened-inside-smaller : goal.opened-inside-smaller
-opened-inside-smaller t c =
+pub open_block-inside-smaller : goal.open_block-inside-smaller
+open_block-inside-smaller t c =
     takes (form c.args.breaks (c.args.nesting + 1)) c.inside.rest.now c.in_ok-kind.end.now _ (λ y ws d. form_some c.args.breaks (c.args.nesting + 1) 0 y ws d) c.in_ok-kind.ensures
 
-pub opened-inside-preserved : goal.opened-inside-preserved
-opened-inside-preserved t c =
+pub open_block-inside-preserved : goal.open_block-inside-preserved
+open_block-inside-preserved t c =
     let l = next_statement c.args.breaks (c.args.nesting + 1) (map stated c.inside.inside.items) (sym c.begins_statement.ensures ∙ c.inside-test.true) c.inside.invariant.leads in
     record {
       leads = rw (c.in_ok-push.ensures.items, map-append, c.line_of-line.ensures)
@@ -393,6 +393,6 @@ opened-inside-preserved t c =
       below = c.inside.invariant.below;
     }
 
-pub opened-returns : goal.opened-returns
-opened-returns t c =
+pub open_block-returns : goal.open_block-returns
+open_block-returns t c =
     statements_done c.args.breaks (c.args.nesting + 1) (map stated c.inside.inside.items) (sym c.begins_statement.ensures ∙ c.inside-test.false) c.inside.invariant.leads

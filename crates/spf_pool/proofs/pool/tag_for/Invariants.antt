@@ -2,5 +2,5 @@ use Rattle.spf_pool.specs.Counter.{ledger_of}
 use Rattle.spf_pool.specs.Deque.{tag_of}
 use Rattle.spf_pool.proofs.pool.tag_for.Given as goal
 
-abbrev pub ghost-named : goal.ghost-named
+abbrev pub ghost-tag_key : goal.ghost-tag_key
 ghost-named g a = tag_of a.key.now.value (ledger_of a.counter.now)

@@ -18,7 +18,7 @@ returns-in-Affine c =
     let next : FitsSigned w128 (c.at_block-in-Affine.result +ℤ pos 1) = next-fits c.at_block-in-Affine.result high c.at_block-in-Affine.ensures.size in
     let a = rw (to_z-of_z w64 _ c.ranges.k, to_z-of_z w64 _ factor, to_z-of_z w64 _ from) at c.at_block.ensures.value in
     let b = rw (to_z-of_z w64 _ c.ranges.k, to_z-of_z w64 _ factor, to_z-of_z w64 _ to) at c.at_block-in-Affine.ensures.value in
-    let first = rw (to_z-of_z w128 _ low, a) at c.clamped-first.ensures.value in
-    let end = rw (to_z-of_z w128 _ high, to_z-of_z w128 _ next, b) at c.clamped-end.ensures.value in
-    λ cell. subst (λ (r : Range). in_span (record { from = c.args.base + c.clamped-first.result; to = c.args.base + c.clamped-end.result }) cell ≡ is_cell (c.args.base, c.args.size) c.args.k r cell) (sym p.is)
-    (span-cells c.args.base c.args.size (at_block c.args.k p.factor p.from) (at_block c.args.k p.factor p.to) c.clamped-first.result c.clamped-end.result cell first end)
+    let first = rw (to_z-of_z w128 _ low, a) at c.clamp-first.ensures.value in
+    let end = rw (to_z-of_z w128 _ high, to_z-of_z w128 _ next, b) at c.clamp-end.ensures.value in
+    λ cell. subst (λ (r : Range). in_span (record { from = c.args.base + c.clamp-first.result; to = c.args.base + c.clamp-end.result }) cell ≡ is_cell (c.args.base, c.args.size) c.args.k r cell) (sym p.is)
+    (span-cells c.args.base c.args.size (at_block c.args.k p.factor p.from) (at_block c.args.k p.factor p.to) c.clamp-first.result c.clamp-end.result cell first end)

@@ -13,5 +13,5 @@ returns-in-Some-clause-judged c = λ passed x h same guesses.
 pub returns-in-None-clause-judged : goal.returns-in-None-clause-judged
 returns-in-None-clause-judged c = λ passed x h same guesses.
     let log = seen_log c.args.log.now in
-    after-wrong passed x log c.args.judged c.refused.result (entry_of c.args.entered.now) c.requires.right h same
-    (subst (λ r. IsAfterRun log c.args.judged.next (entry_of c.args.entered.now) x.guess r) c.in-None.is (c.in_ok-next.ensures.after x.guess guesses)) c.refused.ensures
+    after-wrong passed x log c.args.judged c.refuse.result (entry_of c.args.entered.now) c.requires.right h same
+    (subst (λ r. IsAfterRun log c.args.judged.next (entry_of c.args.entered.now) x.guess r) c.in-None.is (c.in_ok-next.ensures.after x.guess guesses)) c.refuse.ensures

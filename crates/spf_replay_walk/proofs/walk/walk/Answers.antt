@@ -50,7 +50,7 @@ loop-spare-preserved g c =
 pub returns-in-Finished-clause-outcome : goal.returns-in-Finished-clause-outcome
 returns-in-Finished-clause-outcome g c =
     let i = c.loop-spare.invariant in
-    c.finished-outcome.ensures
+    c.outcome_at_end-outcome.ensures
     ∙ (walk-finishes g.V.Visitor.has_visited c.args.visitor.now c.loop-spare.visitor c.take_step.new.visitor _ (program_of c.args.instance.now) c.args.instance.now.input i.progress.passed c.in_ok-take_step.field-0 c.take_step.new.run
     c.take_step.new.stats _ i.visited (c.in_ok-take_step.ensures.steps _ i.progress i.stats_are i.told i.goes) c.in-Finished.is).outcome_is
 
@@ -75,7 +75,7 @@ returns-in-Finished-clause-told g c =
 pub returns-in-Trapped-clause-outcome : goal.returns-in-Trapped-clause-outcome
 returns-in-Trapped-clause-outcome g c =
     let i = c.loop-spare.invariant in
-    c.trapped-outcome.ensures
+    c.outcome_at_trap-outcome.ensures
     ∙ (walk-traps g.V.Visitor.has_visited c.args.visitor.now c.loop-spare.visitor c.take_step.new.visitor _ (program_of c.args.instance.now) c.args.instance.now.input i.progress.passed c.in_ok-take_step.field-0 c.in-Trapped.trap c.take_step.new.run
     c.take_step.new.stats _ i.visited (c.in_ok-take_step.ensures.steps _ i.progress i.stats_are i.told i.goes) c.in-Trapped.is).outcome_is
 

@@ -7,8 +7,8 @@ use Rattle.spf_types_forms.proofs.expression.+number.Given as goal
 abbrev pub decreases-number : goal.decreases-number
 decreases-number l = 2 * expr_weight l.raw.now
 
-abbrev pub decreases-boxed : goal.decreases-boxed
-decreases-boxed l = 2 * expr_weight l.raw.now + 1
+abbrev pub decreases-boxed_expression : goal.decreases-boxed_expression
+decreases-boxed_expression l = 2 * expr_weight l.raw.now + 1
 
 abbrev pub decreases-numbers : goal.decreases-numbers
 decreases-numbers l = 2 * exprs_weight l.raw.now

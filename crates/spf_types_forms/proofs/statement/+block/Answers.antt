@@ -64,16 +64,16 @@ statement_kind-choice-requires t c =
     let k : 2 * (stmts_weight c.deref.result.now + stmts_weight c.deref-in-If.result.now) + 2 < t = omega (arith, m, e, d, f) in
     (k, tt)
 
-pub statement_kind-counted-requires : goal.statement_kind-counted-requires
-statement_kind-counted-requires t c =
+pub statement_kind-for_loop-requires : goal.statement_kind-for_loop-requires
+statement_kind-for_loop-requires t c =
     let m : t ≡ 2 * kind_weight c.args.raw.now = sym c.decreases in
     let e = ap kind_weight c.in-For.is ∙ kind_weight-for c.in-For.name c.in-For.low c.in-For.high c.in-For.body in
     let d = ap stmts_weight c.deref-in-For.ensures.value in
     let k : 2 * stmts_weight c.deref-in-For.result.now + 1 < t = omega (arith, m, e, d) in
     (k, tt)
 
-pub statement_kind-repeated-requires : goal.statement_kind-repeated-requires
-statement_kind-repeated-requires t c =
+pub statement_kind-while_loop-requires : goal.statement_kind-while_loop-requires
+statement_kind-while_loop-requires t c =
     let m : t ≡ 2 * kind_weight c.args.raw.now = sym c.decreases in
     let e = ap kind_weight c.in-While.is ∙ kind_weight-while c.in-While.test c.in-While.most c.in-While.body in
     let d = ap stmts_weight c.deref-in-While.ensures.value in
@@ -107,19 +107,19 @@ statement_kind-returns-in-If-clause-after t c =
 
 pub statement_kind-returns-in-For-clause-answers : goal.statement_kind-returns-in-For-clause-answers
 statement_kind-returns-in-For-clause-answers t c =
-    form_along (setting c.args.here.now) c.args.locals.now c.args.line c.counted.result _ _ (for_is c.args.raw.now c.in-For.name c.in-For.low c.in-For.high c.in-For.body c.deref-in-For.result.now c.in-For.is c.deref-in-For.ensures.value) c.counted.ensures.answers
+    form_along (setting c.args.here.now) c.args.locals.now c.args.line c.for_loop.result _ _ (for_is c.args.raw.now c.in-For.name c.in-For.low c.in-For.high c.in-For.body c.deref-in-For.result.now c.in-For.is c.deref-in-For.ensures.value) c.for_loop.ensures.answers
 
 pub statement_kind-returns-in-For-clause-after : goal.statement_kind-returns-in-For-clause-after
 statement_kind-returns-in-For-clause-after t c =
-    after_along c.args.locals.now c.counted.new.locals c.counted.result _ _ (for_is c.args.raw.now c.in-For.name c.in-For.low c.in-For.high c.in-For.body c.deref-in-For.result.now c.in-For.is c.deref-in-For.ensures.value) c.counted.ensures.after
+    after_along c.args.locals.now c.for_loop.new.locals c.for_loop.result _ _ (for_is c.args.raw.now c.in-For.name c.in-For.low c.in-For.high c.in-For.body c.deref-in-For.result.now c.in-For.is c.deref-in-For.ensures.value) c.for_loop.ensures.after
 
 pub statement_kind-returns-in-While-clause-answers : goal.statement_kind-returns-in-While-clause-answers
 statement_kind-returns-in-While-clause-answers t c =
-    form_along (setting c.args.here.now) c.args.locals.now c.args.line c.repeated.result _ _ (while_is c.args.raw.now c.in-While.test c.in-While.most c.in-While.body c.deref-in-While.result.now c.in-While.is c.deref-in-While.ensures.value) c.repeated.ensures.answers
+    form_along (setting c.args.here.now) c.args.locals.now c.args.line c.while_loop.result _ _ (while_is c.args.raw.now c.in-While.test c.in-While.most c.in-While.body c.deref-in-While.result.now c.in-While.is c.deref-in-While.ensures.value) c.while_loop.ensures.answers
 
 pub statement_kind-returns-in-While-clause-after : goal.statement_kind-returns-in-While-clause-after
 statement_kind-returns-in-While-clause-after t c =
-    after_along c.args.locals.now c.repeated.new.locals c.repeated.result _ _ (while_is c.args.raw.now c.in-While.test c.in-While.most c.in-While.body c.deref-in-While.result.now c.in-While.is c.deref-in-While.ensures.value) c.repeated.ensures.after
+    after_along c.args.locals.now c.while_loop.new.locals c.while_loop.result _ _ (while_is c.args.raw.now c.in-While.test c.in-While.most c.in-While.body c.deref-in-While.result.now c.in-While.is c.deref-in-While.ensures.value) c.while_loop.ensures.after
 
 pub statement_kind-returns-in-Fold-clause-answers : goal.statement_kind-returns-in-Fold-clause-answers
 statement_kind-returns-in-Fold-clause-answers t c =
@@ -137,44 +137,44 @@ pub statement_kind-returns-in-Pair-clause-after : goal.statement_kind-returns-in
 statement_kind-returns-in-Pair-clause-after t c =
     after_along c.args.locals.now c.pair.new.locals c.pair.result _ _ (pair_is c.args.raw.now c.in-Pair.raw c.deref-in-Pair.result.now c.in-Pair.is c.deref-in-Pair.ensures) c.pair.ensures.after
 
-pub counted-returns-clause-answers : goal.counted-returns-clause-answers
-counted-returns-clause-answers t c =
+pub for_loop-returns-clause-answers : goal.for_loop-returns-clause-answers
+for_loop-returns-clause-answers t c =
     let s = shown c.args.locals.now c.declare.new.self c.show.new.self (fixed (name c.args.name.now) c.in_ok-slot.slot) (name c.args.name.now) (c.in_ok-slot.ensures {u = tt}).declared (c.in_ok-show.ensures {u = tt}).shown in
     let b = rw c.in_turn-inside.ensures at (c.in_ok-body.ensures {u = tt}).answers in (
       none_in _ _ (c.in_ok-declarable.ensures {u = tt}).answers.0 (none_in _ _ (c.in_ok-low.ensures {u = tt}).0 (none_in _ _ (c.in_ok-high.ensures {u = tt}).0 (ap (λ (z : Seen). block_faults (in_turn (setting c.args.here.now)) (scope z.locals) (raw_block c.args.body.now)) (sym s) ∙ b.0))),
       for_form c.args.here.now.globals.now c.args.locals.now c.show.new.self (name c.args.name.now) c.in_ok-slot.slot c.into_inner.result c.into_inner-2.result c.in_ok-body.body (raw_expression c.args.low.now) (raw_expression c.args.high.now) (raw_block c.args.body.now) s (c.in_ok-slot.ensures {u = tt}).slot (ap expression c.into_inner.ensures ∙ (c.in_ok-low.ensures {u = tt}).1) (ap expression c.into_inner-2.ensures ∙ (c.in_ok-high.ensures {u = tt}).1) b.1,
     )
 
-pub counted-returns-clause-after : goal.counted-returns-clause-after
-counted-returns-clause-after t c =
+pub for_loop-returns-clause-after : goal.for_loop-returns-clause-after
+for_loop-returns-clause-after t c =
     let s = shown c.args.locals.now c.declare.new.self c.show.new.self (fixed (name c.args.name.now) c.in_ok-slot.slot) (name c.args.name.now) (c.in_ok-slot.ensures {u = tt}).declared (c.in_ok-show.ensures {u = tt}).shown in
     closed c.args.locals.now c.show.new.self c.block.new.locals c.close.new.self (fixed (name c.args.name.now) c.in_ok-slot.slot ∷ []) (raw_block c.args.body.now) c.count-count.result (ap (λ (z : Seen). z.locals) s) (c.in_ok-body.ensures {u = tt}).after c.count-count.ensures c.close.ensures
     ∙ ap (λ (z : Seen). record { locals = c.args.locals.now.locals; slots = z.slots ++ names_in (raw_block c.args.body.now) }) s
     ∙ ap (λ (sl : List (List ℕ)). record { locals = c.args.locals.now.locals; slots = sl }) (append_assoc c.args.locals.now.slots (name c.args.name.now ∷ []) (names_in (raw_block c.args.body.now)))
 
-pub repeated-returns-clause-answers : goal.repeated-returns-clause-answers
-repeated-returns-clause-answers t c =
+pub while_loop-returns-clause-answers : goal.while_loop-returns-clause-answers
+while_loop-returns-clause-answers t c =
     let b = rw c.in_turn-inside.ensures at (c.in_ok-body.ensures {u = tt}).answers in
     (none_in _ _ (c.in_ok-test.ensures {u = tt}).0 b.0, while_form c.args.here.now.globals.now c.args.locals.now c.into_inner.result c.args.most c.in_ok-body.body (raw_expression c.args.test.now) (raw_block c.args.body.now) (ap condition c.into_inner.ensures ∙ (c.in_ok-test.ensures {u = tt}).1) b.1)
 
-pub rowed-returns-clause-after : goal.rowed-returns-clause-after
-rowed-returns-clause-after t c =
+pub statements_and_row-returns-clause-after : goal.statements_and_row-returns-clause-after
+statements_and_row-returns-clause-after t c =
     closed c.args.locals.now c.args.locals.now c.block.new.locals c.close.new.self [] (raw_block c.args.raw.now) c.count-count.result refl (c.in_ok-statements.ensures {u = tt}).after c.count-count.ensures c.close.ensures
 
-pub rowed-returns-clause-answers : goal.rowed-returns-clause-answers
-rowed-returns-clause-answers t c =
+pub statements_and_row-returns-clause-answers : goal.statements_and_row-returns-clause-answers
+statements_and_row-returns-clause-answers t c =
     let b = rw c.in_part-inside.ensures at (c.in_ok-statements.ensures {u = tt}) in
     let v = rw (b.after, scope_at_end-is) at (c.in_ok-parts.ensures {u = tt}) in
     (none_in _ _ b.answers.0 v.0, λ i. (b.answers.1 i, v.1 i))
 
-pub rowed-returns-in_err-parts-clause-answers : goal.rowed-returns-in_err-parts-clause-answers
-rowed-returns-in_err-parts-clause-answers t c =
+pub statements_and_row-returns-in_err-parts-clause-answers : goal.statements_and_row-returns-in_err-parts-clause-answers
+statements_and_row-returns-in_err-parts-clause-answers t c =
     let b = rw c.in_part-inside.ensures at (c.in_ok-statements.ensures {u = tt}) in
     let p = err_from_is_err_and c.from_residual-in_err-parts.result c.from_residual-in_err-parts.ensures.1 in
     rw (p.1, p.2) (behind _ _ _ b.answers.0 (rw (b.after, scope_at_end-is) at (c.in_err-parts.ensures {u = tt})))
 
-pub consumed-returns-clause-after : goal.consumed-returns-clause-after
-consumed-returns-clause-after t c =
+pub consumer-returns-clause-after : goal.consumer-returns-clause-after
+consumer-returns-clause-after t c =
     let s = (c.in_ok-show_each.ensures {u = tt}).shown in
     let g = grown_each true c.args.locals.now.locals c.args.first (map name c.deref.result.now) in
     closed c.args.locals.now c.show_each.new.self c.block.new.locals c.close.new.self g.0 (raw_block c.deref-2.result.now) c.count-count.result (ap (λ (z : Seen). z.locals) s ∙ g.1) (c.in_ok-consumer.ensures {u = tt}).after c.count-count.ensures c.close.ensures
@@ -223,12 +223,12 @@ pair-returns-clause-answers t c =
     let produced = p.after ∙ ap (λ (z : Seen). after_inner z (raw_block raw.producer.items)) n.after in
     let e = ap (λ (z : Seen). z.locals) n.after in
     let f = ap (λ (z : Seen). z.locals) produced in
-    let is = scope_each-is true c.rowed.new.locals.locals first head.carried ∙ ap (λ ls. showing_each true (scope ls) head.carried) f in (
+    let is = scope_each-is true c.statements_and_row.new.locals.locals first head.carried ∙ ap (λ ls. showing_each true (scope ls) head.carried) f in (
       none_in _ _ n.answers.0 (none_in _ _ (c.in_ok-pair_widths.ensures {u = tt}).0
           (none_in _ _ (ap (λ ls. rowed_faults here (scope ls) (raw_block raw.producer.items) head.give_line head.give) (sym e) ∙ p.answers.0)
           (none_in _ _ (ap (λ ls. predictors_faults here (scope ls) c.args.line head.predict) (sym f) ∙ q.0)
           (ap (λ sc. block_faults (in_part here) sc (raw_block raw.consumer.items)) (sym is) ∙ b.answers.0)))),
-      pair_form c.args.here.now.globals.now old c.pair_names.new.locals c.rowed.new.locals head (raw_block raw.producer.items) (raw_block raw.consumer.items) c.in_ok-new.field-0 c.pair_of-pair.result c.in_ok-carried.carried.items first c.in_ok-producer.give.items c.in_ok-predict.predict.items c.in_ok-producer.producer c.in_ok-consumer.consumer (c.in_ok-new.ensures {u = tt}).ok c.pair_of-pair.ensures.head c.pair_of-pair.ensures.producer c.pair_of-pair.ensures.consumer (c.in_ok-first.ensures {u = tt}).value sl n.after p.after
+      pair_form c.args.here.now.globals.now old c.pair_names.new.locals c.statements_and_row.new.locals head (raw_block raw.producer.items) (raw_block raw.consumer.items) c.in_ok-new.field-0 c.pair_of-pair.result c.in_ok-carried.carried.items first c.in_ok-producer.give.items c.in_ok-predict.predict.items c.in_ok-producer.producer c.in_ok-consumer.consumer (c.in_ok-new.ensures {u = tt}).ok c.pair_of-pair.ensures.head c.pair_of-pair.ensures.producer c.pair_of-pair.ensures.consumer (c.in_ok-first.ensures {u = tt}).value sl n.after p.after
           (ap (λ (z : Block × Arguments). z.0) p.answers.1) (ap (λ (z : Block × Arguments). z.1) p.answers.1) q.1 b.answers.1,
     )
 
@@ -257,8 +257,8 @@ fold-returns-in_err-body-clause-answers t c =
     let p = err_from_is_err_and c.from_residual-in_err-body.result c.from_residual-in_err-body.ensures.1 in
     rw (p.1, p.2) (behind _ _ _ h.answers.0 (along _ _ _ (ap (λ sc. rowed_faults (setting c.args.here.now) sc (raw_block raw.body.items) head.next_line head.next) (sym is)) (c.in_err-body.ensures {u = tt}).answers))
 
-pub folded-returns-clause-after : goal.folded-returns-clause-after
-folded-returns-clause-after t c =
+pub fold_body-returns-clause-after : goal.fold_body-returns-clause-after
+fold_body-returns-clause-after t c =
     let raw = out-RawFold c.args.raw.now in
     let old = c.args.locals.now in
     let one = (c.in_ok-show_each.ensures {u = tt}).shown in
@@ -267,7 +267,7 @@ folded-returns-clause-after t c =
     let last = fixed (name raw.block) c.args.block in
     let inside = ap (λ (z : Seen). z.locals) two ∙ ap (λ (z : Seen). last ∷ z.locals) one ∙ ap (λ ls. last ∷ ls) g.1 in
     let slots = ap (λ (z : Seen). z.slots) two ∙ ap (λ (z : Seen). z.slots) one in
-    closed_front old c.show.new.self c.rowed.new.locals c.close.new.self (last ∷ g.0) (names_in (raw_block c.deref-2.result.now)) c.count-count.result inside (c.in_ok-answer.ensures {u = tt}).after c.count-count.ensures c.close.ensures
+    closed_front old c.show.new.self c.statements_and_row.new.locals c.close.new.self (last ∷ g.0) (names_in (raw_block c.deref-2.result.now)) c.count-count.result inside (c.in_ok-answer.ensures {u = tt}).after c.count-count.ensures c.close.ensures
     ∙ (λ i. record { locals = old.locals; slots = slots i ++ names_in (raw_block (c.deref-2.ensures.value i)) })
 
 pub pair-returns-in_err-consumer-clause-answers : goal.pair-returns-in_err-consumer-clause-answers
@@ -281,7 +281,7 @@ pair-returns-in_err-consumer-clause-answers t c =
     let produced = p.after ∙ ap (λ (z : Seen). after_inner z (raw_block raw.producer.items)) n.after in
     let e = ap (λ (z : Seen). z.locals) n.after in
     let f = ap (λ (z : Seen). z.locals) produced in
-    let is = scope_each-is true c.rowed.new.locals.locals c.in_ok-first.first head.carried ∙ ap (λ ls. showing_each true (scope ls) head.carried) f in
+    let is = scope_each-is true c.statements_and_row.new.locals.locals c.in_ok-first.first head.carried ∙ ap (λ ls. showing_each true (scope ls) head.carried) f in
     let r = err_from_is_err_and c.from_residual-in_err-consumer.result c.from_residual-in_err-consumer.ensures.1 in
     rw (r.1, r.2) (behind _ _ _ n.answers.0 (behind _ _ _ (c.in_ok-pair_widths.ensures {u = tt}).0
     (behind _ _ _ (ap (λ ls. rowed_faults here (scope ls) (raw_block raw.producer.items) head.give_line head.give) (sym e) ∙ p.answers.0)

@@ -18,23 +18,23 @@ decreases-statement_kind l = 2 * kind_weight l.raw.now
 abbrev pub decreases-choice : goal.decreases-choice
 decreases-choice l = 2 * (stmts_weight l.first.now + stmts_weight l.second.now) + 2
 
-abbrev pub decreases-counted : goal.decreases-counted
-decreases-counted l = 2 * stmts_weight l.body.now + 1
+abbrev pub decreases-for_loop : goal.decreases-for_loop
+decreases-for_loop l = 2 * stmts_weight l.body.now + 1
 
-abbrev pub decreases-repeated : goal.decreases-repeated
-decreases-repeated l = 2 * stmts_weight l.body.now + 2
+abbrev pub decreases-while_loop : goal.decreases-while_loop
+decreases-while_loop l = 2 * stmts_weight l.body.now + 2
 
-abbrev pub decreases-rowed : goal.decreases-rowed
-decreases-rowed l = 2 * stmts_weight l.raw.now + 1
+abbrev pub decreases-statements_and_row : goal.decreases-statements_and_row
+decreases-statements_and_row l = 2 * stmts_weight l.raw.now + 1
 
-abbrev pub decreases-folded : goal.decreases-folded
-decreases-folded l = 2 * stmts_weight (out-RawFold l.raw.now).body.items + 2
+abbrev pub decreases-fold_body : goal.decreases-fold_body
+decreases-fold_body l = 2 * stmts_weight (out-RawFold l.raw.now).body.items + 2
 
 abbrev pub decreases-fold : goal.decreases-fold
 decreases-fold l = 2 * stmts_weight (out-RawFold l.raw.now).body.items + 3
 
-abbrev pub decreases-consumed : goal.decreases-consumed
-decreases-consumed l = 2 * stmts_weight (out-RawPair l.raw.now).consumer.items + 1
+abbrev pub decreases-consumer : goal.decreases-consumer
+decreases-consumer l = 2 * stmts_weight (out-RawPair l.raw.now).consumer.items + 1
 
 abbrev pub decreases-pair : goal.decreases-pair
 decreases-pair l = 2 * (stmts_weight (out-RawPair l.raw.now).producer.items + stmts_weight (out-RawPair l.raw.now).consumer.items) + 2

@@ -12,7 +12,7 @@ expression-returns-in-Call t c = λ counts h.
     let given = c.deref-in-Call.result.now in
     has_along counts expression_measure (expression c.args.expr.now) (Call f (arguments given)) c.within-in-Call.result
     (ap expression c.in-Call.is ∙ expression-call f c.in-Call.given ∙ ap (λ es. Call f (arguments es)) (sym c.deref-in-Call.ensures.value))
-    (around_two counts (λ m. arguments_measure m (arguments given)) (λ m. m.of_function f) c.arguments-parts.result c.called.result c.beside.result c.within-in-Call.result (c.arguments-parts.ensures counts h) (c.called.ensures counts h) c.beside.ensures c.within-in-Call.ensures)
+    (around_two counts (λ m. arguments_measure m (arguments given)) (λ m. m.of_function f) c.arguments-parts.result c.function_size.result c.beside.result c.within-in-Call.result (c.arguments-parts.ensures counts h) (c.function_size.ensures counts h) c.beside.ensures c.within-in-Call.ensures)
 
 pub arguments-loop-expr-init : goal.arguments-loop-expr-init
 arguments-loop-expr-init t c = λ counts h. none_behind counts (arguments_from c.args.given.now 0) (record { nodes = 0; depth = 0; slots = 0 }) refl refl refl

@@ -1,7 +1,7 @@
 use Rattle.std.proofs.Common.{◌≡◌, ◌≢◌, ◌∙◌, ◌<◌, ◌≤◌, arith, sym, ap, length, refl, Some, None, slice_get, set, subst, List, ℤ, true}
 use Rattle.std.proofs.lemmas.List.{length-set}
 use Rattle.std.proofs.lemmas.Option.{slice_get_read}
-use Rattle.spf_chain.specs.declared.validated.Settled.TheVariants.{Carried}
+use Rattle.spf_chain.specs.declared.block.Settled.TheVariants.{Carried}
 use Rattle.spf_chain.proofs.Lists.{set_here, not-both}
 use Rattle.spf_speculation.specs.Prefixes.{PrefixesHaveRealValues}
 use Rattle.spf_speculation.specs.Laws.{UnstoppedAttemptsAreWhole}

@@ -1,7 +1,7 @@
 use Rattle.std.proofs.Common.{◌≡◌, ◌∙◌, ◌≤◌, arith, sym, ap, length, subst, None, slice_get, [], List, ℤ, Option, false}
 use Rattle.std.specs.Prelude.{replicate}
 use Rattle.std.proofs.lemmas.List.{length-replicate}
-use Rattle.spf_chain.specs.declared.validated.Settled.TheVariants.{Carried}
+use Rattle.spf_chain.specs.declared.block.Settled.TheVariants.{Carried}
 use Rattle.spf_chain.specs.Beginning.{guesses_for, unvalidated}
 use Rattle.spf_ticket.specs.declared.ticket.Report.{Report}
 use Rattle.spf_speculation_entry.specs.declared.site.Site.{Site}

@@ -3,7 +3,7 @@ use Rattle.std.proofs.lemmas.List.{length-map}
 use Rattle.spf_cells.specs.declared.view.LogEntry.{LogEntry}
 use Rattle.spf_cells.specs.Values.{LaneValue}
 use Rattle.spf_cells.specs.Finish.{AreAllLanes, IsFinish}
-use Rattle.spf_chain.specs.declared.validated.Settled.{Settled}
+use Rattle.spf_chain.specs.declared.block.Settled.{Settled}
 use Rattle.spf_speculation.specs.Steps.{Step, Merges}
 use Rattle.spf_speculation.specs.Runs.{LogsComeTo, IsSpeculativeRun}
 use Rattle.spf_speculation.specs.Prefixes.{PrefixesComplete}

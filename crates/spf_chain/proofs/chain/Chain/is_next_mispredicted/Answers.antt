@@ -22,5 +22,5 @@ returns c =
     let out : slice_get a.homes.items a.validation.count ≡ Some None = ap (λ l. slice_get l a.validation.count) (sym c.deref.ensures.value) ∙ c.is_out.ensures.0 c.if-not-is_out.false in
     let at : slice_get a.validation.blocks.items a.validation.count ≡ Some b = slice_get_read a.validation.blocks.items (length a.validation.blocks.items) a.validation.count b refl (omega (arith, low, h.size)) c.index.ensures in
     let f = next-raise a c.args.self.now c.args.real b h c.self.view_is c.requires c.if-self.false out at in
-    let same : c.is_same.result ≡ same_carried b.real c.args.real = c.is_same.ensures in
-    (λ t. f.0 (differ b.real c.args.real (subst (λ x. IsTrue (not x)) same t)), λ r. subst (λ x. IsTrue (not x)) (sym same) (differs b.real c.args.real (f.1 r)))
+    let same : c.is_same.result ≡ same_carried b.row c.args.real = c.is_same.ensures in
+    (λ t. f.0 (differ b.row c.args.real (subst (λ x. IsTrue (not x)) same t)), λ r. subst (λ x. IsTrue (not x)) (sym same) (differs b.row c.args.real (f.1 r)))

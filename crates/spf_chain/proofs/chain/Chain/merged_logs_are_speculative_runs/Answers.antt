@@ -8,6 +8,6 @@ use Rattle.spf_chain.proofs.chain.Chain.merged_logs_are_speculative_runs.Goals a
 pub returns : goal.returns
 returns c = record {
   merging = merged c.prefixes_grow.ensures.complete c.lanes_make_speculative_runs.ensures.merging c.self.inside c.args.self.now c.self.invariant c.self.view_is c.requires.ended;
-  values = subst (λ (w : ChainValue). map (λ b. b.real) w.history ≡ (plain_blocks (entry_at w.site)).values) c.self.view_is
+  values = subst (λ (w : ChainValue). map (λ b. b.row) w.history ≡ (plain_blocks (entry_at w.site)).values) c.self.view_is
       (came-out c.prefixes_grow.ensures.complete c.self.inside c.args.self.now c.self.invariant c.self.view_is c.requires.ended).values;
 }

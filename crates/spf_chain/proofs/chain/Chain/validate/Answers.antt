@@ -12,7 +12,7 @@ use Rattle.spf_ticket.specs.declared.ticket.Report.{Report}
 use Rattle.spf_speculation.specs.Prefixes.{PrefixesHaveRealValues}
 use Rattle.spf_speculation.specs.Laws.{UnstoppedAttemptsAreWhole}
 use Rattle.spf_speculation_lanes.specs.Lanes.{LanesStopNoSecondAttempt}
-use Rattle.spf_chain.specs.declared.validated.Settled.TheVariants.{Trapped}
+use Rattle.spf_chain.specs.declared.block.Settled.TheVariants.{Trapped}
 use Rattle.spf_chain.specs.declared.validation.Validation.{Validation}
 use Rattle.spf_chain.specs.declared.chain.Chain.TheInside.{Inside}
 use Rattle.spf_chain.specs.Chains.{next_block}

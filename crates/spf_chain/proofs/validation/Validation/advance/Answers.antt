@@ -1,6 +1,6 @@
 use Rattle.spf_ast.specs.declared.outcome.Trap.{Trap}
-use Rattle.spf_chain.specs.declared.validated.Settled.{Settled}
-use Rattle.spf_chain.specs.declared.validated.Settled.TheVariants.{Carried, Trapped}
+use Rattle.spf_chain.specs.declared.block.Settled.{Settled}
+use Rattle.spf_chain.specs.declared.block.Settled.TheVariants.{Carried, Trapped}
 use Rattle.spf_chain.specs.declared.validation.Validation.{Validation}
 use Rattle.std.proofs.Common.{◌≡◌, ◌∙◌, ap, sym, List, ℤ, arith, length, refl}
 use Rattle.std.proofs.lemmas.List.{length-set}

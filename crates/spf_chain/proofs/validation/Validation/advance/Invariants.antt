@@ -2,7 +2,7 @@ use Rattle.std.proofs.Common.{◌≡◌, length, ℕ, List, ℤ}
 use Rattle.spf_cells.specs.Values.{CellsValue}
 use Rattle.spf_speculation_entry.specs.Entry.{Entry, IsEntry}
 use Rattle.spf_ast.specs.declared.outcome.Trap.{Trap}
-use Rattle.spf_chain.specs.declared.validated.Settled.TheVariants.{Trapped}
+use Rattle.spf_chain.specs.declared.block.Settled.TheVariants.{Trapped}
 use Rattle.spf_chain.specs.Homes.{AreHomes}
 use Rattle.spf_chain.specs.Standing.{StandsOver, GrowsTo}
 use Rattle.spf_chain.proofs.validation.Validation.advance.Given as goal

@@ -20,7 +20,7 @@ returns-in-Err g c =
     let given : Handed = handed [] in
     let missing : cell_count_of p (length c.args.input.now) ≤ max_cells p → IsMissing (missing_host 0 (constructs_in p.main)) c.in-Err.error =
     λ fits. subst (λ hosts. IsMissing (missing_host (length hosts) (constructs_in p.main)) c.in-Err.error) c.new-hosts.ensures.items (c.in-Err.ensures.few fits) in
-    answers_with (IsOnly (RunsTo shown by_blocks given p c.args.input.now)) (SaysWhy (seen_program c.program.result.now) c.in-Err.error) c.unfinished.result c.unfinished.ensures
+    answers_with (IsOnly (RunsTo shown by_blocks given p c.args.input.now)) (SaysWhy (seen_program c.program.result.now) c.in-Err.error) c.answer_of_error.result c.answer_of_error.ensures
     (λ a says. unfinished shown by_blocks given p c.args.input.now c.in-Err.error a (λ over. c.in-Err.ensures.too_many over) missing
     (subst (λ q. SaysWhy (seen_program q) c.in-Err.error a) c.program.ensures.program says))
 
@@ -33,4 +33,4 @@ returns g c =
     let P = λ (h : Handed). c.in-Ok.report.stats ≡ (tally h.hosts p c.args.input.now).stats in
     let stats : c.in-Ok.report.stats ≡ stats_of by_blocks given p c.args.input.now = no_hosts _ _ P c.new-hosts.ensures.items c.in-Ok.ensures.statistics in
     let few : max_cells p < cell_count_of p (length c.args.input.now) → ⊥ = λ many. c.in-Ok.ensures.too_many many in
-    run_done shown by_blocks given p c.args.input.now _ few asked (c.in_ok-shown.ensures ∙ (λ i. shown (c.in-Ok.ensures.outcome i) (stats i)))
+    run_done shown by_blocks given p c.args.input.now _ few asked (c.in_ok-answer_of_demo.ensures ∙ (λ i. shown (c.in-Ok.ensures.outcome i) (stats i)))

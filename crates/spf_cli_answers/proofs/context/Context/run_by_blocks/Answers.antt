@@ -27,7 +27,7 @@ returns-in-Err-clause-answer g c =
     ∙ ap (λ n. missing_host n (constructs_in p.main)) (sym counted) in
     let missing : cell_count_of p (length c.args.input.now) ≤ max_cells p → IsMissing (host_wanted options given p) c.in-Err.error =
     λ fits. subst (λ m. IsMissing m c.in-Err.error) (sym wanted) (c.in-Err.ensures.few fits) in
-    answers_with (IsOnly (Runs options given p c.args.input.now)) (SaysWhy (seen_program c.program.result.now) c.in-Err.error) c.unfinished.result c.unfinished.ensures
+    answers_with (IsOnly (Runs options given p c.args.input.now)) (SaysWhy (seen_program c.program.result.now) c.in-Err.error) c.answer_of_error.result c.answer_of_error.ensures
     (λ a says. unfinished (ran options p (length c.args.input.now)) options given p c.args.input.now c.in-Err.error a (λ over. c.in-Err.ensures.too_many over) missing
     (subst (λ q. SaysWhy (seen_program q) c.in-Err.error a) c.program.ensures.program says))
 
@@ -35,10 +35,10 @@ pub returns-in-Err-clause-told_first : goal.returns-in-Err-clause-told_first
 returns-in-Err-clause-told_first g c = c.in-Err.ensures.told_first
 
 pub returns-in-Err-clause-told : goal.returns-in-Err-clause-told
-returns-in-Err-clause-told g c = unfinished_told _ (seen_program c.program.result.now) c.in-Err.error _ c.unfinished.ensures
+returns-in-Err-clause-told g c = unfinished_told _ (seen_program c.program.result.now) c.in-Err.error _ c.answer_of_error.ensures
 
 pub returns-in-Err-clause-unrun : goal.returns-in-Err-clause-unrun
-returns-in-Err-clause-unrun g c = unfinished_untold _ _ (seen_program c.program.result.now) c.in-Err.error _ c.unfinished.ensures c.in-Err.ensures.untold
+returns-in-Err-clause-unrun g c = unfinished_untold _ _ (seen_program c.program.result.now) c.in-Err.error _ c.answer_of_error.ensures c.in-Err.ensures.untold
 
 pub returns-clause-answer : goal.returns-clause-answer
 returns-clause-answer g c =
@@ -53,10 +53,10 @@ returns-clause-answer g c =
     c.in-Ok.ensures.statistics ∙ ap (λ b. if b then none else (tally given.hosts p c.args.input.now).stats) (sym c.requires.blocks) in
     let few : max_cells p < cell_count_of p (length c.args.input.now) → ⊥ = λ many. c.in-Ok.ensures.too_many many in
     run_done (ran options p (length c.args.input.now)) options given p c.args.input.now _ few asked
-    (c.in_ok-ran.ensures ∙ (λ i. ran options (c.in-Ok.ensures.program i) (length (c.in-Ok.ensures.input i)) (c.in-Ok.ensures.outcome i) (stats i)))
+    (c.in_ok-answer_of_run.ensures ∙ (λ i. ran options (c.in-Ok.ensures.program i) (length (c.in-Ok.ensures.input i)) (c.in-Ok.ensures.outcome i) (stats i)))
 
-pub returns-in_err-ran-clause-told_first : goal.returns-in_err-ran-clause-told_first
-returns-in_err-ran-clause-told_first g c = told_all _ _ _ _ c.in-Ok.ensures.told
+pub returns-in_err-answer_of_run-clause-told_first : goal.returns-in_err-answer_of_run-clause-told_first
+returns-in_err-answer_of_run-clause-told_first g c = told_all _ _ _ _ c.in-Ok.ensures.told
 
 pub returns-clause-told_first : goal.returns-clause-told_first
 returns-clause-told_first g c = told_all _ _ _ _ c.in-Ok.ensures.told

@@ -1,4 +1,0 @@
-use Rattle.spf_crew.proofs.open.named.Given as goal
-
-abbrev pub ghost-ghost_key : goal.ghost-ghost_key
-ghost-ghost_key g a = g.setting

@@ -1,0 +1,4 @@
+use Rattle.spf_crew.proofs.open.setting_key.Given as goal
+
+abbrev pub ghost-ghost_key : goal.ghost-ghost_key
+ghost-ghost_key g a = g.setting

@@ -1,4 +1,0 @@
-use Rattle.spf_pool.proofs.pool.named.Given as goal
-
-abbrev pub ghost-ghost_key : goal.ghost-ghost_key
-ghost-ghost_key g a = g.value
