@@ -72,7 +72,7 @@ fn signed_step(op: Op, n: i64) -> Option<i128>
 }
 
 /// How far the sum or difference of a slot and a number is from a loop's name.
-fn distance(name: u32, op: Op, slot: Option<u32>, n: Option<i64>) -> Option<i128>
+fn distance_of_sum(name: u32, op: Op, slot: Option<u32>, n: Option<i64>) -> Option<i128>
     ensures value { result ≡ moved name op slot n }
     ensures size { IfSome result (λ d. unsigned_abs d ≤ 2 ^ 63) }
 {
@@ -100,7 +100,7 @@ fn distance(name: u32, index: &Expr) -> Option<i128>
             }
             Some(0)
         }
-        Expr::Binary(op, base, n) => distance(name, *op, slot_of(base), number_of(n)),
+        Expr::Binary(op, base, n) => distance_of_sum(name, *op, slot_of(base), number_of(n)),
         Expr::Number(_)
         | Expr::Len
         | Expr::Input(_)

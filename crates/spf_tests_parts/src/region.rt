@@ -56,7 +56,7 @@ fn number(word: Option<&str>) -> Option<i64> {
 }
 
 /// The bound that a word says.
-fn bound(word: Option<&str>) -> Option<Bound> {
+fn bound_of(word: Option<&str>) -> Option<Bound> {
     let word = word?;
     if word == "?" {
         return Some(Bound::Unknown);
@@ -71,21 +71,21 @@ fn bound(word: Option<&str>) -> Option<Bound> {
 /// Returns whether a row of sums is right.
 fn is_right_sum(row: &str) -> Option<bool> {
     let mut words = row.split(' ');
-    let x = bound(words.next())?;
-    let y = bound(words.next())?;
-    let sum = bound(words.next())?;
-    let difference = bound(words.next())?;
+    let x = bound_of(words.next())?;
+    let y = bound_of(words.next())?;
+    let sum = bound_of(words.next())?;
+    let difference = bound_of(words.next())?;
     Some([x.plus(y), x.minus(y)] == [sum, difference])
 }
 
 /// Returns whether a row of products is right.
 fn is_right_product(row: &str) -> Option<bool> {
     let mut words = row.split(' ');
-    let x = bound(words.next())?;
-    let y = bound(words.next())?;
-    let product = bound(words.next())?;
-    let remainder = bound(words.next())?;
-    let mask = bound(words.next())?;
+    let x = bound_of(words.next())?;
+    let y = bound_of(words.next())?;
+    let product = bound_of(words.next())?;
+    let remainder = bound_of(words.next())?;
+    let mask = bound_of(words.next())?;
     Some([x.times(y), x.rem(y), x.mask(y)] == [product, remainder, mask])
 }
 

@@ -40,8 +40,8 @@ tell-returns-in_ok-tell-in-Not-clause-wrote t c = λ calls.
     (finish c.add-in-Not.result _ _ _ (v.Flip c.args.free c.args.free) (ToldIn s calls c.args.line c.args.free a) (ToldIn s calls c.args.line c.args.free (Not a)) (c.in_ok-tell-in-Not.ensures.wrote calls) c.add-in-Not.ensures.appended
     (λ made p. negation_told (callable_in s) calls c.args.line s.own c.args.free a made p))
 
-pub code_telling-returns-clause-code_telling : goal.code_telling-returns-clause-code_telling
-code_telling-returns-clause-code_telling t c = λ calls.
+pub code_telling-returns-clause-told : goal.code_telling-returns-clause-told
+code_telling-returns-clause-told t c = λ calls.
     let s = c.args.scope.now in
     whole c.tell.new.out.items (ToldIn s calls c.args.line c.args.free (condition c.args.cond.now)) (rw c.new-made.ensures.items at c.in_ok-tell.ensures.wrote calls)
 
