@@ -54,6 +54,7 @@ use spf_edge::{FetchError, Files};
 use spf_engine::error::EngineError;
 use spf_engine::run::run_whole;
 use spf_exec::plain_run;
+use spf_exec::tables::fill_tables;
 use spf_exec_instance::arrays::max_cells_of;
 use spf_exec_instance::instance::Instance;
 use spf_exec_instance::layout::RunError;
@@ -375,12 +376,14 @@ fn run_plainly(
         → AnswersWith
         (IsOnly (Runs (seen_options options) handed (seen_program program.now) input.now)) result }
 {
-    // Law: no `break` of a lawful program leaves `main` or a part.
+    // Laws: no `break` of a lawful program leaves `main` or a part, and no function of it emits.
     spf_ast::laws::breaks_stay_in_their_loops();
-    let instance = match Instance::make(alloc, program, input) {
+    spf_ast::laws::lawful_programs_are_quiet_and_small();
+    let mut instance = match Instance::make(alloc, program, input) {
         Ok(instance) => instance,
         Err(error) => return Err(not_run(alloc, program, error)),
     };
+    fill_tables(alloc, &mut instance)?;
     let outcome = plain_run::run_instance(alloc, &instance)?;
     Ok(answer_of_run(alloc, options, &instance, outcome, Stats::none())?)
 }

@@ -1,16 +1,16 @@
 //! Lowering of functions.
 
-ghost use Rattle.std.specs.Prelude.{◌≡◌, ℕ, [], length, map, IfOk};
+ghost use Rattle.std.specs.Prelude.{◌≡◌, ℕ, length, map, IfOk};
 ghost use Rattle.spf_ast.specs.View.{function as seen_function};
 ghost use Rattle.spf_ast.specs.Meaning.{callable_before};
 ghost use Rattle.spf_code.specs.NodeView.{code};
 ghost use Rattle.spf_code_lowering.specs.Lowering.{IsCodeOf, AreCodesOf};
-ghost use Rattle.spf_code_lowering.specs.Tables.{HaveNoTables};
+ghost use Rattle.spf_code_lowering.specs.Tables.{AreEmpty, HaveNoTables};
 
 use crate::expression::{Scope, hold};
 use crate::statement::block;
 use spf_ast::syntax::Function;
-use spf_code::function::FunctionCode;
+use spf_code::function::{FunctionCode, Tables};
 use std::alloc::{AllocError, Global};
 
 /// How many slots a function has.
@@ -34,7 +34,7 @@ pub fn function(
     ensures code { (calls : ℕ → ℕ) → IfOk result (λ f.
         IsCodeOf (callable_before (map seen_function functions.now) index) calls
         (seen_function source.now) (code f.code.items) f.register) }
-    ensures table { IfOk result (λ f. f.table.items ≡ []) }
+    ensures tables { IfOk result (λ f. AreEmpty f.tables) }
 {
     let own = slot_count(source)?;
     let scope = Scope {
@@ -49,7 +49,10 @@ pub fn function(
         slots: own,
         code: made,
         register: held.register,
-        table: Vec::new(alloc),
+        tables: Tables {
+            one: Vec::new(alloc),
+            two: Vec::new(alloc),
+        },
     })
 }
 

@@ -25,6 +25,7 @@ use spf_cells::finish::Trace;
 use spf_check::checked::Checked;
 use spf_crew_threads::workers::Workers;
 use spf_exec::pieces::Run;
+use spf_exec::tables::fill_tables;
 use spf_exec_instance::instance::Instance;
 use spf_exec_instance::layout::RunError;
 use spf_guess::Predictor;
@@ -165,7 +166,7 @@ fn lay_out<'a>(
 }
 
 /// Sets up the instance of an accepted program that runs on an input, where `hosts` hosts are
-/// supplied.
+/// supplied. Answers of short functions are computed, where the input is long enough for it.
 ///
 /// # Errors
 ///
@@ -191,10 +192,13 @@ pub fn set_up<'a>(
         ≤ max_cells (seen_program checked.now) → IfErr result
         (IsMissing (missing_host hosts (constructs_in (seen_program checked.now).main))) }
 {
-    let instance = lay_out(alloc, checked, input)?;
+    let mut instance = lay_out(alloc, checked, input)?;
     if let Some(number) = first_missing(checked.program(), hosts) {
         return Err(EngineError::NoHost { number });
     }
+    // Law: no function of a lawful program holds an `emit`.
+    spf_ast::laws::lawful_programs_are_quiet_and_small();
+    fill_tables(alloc, &mut instance)?;
     Ok(instance)
 }
 

@@ -7,3 +7,4 @@ pub mod Constructs
 pub mod Leaving
 pub mod BlockRuns
 pub mod Prefixes
+pub mod Computed

@@ -1,3 +1,4 @@
 pub mod Sources
+pub mod Tables
 pub mod BlockRuns
 pub mod Pieces

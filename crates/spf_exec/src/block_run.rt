@@ -107,8 +107,9 @@ fn perform_fold<M: Memory>(
     requires cells { M.cell_count memory.old
         ≡ cell_count_of (program_of instance.now) (length instance.now.input) }
     requires code { IsFoldCode (callable_of (program_of instance.now))
-        (rooms (program_of instance.now)) (length (program_of instance.now).slots) block.now.construct.line
-        (fold_head fold.now) (seen_block (out-Fold fold.now).body.items) code.now }
+        (rooms (program_of instance.now)) (length (program_of instance.now).slots)
+        block.now.construct.line (fold_head fold.now)
+        (seen_block (out-Fold fold.now).body.items) code.now }
     requires room { length (program_of instance.now).slots
         + statement_needs (rooms (program_of instance.now))
         (fold_form (fold_head fold.now) (seen_block (out-Fold fold.now).body.items))
@@ -153,8 +154,8 @@ fn perform_pair<M: Memory>(
     requires cells { M.cell_count memory.old
         ≡ cell_count_of (program_of instance.now) (length instance.now.input) }
     requires code { IsPairCode (callable_of (program_of instance.now))
-        (rooms (program_of instance.now)) (length (program_of instance.now).slots) block.now.construct.line
-        (pair_head pair.now) (seen_block (out-Pair pair.now).producer.items)
+        (rooms (program_of instance.now)) (length (program_of instance.now).slots)
+        block.now.construct.line (pair_head pair.now) (seen_block (out-Pair pair.now).producer.items)
         (seen_block (out-Pair pair.now).consumer.items) code.now }
     requires room { length (program_of instance.now).slots
         + statement_needs (rooms (program_of instance.now)) (pair_form (pair_head pair.now)

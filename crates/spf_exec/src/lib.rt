@@ -9,8 +9,11 @@
 
 pub mod block_run;
 mod context;
+mod cost;
 mod entry;
 pub mod frame;
 pub mod pieces;
 pub mod plain_run;
 pub mod stop;
+pub mod tables;
+mod untouched;

@@ -1,12 +1,13 @@
 //! Programs with an input that they run on.
 
-ghost use Rattle.std.specs.Prelude.{◌≡◌, ◌<◌, ◌≤◌, ◌^◌, length, IfOk, IfErr, IsErrAnd};
+ghost use Rattle.std.specs.Prelude.{◌≡◌, ℕ, ◌<◌, ◌≤◌, ◌^◌, length, IfOk, IfErr, IsErrAnd};
 ghost use Rattle.spf_ast.specs.View.{program as seen_program};
 ghost use Rattle.spf_ast.specs.GoingOn.{IsOrderly};
+ghost use Rattle.spf_ast.specs.Meaning.{call_before};
 ghost use Rattle.spf_ast.specs.Program.{cell_count_of, extents_of, max_cells};
 ghost use Rattle.spf_exec_instance.specs.declared.layout.RunError.TheVariants.{OutOfMemory};
 ghost use Rattle.spf_code_lowering.specs.Lowering.{IsCodeOfProgram};
-ghost use Rattle.spf_code_lowering.specs.Tables.{HaveAnswers};
+ghost use Rattle.spf_code_lowering.specs.Tables.{HasAnswers, HaveAnswers};
 ghost use Rattle.spf_exec_instance.specs.Frame.{frame_size as size_of_frame};
 ghost use Rattle.spf_exec_instance.specs.Layout.{IsLayoutOf};
 ghost use Rattle.spf_exec_instance.specs.Instance.{program_of};
@@ -15,6 +16,7 @@ ghost use Rattle.spf_exec_instance.specs.RunErrors.{IsTooMany};
 use crate::arrays::layout;
 use crate::layout::{Layout, RunError};
 use spf_ast::syntax::Program;
+use spf_code::function::Tables;
 use spf_code::program::ProgramCode;
 use spf_code_lowering::program::lower;
 use spf_code_registers::program::program_needs;
@@ -113,6 +115,19 @@ impl<'a> Instance<'a> {
             (program_of self.now).functions result.now.functions.items }
     {
         &self.code
+    }
+
+    /// Gives a function its tables: calls with arguments that they have an answer for are looked up
+    /// from now on, and mean the same.
+    pub fn set_tables(&mut self, function: usize, tables: Tables)
+        requires answers { (below : ℕ) → function < below → HasAnswers tables
+            (call_before self.old.input (extents_of (program_of self.old) (length self.old.input))
+            (program_of self.old).functions below function) }
+        ensures same { self.new ≡ self.old }
+    {
+        if function < self.code.functions.len() {
+            self.code.functions[function].tables = tables;
+        }
     }
 
     /// Returns how many registers a frame has: those of `main`, and those of its deepest chain of

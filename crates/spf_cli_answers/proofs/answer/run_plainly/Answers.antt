@@ -1,8 +1,11 @@
-use Rattle.std.proofs.Common.{◌≡◌, length, ◌∙◌, sym, ap}
+use Rattle.std.proofs.Common.{◌≡◌, length, ◌∙◌, sym, ap, subst}
 use Rattle.std.specs.Prelude.{if◌then◌else◌, None}
+use Rattle.spf_ast.specs.Silence.{FunctionsAreSilent}
+use Rattle.spf_ast.specs.Syntax.{Program}
 use Rattle.spf_ast.specs.View.{program as seen_program}
 use Rattle.spf_ast.specs.Program.{outcome, seen_outcome}
 use Rattle.spf_ast.specs.Construct.{constructs_in}
+use Rattle.spf_exec_instance.specs.Instance.{InstanceValue, program_of}
 use Rattle.spf_guess_statistics.specs.Statistics.{none, tally}
 use Rattle.spf_guess.specs.Missing.{missing_host}
 use Rattle.spf_cli_answers.specs.Answer.{ran}
@@ -14,12 +17,16 @@ use Rattle.spf_cli_answers.proofs.answer.run_plainly.Goals as goal
 pub make-requires : goal.make-requires
 make-requires c = record { orderly = c.breaks_stay_in_their_loops.ensures.programs (seen_program c.args.program.now) c.requires.lawful }
 
+pub fill_tables-requires : goal.fill_tables-requires
+fill_tables-requires c = record { silent = subst (λ (q : Program). FunctionsAreSilent q.functions) (sym c.in-Ok.ensures.program) (c.lawful_programs_are_quiet_and_small.ensures.functions (seen_program c.args.program.now) c.requires.lawful) }
+
 pub returns : goal.returns
 returns c given =
     let options = seen_options c.args.options in
     let p = seen_program c.args.program.now in
-    let same = c.in-Ok.ensures.program in
-    let content = c.in-Ok.ensures.input in
+    let kept = c.fill_tables.ensures.same in
+    let same = ap program_of kept ∙ c.in-Ok.ensures.program in
+    let content = ap (λ (i : InstanceValue). i.input) kept ∙ c.in-Ok.ensures.input in
     let plain = c.requires.plain in
     let came : seen_outcome c.in_ok-outcome.outcome ≡ outcome p c.args.input.now = c.in_ok-outcome.ensures ∙ (λ i. outcome (same i) (content i)) in
     let counted : none ≡ stats_of options given p c.args.input.now = ap (λ b. if b then none else (tally given.hosts p c.args.input.now).stats) (sym plain) in

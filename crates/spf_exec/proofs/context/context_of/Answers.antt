@@ -26,3 +26,18 @@ pub returns-clause-functions : goal.returns-clause-functions
 returns-clause-functions c =
     let p = program_of c.args.instance.now in
     subst (FunctionsFit (rooms p)) (sym c.deref.ensures.value) (functions_fit p.functions c.code.result.now.functions.items c.code.ensures.code.count c.code.ensures.code.functions)
+
+pub returns-clause-lowered : goal.returns-clause-lowered
+returns-clause-lowered c = record {
+  code = c.code.result.now;
+  same = c.deref.ensures.value;
+  is_code = c.code.ensures.code;
+  orderly = c.code.ensures.orderly;
+  answers = c.code.ensures.tables;
+}
+
+pub returns-clause-input : goal.returns-clause-input
+returns-clause-input c = c.input.ensures.same
+
+pub returns-clause-extents : goal.returns-clause-extents
+returns-clause-extents c = c.extents.ensures ∙ c.layout.ensures.extents
