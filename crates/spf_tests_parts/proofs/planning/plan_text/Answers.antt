@@ -32,4 +32,4 @@ of-ok (Err why) x P e h = absurd (no x e)
 
 pub plan-requires-clause-layout : goal.plan-requires-clause-layout
 plan-requires-clause-layout c =
-    (0, of-ok c.layout.result c.in_ok-found.found (IsLayoutOf (program c.in_ok-check_text.checked) 0) c.in_ok-found.ensures.value (rw c.program.ensures.program at c.layout.ensures.layout))
+    (0, of-ok c.layout.result c.in_ok-found.found (IsLayoutOf (program c.in_ok-checked.checked) 0) c.in_ok-found.ensures.value (rw c.program.ensures.program at c.layout.ensures.layout))
