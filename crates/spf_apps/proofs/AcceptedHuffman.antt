@@ -26,7 +26,7 @@ rest size = on_line 32 (Let 5 (Local 3)) (writing.only 33 (For 6 (writing.number
 few : (size : ℕ) → size ≤ 65536 → 8 * size ≤ 2 ^ 40
 few size h = omega (arith, h)
 
--- the place of a bit is inside its block
+-- the index of a bit is inside its block
 bit_inside : (size : ℕ) → IsBlockSize size → IsInside 1 (pos (8 * size)) (range_of 1 (plus (plus (times (number (pos (8 * size))) (Known (pos 1) (pos 0) (pos 0))) (times (number (pos 8)) (turn_bound (number (pos 0)) (number (pos size))))) (turn_bound (number (pos 0)) (number (pos 8)))))
 bit_inside size h =
     subst (λ b. IsInside 1 (pos (8 * size)) (range_of 1 b)) (sym (bit-is size h.0 (omega (arith, h.1)))) within

@@ -14,7 +14,7 @@ use Rattle.spf_apps.proofs.Tame.{guess-tame, calls-tame}
 use Rattle.spf_apps.proofs.Rules.{FillsItsBlocks, fold-keeps}
 use Rattle.spf_apps.proofs.Ends.{begin-is, end-is}
 use Rattle.spf_apps.proofs.Filled.{BeginsWithFill, filled-tame, filled-fills}
-use Rattle.spf_apps.proofs.AcceptedPackBits.{few, place_inside}
+use Rattle.spf_apps.proofs.AcceptedPackBits.{few, index_inside}
 
 -- what follows the fill
 abbrev rest : (size classes machine : ℕ) → Block
@@ -29,7 +29,7 @@ filled size classes machine h = record {
   low_avoids = refl;
   high_avoids = refl;
   value_avoids = refl;
-  stores = (refl, ((refl, ((refl, (refl, ((refl, place_inside size h), (refl, tt))), tt), tt)), tt));
+  stores = (refl, ((refl, ((refl, (refl, ((refl, index_inside size h), (refl, tt))), tt), tt)), tt));
   next_avoids = refl;
 }
 

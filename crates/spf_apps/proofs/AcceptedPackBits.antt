@@ -24,9 +24,9 @@ rest size = on_line 5 (Let 2 (Local 0)) (writing.only 6 (block_bytes size))
 pub few : (size : ℕ) → size ≤ 65536 → size ≤ 2 ^ 40
 few size h = omega (arith, h)
 
--- a place of the block is inside it
-pub place_inside : (size : ℕ) → IsBlockSize size → IsInside 0 (pos size) (range_of 0 (turn_bound (times (number (pos size)) (Known (pos 1) (pos 0) (pos 0))) (plus (times (number (pos size)) (Known (pos 1) (pos 0) (pos 0))) (number (pos size)))))
-place_inside size h =
+-- an index of the block is inside it
+pub index_inside : (size : ℕ) → IsBlockSize size → IsInside 0 (pos size) (range_of 0 (turn_bound (times (number (pos size)) (Known (pos 1) (pos 0) (pos 0))) (plus (times (number (pos size)) (Known (pos 1) (pos 0) (pos 0))) (number (pos size)))))
+index_inside size h =
     subst (λ b. IsInside 0 (pos size) (range_of 0 b)) (sym ((λ i. turn_bound (begin-is size (few size h.1) i) (end-is size (few size h.1) i)) ∙ turn-is size h.0 (few size h.1))) (inside 0 size h.0)
 
 filled : (size : ℕ) → IsBlockSize size → BeginsWithFill (main_setting (packbits_program size)) (within_fold (packbits_program size) (head size)) 0 size (block_begin size) (block_end size) (writing.number 0) (rest size) (argument (Local 2) no_more)
@@ -38,7 +38,7 @@ filled size h = record {
   low_avoids = refl;
   high_avoids = refl;
   value_avoids = refl;
-  stores = (refl, ((refl, ((refl, (refl, ((refl, ((refl, (refl, tt), tt), ((refl, (refl, tt), tt), tt)), ((refl, ((refl, place_inside size h), (refl, tt)), ((refl, place_inside size h), (refl, tt))), tt)), tt)), tt), tt)), tt));
+  stores = (refl, ((refl, ((refl, (refl, ((refl, ((refl, (refl, tt), tt), ((refl, (refl, tt), tt), tt)), ((refl, ((refl, index_inside size h), (refl, tt)), ((refl, index_inside size h), (refl, tt))), tt)), tt)), tt), tt)), tt));
   next_avoids = refl;
 }
 

@@ -330,19 +330,19 @@ abbrev pub are_quiet : ℕ → List Function → Bool
 are_quiet array [] = true
 are_quiet array (f ∷ functions) = (quiet_block array f.body && avoids array f.answer) && are_quiet array functions
 
-quiet-at : (array : ℕ) (functions : List Function) (place : ℕ) (f : Function) → are_quiet array functions ≡ true → slice_get functions place ≡ Some f → (quiet_block array f.body && avoids array f.answer) ≡ true
-quiet-at array [] place f h e = cc
+quiet-at : (array : ℕ) (functions : List Function) (index : ℕ) (f : Function) → are_quiet array functions ≡ true → slice_get functions index ≡ Some f → (quiet_block array f.body && avoids array f.answer) ≡ true
+quiet-at array [] index f h e = cc
 quiet-at array (g ∷ functions) zero f h e =
     subst (λ x. (quiet_block array x.body && avoids array x.answer) ≡ true) (some_is g f e) (both (quiet_block array g.body && avoids array g.answer) (are_quiet array functions) h).0
-quiet-at array (g ∷ functions) (suc place) f h e =
-    quiet-at array functions place f (both (quiet_block array g.body && avoids array g.answer) (are_quiet array functions) h).1 e
+quiet-at array (g ∷ functions) (suc index) f h e =
+    quiet-at array functions index f (both (quiet_block array g.body && avoids array g.answer) (are_quiet array functions) h).1 e
 
 -- a function that is entered, where the functions before it are tame
-enter-tame : (array : ℕ) (functions : List Function) (place : ℕ) → are_quiet array functions ≡ true → ((f : ℕ) (given : List Bound) → IsTame array NoWrite (call_before functions place f given).finds) → (given : List Bound) (o : Option Function) → slice_get functions place ≡ o → IsTame array NoWrite (entered (call_before functions place) o given).finds
-enter-tame array functions place h before given None e = tame-nothing array NoWrite
-enter-tame array functions place h before given (Some called) e =
-    let parts = both (quiet_block array called.body) (avoids array called.answer) (quiet-at array functions place called h e) in
-    let g = setting_in (call_before functions place) called.body in
+enter-tame : (array : ℕ) (functions : List Function) (index : ℕ) → are_quiet array functions ≡ true → ((f : ℕ) (given : List Bound) → IsTame array NoWrite (call_before functions index f given).finds) → (given : List Bound) (o : Option Function) → slice_get functions index ≡ o → IsTame array NoWrite (entered (call_before functions index) o given).finds
+enter-tame array functions index h before given None e = tame-nothing array NoWrite
+enter-tame array functions index h before given (Some called) e =
+    let parts = both (quiet_block array called.body) (avoids array called.answer) (quiet-at array functions index called h e) in
+    let g = setting_in (call_before functions index) called.body in
     let slots = own_bounds g.is_assigned (length called.slots) given in
     tame-then array NoWrite (block_finds g slots called.body) (expression_finds g (bounds_at_end g slots called.body) called.answer)
     (block-tame array NoWrite g slots before called.body (quiet_block-stores array NoWrite g slots called.body parts.0))
@@ -352,9 +352,9 @@ chosen-tame : (array : ℕ) (b : Bool) (one other : Entered) → IsTame array No
 chosen-tame array true one other h k = h
 chosen-tame array false one other h k = k
 
-pub calls-tame : (array : ℕ) (functions : List Function) → are_quiet array functions ≡ true → (place f : ℕ) (given : List Bound) → IsTame array NoWrite (call_before functions place f given).finds
+pub calls-tame : (array : ℕ) (functions : List Function) → are_quiet array functions ≡ true → (index f : ℕ) (given : List Bound) → IsTame array NoWrite (call_before functions index f given).finds
 calls-tame array functions h zero f given = tame-nothing array NoWrite
-calls-tame array functions h (suc place) f given =
-    chosen-tame array (f == place) (entered (call_before functions place) (slice_get functions place) given) (call_before functions place f given)
-    (enter-tame array functions place h (calls-tame array functions h place) given (slice_get functions place) refl)
-    (calls-tame array functions h place f given)
+calls-tame array functions h (suc index) f given =
+    chosen-tame array (f == index) (entered (call_before functions index) (slice_get functions index) given) (call_before functions index f given)
+    (enter-tame array functions index h (calls-tame array functions h index) given (slice_get functions index) refl)
+    (calls-tame array functions h index f given)

@@ -145,13 +145,13 @@ held_once l xs ys h k a b = bytes_of-once xs ys h k (a.bits_are ∙ ap (λ n. l 
 
 -- ---- drawn bytes
 
-any_place : (xs : List ℕ) → AllByRecursion IsByte xs → (k : ℕ) → slice_index xs k < 256
-any_place [] h k = omega arith
-any_place (x ∷ xs) h zero = h.0
-any_place (x ∷ xs) h (suc k) = any_place xs h.1 k
+any_offset : (xs : List ℕ) → AllByRecursion IsByte xs → (k : ℕ) → slice_index xs k < 256
+any_offset [] h k = omega arith
+any_offset (x ∷ xs) h zero = h.0
+any_offset (x ∷ xs) h (suc k) = any_offset xs h.1 k
 
 letter_is_byte : (k : ℕ) → slice_index letters k < 256
-letter_is_byte k = any_place letters (search rules) k
+letter_is_byte k = any_offset letters (search rules) k
 
 letters-bytes : (n x : ℕ) → AreBytes (picked_bytes letters n x)
 letters-bytes n x = All-map IsByte (λ d. slice_index letters (d % 16)) (draws n x) (λ k d less. letter_is_byte (slice_index_or (draws n x) k d % 16))

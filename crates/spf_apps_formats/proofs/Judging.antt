@@ -62,18 +62,18 @@ all_or_first P decided (suc n) = by_before (all_or_first P decided n)
 
 -- ---- signatures and tables
 
-begins_or_departs : (text file : List ℕ) → BeginsWith text file ⊎ ((place : ℕ) × DepartsAt text file place)
+begins_or_departs : (text file : List ℕ) → BeginsWith text file ⊎ ((offset : ℕ) × DepartsAt text file offset)
 begins_or_departs text file =
     elim (all_or_first (λ k. slice_get file k ≡ slice_get text k) (λ k. same_byte_or_not (slice_get file k) (slice_get text k)) (length text)) [
       | inl all ↦ inl all
       | inr f ↦ inr (f.0, record { inside = f.1.inside; before = f.1.before; differs = f.1.other })
     ]
 
-below_or_past : (at : ℕ → ℕ) (count limit : ℕ) (file : List ℕ) → AreBelow at count limit file ⊎ ((place : ℕ) × IsFirstPast at count limit file place)
+below_or_past : (at : ℕ → ℕ) (count limit : ℕ) (file : List ℕ) → AreBelow at count limit file ⊎ ((offset : ℕ) × IsFirstPast at count limit file offset)
 below_or_past at count limit file =
     elim (all_or_first (λ k. slice_index file (at k) < limit) (λ k. below_or_not (slice_index file (at k)) limit) count) [
       | inl all ↦ inl all
-      | inr f ↦ inr (at f.0, record { index = f.0; inside = f.1.inside; before = f.1.before; past = (let n = f.1.other in grind (arith, n)); place_is = refl })
+      | inr f ↦ inr (at f.0, record { index = f.0; inside = f.1.inside; before = f.1.before; past = (let n = f.1.other in grind (arith, n)); offset_is = refl })
     ]
 
 -- ---- HUF1
@@ -109,31 +109,31 @@ code_or_refused lengths = by_lengths (short_or_long lengths)
           | inr o ↦ inr (o.0, inr o.1)
         ]
 
--- each file is HUF1, or there is a place at which it isn't
-pub huf1_judged : (file : List ℕ) → IsHuf1 file ⊎ ((place : ℕ) × IsNoHuf1At file place)
+-- each file is HUF1, or there is an offset at which it isn't
+pub huf1_judged : (file : List ℕ) → IsHuf1 file ⊎ ((offset : ℕ) × IsNoHuf1At file offset)
 huf1_judged file = by_begin (begins_or_departs huf1.signature file)
   where
-    by_lengths : BeginsWith huf1.signature file → 264 ≤ length file → AreCodeLengths (lengths_of file) ⊎ ((symbol : ℕ) × AreRefusedAt (lengths_of file) symbol) → IsHuf1 file ⊎ ((place : ℕ) × IsNoHuf1At file place)
+    by_lengths : BeginsWith huf1.signature file → 264 ≤ length file → AreCodeLengths (lengths_of file) ⊎ ((symbol : ℕ) × AreRefusedAt (lengths_of file) symbol) → IsHuf1 file ⊎ ((offset : ℕ) × IsNoHuf1At file offset)
     by_lengths begins header (inl lengths) = inl (record { begins = begins; header = header; lengths = lengths })
-    by_lengths begins header (inr r) = inr (4 + r.0, inr (inr (record { begins = begins; header = header; symbol = r.0; refused = r.1; place_is = refl })))
+    by_lengths begins header (inr r) = inr (4 + r.0, inr (inr (record { begins = begins; header = header; symbol = r.0; refused = r.1; offset_is = refl })))
 
-    by_header : BeginsWith huf1.signature file → Decided (length file < 264) → IsHuf1 file ⊎ ((place : ℕ) × IsNoHuf1At file place)
-    by_header begins (inl short) = inr (length file, inr (inl (record { begins = begins; short = short; place_is = refl })))
+    by_header : BeginsWith huf1.signature file → Decided (length file < 264) → IsHuf1 file ⊎ ((offset : ℕ) × IsNoHuf1At file offset)
+    by_header begins (inl short) = inr (length file, inr (inl (record { begins = begins; short = short; offset_is = refl })))
     by_header begins (inr whole) = by_lengths begins (grind (arith, whole)) (code_or_refused (lengths_of file))
 
-    by_begin : BeginsWith huf1.signature file ⊎ ((place : ℕ) × DepartsAt huf1.signature file place) → IsHuf1 file ⊎ ((place : ℕ) × IsNoHuf1At file place)
+    by_begin : BeginsWith huf1.signature file ⊎ ((offset : ℕ) × DepartsAt huf1.signature file offset) → IsHuf1 file ⊎ ((offset : ℕ) × IsNoHuf1At file offset)
     by_begin (inr d) = inr (d.0, inl d.1)
     by_begin (inl begins) = by_header begins (below_or_not (length file) 264)
 
 -- ---- LEX1
 
-count_or_none : (file : List ℕ) (place : ℕ) → ((n : ℕ) × HasCount file place n) ⊎ HasNoCount file place
-count_or_none file place = by_byte (slice_get file place) refl
+count_or_none : (file : List ℕ) (offset : ℕ) → ((n : ℕ) × HasCount file offset n) ⊎ HasNoCount file offset
+count_or_none file offset = by_byte (slice_get file offset) refl
   where
     same_count : (a b : ℕ) → Some a ≡ Some b → a ≡ b
     same_count a b e = cc
 
-    in_range : (n : ℕ) → slice_get file place ≡ Some n → Decided ((1 ≤ n) × (n ≤ 64)) → ((n : ℕ) × HasCount file place n) ⊎ HasNoCount file place
+    in_range : (n : ℕ) → slice_get file offset ≡ Some n → Decided ((1 ≤ n) × (n ≤ 64)) → ((n : ℕ) × HasCount file offset n) ⊎ HasNoCount file offset
     in_range n e (inl r) = inl (n, record { stands = e; some = r.0; few = r.1 })
     in_range n e (inr none) = inr (λ m h. let same = same_count m n (sym h.stands ∙ e) in none (subst (λ k. (1 ≤ k) × (k ≤ 64)) same (h.some, h.few)))
 
@@ -147,13 +147,13 @@ count_or_none file place = by_byte (slice_get file place) refl
           ]
         ]
 
-    by_byte : (held : Option ℕ) → slice_get file place ≡ held → ((n : ℕ) × HasCount file place n) ⊎ HasNoCount file place
+    by_byte : (held : Option ℕ) → slice_get file offset ≡ held → ((n : ℕ) × HasCount file offset n) ⊎ HasNoCount file offset
     by_byte None e = inr (λ m h. let both : None ≡ Some m = sym e ∙ h.stands in cc)
     by_byte (Some n) e = in_range n e (range_or_not n)
 
 -- what is said of a file
 abbrev Judged : List ℕ → Type 0
-Judged file = ((states : ℕ) × (classes : ℕ) × IsLex1 file states classes) ⊎ ((place : ℕ) × IsNoLex1At file place)
+Judged file = ((states : ℕ) × (classes : ℕ) × IsLex1 file states classes) ⊎ ((offset : ℕ) × IsNoLex1At file offset)
 
 lex1_by_next : (file : List ℕ) (states classes : ℕ) → HasClasses file states classes → Judged file
 lex1_by_next file states classes classed =
@@ -173,21 +173,21 @@ lex1_by_size : (file : List ℕ) (states classes : ℕ) → HasCounts file state
 lex1_by_size file states classes counts =
     elim (same_or_not (length file) (size_of states classes)) [
       | inl size ↦ lex1_by_classes file states classes (record { counts = counts; size = size })
-      | inr other ↦ inr (min (length file) (size_of states classes), inr (inr (inr (inl (record { states = states; classes = classes; counts = counts; size = other; place_is = refl })))))
+      | inr other ↦ inr (min (length file) (size_of states classes), inr (inr (inr (inl (record { states = states; classes = classes; counts = counts; size = other; offset_is = refl })))))
     ]
 
--- each file is LEX1, or there is a place at which it isn't
+-- each file is LEX1, or there is an offset at which it isn't
 pub lex1_judged : (file : List ℕ) → Judged file
 lex1_judged file = by_begin (begins_or_departs lex1.signature file)
   where
     by_classes : BeginsWith lex1.signature file → (states : ℕ) → HasCount file 4 states → ((n : ℕ) × HasCount file 5 n) ⊎ HasNoCount file 5 → Judged file
     by_classes begins states at (inl c) = lex1_by_size file states c.0 (record { begins = begins; states_at = at; classes_at = c.1 })
-    by_classes begins states at (inr none) = inr (5, inr (inr (inl (record { begins = begins; states = states; states_at = at; missing = none; place_is = refl }))))
+    by_classes begins states at (inr none) = inr (5, inr (inr (inl (record { begins = begins; states = states; states_at = at; missing = none; offset_is = refl }))))
 
     by_states : BeginsWith lex1.signature file → ((n : ℕ) × HasCount file 4 n) ⊎ HasNoCount file 4 → Judged file
     by_states begins (inl s) = by_classes begins s.0 s.1 (count_or_none file 5)
-    by_states begins (inr none) = inr (4, inr (inl (record { begins = begins; missing = none; place_is = refl })))
+    by_states begins (inr none) = inr (4, inr (inl (record { begins = begins; missing = none; offset_is = refl })))
 
-    by_begin : BeginsWith lex1.signature file ⊎ ((place : ℕ) × DepartsAt lex1.signature file place) → Judged file
+    by_begin : BeginsWith lex1.signature file ⊎ ((offset : ℕ) × DepartsAt lex1.signature file offset) → Judged file
     by_begin (inr d) = inr (d.0, inl d.1)
     by_begin (inl begins) = by_states begins (count_or_none file 4)

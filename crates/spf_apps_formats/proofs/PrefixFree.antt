@@ -82,7 +82,7 @@ words_fit lengths n h small = not_above (first_word lengths n + words_of_length 
         by_order (inl le) = le
         by_order (inr lt) = absurd (omega (arith, mul-lt-mul_of_pos_right lt (pow_pos (15 - n)), whole, k))
 
--- ---- places of code words
+-- ---- offsets of code words
 
 -- how many symbols before this one have its length
 abbrev rank : List ℕ → ℕ → ℕ
@@ -221,10 +221,10 @@ one_symbol lengths y z x w a h k e = by_length (compare (slice_index lengths y) 
     far : (m n : ℕ) → m < n → n ≡ m + suc (n - suc m)
     far m n less = omega (arith, less)
 
-    by_place : slice_index lengths y ≡ slice_index lengths z → word_number lengths y ≡ word_number lengths z → (y < z) ⊎ ((y ≡ z) ⊎ (z < y)) → y ≡ z
-    by_place same words (inl less) = absurd (omega (arith, words, rank_grows lengths y z less h.inside same, ap (first_word lengths) same))
-    by_place same words (inr (inl one)) = one
-    by_place same words (inr (inr more)) = absurd (omega (arith, words, rank_grows lengths z y more k.inside (sym same), ap (first_word lengths) same))
+    by_order : slice_index lengths y ≡ slice_index lengths z → word_number lengths y ≡ word_number lengths z → (y < z) ⊎ ((y ≡ z) ⊎ (z < y)) → y ≡ z
+    by_order same words (inl less) = absurd (omega (arith, words, rank_grows lengths y z less h.inside same, ap (first_word lengths) same))
+    by_order same words (inr (inl one)) = one
+    by_order same words (inr (inr more)) = absurd (omega (arith, words, rank_grows lengths z y more k.inside (sym same), ap (first_word lengths) same))
 
     by_length : (slice_index lengths y < slice_index lengths z) ⊎ ((slice_index lengths y ≡ slice_index lengths z) ⊎ (slice_index lengths z < slice_index lengths y)) → y ≡ z
     by_length (inl less) = absurd (shorter_apart lengths y z (slice_index lengths z - suc (slice_index lengths y)) x w a h k (far (slice_index lengths y) (slice_index lengths z) less) e)
@@ -234,4 +234,4 @@ one_symbol lengths y z x w a h k e = by_length (compare (slice_index lengths y) 
         let moved = ap (λ m. bits m (word_number lengths y)) same in
         let whole = ap (λ l. l ++ x) (sym moved) ∙ e in
         let alike = begin_alike (bits n (word_number lengths y)) (bits n (word_number lengths z)) x w (bits_length n (word_number lengths y) ∙ sym (bits_length n (word_number lengths z))) whole in
-        by_place same (same_bits n (word_number lengths y) (word_number lengths z) (subst (λ m. word_number lengths y < 2 ^ m) same (word_small lengths y a h)) (word_small lengths z a k) alike.0) (compare y z)
+        by_order same (same_bits n (word_number lengths y) (word_number lengths z) (subst (λ m. word_number lengths y < 2 ^ m) same (word_small lengths y a h)) (word_small lengths z a k) alike.0) (compare y z)

@@ -10,25 +10,25 @@ use Rattle.spf_apps_formats.specs.Huf1 as huf1
 use Rattle.spf_apps_formats.specs.Lex1.{IsLex1, HasCount, HasNoCount, HasCounts, HasSize, HasClasses, HasNoStates, HasNoClasses, HasOtherSize, HasBadClass, HasBadNext, IsNoLex1At, size_of, class_at, next_at}
 use Rattle.spf_apps_formats.specs.Lex1 as lex1
 
--- ---- first places
+-- ---- first offsets
 
--- a place that isn't before nor after another is that one
-same_place : (p q : ℕ) → (p < q → ⊥) → (q < p → ⊥) → p ≡ q
-same_place p q h k = grind (arith, h, k)
+-- an offset that isn't before nor after another is that one
+same_offset : (p q : ℕ) → (p < q → ⊥) → (q < p → ⊥) → p ≡ q
+same_offset p q h k = grind (arith, h, k)
 
-begins_not_departs : (text file : List ℕ) (place : ℕ) → BeginsWith text file → DepartsAt text file place → ⊥
-begins_not_departs text file place b d = d.differs (b place d.inside)
+begins_not_departs : (text file : List ℕ) (offset : ℕ) → BeginsWith text file → DepartsAt text file offset → ⊥
+begins_not_departs text file offset b d = d.differs (b offset d.inside)
 
 departs_once : (text file : List ℕ) (p q : ℕ) → DepartsAt text file p → DepartsAt text file q → p ≡ q
-departs_once text file p q d e = same_place p q (λ h. d.differs (e.before p h)) (λ h. e.differs (d.before q h))
+departs_once text file p q d e = same_offset p q (λ h. d.differs (e.before p h)) (λ h. e.differs (d.before q h))
 
-below_not_past : (at : ℕ → ℕ) (count limit : ℕ) (file : List ℕ) (place : ℕ) → AreBelow at count limit file → IsFirstPast at count limit file place → ⊥
-below_not_past at count limit file place b f = omega (arith, b f.index f.inside, f.past)
+below_not_past : (at : ℕ → ℕ) (count limit : ℕ) (file : List ℕ) (offset : ℕ) → AreBelow at count limit file → IsFirstPast at count limit file offset → ⊥
+below_not_past at count limit file offset b f = omega (arith, b f.index f.inside, f.past)
 
 past_once : (at : ℕ → ℕ) (count limit : ℕ) (file : List ℕ) (p q : ℕ) → IsFirstPast at count limit file p → IsFirstPast at count limit file q → p ≡ q
 past_once at count limit file p q f g =
-    let index_is = same_place f.index g.index (λ h. omega (arith, g.before f.index h, f.past)) (λ h. omega (arith, f.before g.index h, g.past)) in
-    f.place_is ∙ ap at index_is ∙ sym g.place_is
+    let index_is = same_offset f.index g.index (λ h. omega (arith, g.before f.index h, f.past)) (λ h. omega (arith, f.before g.index h, g.past)) in
+    f.offset_is ∙ ap at index_is ∙ sym g.offset_is
 
 -- ---- HUF1
 
@@ -48,15 +48,15 @@ not_full_before lengths p q o u h = omega (arith, o.full, u.before, space_grows 
 
 refused_once : (lengths : List ℕ) (p q : ℕ) → AreRefusedAt lengths p → AreRefusedAt lengths q → p ≡ q
 refused_once lengths p q (inl t) (inl u) =
-    same_place p q (λ h. omega (arith, u.before p h, t.long)) (λ h. omega (arith, t.before q h, u.long))
+    same_offset p q (λ h. omega (arith, u.before p h, t.long)) (λ h. omega (arith, t.before q h, u.long))
 refused_once lengths p q (inl t) (inr o) = absurd (too_long_not_short lengths p o.short t)
 refused_once lengths p q (inr o) (inl t) = absurd (too_long_not_short lengths q o.short t)
-refused_once lengths p q (inr o) (inr u) = same_place p q (not_full_before lengths p q o u) (not_full_before lengths q p u o)
+refused_once lengths p q (inr o) (inr u) = same_offset p q (not_full_before lengths p q o u) (not_full_before lengths q p u o)
 
-pub huf1_apart : (file : List ℕ) (place : ℕ) → IsHuf1 file → IsNoHuf1At file place → ⊥
-huf1_apart file place h (inl d) = begins_not_departs huf1.signature file place h.begins d
-huf1_apart file place h (inr (inl e)) = omega (arith, h.header, e.short)
-huf1_apart file place h (inr (inr b)) = lengths_not_refused (lengths_of file) b.symbol h.lengths b.refused
+pub huf1_apart : (file : List ℕ) (offset : ℕ) → IsHuf1 file → IsNoHuf1At file offset → ⊥
+huf1_apart file offset h (inl d) = begins_not_departs huf1.signature file offset h.begins d
+huf1_apart file offset h (inr (inl e)) = omega (arith, h.header, e.short)
+huf1_apart file offset h (inr (inr b)) = lengths_not_refused (lengths_of file) b.symbol h.lengths b.refused
 
 pub huf1_once : (file : List ℕ) (p q : ℕ) → IsNoHuf1At file p → IsNoHuf1At file q → p ≡ q
 huf1_once file p q (inl d) (inl e) = departs_once huf1.signature file p q d e
@@ -64,16 +64,16 @@ huf1_once file p q (inl d) (inr (inl e)) = absurd (begins_not_departs huf1.signa
 huf1_once file p q (inl d) (inr (inr b)) = absurd (begins_not_departs huf1.signature file p b.begins d)
 huf1_once file p q (inr (inl e)) (inl d) = absurd (begins_not_departs huf1.signature file q e.begins d)
 huf1_once file p q (inr (inr b)) (inl d) = absurd (begins_not_departs huf1.signature file q b.begins d)
-huf1_once file p q (inr (inl e)) (inr (inl f)) = e.place_is ∙ sym f.place_is
+huf1_once file p q (inr (inl e)) (inr (inl f)) = e.offset_is ∙ sym f.offset_is
 huf1_once file p q (inr (inl e)) (inr (inr b)) = absurd (omega (arith, e.short, b.header))
 huf1_once file p q (inr (inr b)) (inr (inl e)) = absurd (omega (arith, e.short, b.header))
 huf1_once file p q (inr (inr a)) (inr (inr b)) =
-    omega (arith, a.place_is, b.place_is, refused_once (lengths_of file) a.symbol b.symbol a.refused b.refused)
+    omega (arith, a.offset_is, b.offset_is, refused_once (lengths_of file) a.symbol b.symbol a.refused b.refused)
 
 -- ---- LEX1
 
-count_once : (file : List ℕ) (place n m : ℕ) → HasCount file place n → HasCount file place m → n ≡ m
-count_once file place n m h k = some_same (sym h.stands ∙ k.stands)
+count_once : (file : List ℕ) (offset n m : ℕ) → HasCount file offset n → HasCount file offset m → n ≡ m
+count_once file offset n m h k = some_same (sym h.stands ∙ k.stands)
   where
     some_same : {a b : ℕ} → Some a ≡ Some b → a ≡ b
     some_same e = cc
@@ -91,60 +91,60 @@ lex1_counts file s c t d h k = counts_once file s c t d h.classed.sized.counts k
 
 -- what may be wrong after the signature, the count of states, both counts, the size and the classes
 abbrev BehindClasses : List ℕ → ℕ → Type 0
-BehindClasses file place = HasBadNext file place
+BehindClasses file offset = HasBadNext file offset
 
 abbrev BehindSize : List ℕ → ℕ → Type 0
-BehindSize file place = HasBadClass file place ⊎ HasBadNext file place
+BehindSize file offset = HasBadClass file offset ⊎ HasBadNext file offset
 
 abbrev BehindCounts : List ℕ → ℕ → Type 0
-BehindCounts file place = HasOtherSize file place ⊎ BehindSize file place
+BehindCounts file offset = HasOtherSize file offset ⊎ BehindSize file offset
 
 abbrev BehindStates : List ℕ → ℕ → Type 0
-BehindStates file place = HasNoClasses file place ⊎ BehindCounts file place
+BehindStates file offset = HasNoClasses file offset ⊎ BehindCounts file offset
 
 abbrev BehindSignature : List ℕ → ℕ → Type 0
-BehindSignature file place = HasNoStates file place ⊎ BehindStates file place
+BehindSignature file offset = HasNoStates file offset ⊎ BehindStates file offset
 
 -- what stands there in each of these cases
-size_stands : (file : List ℕ) (place : ℕ) → BehindSize file place → (s : ℕ) × (c : ℕ) × HasSize file s c
-size_stands file place (inl b) = (b.states, b.classes, b.sized)
-size_stands file place (inr b) = (b.states, b.classes, b.classed.sized)
+size_stands : (file : List ℕ) (offset : ℕ) → BehindSize file offset → (s : ℕ) × (c : ℕ) × HasSize file s c
+size_stands file offset (inl b) = (b.states, b.classes, b.sized)
+size_stands file offset (inr b) = (b.states, b.classes, b.classed.sized)
 
-counts_stand : (file : List ℕ) (place : ℕ) → BehindCounts file place → (s : ℕ) × (c : ℕ) × HasCounts file s c
-counts_stand file place (inl o) = (o.states, o.classes, o.counts)
-counts_stand file place (inr b) = let found = size_stands file place b in (found.0, found.1, found.2.counts)
+counts_stand : (file : List ℕ) (offset : ℕ) → BehindCounts file offset → (s : ℕ) × (c : ℕ) × HasCounts file s c
+counts_stand file offset (inl o) = (o.states, o.classes, o.counts)
+counts_stand file offset (inr b) = let found = size_stands file offset b in (found.0, found.1, found.2.counts)
 
-states_stand : (file : List ℕ) (place : ℕ) → BehindStates file place → BeginsWith lex1.signature file × ((s : ℕ) × HasCount file 4 s)
-states_stand file place (inl n) = (n.begins, (n.states, n.states_at))
-states_stand file place (inr b) = let found = counts_stand file place b in (found.2.begins, (found.0, found.2.states_at))
+states_stand : (file : List ℕ) (offset : ℕ) → BehindStates file offset → BeginsWith lex1.signature file × ((s : ℕ) × HasCount file 4 s)
+states_stand file offset (inl n) = (n.begins, (n.states, n.states_at))
+states_stand file offset (inr b) = let found = counts_stand file offset b in (found.2.begins, (found.0, found.2.states_at))
 
-signature_stands : (file : List ℕ) (place : ℕ) → BehindSignature file place → BeginsWith lex1.signature file
-signature_stands file place (inl n) = n.begins
-signature_stands file place (inr b) = (states_stand file place b).0
+signature_stands : (file : List ℕ) (offset : ℕ) → BehindSignature file offset → BeginsWith lex1.signature file
+signature_stands file offset (inl n) = n.begins
+signature_stands file offset (inr b) = (states_stand file offset b).0
 
 -- where classes all stand below, no class is bad; and so on
-classes_not_bad : (file : List ℕ) (place s c : ℕ) → HasClasses file s c → HasBadClass file place → ⊥
-classes_not_bad file place s c h b =
+classes_not_bad : (file : List ℕ) (offset s c : ℕ) → HasClasses file s c → HasBadClass file offset → ⊥
+classes_not_bad file offset s c h b =
     let same = counts_once file s c b.states b.classes h.sized.counts b.sized.counts in
-    below_not_past class_at 256 b.classes file place (subst (λ n. AreBelow class_at 256 n file) same.1 h.below) b.first
+    below_not_past class_at 256 b.classes file offset (subst (λ n. AreBelow class_at 256 n file) same.1 h.below) b.first
 
-size_not_other : (file : List ℕ) (place s c : ℕ) → HasSize file s c → HasOtherSize file place → ⊥
-size_not_other file place s c h o =
+size_not_other : (file : List ℕ) (offset s c : ℕ) → HasSize file s c → HasOtherSize file offset → ⊥
+size_not_other file offset s c h o =
     let same = counts_once file s c o.states o.classes h.counts o.counts in
     o.size (h.size ∙ (λ i. size_of (same.0 i) (same.1 i)))
 
-counts_not_missing : (file : List ℕ) (place s c : ℕ) → HasCounts file s c → HasNoClasses file place → ⊥
-counts_not_missing file place s c h n = n.missing c h.classes_at
+counts_not_missing : (file : List ℕ) (offset s c : ℕ) → HasCounts file s c → HasNoClasses file offset → ⊥
+counts_not_missing file offset s c h n = n.missing c h.classes_at
 
-pub lex1_apart : (file : List ℕ) (place s c : ℕ) → IsLex1 file s c → IsNoLex1At file place → ⊥
-lex1_apart file place s c h (inl d) = begins_not_departs lex1.signature file place h.classed.sized.counts.begins d
-lex1_apart file place s c h (inr (inl n)) = n.missing s h.classed.sized.counts.states_at
-lex1_apart file place s c h (inr (inr (inl n))) = counts_not_missing file place s c h.classed.sized.counts n
-lex1_apart file place s c h (inr (inr (inr (inl o)))) = size_not_other file place s c h.classed.sized o
-lex1_apart file place s c h (inr (inr (inr (inr (inl b))))) = classes_not_bad file place s c h.classed b
-lex1_apart file place s c h (inr (inr (inr (inr (inr b))))) =
+pub lex1_apart : (file : List ℕ) (offset s c : ℕ) → IsLex1 file s c → IsNoLex1At file offset → ⊥
+lex1_apart file offset s c h (inl d) = begins_not_departs lex1.signature file offset h.classed.sized.counts.begins d
+lex1_apart file offset s c h (inr (inl n)) = n.missing s h.classed.sized.counts.states_at
+lex1_apart file offset s c h (inr (inr (inl n))) = counts_not_missing file offset s c h.classed.sized.counts n
+lex1_apart file offset s c h (inr (inr (inr (inl o)))) = size_not_other file offset s c h.classed.sized o
+lex1_apart file offset s c h (inr (inr (inr (inr (inl b))))) = classes_not_bad file offset s c h.classed b
+lex1_apart file offset s c h (inr (inr (inr (inr (inr b))))) =
     let same = counts_once file s c b.states b.classes h.classed.sized.counts b.classed.sized.counts in
-    below_not_past next_at (b.states * b.classes) b.states file place
+    below_not_past next_at (b.states * b.classes) b.states file offset
     (subst (λ (x : ℕ × ℕ). AreBelow next_at (x.0 * x.1) x.0 file) (λ i. (same.0 i, same.1 i)) h.below) b.first
 
 bad_next_once : (file : List ℕ) (p q : ℕ) → HasBadNext file p → HasBadNext file q → p ≡ q
@@ -164,19 +164,19 @@ behind_size_once file p q (inr a) (inr b) = bad_next_once file p q a b
 behind_counts_once : (file : List ℕ) (p q : ℕ) → BehindCounts file p → BehindCounts file q → p ≡ q
 behind_counts_once file p q (inl a) (inl b) =
     let same = counts_once file a.states a.classes b.states b.classes a.counts b.counts in
-    a.place_is ∙ ap (λ (x : ℕ × ℕ). min (length file) (size_of x.0 x.1)) (λ i. (same.0 i, same.1 i)) ∙ sym b.place_is
+    a.offset_is ∙ ap (λ (x : ℕ × ℕ). min (length file) (size_of x.0 x.1)) (λ i. (same.0 i, same.1 i)) ∙ sym b.offset_is
 behind_counts_once file p q (inl a) (inr t) = let found = size_stands file q t in absurd (size_not_other file p found.0 found.1 found.2 a)
 behind_counts_once file p q (inr t) (inl a) = let found = size_stands file p t in absurd (size_not_other file q found.0 found.1 found.2 a)
 behind_counts_once file p q (inr t) (inr u) = behind_size_once file p q t u
 
 behind_states_once : (file : List ℕ) (p q : ℕ) → BehindStates file p → BehindStates file q → p ≡ q
-behind_states_once file p q (inl a) (inl b) = a.place_is ∙ sym b.place_is
+behind_states_once file p q (inl a) (inl b) = a.offset_is ∙ sym b.offset_is
 behind_states_once file p q (inl a) (inr t) = let found = counts_stand file q t in absurd (counts_not_missing file p found.0 found.1 found.2 a)
 behind_states_once file p q (inr t) (inl a) = let found = counts_stand file p t in absurd (counts_not_missing file q found.0 found.1 found.2 a)
 behind_states_once file p q (inr t) (inr u) = behind_counts_once file p q t u
 
 behind_signature_once : (file : List ℕ) (p q : ℕ) → BehindSignature file p → BehindSignature file q → p ≡ q
-behind_signature_once file p q (inl a) (inl b) = a.place_is ∙ sym b.place_is
+behind_signature_once file p q (inl a) (inl b) = a.offset_is ∙ sym b.offset_is
 behind_signature_once file p q (inl a) (inr t) = let found = (states_stand file q t).1 in absurd (a.missing found.0 found.1)
 behind_signature_once file p q (inr t) (inl a) = let found = (states_stand file p t).1 in absurd (a.missing found.0 found.1)
 behind_signature_once file p q (inr t) (inr u) = behind_states_once file p q t u

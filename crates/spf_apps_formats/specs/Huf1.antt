@@ -18,22 +18,22 @@ pub record IsHuf1 (file : List ℕ) : Type 0 where
   pub lengths : AreCodeLengths (lengths_of file)
 
 -- the signature stands there, and the file ends within the header
-pub record EndsInHeader (file : List ℕ) (place : ℕ) : Type 0 where
+pub record EndsInHeader (file : List ℕ) (offset : ℕ) : Type 0 where
   pub begins : BeginsWith signature file
   pub short : length file < 264
-  pub place_is : place ≡ length file
+  pub offset_is : offset ≡ length file
 
 -- the header is whole, and no code has its lengths
-pub record HasBadLengths (file : List ℕ) (place : ℕ) : Type 0 where
+pub record HasBadLengths (file : List ℕ) (offset : ℕ) : Type 0 where
   pub begins : BeginsWith signature file
   pub header : 264 ≤ length file
   pub symbol : ℕ
   pub refused : AreRefusedAt (lengths_of file) symbol
-  pub place_is : place ≡ 4 + symbol
+  pub offset_is : offset ≡ 4 + symbol
 
--- the file isn't HUF1, because of what stands, or is missing, at this place
+-- the file isn't HUF1, because of what stands, or is missing, at this offset
 abbrev pub IsNoHuf1At : List ℕ → ℕ → Type 0
-IsNoHuf1At file place = DepartsAt signature file place ⊎ (EndsInHeader file place ⊎ HasBadLengths file place)
+IsNoHuf1At file offset = DepartsAt signature file offset ⊎ (EndsInHeader file offset ⊎ HasBadLengths file offset)
 
 -- ---- encoded symbols
 
@@ -55,13 +55,13 @@ pub record Encodes (lengths symbols file : List ℕ) : Type 0 where
   pub file_is : file ≡ header lengths (length symbols) ++ words
   pub words_are : Holds (code_words lengths symbols) words
 
--- the lengths are refused, at this place of a file
-pub record RefusesLengths (lengths : List ℕ) (place : ℕ) : Type 0 where
+-- the lengths are refused, at this offset of a file
+pub record RefusesLengths (lengths : List ℕ) (offset : ℕ) : Type 0 where
   pub symbol : ℕ
   pub refused : AreRefusedAt lengths symbol
-  pub place_is : place ≡ 4 + symbol
+  pub offset_is : offset ≡ 4 + symbol
 
--- a code has the lengths, and the symbol at this place has no code word
+-- a code has the lengths, and the symbol at this index has no code word
 pub record LacksWord (lengths symbols : List ℕ) (at : ℕ) : Type 0 where
   pub lengths_are : AreCodeLengths lengths
   pub lacks : LacksWordAt lengths symbols at

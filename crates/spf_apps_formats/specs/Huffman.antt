@@ -77,8 +77,8 @@ bits_of bytes = flat_map (bits 8) bytes
 abbrev pub HaveWords : List ℕ → ℕ → List ℕ → Type 0
 HaveWords lengths count symbols = (k : ℕ) → k < count → 0 < slice_index lengths (slice_index symbols k)
 
--- the first symbol without a code word stands at this place
-pub record LacksWordAt (lengths symbols : List ℕ) (place : ℕ) : Type 0 where
-  pub inside : place < length symbols
-  pub before : HaveWords lengths place symbols
-  pub none : slice_index lengths (slice_index symbols place) ≡ 0
+-- the first symbol without a code word stands at this index
+pub record LacksWordAt (lengths symbols : List ℕ) (index : ℕ) : Type 0 where
+  pub inside : index < length symbols
+  pub before : HaveWords lengths index symbols
+  pub none : slice_index lengths (slice_index symbols index) ≡ 0

@@ -9,17 +9,17 @@ use Rattle.spf_apps_formats.specs.Lex1.{IsLex1, IsNoLex1At}
 use Rattle.spf_apps_formats.specs.PackBits.{Packet, IsCut, Unpacks}
 use Rattle.spf_apps_formats.specs.Draws.{IsGenerated}
 
--- each file is HUF1 or refused at a place, never both, and none is refused at two places
+-- each file is HUF1 or refused at an offset, never both, and none is refused at two offsets
 pub record Huf1HasOneVerdict : Type 0 where
-  pub some : (file : List ℕ) → IsHuf1 file ⊎ ((place : ℕ) × IsNoHuf1At file place)
-  pub apart : (file : List ℕ) (place : ℕ) → IsHuf1 file → IsNoHuf1At file place → ⊥
-  pub one : (file : List ℕ) (place other : ℕ) → IsNoHuf1At file place → IsNoHuf1At file other → place ≡ other
+  pub some : (file : List ℕ) → IsHuf1 file ⊎ ((offset : ℕ) × IsNoHuf1At file offset)
+  pub apart : (file : List ℕ) (offset : ℕ) → IsHuf1 file → IsNoHuf1At file offset → ⊥
+  pub one : (file : List ℕ) (offset other : ℕ) → IsNoHuf1At file offset → IsNoHuf1At file other → offset ≡ other
 
--- each file is LEX1 or refused at a place, never both, none is refused at two places, and none is LEX1 with two counts
+-- each file is LEX1 or refused at an offset, never both, none is refused at two offsets, and none is LEX1 with two counts
 pub record Lex1HasOneVerdict : Type 0 where
-  pub some : (file : List ℕ) → ((states : ℕ) × (classes : ℕ) × IsLex1 file states classes) ⊎ ((place : ℕ) × IsNoLex1At file place)
-  pub apart : (file : List ℕ) (place states classes : ℕ) → IsLex1 file states classes → IsNoLex1At file place → ⊥
-  pub one : (file : List ℕ) (place other : ℕ) → IsNoLex1At file place → IsNoLex1At file other → place ≡ other
+  pub some : (file : List ℕ) → ((states : ℕ) × (classes : ℕ) × IsLex1 file states classes) ⊎ ((offset : ℕ) × IsNoLex1At file offset)
+  pub apart : (file : List ℕ) (offset states classes : ℕ) → IsLex1 file states classes → IsNoLex1At file offset → ⊥
+  pub one : (file : List ℕ) (offset other : ℕ) → IsNoLex1At file offset → IsNoLex1At file other → offset ≡ other
   pub counts : (file : List ℕ) (states classes more_states more_classes : ℕ) → IsLex1 file states classes
       → IsLex1 file more_states more_classes → (states ≡ more_states) × (classes ≡ more_classes)
 

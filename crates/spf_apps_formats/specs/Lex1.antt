@@ -5,15 +5,15 @@ use Rattle.spf_apps_formats.specs.Signatures.{BeginsWith, DepartsAt, AreBelow, I
 abbrev pub signature : List ℕ
 signature = codes "LEX1"
 
--- the byte at a place is a count of 1 to 64
-pub record HasCount (file : List ℕ) (place n : ℕ) : Type 0 where
-  pub stands : slice_get file place ≡ Some n
+-- the byte at an offset is a count of 1 to 64
+pub record HasCount (file : List ℕ) (offset n : ℕ) : Type 0 where
+  pub stands : slice_get file offset ≡ Some n
   pub some : 1 ≤ n
   pub few : n ≤ 64
 
 -- there is no byte, or no such count
 abbrev pub HasNoCount : List ℕ → ℕ → Type 0
-HasNoCount file place = (n : ℕ) → HasCount file place n → ⊥
+HasNoCount file offset = (n : ℕ) → HasCount file offset n → ⊥
 
 -- how long the file of a machine is: 6 bytes, the class of each byte, and two bytes for each state and class
 abbrev pub size_of : ℕ → ℕ → ℕ
@@ -51,43 +51,43 @@ pub record IsLex1 (file : List ℕ) (states classes : ℕ) : Type 0 where
 -- ---- what is wrong first
 
 -- no count of states
-pub record HasNoStates (file : List ℕ) (place : ℕ) : Type 0 where
+pub record HasNoStates (file : List ℕ) (offset : ℕ) : Type 0 where
   pub begins : BeginsWith signature file
   pub missing : HasNoCount file 4
-  pub place_is : place ≡ 4
+  pub offset_is : offset ≡ 4
 
 -- no count of classes
-pub record HasNoClasses (file : List ℕ) (place : ℕ) : Type 0 where
+pub record HasNoClasses (file : List ℕ) (offset : ℕ) : Type 0 where
   pub begins : BeginsWith signature file
   pub states : ℕ
   pub states_at : HasCount file 4 states
   pub missing : HasNoCount file 5
-  pub place_is : place ≡ 5
+  pub offset_is : offset ≡ 5
 
--- another length than the counts say: the place is the end of the file, or the end that it should have, whichever comes first
-pub record HasOtherSize (file : List ℕ) (place : ℕ) : Type 0 where
+-- another length than the counts say: the offset is the end of the file, or the end that it should have, whichever comes first
+pub record HasOtherSize (file : List ℕ) (offset : ℕ) : Type 0 where
   pub states : ℕ
   pub classes : ℕ
   pub counts : HasCounts file states classes
   pub size : length file ≢ size_of states classes
-  pub place_is : place ≡ min (length file) (size_of states classes)
+  pub offset_is : offset ≡ min (length file) (size_of states classes)
 
 -- a class that doesn't exist
-pub record HasBadClass (file : List ℕ) (place : ℕ) : Type 0 where
+pub record HasBadClass (file : List ℕ) (offset : ℕ) : Type 0 where
   pub states : ℕ
   pub classes : ℕ
   pub sized : HasSize file states classes
-  pub first : IsFirstPast class_at 256 classes file place
+  pub first : IsFirstPast class_at 256 classes file offset
 
 -- a state that doesn't exist
-pub record HasBadNext (file : List ℕ) (place : ℕ) : Type 0 where
+pub record HasBadNext (file : List ℕ) (offset : ℕ) : Type 0 where
   pub states : ℕ
   pub classes : ℕ
   pub classed : HasClasses file states classes
-  pub first : IsFirstPast next_at (states * classes) states file place
+  pub first : IsFirstPast next_at (states * classes) states file offset
 
--- the file isn't LEX1, because of what stands, or is missing, at this place
+-- the file isn't LEX1, because of what stands, or is missing, at this offset
 abbrev pub IsNoLex1At : List ℕ → ℕ → Type 0
-IsNoLex1At file place =
-    DepartsAt signature file place
-    ⊎ (HasNoStates file place ⊎ (HasNoClasses file place ⊎ (HasOtherSize file place ⊎ (HasBadClass file place ⊎ HasBadNext file place))))
+IsNoLex1At file offset =
+    DepartsAt signature file offset
+    ⊎ (HasNoStates file offset ⊎ (HasNoClasses file offset ⊎ (HasOtherSize file offset ⊎ (HasBadClass file offset ⊎ HasBadNext file offset))))

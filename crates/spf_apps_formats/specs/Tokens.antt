@@ -15,16 +15,16 @@ next_state machine state byte = slice_index machine (entry_of machine state byte
 abbrev pub mark : List ℕ → ℕ → ℕ → ℕ
 mark machine state byte = slice_index machine (entry_of machine state byte + 1)
 
--- a token, as its kind and its place with the highest byte first
+-- a token, as its kind and its offset with the highest byte first
 abbrev pub token : ℕ → ℕ → List ℕ
-token zero place = []
-token (suc kind) place = suc kind ∷ to_be_bytes w32 place
+token zero offset = []
+token (suc kind) offset = suc kind ∷ to_be_bytes w32 offset
 
--- the tokens of the bytes from a place on, which the machine reaches in a state
+-- the tokens of the bytes from an offset on, which the machine reaches in a state
 abbrev pub tokens_from : List ℕ → ℕ → ℕ → List ℕ → List ℕ
-tokens_from machine state place [] = []
-tokens_from machine state place (byte ∷ content) =
-    token (mark machine state byte) place ++ tokens_from machine (next_state machine state byte) (place + 1) content
+tokens_from machine state offset [] = []
+tokens_from machine state offset (byte ∷ content) =
+    token (mark machine state byte) offset ++ tokens_from machine (next_state machine state byte) (offset + 1) content
 
 -- the tokens of a content; a machine starts in state 0
 abbrev pub tokens : List ℕ → List ℕ → List ℕ

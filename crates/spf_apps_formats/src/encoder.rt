@@ -18,10 +18,10 @@ use thiserror::Error;
 /// Why symbols can't be encoded.
 #[derive(Clone, Copy, PartialEq, Eq, Debug, Error)]
 pub enum EncodeError {
-    /// No code has these lengths, and the file would be refused at this place.
+    /// No code has these lengths, and the file would be refused at this byte.
     #[error("no code has these lengths: byte {place} of the file")]
     BadLengths { place: u64 },
-    /// The symbol at this place of the symbols has no code word.
+    /// The symbol at this index has no code word.
     #[error("symbol {at} has no code word")]
     NoCode { at: u64 },
     /// There was no memory for the file.
@@ -89,15 +89,15 @@ fn code_table(alloc: Global, lengths: &[u8]) -> Result<Vec<u32>, AllocError>
     Ok(words)
 }
 
-/// The place of the first symbol that has no code word.
+/// The index of the first symbol that has no code word.
 fn first_without_word(lengths: &[u8], symbols: &[u8]) -> Option<usize>
     requires count { length lengths.now ≡ 256 }
     ensures { MatchOption result (HaveWords lengths.now (length symbols.now) symbols.now)
         (LacksWordAt lengths.now symbols.now) }
 {
-    for (place, symbol) in symbols.iter().enumerate() {
+    for (index, symbol) in symbols.iter().enumerate() {
         if lengths[*symbol as usize] == 0 {
-            return Some(place);
+            return Some(index);
         }
     }
     None
@@ -140,8 +140,8 @@ pub(crate) fn encode(alloc: Global, lengths: &[u8], symbols: &[u8]) -> Result<Ve
 /// # Errors
 ///
 /// `BadLengths` comes first, exactly where `huf1_check` would refuse a file for these lengths, with
-/// the place in the file. Otherwise `NoCode` comes exactly where a symbol has length 0, with the
-/// place of the first such symbol.
+/// the offset in the file. Otherwise `NoCode` comes exactly where a symbol has length 0, with the
+/// index of the first such symbol.
 pub fn encode_huf1(alloc: Global, lengths: &[u8], symbols: &[u8]) -> Result<Vec<u8>, EncodeError>
     requires lengths { length lengths.now ≡ 256 }
     requires symbols { length symbols.now < 2 ^ 32 }

@@ -80,14 +80,14 @@ pub(crate) fn check_lengths(lengths: &[u8]) -> Result<(), usize>
 ///
 /// # Errors
 ///
-/// The place of the first fault: the first byte of the signature that differs or is missing;
+/// The offset of the first fault: the first byte of the signature that differs or is missing;
 /// otherwise the file's length where it ends within the header; otherwise the first length over 15;
 /// otherwise the first length for whose code word the ones before it leave no room.
 pub fn huf1_check(file: &[u8]) -> Result<(), u64>
     ensures { MatchResult result (λ _. IsHuf1 file.now) (IsNoHuf1At file.now) }
 {
-    if let Some(place) = departure(SIGNATURE, file) {
-        return Err(place as u64);
+    if let Some(offset) = departure(SIGNATURE, file) {
+        return Err(offset as u64);
     }
     if file.len() < HEADER {
         return Err(file.len() as u64);

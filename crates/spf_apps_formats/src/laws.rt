@@ -4,7 +4,7 @@ ghost use Rattle.spf_apps_formats.specs.Laws.{PackBitsIsCutOnce, Huf1IsDecodedOn
 ghost use Rattle.spf_apps_formats.specs.Laws.{CodeWordsArePrefixFree, EncodedFilesDecode};
 ghost use Rattle.spf_apps_formats.specs.Laws.{EachInputIsGeneratedOnce};
 
-/// A file is HUF1, or it is refused at one place, and not both; and likewise LEX1, with one count
+/// A file is HUF1, or it is refused at one offset, and not both; and likewise LEX1, with one count
 /// of states and one of classes.
 pub fn files_have_one_verdict()
     ensures huf1 { Huf1HasOneVerdict }

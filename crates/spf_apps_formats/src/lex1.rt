@@ -22,45 +22,45 @@ const MOST: u8 = 64;
 /// How long the two counts and the classes are, with the signature.
 const HEADER: usize = 262;
 
-/// The count of 1 to 64 at a place.
-fn count_at(file: &[u8], place: usize) -> Option<usize>
-    ensures { MatchOption result (HasNoCount file.now place) (HasCount file.now place) }
+/// The count of 1 to 64 at an offset.
+fn count_at(file: &[u8], offset: usize) -> Option<usize>
+    ensures { MatchOption result (HasNoCount file.now offset) (HasCount file.now offset) }
 {
-    if place >= file.len() {
+    if offset >= file.len() {
         return None;
     }
-    let count = file[place];
+    let count = file[offset];
     if count == 0 || count > MOST {
         return None;
     }
     Some(count as usize)
 }
 
-/// The place of the first byte whose class doesn't exist.
+/// The offset of the first byte whose class doesn't exist.
 fn bad_class(file: &[u8], classes: usize) -> Option<usize>
     requires header { 262 ≤ length file.now }
     ensures { MatchOption result (AreBelow class_at 256 classes file.now)
         (IsFirstPast class_at 256 classes file.now) }
 {
     for byte in 0..256 {
-        let place = 6 + byte;
-        if file[place] as usize >= classes {
-            return Some(place);
+        let offset = 6 + byte;
+        if file[offset] as usize >= classes {
+            return Some(offset);
         }
     }
     None
 }
 
-/// The place of the first next state that isn't one of the states.
+/// The offset of the first next state that isn't one of the states.
 fn bad_next(file: &[u8], entries: usize, states: usize) -> Option<usize>
     requires size { length file.now ≡ 262 + 2 * entries }
     ensures { MatchOption result (AreBelow next_at entries states file.now)
         (IsFirstPast next_at entries states file.now) }
 {
     for entry in 0..entries {
-        let place = HEADER + 2 * entry;
-        if file[place] as usize >= states {
-            return Some(place);
+        let offset = HEADER + 2 * entry;
+        if file[offset] as usize >= states {
+            return Some(offset);
         }
     }
     None
@@ -71,11 +71,11 @@ fn check_entries(file: &[u8], states: usize, classes: usize) -> Result<(), usize
     requires sized { HasSize file.now states classes }
     ensures { MatchResult result (λ _. IsLex1 file.now states classes) (IsNoLex1At file.now) }
 {
-    if let Some(place) = bad_class(file, classes) {
-        return Err(place);
+    if let Some(offset) = bad_class(file, classes) {
+        return Err(offset);
     }
-    if let Some(place) = bad_next(file, states * classes, states) {
-        return Err(place);
+    if let Some(offset) = bad_next(file, states * classes, states) {
+        return Err(offset);
     }
     Ok(())
 }
@@ -84,7 +84,7 @@ fn check_entries(file: &[u8], states: usize, classes: usize) -> Result<(), usize
 ///
 /// # Errors
 ///
-/// The place of the first fault: the first byte of the signature that differs or is missing;
+/// The offset of the first fault: the first byte of the signature that differs or is missing;
 /// otherwise byte 4, and then byte 5, where it is missing or isn't 1 to 64; otherwise the end of
 /// the file where it is too short, or the end that it should have where it is too long; otherwise
 /// the first class that doesn't exist; otherwise the first next state that doesn't exist.
@@ -92,8 +92,8 @@ pub fn lex1_check(file: &[u8]) -> Result<(u64, u64), u64>
     ensures { MatchResult result (λ counts. IsLex1 file.now counts.0 counts.1)
         (IsNoLex1At file.now) }
 {
-    if let Some(place) = departure(SIGNATURE, file) {
-        return Err(place as u64);
+    if let Some(offset) = departure(SIGNATURE, file) {
+        return Err(offset as u64);
     }
     let Some(states) = count_at(file, 4) else {
         return Err(4);
@@ -107,7 +107,7 @@ pub fn lex1_check(file: &[u8]) -> Result<(u64, u64), u64>
     }
     match check_entries(file, states, classes) {
         Ok(()) => Ok((states as u64, classes as u64)),
-        Err(place) => Err(place as u64),
+        Err(offset) => Err(offset as u64),
     }
 }
 

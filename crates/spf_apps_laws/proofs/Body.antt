@@ -15,13 +15,13 @@ use Rattle.spf_ast_laws.proofs.Plainly.{Comes}
 use Rattle.spf_apps_programs.specs.Writing.{number, plus, minus, only}
 use Rattle.spf_apps_programs.specs.PackBits.{header, copied, repeated, data_byte, one_byte}
 use Rattle.spf_apps_laws.proofs.Bytes.{Header, header_of, copies, skips, repeats, after_header, next_left, copies_left, repeats_left}
-use Rattle.spf_apps_laws.proofs.Places.{IsSmall}
+use Rattle.spf_apps_laws.proofs.Indices.{IsSmall}
 use Rattle.spf_apps_laws.proofs.Steps.{gives-number, gives-local, gives-len, gives-input, gives-binary, tells, comes-let, comes-assign, comes-store, comes-on, comes-end, comes-only, comes-then_branch, comes-else_branch, word-ok}
 
 -- the state with these words in the slots, and no output
-abbrev pub at : (carried number left place byte out turn : ℤ) → State
-at carried number left place byte out turn =
-    record { slots = carried ∷ number ∷ left ∷ place ∷ byte ∷ out ∷ turn ∷ []; output = [] }
+abbrev pub at : (carried number left index byte out turn : ℤ) → State
+at carried number left index byte out turn =
+    record { slots = carried ∷ number ∷ left ∷ index ∷ byte ∷ out ∷ turn ∷ []; output = [] }
 
 -- ---- a header
 
@@ -197,10 +197,10 @@ inside_tells g c k t b x y p m holds e =
     let s = at c k t (pos p) b x y in
     tells g 7 Lt (Local 3) Len s m (pos p) (pos (length g.input)) holds (gives-local g 7 3 s m (pos p) refl) (gives-len g 7 s m) e
 
--- a place in the file
-pub place-inside : (g : Environment) (c k left b x y : ℤ) (p : ℕ) (m : List ℤ) → (extent_in g.extents 0).0 ≡ 0 → p < (extent_in g.extents 0).1 → p < length g.input → slice_index g.input p < 256 → IsSmall left
+-- an index in the file
+pub index-inside : (g : Environment) (c k left b x y : ℤ) (p : ℕ) (m : List ℤ) → (extent_in g.extents 0).0 ≡ 0 → p < (extent_in g.extents 0).1 → p < length g.input → slice_index g.input p < 256 → IsSmall left
     → Comes (block_means g (only 7 (If is_inside one_byte end))) (at c k left (pos p) b x y) m (Value Onward (at c k (next_left left (slice_index g.input p)) (pos p) (pos (slice_index g.input p)) x y)) (stored left p m)
-place-inside g c k left b x y p m first room there small bound =
+index-inside g c k left b x y p m first room there small bound =
     let s = at c k left (pos p) b x y in
     let byte = slice_index g.input p in
     let u = at c k left (pos p) (pos byte) x y in
@@ -213,9 +213,9 @@ place-inside g c k left b x y p m first room there small bound =
     (comes-only g 9 (If is_header header data_byte) u t m (stored left p m)
     (choice-comes g c k x y left p byte m first room small bound))))
 
--- a place after the file
-pub place-outside : (g : Environment) (c k left b x y : ℤ) (p : ℕ) (m : List ℤ) → length g.input ≤ p → Comes (block_means g (only 7 (If is_inside one_byte end))) (at c k left (pos p) b x y) m (Value Onward (at c k left (pos p) b x y)) m
-place-outside g c k left b x y p m out =
+-- an index after the file
+pub index-outside : (g : Environment) (c k left b x y : ℤ) (p : ℕ) (m : List ℤ) → length g.input ≤ p → Comes (block_means g (only 7 (If is_inside one_byte end))) (at c k left (pos p) b x y) m (Value Onward (at c k left (pos p) b x y)) m
+index-outside g c k left b x y p m out =
     let s = at c k left (pos p) b x y in
     let low : int_lt (pos p) (pos (length g.input)) ≡ false = grind (arith, ints, out) in
     comes-only g 7 (If is_inside one_byte end) s s m m

@@ -18,9 +18,9 @@ use Rattle.spf_ast.specs.Syntax.{Condition, Block, Local, Load, Compare, Assign,
 use Rattle.spf_ast.specs.Meaning.{Environment, block_means, statement_means, extent_in}
 use Rattle.spf_ast_laws.proofs.Plainly.{Comes}
 use Rattle.spf_apps_programs.specs.Writing.{number, plus, minus, times, shifted_right, masked, only}
-use Rattle.spf_apps_programs.specs.Huffman.{with_bit, sym_place, bits_begin, word_end, one_bit}
+use Rattle.spf_apps_programs.specs.Huffman.{with_bit, sym_offset, bits_begin, word_end, one_bit}
 use Rattle.spf_apps_laws.proofs.HufWords.{bit, bit_of, grown, kept, next_number, entry_at}
-use Rattle.spf_apps_laws.proofs.HufPlaces.{cell_at, cells_before, cells_at, cell_set, cell_kept}
+use Rattle.spf_apps_laws.proofs.HufIndices.{cell_at, cells_before, cells_at, cell_set, cell_kept}
 use Rattle.spf_apps_laws.proofs.HufTable.{Arrays}
 use Rattle.spf_apps_laws.proofs.LexBody.{sum_ok, product_ok}
 use Rattle.spf_apps_laws.proofs.Steps.{Gives, gives-number, gives-local, gives-load, gives-binary, tells, comes-assign, comes-store, comes-on, comes-only, comes-end, comes-then_branch, comes-else_branch, word-ok}
@@ -30,13 +30,13 @@ abbrev pub at : (v n y carried block h i byte j : ℤ) → State
 at v n y carried block h i byte j =
     record { slots = v ∷ n ∷ y ∷ carried ∷ block ∷ h ∷ i ∷ byte ∷ j ∷ pos 0 ∷ pos 0 ∷ pos 0 ∷ []; output = [] }
 
--- the place of a bit
-abbrev pub bit_place : (size k i j : ℕ) → ℕ
-bit_place size k i j = ((8 * size) * k + 8 * i) + j
+-- the index of a bit
+abbrev pub bit_index : (size k i j : ℕ) → ℕ
+bit_index size k i j = ((8 * size) * k + 8 * i) + j
 
--- a block, a byte and a bit of it whose place the array has
+-- a block, a byte and a bit of it whose index the array has
 pub record Inside (size k i j room : ℕ) : Type 0 where
-  pub there : bit_place size k i j < room
+  pub there : bit_index size k i j < room
   pub few : room ≤ 4194304
 
 -- ---- sums of bits
@@ -72,12 +72,12 @@ gives-with_bit g line s m h b j x h_is b_is j_is small few e =
     (ap Ok (odd_word (b / 2 ^ (7 - j)))))
     (sum_ok (h * 2) odd (omega (arith, small))))
 
-gives-place : (g : Environment) (line size k i j room : ℕ) (s : State) (m : List ℤ) → slice_index_or s.slots 4 (pos 0) ≡ pos k → slice_index_or s.slots 6 (pos 0) ≡ pos i → slice_index_or s.slots 8 (pos 0) ≡ pos j → Inside size k i j room
-    → Gives g line (sym_place size) s m (pos (bit_place size k i j))
-gives-place g line size k i j room s m k_is i_is j_is d =
+gives-index : (g : Environment) (line size k i j room : ℕ) (s : State) (m : List ℤ) → slice_index_or s.slots 4 (pos 0) ≡ pos k → slice_index_or s.slots 6 (pos 0) ≡ pos i → slice_index_or s.slots 8 (pos 0) ≡ pos j → Inside size k i j room
+    → Gives g line (sym_offset size) s m (pos (bit_index size k i j))
+gives-index g line size k i j room s m k_is i_is j_is d =
     let there = d.there in
     let few = d.few in
-    gives-binary g line Add (plus (bits_begin size) (times (number 8) (Local 6))) (Local 8) s m (pos ((8 * size) * k + 8 * i)) (pos j) (pos (bit_place size k i j))
+    gives-binary g line Add (plus (bits_begin size) (times (number 8) (Local 6))) (Local 8) s m (pos ((8 * size) * k + 8 * i)) (pos j) (pos (bit_index size k i j))
     (gives-binary g line Add (bits_begin size) (times (number 8) (Local 6)) s m (pos ((8 * size) * k)) (pos (8 * i)) (pos ((8 * size) * k + 8 * i))
     (gives-binary g line Mul (number (8 * size)) (Local 4) s m (pos (8 * size)) (pos k) (pos ((8 * size) * k)) (gives-number g line (pos (8 * size)) s m) (gives-local g line 4 s m (pos k) k_is) (product_ok (8 * size) k (omega (arith, there, few))))
     (gives-binary g line Mul (number 8) (Local 6) s m (pos 8) (pos i) (pos (8 * i)) (gives-number g line (pos 8) s m) (gives-local g line 6 s m (pos i) i_is) (product_ok 8 i (omega (arith, there, few))))
@@ -95,7 +95,7 @@ abbrev is_whole : Condition
 is_whole = Compare Ne (Load 0 (Local 5)) (number 0)
 
 abbrev whole : ℕ → Block
-whole size = on_line 40 (Store 1 (sym_place size) (Load 0 (Local 5))) (only 40 (Assign 5 (number 1)))
+whole size = on_line 40 (Store 1 (sym_offset size) (Load 0 (Local 5))) (only 40 (Assign 5 (number 1)))
 
 gives-entry : (g : Environment) (room : ℕ) → Arrays g room → (s : State) (m : List ℤ) (n e : ℕ) → slice_index_or s.slots 5 (pos 0) ≡ pos n → n < 65536 → slice_index_or m n (pos 0) ≡ pos e → Gives g 40 (Load 0 (Local 5)) s m (pos e)
 gives-entry g room a s m n e n_is small word =
@@ -106,7 +106,7 @@ gives-entry g room a s m n e n_is small word =
 
 -- the end of a code word, or not
 word-comes : (g : Environment) (size room : ℕ) → Arrays g room → (v t y c : ℤ) (k i j n e : ℕ) (b : ℤ) (m : List ℤ) → Inside size k i j room → n < 65536 → slice_index_or m n (pos 0) ≡ pos e
-    → Comes (block_means g (word_end size)) (at v t y c (pos k) (pos n) (pos i) b (pos j)) m (Value Onward (at v t y c (pos k) (pos (kept e n)) (pos i) b (pos j))) (stored e (bit_place size k i j) m)
+    → Comes (block_means g (word_end size)) (at v t y c (pos k) (pos n) (pos i) b (pos j)) m (Value Onward (at v t y c (pos k) (pos (kept e n)) (pos i) b (pos j))) (stored e (bit_index size k i j) m)
 word-comes g size room a v t y c k i j n zero b m d small word =
     let s = at v t y c (pos k) (pos n) (pos i) b (pos j) in
     comes-only g 40 (If is_whole (whole size) end) s s m m
@@ -116,7 +116,7 @@ word-comes g size room a v t y c k i j n zero b m d small word =
 word-comes g size room a v t y c k i j n (suc e) b m d small word =
     let s = at v t y c (pos k) (pos n) (pos i) b (pos j) in
     let u = at v t y c (pos k) (pos 1) (pos i) b (pos j) in
-    let p = bit_place size k i j in
+    let p = bit_index size k i j in
     let base = (extent_in g.extents 1).0 in
     let after = slice_set m (base + p) (pos (suc e)) in
     let cell : base + p ≡ 65536 + p = let f = a.sym_first in omega (arith, f) in
@@ -126,8 +126,8 @@ word-comes g size room a v t y c k i j n (suc e) b m d small word =
     (comes-only g 40 (If is_whole (whole size) end) s u m after
     (comes-then_branch g 40 is_whole (whole size) end s m after (Value Onward u)
     (tells g 40 Ne (Load 0 (Local 5)) (number 0) s m (pos (suc e)) (pos 0) true loaded (gives-number g 40 (pos 0) s m) other)
-    (comes-on g 40 (Store 1 (sym_place size) (Load 0 (Local 5))) (only 40 (Assign 5 (number 1))) s s m after after (Value Onward u)
-    (comes-store g 40 1 (sym_place size) (Load 0 (Local 5)) s m p (pos (suc e)) (gives-place g 40 size k i j room s m refl refl refl d) loaded (let r = a.sym_room in let there = d.there in omega (arith, r, there)))
+    (comes-on g 40 (Store 1 (sym_offset size) (Load 0 (Local 5))) (only 40 (Assign 5 (number 1))) s s m after after (Value Onward u)
+    (comes-store g 40 1 (sym_offset size) (Load 0 (Local 5)) s m p (pos (suc e)) (gives-index g 40 size k i j room s m refl refl refl d) loaded (let r = a.sym_room in let there = d.there in omega (arith, r, there)))
     (comes-only g 40 (Assign 5 (number 1)) s u after after (comes-assign g 40 5 (number 1) s after (pos 1) (gives-number g 40 (pos 1) s after))))))
 
 abbrev is_long : Condition
@@ -139,7 +139,7 @@ too_long = only 39 (Assign 5 (number 0))
 -- the number with one more bit
 long-comes : (g : Environment) (size room : ℕ) → Arrays g room → (v t y c : ℤ) (k i j n : ℕ) (b : ℤ) (m : List ℤ) (code : List ℕ) → Inside size k i j room → ((q : ℕ) → q < 65536 → slice_index_or m q (pos 0) ≡ pos (slice_index code q)) → (holds : Bool) → nat_lt 65535 n ≡ holds
     → Comes (statement_means g 39 (If is_long too_long (word_end size))) (at v t y c (pos k) (pos n) (pos i) b (pos j)) m
-    (Value Onward (at v t y c (pos k) (pos (if holds then 0 else kept (slice_index code n) n)) (pos i) b (pos j))) (stored (if holds then 0 else slice_index code n) (bit_place size k i j) m)
+    (Value Onward (at v t y c (pos k) (pos (if holds then 0 else kept (slice_index code n) n)) (pos i) b (pos j))) (stored (if holds then 0 else slice_index code n) (bit_index size k i j) m)
 long-comes g size room a v t y c k i j n b m code d words true e =
     let s = at v t y c (pos k) (pos n) (pos i) b (pos j) in
     let u = at v t y c (pos k) (pos 0) (pos i) b (pos j) in
@@ -155,7 +155,7 @@ long-comes g size room a v t y c k i j n b m code d words false e =
     let below : n ≤ 65535 = grind (arith, nat_tests, e) in
     let long : int_lt (pos 65535) (pos n) ≡ false = grind (arith, ints, below) in
     let small : n < 65536 = omega (arith, below) in
-    comes-else_branch g 39 is_long too_long (word_end size) s m (stored e2 (bit_place size k i j) m) (Value Onward u)
+    comes-else_branch g 39 is_long too_long (word_end size) s m (stored e2 (bit_index size k i j) m) (Value Onward u)
     (tells g 39 Gt (Local 5) (number 65535) s m (pos n) (pos 65535) false (gives-local g 39 5 s m (pos n) refl) (gives-number g 39 (pos 65535) s m) long)
     (word-comes g size room a v t y c k i j n e2 b m d small (words n small))
 
@@ -167,7 +167,7 @@ longer size = on_line 38 (Assign 5 (with_bit 5 7 8)) (only 39 (If is_long too_lo
 
 pub bit-comes : (g : Environment) (size room : ℕ) → Arrays g room → (v t y c : ℤ) (k i j h b : ℕ) (x : Bool) (m : List ℤ) (code : List ℕ) → Inside size k i j room → ((q : ℕ) → q < 65536 → slice_index_or m q (pos 0) ≡ pos (slice_index code q)) → h < 65536 → j < 8 → x ≡ (b / 2 ^ (7 - j) % 2 == 1)
     → Comes (block_means g (one_bit size)) (at v t y c (pos k) (pos h) (pos i) (pos b) (pos j)) m
-    (Value Onward (at v t y c (pos k) (pos (next_number code h x)) (pos i) (pos b) (pos j))) (stored (entry_at code h x) (bit_place size k i j) m)
+    (Value Onward (at v t y c (pos k) (pos (next_number code h x)) (pos i) (pos b) (pos j))) (stored (entry_at code h x) (bit_index size k i j) m)
 bit-comes g size room a v t y c k i j zero b x m code d words small few e =
     let s = at v t y c (pos k) (pos 0) (pos i) (pos b) (pos j) in
     comes-only g 37 (If is_begun (longer size) end) s s m m
@@ -180,7 +180,7 @@ bit-comes g size room a v t y c k i j (suc h) b x m code d words small few e =
     let u = at v t y c (pos k) (pos n) (pos i) (pos b) (pos j) in
     let holds = nat_lt 65535 n in
     let z = at v t y c (pos k) (pos (if holds then 0 else kept (slice_index code n) n)) (pos i) (pos b) (pos j) in
-    let after = stored (if holds then 0 else slice_index code n) (bit_place size k i j) m in
+    let after = stored (if holds then 0 else slice_index code n) (bit_index size k i j) m in
     let other : not (int_eq (pos (suc h)) (pos 0)) ≡ true = ap not (let o : int_eq (pos (suc h)) (pos 0) ≡ false = grind (arith, ints) in o) in
     comes-only g 37 (If is_begun (longer size) end) s z m after
     (comes-then_branch g 37 is_begun (longer size) end s m after (Value Onward z)

@@ -14,22 +14,22 @@ use Rattle.spf_apps_formats.specs.Huffman.{bits_of}
 use Rattle.spf_apps_programs.specs.Writing.{number, plus, only}
 use Rattle.spf_apps_programs.specs.Huffman.{block_begin, bits_begin, bits_end, code_bytes, one_bit, byte_bits, one_byte, body}
 use Rattle.spf_apps_laws.proofs.HufWords.{next_number, entry_at}
-use Rattle.spf_apps_laws.proofs.HufPlaces.{number_at, cells_before, cells_at, number_inside, number_small, cell_inside, cells_zero, table_word, bit_there, bits_long, stays_outside}
+use Rattle.spf_apps_laws.proofs.HufIndices.{number_at, cells_before, cells_at, number_inside, number_small, cell_inside, cells_zero, table_word, bit_there, bits_long, stays_outside}
 use Rattle.spf_apps_laws.proofs.HufTable.{room_for, Decoding}
-use Rattle.spf_apps_laws.proofs.HufBits.{at, bit_place, less_ok, stored, stored-next, bit-comes}
+use Rattle.spf_apps_laws.proofs.HufBits.{at, bit_index, less_ok, stored, stored-next, bit-comes}
 use Rattle.spf_apps_laws.proofs.LexBody.{sum_ok, product_ok}
 use Rattle.spf_apps_laws.proofs.Blocks.{in_or_out}
 use Rattle.spf_apps_laws.proofs.Steps.{gives-row, Gives, gives-number, gives-local, gives-len, gives-input, gives-binary, tells, comes-let, comes-fill, comes-only, comes-end, comes-else_branch, zeros-stay, with_slot, Reaches, Yields, reached, reaches-on, reaches-end, reaches-for, reaches-then_branch, for-reaches}
 
--- the first place of a byte
-abbrev byte_place : (size k i : ℕ) → ℕ
-byte_place size k i = (8 * size) * k + 8 * i
+-- the first index of a byte
+abbrev byte_index : (size k i : ℕ) → ℕ
+byte_index size k i = (8 * size) * k + 8 * i
 
 eightfold : (size k : ℕ) → (8 * size) * k ≡ 8 * (size * k)
 eightfold size k = mul_assoc 8 size k
 
-place_is : (size k i j : ℕ) → bit_place size k i j ≡ 8 * (size * k + i) + j
-place_is size k i j = let e = eightfold size k in omega (arith, e)
+index_is : (size k i j : ℕ) → bit_index size k i j ≡ 8 * (size * k + i) + j
+index_is size k i j = let e = eightfold size k in omega (arith, e)
 
 -- ---- the bits of a byte
 
@@ -39,8 +39,8 @@ record BitAt (size : ℕ) (code content : List ℕ) (k i j : ℕ) (s : State) (m
   y : ℤ
   carried : ℤ
   turn : ℤ
-  s_is : s ≡ at v t y carried (pos k) (pos (number_at code (bits_of content) (bit_place size k i j))) (pos i) (pos (slice_index content (size * k + i))) turn
-  m_is : m ≡ cells_at code (bits_of content) (room_for size content) (bit_place size k i j)
+  s_is : s ≡ at v t y carried (pos k) (pos (number_at code (bits_of content) (bit_index size k i j))) (pos i) (pos (slice_index content (size * k + i))) turn
+  m_is : m ≡ cells_at code (bits_of content) (room_for size content) (bit_index size k i j)
 
 bit-turn : (g : Environment) (size : ℕ) (lengths content : List ℕ) → Decoding g size lengths content → (code : List ℕ) → length code ≡ 65536 → (k i j : ℕ) (s : State) (m : List ℤ) → j < 8 → size * k + i < length content → BitAt size code content k i j s m
     → Reaches (block_means g (one_bit size)) (BitAt size code content k i (suc j)) (with_slot 8 (pos j) s) m
@@ -48,16 +48,16 @@ bit-turn g size lengths content d code long k i j s m few there h =
     let all = bits_of content in
     let room = room_for size content in
     let q = size * k + i in
-    let p = bit_place size k i j in
+    let p = bit_index size k i j in
     let n = number_at code all p in
     let b = slice_index content q in
     let x = slice_index_or all p false in
-    let p_is = place_is size k i j in
+    let p_is = index_is size k i j in
     let x_is : x ≡ (b / 2 ^ (7 - j) % 2 == 1) = ap (λ r. slice_index_or all r false) p_is ∙ bit_there content q j there few in
     let inside : p < length all = omega (arith, p_is, bits_long content, there, few) in
     let in_room : p < room = omega (arith, p_is, there, few) in
     let cells = cells_at code all room p in
-    let next : suc p ≡ bit_place size k i (suc j) = omega arith in
+    let next : suc p ≡ bit_index size k i (suc j) = omega arith in
     let begun = at h.v h.t h.y h.carried (pos k) (pos n) (pos i) (pos b) (pos j) in
     let after = at h.v h.t h.y h.carried (pos k) (pos (next_number code n x)) (pos i) (pos b) (pos j) in
     let bound = d.few in
@@ -83,11 +83,11 @@ record ByteAt (size : ℕ) (code content : List ℕ) (k i : ℕ) (s : State) (m 
   t : ℤ
   y : ℤ
   carried : ℤ
-  place : ℤ
+  index : ℤ
   byte : ℤ
   turn : ℤ
-  s_is : s ≡ at v t y carried (pos k) (pos (number_at code (bits_of content) (byte_place size k i))) place byte turn
-  m_is : m ≡ cells_at code (bits_of content) (room_for size content) (byte_place size k i)
+  s_is : s ≡ at v t y carried (pos k) (pos (number_at code (bits_of content) (byte_index size k i))) index byte turn
+  m_is : m ≡ cells_at code (bits_of content) (room_for size content) (byte_index size k i)
 
 abbrev is_inside : ℕ → Condition
 is_inside size = Compare Lt (plus (block_begin size) (Local 6)) code_bytes
@@ -110,12 +110,12 @@ inside_tells g size lengths content d k i s m holds k_is i_is small e =
 
 -- a byte of the content
 byte-inside : (g : Environment) (size : ℕ) (lengths content : List ℕ) → Decoding g size lengths content → (code : List ℕ) → length code ≡ 65536 → (k i : ℕ) (v t y c b z : ℤ) → size * k + i < length content
-    → Reaches (block_means g (one_byte size)) (ByteAt size code content k (suc i)) (at v t y c (pos k) (pos (number_at code (bits_of content) (byte_place size k i))) (pos i) b z) (cells_at code (bits_of content) (room_for size content) (byte_place size k i))
+    → Reaches (block_means g (one_byte size)) (ByteAt size code content k (suc i)) (at v t y c (pos k) (pos (number_at code (bits_of content) (byte_index size k i))) (pos i) b z) (cells_at code (bits_of content) (room_for size content) (byte_index size k i))
 byte-inside g size lengths content d code long k i v t y c b z there =
     let all = bits_of content in
     let room = room_for size content in
     let q = size * k + i in
-    let low = byte_place size k i in
+    let low = byte_index size k i in
     let m = cells_at code all room low in
     let n = pos (number_at code all low) in
     let s = at v t y c (pos k) n (pos i) b z in
@@ -133,8 +133,8 @@ byte-inside g size lengths content d code long k i v t y c b z there =
     (gives-binary g 35 Add (number 264) (block_begin size) s m (pos 264) (pos (size * k)) (pos (264 + size * k)) (gives-number g 35 (pos 264) s m) (gives-begin g 35 size k s m refl (omega (arith, there, few))) (sum_ok 264 (size * k) (omega (arith, there, few))))
     (gives-local g 35 6 s m (pos i) refl) (sum_ok (264 + size * k) i (omega (arith, there, few))))
     (omega (arith, there, length_is))) in
-    let first : low ≡ bit_place size k i 0 = omega arith in
-    let last : bit_place size k i (0 + 8) ≡ byte_place size k (suc i) = omega arith in
+    let first : low ≡ bit_index size k i 0 = omega arith in
+    let last : bit_index size k i (0 + 8) ≡ byte_index size k (suc i) = omega arith in
     let begun : BitAt size code content k i 0 u m = record {
       v = v;
       t = t;
@@ -159,7 +159,7 @@ byte-inside g size lengths content d code long k i v t y c b z there =
       t = h.t;
       y = h.y;
       carried = h.carried;
-      place = pos i;
+      index = pos i;
       byte = pos byte;
       turn = h.turn;
       s_is = h.s_is ∙ ap (λ r. at h.v h.t h.y h.carried (pos k) (pos (number_at code all r)) (pos i) (pos byte) h.turn) last;
@@ -167,21 +167,21 @@ byte-inside g size lengths content d code long k i v t y c b z there =
     }))))))
     (λ a x h. reaches-end g (ByteAt size code content k (suc i)) a x h)
 
--- a place after the content
+-- an index after the content
 byte-outside : (g : Environment) (size : ℕ) (lengths content : List ℕ) → Decoding g size lengths content → (code : List ℕ) (k i : ℕ) (v t y c b z : ℤ) → i < size → size * k < length content → length content ≤ size * k + i
-    → Reaches (block_means g (one_byte size)) (ByteAt size code content k (suc i)) (at v t y c (pos k) (pos (number_at code (bits_of content) (byte_place size k i))) (pos i) b z) (cells_at code (bits_of content) (room_for size content) (byte_place size k i))
+    → Reaches (block_means g (one_byte size)) (ByteAt size code content k (suc i)) (at v t y c (pos k) (pos (number_at code (bits_of content) (byte_index size k i))) (pos i) b z) (cells_at code (bits_of content) (room_for size content) (byte_index size k i))
 byte-outside g size lengths content d code k i v t y c b z within there out =
     let all = bits_of content in
     let room = room_for size content in
     let q = size * k + i in
-    let low = byte_place size k i in
+    let low = byte_index size k i in
     let m = cells_at code all room low in
     let n = pos (number_at code all low) in
     let s = at v t y c (pos k) n (pos i) b z in
     let few = d.few in
     let eight = eightfold size k in
     let inside : int_lt (pos q) (pos (length content)) ≡ false = grind (arith, ints, out) in
-    let next : low + 8 ≡ byte_place size k (suc i) = omega arith in
+    let next : low + 8 ≡ byte_index size k (suc i) = omega arith in
     let stays = stays_outside code all room low 8 (omega (arith, out, bits_long content, eight)) (omega (arith, there, within, eight)) in
     reached (block_means g (one_byte size)) (ByteAt size code content k (suc i)) s s m m
     (comes-only g 34 (If (is_inside size) (byte_bits size) end) s s m m
@@ -193,7 +193,7 @@ byte-outside g size lengths content d code k i v t y c b z within there out =
       t = t;
       y = y;
       carried = c;
-      place = pos i;
+      index = pos i;
       byte = b;
       turn = z;
       s_is = ap (λ r. at v t y c (pos k) (pos r) (pos i) b z) (sym stays.0 ∙ ap (number_at code all) next);
@@ -218,10 +218,10 @@ pub record BlockAt (size : ℕ) (code content : List ℕ) (k : ℕ) (s : State) 
   pub carried : ℤ
   pub block : ℤ
   pub h : ℤ
-  pub place : ℤ
+  pub index : ℤ
   pub byte : ℤ
   pub turn : ℤ
-  pub s_is : s ≡ at v t y carried block h place byte turn
+  pub s_is : s ≡ at v t y carried block h index byte turn
   pub m_is : m ≡ cells_at code (bits_of content) (room_for size content) ((8 * size) * k)
 
 -- the carried word at a block
@@ -265,19 +265,19 @@ block-yields g size lengths content d code long k there s m h =
     let block_is : slice_index_or t.slots 4 (pos 0) ≡ pos k = ap (λ (z : State). slice_index_or z.slots 4 (pos 0)) t_is in
     let u = with_slot 5 c t in
     let u_is = ap (λ (z : State). with_slot 5 c z) t_is in
-    let first : low ≡ byte_place size k 0 = omega arith in
+    let first : low ≡ byte_index size k 0 = omega arith in
     let begun : ByteAt size code content k 0 u m = record {
       v = h.v;
       t = h.t;
       y = h.y;
       carried = c;
-      place = h.place;
+      index = h.index;
       byte = h.byte;
       turn = h.turn;
-      s_is = u_is ∙ ap (λ r. at h.v h.t h.y c (pos k) (pos (number_at code all r)) h.place h.byte h.turn) first;
+      s_is = u_is ∙ ap (λ r. at h.v h.t h.y c (pos k) (pos (number_at code all r)) h.index h.byte h.turn) first;
       m_is = h.m_is ∙ ap (cells_at code all room) first;
     } in
-    let next : byte_place size k (0 + size) ≡ (8 * size) * suc k = omega (arith, mul-suc (8 * size) k) in
+    let next : byte_index size k (0 + size) ≡ (8 * size) * suc k = omega (arith, mul-suc (8 * size) k) in
     let whole : size ≡ 0 + size = omega arith in
     let filled = Fill 1 (bits_begin size) (bits_end size) (number 0) in
     let bytes = For 6 (number 0) (number size) (one_byte size) in
@@ -304,8 +304,8 @@ block-yields g size lengths content d code long k there s m h =
         y = at_end.y;
         carried = at_end.carried;
         block = pos k;
-        h = pos (number_at code all (byte_place size k (0 + size)));
-        place = at_end.place;
+        h = pos (number_at code all (byte_index size k (0 + size)));
+        index = at_end.index;
         byte = at_end.byte;
         turn = at_end.turn;
         s_is = at_end.s_is;

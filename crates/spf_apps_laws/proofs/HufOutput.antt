@@ -18,7 +18,7 @@ use Rattle.spf_apps_programs.specs.Writing.{number, plus, minus, times, only}
 use Rattle.spf_apps_programs.specs.Huffman.{code_bytes, with_byte, wanted, symbol_out, symbols_out, too_few}
 use Rattle.spf_apps_formats.specs.Huffman.{bits_of}
 use Rattle.spf_apps_laws.proofs.HufWords.{IsTable, entry_at, grown, symbol}
-use Rattle.spf_apps_laws.proofs.HufPlaces.{number_at, entry_of, found_before, cells_at, read_word, bits_long}
+use Rattle.spf_apps_laws.proofs.HufIndices.{number_at, entry_of, found_before, cells_at, read_word, bits_long}
 use Rattle.spf_apps_laws.proofs.HufTable.{room_for, Decoding}
 use Rattle.spf_apps_laws.proofs.HufBits.{less_ok}
 use Rattle.spf_apps_laws.proofs.HufBlocks.{gives-content}
@@ -83,7 +83,7 @@ found_short : (code : List ℕ) (all : List Bool) (p : ℕ) → length (found_be
 found_short code all zero = omega arith
 found_short code all (suc p) = omega (arith, length-append (found_before code all p) (symbol (entry_of code all p)), symbol_short (entry_of code all p), found_short code all p)
 
--- ---- a place
+-- ---- an index
 
 entry_from : (code : List ℕ) (h : ℕ) (b : Bool) (y : ℕ) → entry_at code h b ≡ suc y → (n : ℕ) × (slice_index code n ≡ suc y)
 entry_from code zero b y e = absurd (omega (arith, e))
@@ -109,7 +109,7 @@ put = on_line 50 (Emit (minus (Load 1 (Local 11)) (number 1))) (only 50 (Assign 
 abbrev put_wanted : Block
 put_wanted = only 50 (If is_wanted put end)
 
--- the symbols before a place were written, as many as are wanted
+-- the symbols before an index were written, as many as are wanted
 pub record Written (code : List ℕ) (all : List Bool) (cells : List ℤ) (want p : ℕ) (s : State) (m : List ℤ) : Type 0 where
   pub output_is : s.output ≡ take want (found_before code all p)
   pub got_is : slice_index_or s.slots 10 (pos 0) ≡ pos (length s.output)
@@ -117,7 +117,7 @@ pub record Written (code : List ℕ) (all : List Bool) (cells : List ℤ) (want 
   pub slots_are : length s.slots ≡ 12
   pub memory_is : m ≡ cells
 
--- what a place needs: its cell, and room for a byte
+-- what an index needs: its cell, and room for a byte
 record Stands (g : Environment) (p e want : ℕ) (s : State) (m : List ℤ) : Type 0 where
   cell : Gives g 50 (Load 1 (Local 11)) s m (pos e)
   got_is : slice_index_or s.slots 10 (pos 0) ≡ pos (length s.output)
@@ -130,7 +130,7 @@ symbol_tells g p e want s m holds d is = tells g 50 Ne (Load 1 (Local 11)) (numb
 wanted_tells : (g : Environment) (p e want line : ℕ) (s : State) (m : List ℤ) (holds : Bool) → slice_index_or s.slots 10 (pos 0) ≡ pos (length s.output) → slice_index_or s.slots 9 (pos 0) ≡ pos want → int_lt (pos (length s.output)) (pos want) ≡ holds → Comes (condition_means g line is_wanted) s m (Value holds s) m
 wanted_tells g p e want line s m holds got want_is is = tells g line Lt (Local 10) (Local 9) s m (pos (length s.output)) (pos want) holds (gives-local g line 10 s m (pos (length s.output)) got) (gives-local g line 9 s m (pos want) want_is) is
 
--- no symbol ends at the place
+-- no symbol ends at the index
 none-comes : (g : Environment) (p want : ℕ) (s : State) (m : List ℤ) → Stands g p 0 want s m → Comes (block_means g symbol_out) s m (Value Onward s) m
 none-comes g p want s m d =
     comes-only g 50 (If is_symbol put_wanted end) s s m m
@@ -169,10 +169,10 @@ put-comes g p y want s m d more byte =
     (gives-binary g 50 Add (Local 10) (number 1) t m (pos (length s.output)) (pos 1) (pos (suc (length s.output))) (gives-local g 50 10 t m (pos (length s.output)) d.got_is) (gives-number g 50 (pos 1) t m)
     (sum_ok (length s.output) 1 (omega (arith, few)) ∙ ap (λ n. Ok (pos n)) later))))))))
 
--- a place, by what its cell holds
-place-reaches : (g : Environment) (size : ℕ) (lengths content code : List ℕ) → Decoding g size lengths content → IsTable lengths code → (cells : List ℤ) (want p e : ℕ) (s : State) (m : List ℤ) → entry_of code (bits_of content) p ≡ e → Stands g p e want s m → Written code (bits_of content) cells want p s m
+-- an index, by what its cell holds
+index-reaches : (g : Environment) (size : ℕ) (lengths content code : List ℕ) → Decoding g size lengths content → IsTable lengths code → (cells : List ℤ) (want p e : ℕ) (s : State) (m : List ℤ) → entry_of code (bits_of content) p ≡ e → Stands g p e want s m → Written code (bits_of content) cells want p s m
     → Reaches (block_means g symbol_out) (Written code (bits_of content) cells want (suc p)) s m
-place-reaches g size lengths content code d table cells want p zero s m is stands h =
+index-reaches g size lengths content code d table cells want p zero s m is stands h =
     let all = bits_of content in
     reached (block_means g symbol_out) (Written code all cells want (suc p)) s s m m (none-comes g p want s m stands)
     (record {
@@ -182,7 +182,7 @@ place-reaches g size lengths content code d table cells want p zero s m is stand
       slots_are = h.slots_are;
       memory_is = h.memory_is;
     })
-place-reaches g size lengths content code d table cells want p (suc y) s m is stands h =
+index-reaches g size lengths content code d table cells want p (suc y) s m is stands h =
     cases (in_or_out (length s.output) want)
     (λ more.
     let slots = h.slots_are in
@@ -214,15 +214,15 @@ place-reaches g size lengths content code d table cells want p (suc y) s m is st
         let many = d.many in
         omega (arith, inside, many)
 
-place-turn : (g : Environment) (size : ℕ) (lengths content code : List ℕ) → Decoding g size lengths content → length code ≡ 65536 → IsTable lengths code → (far want p : ℕ) (s : State) (m : List ℤ) → p < 8 * length content → 8 * length content ≤ far → Written code (bits_of content) (cells_at code (bits_of content) (room_for size content) far) want p s m
+index-turn : (g : Environment) (size : ℕ) (lengths content code : List ℕ) → Decoding g size lengths content → length code ≡ 65536 → IsTable lengths code → (far want p : ℕ) (s : State) (m : List ℤ) → p < 8 * length content → 8 * length content ≤ far → Written code (bits_of content) (cells_at code (bits_of content) (room_for size content) far) want p s m
     → Reaches (block_means g symbol_out) (Written code (bits_of content) (cells_at code (bits_of content) (room_for size content) far) want (suc p)) (with_slot 11 (pos p) s) m
-place-turn g size lengths content code d long table far want p s m there enough h =
+index-turn g size lengths content code d long table far want p s m there enough h =
     let all = bits_of content in
     let room = room_for size content in
     let cells = cells_at code all room far in
     let t = with_slot 11 (pos p) s in
     let slots = h.slots_are in
-    let place : slice_index_or t.slots 11 (pos 0) ≡ pos p = get_or-set_same s.slots 11 (pos p) (pos 0) (omega (arith, slots)) in
+    let index : slice_index_or t.slots 11 (pos 0) ≡ pos p = get_or-set_same s.slots 11 (pos p) (pos 0) (omega (arith, slots)) in
     let got = get_or-set_other s.slots 11 10 (pos p) (pos 0) (below_differs 10 11 (omega arith)) ∙ h.got_is in
     let wants = get_or-set_other s.slots 11 9 (pos p) (pos 0) (below_differs 9 11 (omega arith)) ∙ h.want_is in
     let base = (extent_in g.extents 1).0 in
@@ -233,9 +233,9 @@ place-turn g size lengths content code d long table far want p s m there enough 
     let word : word_at m (base + p) ≡ pos (entry_of code all p) =
     (λ i. word_at (h.memory_is i) (cell i)) ∙ read_word code all 65536 room far p long (omega (arith, there, enough)) (omega (arith, there, bits_long content)) in
     let short : length s.output < 4194304 = omega (arith, ap (λ (l : List ℕ). length l) h.output_is, take_short want (found_before code all p), found_short code all p, there, few) in
-    place-reaches g size lengths content code d table cells want p (entry_of code all p) t m refl
+    index-reaches g size lengths content code d table cells want p (entry_of code all p) t m refl
     (record {
-      cell = subst (λ v. Gives g 50 (Load 1 (Local 11)) t m v) word (gives-load g 50 1 (Local 11) t m p (gives-local g 50 11 t m (pos p) place) (omega (arith, there, has)));
+      cell = subst (λ v. Gives g 50 (Load 1 (Local 11)) t m v) word (gives-load g 50 1 (Local 11) t m p (gives-local g 50 11 t m (pos p) index) (omega (arith, there, has)));
       got_is = got;
       want_is = wants;
       few = short;
@@ -254,7 +254,7 @@ symbols-written g size lengths content code d long table far want s m enough h =
     (reaches-for g 49 11 (number 0) (times (number 8) code_bytes) symbol_out (Written code all cells want (0 + n)) s m 0 n (gives-number g 49 (pos 0) s m)
     (subst (λ k. Gives g 49 (times (number 8) code_bytes) s m (pos k)) (sym whole)
     (gives-binary g 49 Mul (number 8) code_bytes s m (pos 8) (pos (length content)) (pos n) (gives-number g 49 (pos 8) s m) (gives-content g 49 s m (length content) d.long (omega (arith, few))) (product_ok 8 (length content) (omega (arith, few)))))
-    (for-reaches 11 (block_means g symbol_out) (Written code all cells want) 0 n (λ p a x low high q. place-turn g size lengths content code d long table far want p a x (omega (arith, high)) enough q) s m h))
+    (for-reaches 11 (block_means g symbol_out) (Written code all cells want) 0 n (λ p a x low high q. index-turn g size lengths content code d long table far want p a x (omega (arith, high)) enough q) s m h))
 
 -- ---- the end
 

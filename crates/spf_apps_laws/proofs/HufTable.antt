@@ -22,8 +22,8 @@ use Rattle.spf_apps_formats.specs.Huffman.{AreCodeLengths, first_word, words_of_
 use Rattle.spf_apps_formats.proofs.PrefixFree.{HasWord, words_fit, words_are}
 use Rattle.spf_apps_programs.specs.Writing.{number, plus, times, only}
 use Rattle.spf_apps_programs.specs.Huffman.{table_entry, table}
-use Rattle.spf_apps_laws.proofs.HufWords.{place_of, place_once, place_small, IsTable}
-use Rattle.spf_apps_laws.proofs.HufPlaces.{table_set}
+use Rattle.spf_apps_laws.proofs.HufWords.{index_of, index_once, index_small, IsTable}
+use Rattle.spf_apps_laws.proofs.HufIndices.{table_set}
 use Rattle.spf_apps_laws.proofs.LexBody.{sum_ok, product_ok}
 use Rattle.spf_apps_laws.proofs.Steps.{Gives, gives-number, gives-local, gives-input, gives-binary, tells, comes-assign, comes-store, comes-on, comes-only, comes-end, comes-then_branch, comes-else_branch, with_slot, Reaches, reached, reaches-on, reaches-for, for-reaches, word-ok}
 
@@ -63,8 +63,8 @@ IsBefore lengths n y z = (slice_index lengths z < n) ⊎ ((slice_index lengths z
 
 record Fills (lengths code : List ℕ) (n y : ℕ) : Type 0 where
   long : length code ≡ 65536
-  words : (z : ℕ) → HasWord lengths z → IsBefore lengths n y z → slice_index code (place_of lengths z) ≡ suc z
-  only : (i z : ℕ) → slice_index code i ≡ suc z → HasWord lengths z × (i ≡ place_of lengths z)
+  words : (z : ℕ) → HasWord lengths z → IsBefore lengths n y z → slice_index code (index_of lengths z) ≡ suc z
+  only : (i z : ℕ) → slice_index code i ≡ suc z → HasWord lengths z × (i ≡ index_of lengths z)
 
 abbrev Apart : ℕ → ℕ → Type 0
 Apart a b = (a < b) ⊎ (b < a)
@@ -79,32 +79,32 @@ apart_differ a b (inr h) e = omega (arith, h, e)
 some_once : (a b c : ℕ) → a ≡ suc b → a ≡ suc c → c ≡ b
 some_once a b c h k = omega (arith, h, k)
 
-fills-more : (lengths code : List ℕ) (n y : ℕ) → AreCodeLengths lengths → HasWord lengths y → slice_index lengths y ≡ n → Fills lengths code n y → Fills lengths (slice_set code (place_of lengths y) (suc y)) n (suc y)
-fills-more lengths code n y a h is f = record { long = length-set code place (suc y) ∙ f.long; words = words; only = only }
+fills-more : (lengths code : List ℕ) (n y : ℕ) → AreCodeLengths lengths → HasWord lengths y → slice_index lengths y ≡ n → Fills lengths code n y → Fills lengths (slice_set code (index_of lengths y) (suc y)) n (suc y)
+fills-more lengths code n y a h is f = record { long = length-set code index (suc y) ∙ f.long; words = words; only = only }
   where
-    place : ℕ
-    place = place_of lengths y
+    index : ℕ
+    index = index_of lengths y
 
-    inside : place_of lengths y < length code
-    inside = let small = place_small lengths y a h in omega (arith, small, f.long)
+    inside : index_of lengths y < length code
+    inside = let small = index_small lengths y a h in omega (arith, small, f.long)
 
     before : (z : ℕ) → IsBefore lengths n (suc y) z → (z ≡ y → ⊥) → IsBefore lengths n y z
     before z (inl less) other = inl less
     before z (inr k) other = inr (k.0, cases (same_or_apart z y) (λ e. absurd (other e)) (λ apart. cases apart (λ less. less) (λ more. absurd (omega (arith, more, k.1)))))
 
-    words : (z : ℕ) → HasWord lengths z → IsBefore lengths n (suc y) z → slice_index (slice_set code (place_of lengths y) (suc y)) (place_of lengths z) ≡ suc z
+    words : (z : ℕ) → HasWord lengths z → IsBefore lengths n (suc y) z → slice_index (slice_set code (index_of lengths y) (suc y)) (index_of lengths z) ≡ suc z
     words z k b =
         cases (same_or_apart z y)
-        (λ e. ap (λ x. slice_index (slice_set code (place_of lengths y) (suc y)) (place_of lengths x)) e ∙ get_or-set_same code (place_of lengths y) (suc y) 0 inside ∙ ap suc (sym e))
-        (λ apart. get_or-set_other code (place_of lengths y) (place_of lengths z) (suc y) 0 (λ e. apart_differ z y apart (place_once lengths z y a k h e)) ∙ f.words z k (before z b (apart_differ z y apart)))
+        (λ e. ap (λ x. slice_index (slice_set code (index_of lengths y) (suc y)) (index_of lengths x)) e ∙ get_or-set_same code (index_of lengths y) (suc y) 0 inside ∙ ap suc (sym e))
+        (λ apart. get_or-set_other code (index_of lengths y) (index_of lengths z) (suc y) 0 (λ e. apart_differ z y apart (index_once lengths z y a k h e)) ∙ f.words z k (before z b (apart_differ z y apart)))
 
-    only : (i z : ℕ) → slice_index (slice_set code (place_of lengths y) (suc y)) i ≡ suc z → HasWord lengths z × (i ≡ place_of lengths z)
+    only : (i z : ℕ) → slice_index (slice_set code (index_of lengths y) (suc y)) i ≡ suc z → HasWord lengths z × (i ≡ index_of lengths z)
     only i z e =
-        cases (same_or_apart i (place_of lengths y))
+        cases (same_or_apart i (index_of lengths y))
         (λ here.
-        let same = some_once (slice_index (slice_set code (place_of lengths y) (suc y)) i) y z (ap (slice_index (slice_set code (place_of lengths y) (suc y))) here ∙ get_or-set_same code (place_of lengths y) (suc y) 0 inside) e in
-        subst (λ x. HasWord lengths x × (i ≡ place_of lengths x)) (sym same) (h, here))
-        (λ apart. f.only i z (sym (get_or-set_other code (place_of lengths y) i (suc y) 0 (apart_differ i (place_of lengths y) apart)) ∙ e))
+        let same = some_once (slice_index (slice_set code (index_of lengths y) (suc y)) i) y z (ap (slice_index (slice_set code (index_of lengths y) (suc y))) here ∙ get_or-set_same code (index_of lengths y) (suc y) 0 inside) e in
+        subst (λ x. HasWord lengths x × (i ≡ index_of lengths x)) (sym same) (h, here))
+        (λ apart. f.only i z (sym (get_or-set_other code (index_of lengths y) i (suc y) 0 (apart_differ i (index_of lengths y) apart)) ∙ e))
 
 fills-same : (lengths code : List ℕ) (n y : ℕ) → Apart (slice_index lengths y) n → Fills lengths code n y → Fills lengths code n (suc y)
 fills-same lengths code n y other f = record { long = f.long; words = λ z k b. f.words z k (before z b); only = f.only }
@@ -152,11 +152,11 @@ fills-none lengths n e = record {
 abbrev is_entry : Condition
 is_entry = Compare Eq (Input (plus (number 4) (Local 2))) (Local 1)
 
-abbrev place : Expression
-place = plus (Binary Shl (number 1) (Local 1)) (Local 0)
+abbrev index : Expression
+index = plus (Binary Shl (number 1) (Local 1)) (Local 0)
 
 abbrev entry_set : Block
-entry_set = on_line 26 (Store 0 place (plus (Local 2) (number 1))) (only 26 (Assign 0 (plus (Local 0) (number 1))))
+entry_set = on_line 26 (Store 0 index (plus (Local 2) (number 1))) (only 26 (Assign 0 (plus (Local 0) (number 1))))
 
 pub more_ok : (a : ℕ) → a < 4194304 → binary_words Add (pos a) (pos 1) ≡ Ok (pos (suc a))
 more_ok a h = sum_ok a 1 (omega (arith, h)) ∙ ap (λ n. Ok (pos n)) (let e : a + 1 ≡ suc a = omega arith in e)
@@ -195,8 +195,8 @@ entry-stored g size lengths content d v n y m small short inside =
     let cell : base + (2 ^ n + v) ≡ 2 ^ n + v = let f = d.arrays.code_first in omega (arith, f) in
     let after = slice_set m (base + (2 ^ n + v)) (pos (suc y)) in
     subst (λ q. Comes (block_means g entry_set) s m (Value Onward t) (slice_set m q (pos (suc y)))) cell
-    (comes-on g 26 (Store 0 place (plus (Local 2) (number 1))) (only 26 (Assign 0 (plus (Local 0) (number 1)))) s s m after after (Value Onward t)
-    (comes-store g 26 0 place (plus (Local 2) (number 1)) s m (2 ^ n + v) (pos (suc y))
+    (comes-on g 26 (Store 0 index (plus (Local 2) (number 1))) (only 26 (Assign 0 (plus (Local 0) (number 1)))) s s m after after (Value Onward t)
+    (comes-store g 26 0 index (plus (Local 2) (number 1)) s m (2 ^ n + v) (pos (suc y))
     (gives-binary g 26 Add (Binary Shl (number 1) (Local 1)) (Local 0) s m (pos (2 ^ n)) (pos v) (pos (2 ^ n + v))
     (gives-binary g 26 Shl (number 1) (Local 1) s m (pos 1) (pos n) (pos (2 ^ n)) (gives-number g 26 (pos 1) s m) (gives-local g 26 1 s m (pos n) refl) (power_ok n short))
     (gives-local g 26 0 s m (pos v) refl) (sum_ok (2 ^ n) v (omega (arith, inside))))
@@ -229,8 +229,8 @@ word_turn g size lengths content d n y code some short small f is =
     let t = begun_at (pos (suc v)) (pos n) (pos y) in
     let h : HasWord lengths y = record { inside = let l = d.many in omega (arith, small, l); some = omega (arith, is, some) } in
     let word : word_number lengths y ≡ v = ap (λ k. first_word lengths k + count_by (λ l. l == k) (take y lengths)) is in
-    let place_is : place_of lengths y ≡ 2 ^ n + v = (λ i. 2 ^ is i + word i) in
-    let inside : 2 ^ n + v < 65536 = omega (arith, place_is, place_small lengths y d.code h) in
+    let index_is : index_of lengths y ≡ 2 ^ n + v = (λ i. 2 ^ is i + word i) in
+    let inside : 2 ^ n + v < 65536 = omega (arith, index_is, index_small lengths y d.code h) in
     let there : 2 ^ n + v < length code = omega (arith, inside, f.long) in
     let equal : int_eq (pos (slice_index lengths y)) (pos n) ≡ true = grind (arith, ints, is) in
     let yes : (slice_index lengths y == n) ≡ true = grind (arith, nat_tests, is) in
@@ -247,7 +247,7 @@ word_turn g size lengths content d n y code some short small f is =
       turn = pos y;
       s_is = ap (λ k. begun_at (pos k) (pos n) (pos y)) next;
       m_is = table_set code (replicate room (pos 0)) (2 ^ n + v) (suc y) there;
-      fills = subst (λ k. Fills lengths (slice_set code k (suc y)) n (suc y)) place_is (fills-more lengths code n y d.code h is f);
+      fills = subst (λ k. Fills lengths (slice_set code k (suc y)) n (suc y)) index_is (fills-more lengths code n y d.code h is f);
     })
 
 other_turn : (g : Environment) (size : ℕ) (lengths content : List ℕ) → Decoding g size lengths content → (n y : ℕ) (code : List ℕ) → y < 256 → Fills lengths code n y → Apart (slice_index lengths y) n

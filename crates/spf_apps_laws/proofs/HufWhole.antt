@@ -22,10 +22,10 @@ use Rattle.spf_apps_programs.specs.Writing.{number, plus, only, blocks_for}
 use Rattle.spf_apps_programs.specs.Huffman.{code_bytes, table, head, body, output, wanted, symbols_out, too_few, main, huffman_program}
 use Rattle.spf_apps_laws.specs.Fitting.{FitsHuffman}
 use Rattle.spf_apps_laws.specs.Laws.{HuffmanDecodes}
-use Rattle.spf_apps_laws.proofs.Places.{bytes_small}
+use Rattle.spf_apps_laws.proofs.Indices.{bytes_small}
 use Rattle.spf_apps_laws.proofs.Whole.{blocks_of, blocks_few, block_inside, blocks_enough}
 use Rattle.spf_apps_laws.proofs.HufWords.{IsTable, found_decoded}
-use Rattle.spf_apps_laws.proofs.HufPlaces.{number_at, found_before, found_all, cells_at, bits_long}
+use Rattle.spf_apps_laws.proofs.HufIndices.{number_at, found_before, found_all, cells_at, bits_long}
 use Rattle.spf_apps_laws.proofs.HufTable.{room_for, Arrays, Decoding, begun_at, Shorter, table-reaches, has_table, table_long}
 use Rattle.spf_apps_laws.proofs.HufBlocks.{BlockAt, carried_at, gives-content, block-yields}
 use Rattle.spf_apps_laws.proofs.HufOutput.{four_bytes, gives-wanted, Written, symbols-written, Ended, few-ends}
@@ -81,7 +81,7 @@ fold-comes g size lengths content d code long limit s m h =
       carried = last;
       block = at_end.block;
       h = at_end.h;
-      place = at_end.place;
+      index = at_end.index;
       byte = at_end.byte;
       turn = at_end.turn;
       s_is = ap (λ (z : State). with_slot 3 last z) at_end.s_is;
@@ -169,7 +169,7 @@ main-ends g size lengths content symbols d bytes limit found want want_is cells 
           carried = pos 0;
           block = pos 0;
           h = pos 0;
-          place = pos 0;
+          index = pos 0;
           byte = pos 0;
           turn = pos 0;
           s_is = h.s_is;

@@ -109,38 +109,38 @@ down_onto (suc n) v more =
     ∙ ap (λ l. l ++ more) (sym (bits-more n (v / 2) (v % 2) (odd_small v)) ∙ ap (bits (suc n)) (halves v))
 
 -- where the table has the symbol of a code word
-abbrev pub place_of : List ℕ → ℕ → ℕ
-place_of lengths y = 2 ^ slice_index lengths y + word_number lengths y
+abbrev pub index_of : List ℕ → ℕ → ℕ
+index_of lengths y = 2 ^ slice_index lengths y + word_number lengths y
 
 abbrev word_down : List ℕ → ℕ → List Bool
 word_down lengths y = down (slice_index lengths y) (word_number lengths y)
 
-place_number : (lengths : List ℕ) (y : ℕ) → AreCodeLengths lengths → HasWord lengths y → number_of (word_down lengths y) ≡ place_of lengths y
-place_number lengths y a h = down_number (slice_index lengths y) (word_number lengths y) (word_small lengths y a h)
+index_number : (lengths : List ℕ) (y : ℕ) → AreCodeLengths lengths → HasWord lengths y → number_of (word_down lengths y) ≡ index_of lengths y
+index_number lengths y a h = down_number (slice_index lengths y) (word_number lengths y) (word_small lengths y a h)
 
 word_onto : (lengths : List ℕ) (y : ℕ) → onto (word_down lengths y) [] ≡ code_word lengths y
 word_onto lengths y = down_onto (slice_index lengths y) (word_number lengths y) [] ∙ append-nil (code_word lengths y)
 
-word_at_place : (lengths : List ℕ) (y : ℕ) (since : List Bool) → AreCodeLengths lengths → HasWord lengths y → number_of since ≡ place_of lengths y → onto since [] ≡ code_word lengths y
-word_at_place lengths y since a h e =
-    ap (λ l. onto l []) (number_once since (word_down lengths y) (e ∙ sym (place_number lengths y a h))) ∙ word_onto lengths y
+word_at_index : (lengths : List ℕ) (y : ℕ) (since : List Bool) → AreCodeLengths lengths → HasWord lengths y → number_of since ≡ index_of lengths y → onto since [] ≡ code_word lengths y
+word_at_index lengths y since a h e =
+    ap (λ l. onto l []) (number_once since (word_down lengths y) (e ∙ sym (index_number lengths y a h))) ∙ word_onto lengths y
 
-place_of_word : (lengths : List ℕ) (y : ℕ) (since : List Bool) → AreCodeLengths lengths → HasWord lengths y → onto since [] ≡ code_word lengths y → number_of since ≡ place_of lengths y
-place_of_word lengths y since a h e =
-    sym (onto_number since []) ∙ ap (read_from 1) (e ∙ sym (word_onto lengths y)) ∙ onto_number (word_down lengths y) [] ∙ place_number lengths y a h
+index_of_word : (lengths : List ℕ) (y : ℕ) (since : List Bool) → AreCodeLengths lengths → HasWord lengths y → onto since [] ≡ code_word lengths y → number_of since ≡ index_of lengths y
+index_of_word lengths y since a h e =
+    sym (onto_number since []) ∙ ap (read_from 1) (e ∙ sym (word_onto lengths y)) ∙ onto_number (word_down lengths y) [] ∙ index_number lengths y a h
 
--- each place is that of one symbol
-pub place_once : (lengths : List ℕ) (y z : ℕ) → AreCodeLengths lengths → HasWord lengths y → HasWord lengths z → place_of lengths y ≡ place_of lengths z → y ≡ z
-place_once lengths y z a h k e =
-    let same = number_once (word_down lengths y) (word_down lengths z) (place_number lengths y a h ∙ e ∙ sym (place_number lengths z a k)) in
+-- each index is that of one symbol
+pub index_once : (lengths : List ℕ) (y z : ℕ) → AreCodeLengths lengths → HasWord lengths y → HasWord lengths z → index_of lengths y ≡ index_of lengths z → y ≡ z
+index_once lengths y z a h k e =
+    let same = number_once (word_down lengths y) (word_down lengths z) (index_number lengths y a h ∙ e ∙ sym (index_number lengths z a k)) in
     one_symbol lengths y z [] [] a h k (ap (λ l. l ++ []) (sym (word_onto lengths y) ∙ ap (λ l. onto l []) same ∙ word_onto lengths z))
 
 two_some : 0 < 2
 two_some = omega arith
 
 -- the table has enough of them
-pub place_small : (lengths : List ℕ) (y : ℕ) → AreCodeLengths lengths → HasWord lengths y → place_of lengths y < 65536
-place_small lengths y a h =
+pub index_small : (lengths : List ℕ) (y : ℕ) → AreCodeLengths lengths → HasWord lengths y → index_of lengths y < 65536
+index_small lengths y a h =
     let n = slice_index lengths y in
     let power = pow-le-pow_right {n = 2} two_some {i = n} {j = 15} (a.short y h.inside) in
     omega (arith, power, word_small lengths y a h)
@@ -148,8 +148,8 @@ place_small lengths y a h =
 -- ---- a table
 
 pub record IsTable (lengths code : List ℕ) : Type 0 where
-  pub words : (y : ℕ) → HasWord lengths y → slice_index code (place_of lengths y) ≡ suc y
-  pub only : (n y : ℕ) → slice_index code n ≡ suc y → HasWord lengths y × (n ≡ place_of lengths y)
+  pub words : (y : ℕ) → HasWord lengths y → slice_index code (index_of lengths y) ≡ suc y
+  pub only : (n y : ℕ) → slice_index code n ≡ suc y → HasWord lengths y × (n ≡ index_of lengths y)
 
 -- with one more bit
 abbrev pub grown : ℕ → Bool → ℕ
@@ -207,8 +207,8 @@ found_zero code (b ∷ more) = found_zero code more
 found_word : (lengths code : List ℕ) (y : ℕ) (since word more : List Bool) → AreCodeLengths lengths → IsTable lengths code → HasWord lengths y → onto since word ≡ code_word lengths y → 1 ≤ length word → found_from code (number_of since) (word ++ more) ≡ y ∷ found_from code 1 more
 found_word lengths code y since [] more a t h e some = absurd (omega (arith, some))
 found_word lengths code y since (b ∷ []) more a t h e some =
-    let there = place_of_word lengths y (b ∷ since) a h e in
-    let small : grown (number_of since) b < 65536 = omega (arith, there, place_small lengths y a h) in
+    let there = index_of_word lengths y (b ∷ since) a h e in
+    let small : grown (number_of since) b < 65536 = omega (arith, there, index_small lengths y a h) in
     let is : slice_index code (grown (number_of since) b) ≡ suc y = ap (slice_index code) there ∙ t.words y h in
     (λ i. symbol (entry_is code (number_of since) (suc y) b (number_some since) small is i) ++ found_from code (next_is code (number_of since) (suc y) b (number_some since) small is i) more)
 found_word lengths code y since (b ∷ c ∷ word) more a t h e some =
@@ -225,7 +225,7 @@ found_word lengths code y since (b ∷ c ∷ word) more a t h e some =
     by_entry zero is = is
     by_entry (suc z) is =
         let known = t.only (grown (number_of since) b) z is in
-        let begun = word_at_place lengths z (b ∷ since) a known.0 known.1 in
+        let begun = word_at_index lengths z (b ∷ since) a known.0 known.1 in
         let whole : code_word lengths z ++ (c ∷ word) ≡ code_word lengths y ++ [] = ap (λ l. l ++ (c ∷ word)) (sym begun) ∙ sym (onto_append (b ∷ since) (c ∷ word)) ∙ e ∙ sym (append-nil (code_word lengths y)) in
         let same = one_symbol lengths z y (c ∷ word) [] a known.0 h whole in
         absurd (omega (arith, ap (λ (l : List Bool). length l) whole, length-append (code_word lengths z) (c ∷ word), length-append (code_word lengths y) [], ap (λ n. length (code_word lengths n)) same))
@@ -241,7 +241,7 @@ found_none lengths code since (b ∷ rest) a t none =
     by_entry zero is = is
     by_entry (suc z) is =
         let known = t.only (grown (number_of since) b) z is in
-        absurd (none z rest known.0 (onto_append (b ∷ since) rest ∙ ap (λ l. l ++ rest) (word_at_place lengths z (b ∷ since) a known.0 known.1)))
+        absurd (none z rest known.0 (onto_append (b ∷ since) rest ∙ ap (λ l. l ++ rest) (word_at_index lengths z (b ∷ since) a known.0 known.1)))
 
     by_size : found_from code (grown (number_of since) b) rest ≡ [] → (c : Bool) → symbol (if c then 0 else slice_index code (grown (number_of since) b)) ++ found_from code (if c then 0 else kept (slice_index code (grown (number_of since) b)) (grown (number_of since) b)) rest ≡ []
     by_size later true = found_zero code rest

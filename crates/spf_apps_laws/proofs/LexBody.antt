@@ -16,7 +16,7 @@ use Rattle.spf_apps_formats.specs.Tokens.{next_state, mark}
 use Rattle.spf_apps_programs.specs.Writing.{number, plus, minus, times, only}
 use Rattle.spf_apps_programs.specs.Lexer.{entry_at, step, one_byte}
 use Rattle.spf_apps_programs.specs.Lexer as lexer
-use Rattle.spf_apps_laws.proofs.LexPlaces.{entry_number, entry_below, entry_is}
+use Rattle.spf_apps_laws.proofs.LexIndices.{entry_number, entry_below, entry_is}
 use Rattle.spf_apps_laws.proofs.Steps.{Gives, gives-number, gives-local, gives-len, gives-input, gives-binary, tells, comes-let, comes-assign, comes-store, comes-on, comes-end, comes-only, comes-then_branch, comes-else_branch, word-ok}
 
 -- where the program runs: its input is a machine and a content, and its one array has enough cells
@@ -31,9 +31,9 @@ pub record Lexes (g : Environment) (size states classes : ℕ) (machine content 
   pub few : (length machine + length content) + size ≤ 4194304
 
 -- the state with these words in the slots, and no output
-abbrev pub at : (carried number state place entry out : ℤ) → State
-at carried number state place entry out =
-    record { slots = carried ∷ number ∷ state ∷ place ∷ entry ∷ out ∷ []; output = [] }
+abbrev pub at : (carried number state index entry out : ℤ) → State
+at carried number state index entry out =
+    record { slots = carried ∷ number ∷ state ∷ index ∷ entry ∷ out ∷ []; output = [] }
 
 -- ---- the input
 
@@ -54,10 +54,10 @@ sum_ok a b h = let sum : pos a +ℤ pos b ≡ pos (a + b) = omega (arith, ints) 
 pub product_ok : (a b : ℕ) → a * b < 2 ^ 63 → binary_words Mul (pos a) (pos b) ≡ Ok (pos (a * b))
 product_ok a b h = word-ok (a * b) h
 
--- the entry for the state in one slot and the byte at the place in another slot
-gives-entry : (g : Environment) (size states classes : ℕ) (machine content : List ℕ) → Lexes g size states classes machine content → (line slot place q p : ℕ) (s : State) (m : List ℤ) → slice_index_or s.slots slot (pos 0) ≡ pos q → slice_index_or s.slots place (pos 0) ≡ pos p → q < states → p < length content
-    → Gives g line (entry_at classes (length machine) slot place) s m (pos (262 + 2 * entry_number machine classes q (slice_index content p)))
-gives-entry g size states classes machine content d line slot place q p s m q_is p_is inside there =
+-- the entry for the state in one slot and the byte at the index in another slot
+gives-entry : (g : Environment) (size states classes : ℕ) (machine content : List ℕ) → Lexes g size states classes machine content → (line slot index q p : ℕ) (s : State) (m : List ℤ) → slice_index_or s.slots slot (pos 0) ≡ pos q → slice_index_or s.slots index (pos 0) ≡ pos p → q < states → p < length content
+    → Gives g line (entry_at classes (length machine) slot index) s m (pos (262 + 2 * entry_number machine classes q (slice_index content p)))
+gives-entry g size states classes machine content d line slot index q p s m q_is p_is inside there =
     let b = slice_index content p in
     let c = slice_index machine (class_at b) in
     let counts = d.lex1.classed.sized.counts in
@@ -68,19 +68,19 @@ gives-entry g size states classes machine content d line slot place q p s m q_is
     let product = mul-le q classes 64 64 (omega (arith, inside, counts.states_at.few)) counts.classes_at.few in
     let limit = mul-le states classes 64 64 counts.states_at.few counts.classes_at.few in
     let in_machine : class_at b < length machine = omega (arith, d.content_bytes p, machine_long) in
-    let byte : Gives g line (Input (plus (number (length machine)) (Local place))) s m (pos b) =
-    subst (λ v. Gives g line (Input (plus (number (length machine)) (Local place))) s m (pos v)) (from_content g size states classes machine content d p)
-    (gives-input g line (plus (number (length machine)) (Local place)) s m (length machine + p)
-    (gives-binary g line Add (number (length machine)) (Local place) s m (pos (length machine)) (pos p) (pos (length machine + p)) (gives-number g line (pos (length machine)) s m) (gives-local g line place s m (pos p) p_is) (sum_ok (length machine) p (omega (arith, there, d.few))))
+    let byte : Gives g line (Input (plus (number (length machine)) (Local index))) s m (pos b) =
+    subst (λ v. Gives g line (Input (plus (number (length machine)) (Local index))) s m (pos v)) (from_content g size states classes machine content d p)
+    (gives-input g line (plus (number (length machine)) (Local index)) s m (length machine + p)
+    (gives-binary g line Add (number (length machine)) (Local index) s m (pos (length machine)) (pos p) (pos (length machine + p)) (gives-number g line (pos (length machine)) s m) (gives-local g line index s m (pos p) p_is) (sum_ok (length machine) p (omega (arith, there, d.few))))
     (omega (arith, there, long))) in
-    let class : Gives g line (Input (plus (number 6) (Input (plus (number (length machine)) (Local place))))) s m (pos c) =
-    subst (λ v. Gives g line (Input (plus (number 6) (Input (plus (number (length machine)) (Local place))))) s m (pos v)) (from_machine g size states classes machine content d (6 + b) in_machine)
-    (gives-input g line (plus (number 6) (Input (plus (number (length machine)) (Local place)))) s m (6 + b)
-    (gives-binary g line Add (number 6) (Input (plus (number (length machine)) (Local place))) s m (pos 6) (pos b) (pos (6 + b)) (gives-number g line (pos 6) s m) byte (sum_ok 6 b (omega (arith, d.content_bytes p))))
+    let class : Gives g line (Input (plus (number 6) (Input (plus (number (length machine)) (Local index))))) s m (pos c) =
+    subst (λ v. Gives g line (Input (plus (number 6) (Input (plus (number (length machine)) (Local index))))) s m (pos v)) (from_machine g size states classes machine content d (6 + b) in_machine)
+    (gives-input g line (plus (number 6) (Input (plus (number (length machine)) (Local index)))) s m (6 + b)
+    (gives-binary g line Add (number 6) (Input (plus (number (length machine)) (Local index))) s m (pos 6) (pos b) (pos (6 + b)) (gives-number g line (pos 6) s m) byte (sum_ok 6 b (omega (arith, d.content_bytes p))))
     (omega (arith, in_machine, long))) in
-    gives-binary g line Add (number 262) (times (number 2) (plus (times (Local slot) (number classes)) (Input (plus (number 6) (Input (plus (number (length machine)) (Local place))))))) s m (pos 262) (pos (2 * entry)) (pos (262 + 2 * entry)) (gives-number g line (pos 262) s m)
-    (gives-binary g line Mul (number 2) (plus (times (Local slot) (number classes)) (Input (plus (number 6) (Input (plus (number (length machine)) (Local place)))))) s m (pos 2) (pos entry) (pos (2 * entry)) (gives-number g line (pos 2) s m)
-    (gives-binary g line Add (times (Local slot) (number classes)) (Input (plus (number 6) (Input (plus (number (length machine)) (Local place))))) s m (pos (q * classes)) (pos c) (pos entry)
+    gives-binary g line Add (number 262) (times (number 2) (plus (times (Local slot) (number classes)) (Input (plus (number 6) (Input (plus (number (length machine)) (Local index))))))) s m (pos 262) (pos (2 * entry)) (pos (262 + 2 * entry)) (gives-number g line (pos 262) s m)
+    (gives-binary g line Mul (number 2) (plus (times (Local slot) (number classes)) (Input (plus (number 6) (Input (plus (number (length machine)) (Local index)))))) s m (pos 2) (pos entry) (pos (2 * entry)) (gives-number g line (pos 2) s m)
+    (gives-binary g line Add (times (Local slot) (number classes)) (Input (plus (number 6) (Input (plus (number (length machine)) (Local index))))) s m (pos (q * classes)) (pos c) (pos entry)
     (gives-binary g line Mul (Local slot) (number classes) s m (pos q) (pos classes) (pos (q * classes)) (gives-local g line slot s m (pos q) q_is) (gives-number g line (pos classes) s m) (product_ok q classes (omega (arith, product))))
     class
     (sum_ok (q * classes) c (omega (arith, product, d.machine_bytes (class_at b)))))
@@ -99,10 +99,10 @@ inside_tells g size states classes machine content d c k q e x p m holds t =
     tells g 14 Lt (Local 3) (minus Len (number (length machine))) s m (pos p) (pos (length content)) holds (gives-local g 14 3 s m (pos p) refl)
     (gives-binary g 14 Sub Len (number (length machine)) s m (pos (length g.input)) (pos (length machine)) (pos (length content)) (gives-len g 14 s m) (gives-number g 14 (pos (length machine)) s m) (ap exact rest ∙ word-ok (length content) (omega (arith, d.few)))) t
 
--- a place in the content
-pub place-inside : (g : Environment) (size states classes : ℕ) (machine content : List ℕ) → Lexes g size states classes machine content → (c k e x : ℤ) (q p : ℕ) (m : List ℤ) → q < states → p < length content
+-- an index in the content
+pub index-inside : (g : Environment) (size states classes : ℕ) (machine content : List ℕ) → Lexes g size states classes machine content → (c k e x : ℤ) (q p : ℕ) (m : List ℤ) → q < states → p < length content
     → Comes (block_means g (one_byte classes (length machine))) (at c k (pos q) (pos p) e x) m (Value Onward (at c k (pos (next_state machine q (slice_index content p))) (pos p) (pos (262 + 2 * entry_number machine classes q (slice_index content p))) x)) (slice_set m p (pos (mark machine q (slice_index content p))))
-place-inside g size states classes machine content d c k e x q p m inside there =
+index-inside g size states classes machine content d c k e x q p m inside there =
     let b = slice_index content p in
     let entry = 262 + 2 * entry_number machine classes q b in
     let s = at c k (pos q) (pos p) e x in
@@ -134,9 +134,9 @@ place-inside g size states classes machine content d c k e x q p m inside there 
     (comes-store g 16 0 (Local 3) (Input (plus (Local 4) (number 1))) u m p (pos (mark machine q b)) (gives-local g 16 3 u m (pos p) refl) marked (omega (arith, there, d.room)))
     (comes-only g 17 (Assign 2 (Input (Local 4))) u t after after (comes-assign g 17 2 (Input (Local 4)) u after (pos (next_state machine q b)) next))))))
 
--- a place after the content
-pub place-outside : (g : Environment) (size states classes : ℕ) (machine content : List ℕ) → Lexes g size states classes machine content → (c k q e x : ℤ) (p : ℕ) (m : List ℤ) → length content ≤ p → Comes (block_means g (one_byte classes (length machine))) (at c k q (pos p) e x) m (Value Onward (at c k q (pos p) e x)) m
-place-outside g size states classes machine content d c k q e x p m out =
+-- an index after the content
+pub index-outside : (g : Environment) (size states classes : ℕ) (machine content : List ℕ) → Lexes g size states classes machine content → (c k q e x : ℤ) (p : ℕ) (m : List ℤ) → length content ≤ p → Comes (block_means g (one_byte classes (length machine))) (at c k q (pos p) e x) m (Value Onward (at c k q (pos p) e x)) m
+index-outside g size states classes machine content d c k q e x p m out =
     let s = at c k q (pos p) e x in
     let low : int_lt (pos p) (pos (length content)) ≡ false = grind (arith, ints, out) in
     comes-only g 14 (If (is_inside (length machine)) (step classes (length machine)) end) s s m m

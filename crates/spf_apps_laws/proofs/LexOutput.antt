@@ -19,12 +19,12 @@ use Rattle.spf_ast_laws.proofs.Plainly.{Comes}
 use Rattle.spf_apps_formats.specs.Tokens.{token}
 use Rattle.spf_apps_programs.specs.Writing.{number, shifted_right, masked, only}
 use Rattle.spf_apps_programs.specs.Lexer as lexer
-use Rattle.spf_apps_laws.proofs.LexPlaces.{mark_of, marks_before, tokens_before, tokens_short, marks_word, mark_inside}
+use Rattle.spf_apps_laws.proofs.LexIndices.{mark_of, marks_before, tokens_before, tokens_short, marks_word, mark_inside}
 use Rattle.spf_apps_laws.proofs.LexBody.{Lexes}
 use Rattle.spf_apps_laws.proofs.Output.{comes-emit}
 use Rattle.spf_apps_laws.proofs.Steps.{Gives, gives-number, gives-local, gives-len, gives-load, gives-binary, tells, with_slot, Reaches, reached, reaches-for, for-reaches, comes-on, comes-only, comes-end, comes-then_branch, comes-else_branch, word-ok}
 
--- ---- bytes of a place
+-- ---- bytes of an index
 
 some_bytes : 0 < 256
 some_bytes = omega arith
@@ -42,13 +42,13 @@ low_byte n h =
 abbrev wrote : List ℕ → State → State
 wrote o s = record s { output = o }
 
-gives-byte : (g : Environment) (line places p : ℕ) (s : State) (m : List ℤ) → slice_index_or s.slots 5 (pos 0) ≡ pos p → p < 4194304 → binary_words Shr (pos p) (pos places) ≡ Ok (pos (p / 2 ^ places)) → Gives g line (masked (shifted_right (Local 5) (number places)) (number 255)) s m (pos (p / 2 ^ places % 256))
-gives-byte g line places p s m e small shifted =
-    let below = div-le_self p (2 ^ places) in
-    gives-binary g line And (shifted_right (Local 5) (number places)) (number 255) s m (pos (p / 2 ^ places)) (pos 255) (pos (p / 2 ^ places % 256))
-    (gives-binary g line Shr (Local 5) (number places) s m (pos p) (pos places) (pos (p / 2 ^ places)) (gives-local g line 5 s m (pos p) e) (gives-number g line (pos places) s m) shifted)
+gives-byte : (g : Environment) (line indices p : ℕ) (s : State) (m : List ℤ) → slice_index_or s.slots 5 (pos 0) ≡ pos p → p < 4194304 → binary_words Shr (pos p) (pos indices) ≡ Ok (pos (p / 2 ^ indices)) → Gives g line (masked (shifted_right (Local 5) (number indices)) (number 255)) s m (pos (p / 2 ^ indices % 256))
+gives-byte g line indices p s m e small shifted =
+    let below = div-le_self p (2 ^ indices) in
+    gives-binary g line And (shifted_right (Local 5) (number indices)) (number 255) s m (pos (p / 2 ^ indices)) (pos 255) (pos (p / 2 ^ indices % 256))
+    (gives-binary g line Shr (Local 5) (number indices) s m (pos p) (pos indices) (pos (p / 2 ^ indices)) (gives-local g line 5 s m (pos p) e) (gives-number g line (pos indices) s m) shifted)
     (gives-number g line (pos 255) s m)
-    (ap Ok (low_byte (p / 2 ^ places) (omega (arith, below, small))))
+    (ap Ok (low_byte (p / 2 ^ indices) (omega (arith, below, small))))
 
 five : (o : List ℕ) (a b c d e : ℕ) → ((((o ++ a ∷ []) ++ b ∷ []) ++ c ∷ []) ++ d ∷ []) ++ e ∷ [] ≡ o ++ (a ∷ b ∷ c ∷ d ∷ e ∷ [])
 five [] a b c d e = refl
@@ -77,8 +77,8 @@ token-comes g p kind s m e small room word byte long =
     let l4 = one_longer o3 b1 1 l3 in
     let high : p / 2 ^ 24 ≡ b3 = sym (mod-eq_of_lt (omega (arith, div-le_self p (2 ^ 24), div_below p (2 ^ 24) 256 (omega arith) (omega (arith, small))))) in
     let line28 = only 28 (Emit (masked (Local 5) (number 255))) in
-    let line27 = on_line 27 (lexer.place_byte 8) line28 in
-    let line26 = on_line 26 (lexer.place_byte 16) line27 in
+    let line27 = on_line 27 (lexer.offset_byte 8) line28 in
+    let line26 = on_line 26 (lexer.offset_byte 16) line27 in
     let line25 = on_line 25 (Emit (shifted_right (Local 5) (number 24))) line26 in
     subst (λ o. Comes (block_means g lexer.token) s m (Value Onward (wrote o s)) m) (five o0 (suc kind) b3 b2 b1 b0)
     (comes-on g 24 (Emit (Load 0 (Local 5))) line25 s (wrote o1 s) m m m (Value Onward (wrote o5 s))
@@ -88,18 +88,18 @@ token-comes g p kind s m e small room word byte long =
     (subst (λ v. Gives g 25 (shifted_right (Local 5) (number 24)) (wrote o1 s) m (pos v)) high
     (gives-binary g 25 Shr (Local 5) (number 24) (wrote o1 s) m (pos p) (pos 24) (pos (p / 2 ^ 24)) (gives-local g 25 5 (wrote o1 s) m (pos p) e) (gives-number g 25 (pos 24) (wrote o1 s) m) refl))
     (byte_lt (p / 2 ^ 24)) (omega (arith, l1)))
-    (comes-on g 26 (lexer.place_byte 16) line27 (wrote o2 s) (wrote o3 s) m m m (Value Onward (wrote o5 s))
+    (comes-on g 26 (lexer.offset_byte 16) line27 (wrote o2 s) (wrote o3 s) m m m (Value Onward (wrote o5 s))
     (comes-emit g 26 (masked (shifted_right (Local 5) (number 16)) (number 255)) (wrote o2 s) m b2 (gives-byte g 26 16 p (wrote o2 s) m e small refl) (byte_lt (p / 2 ^ 16)) (omega (arith, l2)))
-    (comes-on g 27 (lexer.place_byte 8) line28 (wrote o3 s) (wrote o4 s) m m m (Value Onward (wrote o5 s))
+    (comes-on g 27 (lexer.offset_byte 8) line28 (wrote o3 s) (wrote o4 s) m m m (Value Onward (wrote o5 s))
     (comes-emit g 27 (masked (shifted_right (Local 5) (number 8)) (number 255)) (wrote o3 s) m b1 (gives-byte g 27 8 p (wrote o3 s) m e small refl) (byte_lt (p / 2 ^ 8)) (omega (arith, l3)))
     (comes-only g 28 (Emit (masked (Local 5) (number 255))) (wrote o4 s) (wrote o5 s) m m
     (comes-emit g 28 (masked (Local 5) (number 255)) (wrote o4 s) m b0
     (gives-binary g 28 And (Local 5) (number 255) (wrote o4 s) m (pos p) (pos 255) (pos b0) (gives-local g 28 5 (wrote o4 s) m (pos p) e) (gives-number g 28 (pos 255) (wrote o4 s) m) (ap Ok (low_byte p (omega (arith, small)))))
     (byte_lt p) (omega (arith, l4))))))))
 
--- ---- all places
+-- ---- all indices
 
--- the tokens before a place were written
+-- the tokens before an index were written
 pub record Written (machine content : List ℕ) (cells : List ℤ) (p : ℕ) (s : State) (m : List ℤ) : Type 0 where
   pub output_is : s.output ≡ tokens_before machine content p
   pub memory_is : m ≡ cells
@@ -108,8 +108,8 @@ pub record Written (machine content : List ℕ) (cells : List ℤ) (p : ℕ) (s 
 abbrev is_token : Condition
 is_token = Compare Ne (Load 0 (Local 5)) (number 0)
 
-abbrev place_out : Block
-place_out = only 23 (If is_token lexer.token end)
+abbrev index_out : Block
+index_out = only 23 (If is_token lexer.token end)
 
 -- where a token begins, or not
 kind-comes : (g : Environment) (p kind : ℕ) (s : State) (m : List ℤ) → slice_index_or s.slots 5 (pos 0) ≡ pos p → p < 4194304 → p < (extent_in g.extents 0).1 → word_at m ((extent_in g.extents 0).0 + p) ≡ pos kind → kind < 256 → length s.output + 5 ≤ max_output
@@ -125,22 +125,22 @@ kind-comes g p (suc kind) s m e small room word byte long =
     (tells g 23 Ne (Load 0 (Local 5)) (number 0) s m (pos (suc kind)) (pos 0) true (subst (λ v. Gives g 23 (Load 0 (Local 5)) s m v) word (gives-load g 23 0 (Local 5) s m p (gives-local g 23 5 s m (pos p) e) room)) (gives-number g 23 (pos 0) s m) other)
     (token-comes g p kind s m e small room word byte long)
 
-place-written : (g : Environment) (size states classes : ℕ) (machine content : List ℕ) → Lexes g size states classes machine content → (far p : ℕ) (behind : List ℤ) (s : State) (m : List ℤ) → p < length content → length content ≤ far → Written machine content (marks_before machine content far ++ behind) p s m → Reaches (block_means g place_out) (Written machine content (marks_before machine content far ++ behind) (suc p)) (with_slot 5 (pos p) s) m
-place-written g size states classes machine content d far p behind s m there enough h =
+index-written : (g : Environment) (size states classes : ℕ) (machine content : List ℕ) → Lexes g size states classes machine content → (far p : ℕ) (behind : List ℤ) (s : State) (m : List ℤ) → p < length content → length content ≤ far → Written machine content (marks_before machine content far ++ behind) p s m → Reaches (block_means g index_out) (Written machine content (marks_before machine content far ++ behind) (suc p)) (with_slot 5 (pos p) s) m
+index-written g size states classes machine content d far p behind s m there enough h =
     let cells = marks_before machine content far ++ behind in
     let kind = mark_of machine content p in
     let t = with_slot 5 (pos p) s in
     let inside : 5 < length s.slots = omega (arith, h.slots_are) in
-    let place : slice_index_or t.slots 5 (pos 0) ≡ pos p = get_or-set_same s.slots 5 (pos p) (pos 0) inside in
+    let index : slice_index_or t.slots 5 (pos 0) ≡ pos p = get_or-set_same s.slots 5 (pos p) (pos 0) inside in
     let base = (extent_in g.extents 0).0 in
     let cell : base + p ≡ p = omega (arith, d.first) in
     let word : word_at m (base + p) ≡ pos kind =
     (λ i. word_at (h.memory_is i) (cell i)) ∙ marks_word machine content far behind p (omega (arith, there, enough)) ∙ ap pos (mark_inside machine content p there) in
     let short = tokens_short machine content p in
     let sizes = ap (λ (l : List ℕ). length l) h.output_is in
-    reached (block_means g place_out) (Written machine content cells (suc p)) t (wrote (t.output ++ token kind p) t) m m
+    reached (block_means g index_out) (Written machine content cells (suc p)) t (wrote (t.output ++ token kind p) t) m m
     (comes-only g 23 (If is_token lexer.token end) t (wrote (t.output ++ token kind p) t) m m
-    (kind-comes g p kind t m place (omega (arith, there, d.few)) (omega (arith, there, d.room)) word (d.machine_bytes _) (omega (arith, short, sizes, there, d.few))))
+    (kind-comes g p kind t m index (omega (arith, there, d.few)) (omega (arith, there, d.room)) word (d.machine_bytes _) (omega (arith, short, sizes, there, d.few))))
     (record {
       output_is = ap (λ l. l ++ token kind p) h.output_is;
       memory_is = h.memory_is;
@@ -154,6 +154,6 @@ output-written g size states classes machine content d long far behind s m enoug
     let all : 0 + length content ≡ length content = omega arith in
     let rest : pos (length g.input) -ℤ pos (length machine) ≡ pos (0 + length content) = omega (arith, ints, long) in
     subst (λ n. Reaches (statement_means g 22 (lexer.output (length machine))) (Written machine content cells n) s m) all
-    (reaches-for g 22 5 (number 0) (lexer.content (length machine)) place_out (Written machine content cells (0 + length content)) s m 0 (length content) (gives-number g 22 (pos 0) s m)
+    (reaches-for g 22 5 (number 0) (lexer.content (length machine)) index_out (Written machine content cells (0 + length content)) s m 0 (length content) (gives-number g 22 (pos 0) s m)
     (gives-binary g 22 Sub Len (number (length machine)) s m (pos (length g.input)) (pos (length machine)) (pos (0 + length content)) (gives-len g 22 s m) (gives-number g 22 (pos (length machine)) s m) (ap exact rest ∙ word-ok (0 + length content) (omega (arith, d.few))))
-    (for-reaches 5 (block_means g place_out) (Written machine content cells) 0 (length content) (λ p a x low high q. place-written g size states classes machine content d far p behind a x (omega (arith, high)) enough q) s m h))
+    (for-reaches 5 (block_means g index_out) (Written machine content cells) 0 (length content) (λ p a x low high q. index-written g size states classes machine content d far p behind a x (omega (arith, high)) enough q) s m h))

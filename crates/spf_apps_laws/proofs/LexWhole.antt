@@ -21,11 +21,11 @@ use Rattle.spf_apps_programs.specs.Laws.{IsBlockSize}
 use Rattle.spf_apps_programs.specs.Writing.{number, plus, only, blocks_for}
 use Rattle.spf_apps_programs.specs.Lexer.{program_for, lexer_program, head, body}
 use Rattle.spf_apps_programs.specs.Lexer as lexer
-use Rattle.spf_apps_laws.proofs.LexPlaces.{state_at, marks_at, tokens_all}
+use Rattle.spf_apps_laws.proofs.LexIndices.{state_at, marks_at, tokens_all}
 use Rattle.spf_apps_laws.proofs.LexBody.{Lexes}
 use Rattle.spf_apps_laws.proofs.LexBlocks.{cells_for, BlockAt, block-yields}
 use Rattle.spf_apps_laws.proofs.LexOutput.{Written, output-written}
-use Rattle.spf_apps_laws.proofs.Places.{bytes_small}
+use Rattle.spf_apps_laws.proofs.Indices.{bytes_small}
 use Rattle.spf_apps_laws.proofs.Whole.{blocks_of, blocks_few, block_inside, blocks_enough}
 use Rattle.spf_apps_laws.proofs.Steps.{gives-row, comes-sets_row, main-comes, Gives, gives-number, gives-len, gives-binary, with_slot, Reaches, reached, reaches-on, reaches-end, fold-yields, gap-is, word-ok}
 
@@ -77,7 +77,7 @@ fold-comes g size states classes machine content d long limit s m h =
       carried = last;
       number = at_end.number;
       state = at_end.state;
-      place = at_end.place;
+      index = at_end.index;
       entry = at_end.entry;
       out = at_end.out;
       s_is = ap (λ (z : State). with_slot 0 last z) at_end.s_is;
@@ -125,7 +125,7 @@ sized-finds size states classes machine content h lex1 machine_small content_sma
     let zeros : zeros_of p (length input) ≡ marks_at machine content (cells_for size machine content) (size * 0) =
     ap (λ n. replicate n (pos 0)) (let e : cell_count_of p (length input) ≡ cells_for size machine content - 0 = omega (arith, room, long) in e)
     ∙ ap (λ k. marks_at machine content (cells_for size machine content) k) (let e : 0 ≡ size * 0 = omega arith in e) in
-    let begun : BlockAt size machine content 0 (start_of p) (zeros_of p (length input)) = record { carried = pos 0; number = pos 0; state = pos 0; place = pos 0; entry = pos 0; out = pos 0; s_is = refl; m_is = zeros } in
+    let begun : BlockAt size machine content 0 (start_of p) (zeros_of p (length input)) = record { carried = pos 0; number = pos 0; state = pos 0; index = pos 0; entry = pos 0; out = pos 0; s_is = refl; m_is = zeros } in
     let r = main-reaches g size states classes machine content d long blocks (start_of p) (zeros_of p (length input)) begun in
     let c = main-comes g p.main (start_of p) (zeros_of p (length input)) r.memory (Value Onward r.state) r.comes tt in
     (r.memory, (λ i. outcome_from (c.answer i) (c.memory i)) ∙ ap (Done r.memory) (r.holds.output_is ∙ tokens_all machine content))

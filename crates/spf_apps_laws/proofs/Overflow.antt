@@ -20,7 +20,7 @@ use Rattle.spf_apps_programs.specs.Laws.{IsBlockSize}
 use Rattle.spf_apps_programs.specs.Writing.{number, only}
 use Rattle.spf_apps_programs.specs.PackBits.{packbits_program, head, body, output}
 use Rattle.spf_apps_laws.proofs.Bytes.{times_of, next_left, read_on, file_read}
-use Rattle.spf_apps_laws.proofs.Places.{left_at, times_before, memory_at, written_before, written_on, written_all, times_inside, bytes_small, drop_next}
+use Rattle.spf_apps_laws.proofs.Indices.{left_at, times_before, memory_at, written_before, written_on, written_all, times_inside, bytes_small, drop_next}
 use Rattle.spf_apps_laws.proofs.Blocks.{Runs, BlockAt, in_or_out}
 use Rattle.spf_apps_laws.proofs.Output.{times_word, Repeats, Written, emit-turn, emitted, repeated}
 use Rattle.spf_apps_laws.proofs.Whole.{blocks_of, blocks_enough, fold-comes, cells_are}
@@ -103,22 +103,22 @@ emit-goes g size cells p n s m d there few h =
     let t = with_slot 6 (pos n) s in
     let b = slice_index g.input p in
     let within = h.within in
-    let place : slice_index_or t.slots 5 (pos 0) ≡ pos p = get_or-set_other s.slots 6 5 (pos n) (pos 0) (below_differs 5 6 (omega arith)) ∙ h.repeats.place_is in
+    let index : slice_index_or t.slots 5 (pos 0) ≡ pos p = get_or-set_other s.slots 6 5 (pos n) (pos 0) (below_differs 5 6 (omega arith)) ∙ h.repeats.index_is in
     let is = full_is g.input s.output p n there (omega (arith, few)) h.repeats.output_is (omega (arith, enough, within)) in
     inr (record {
       memory = m;
       comes = subst (λ o. Comes (block_means g emitted) t m (Trapped full o) m) is
-          (comes-trap (unless_broken (block_means g end)) (comes-then (emits 31) (gives-input g 31 (Local 5) t m p (gives-local g 31 5 t m (pos p) place) there) (traps_full b t m (d.bytes p) enough)));
+          (comes-trap (unless_broken (block_means g end)) (comes-then (emits 31) (gives-input g 31 (Local 5) t m p (gives-local g 31 5 t m (pos p) index) there) (traps_full b t m (d.bytes p) enough)));
     }))
   where
     sizes : (k : ℕ) → length (written_before g.input p ++ replicate k (slice_index g.input p)) ≡ length (written_before g.input p) + k
     sizes k = length-append (written_before g.input p) (replicate k (slice_index g.input p)) ∙ ap (λ x. length (written_before g.input p) + x) (length-replicate k (slice_index g.input p))
 
--- ---- all places
+-- ---- all indices
 
-place-goes : (g : Environment) (size far p : ℕ) (behind : List ℤ) (s : State) (m : List ℤ) → Runs g size → p < length g.input → length g.input ≤ far → WrittenWithin g (times_before g.input far ++ behind) p s m
+index-goes : (g : Environment) (size far p : ℕ) (behind : List ℤ) (s : State) (m : List ℤ) → Runs g size → p < length g.input → length g.input ≤ far → WrittenWithin g (times_before g.input far ++ behind) p s m
     → Goes (block_means g repeated) (WrittenWithin g (times_before g.input far ++ behind) (suc p)) full (first_bytes g.input) (with_slot 5 (pos p) s) m
-place-goes g size far p behind s m d there enough h =
+index-goes g size far p behind s m d there enough h =
     let input = g.input in
     let cells = times_before input far ++ behind in
     let times = times_of (left_at input p) in
@@ -126,7 +126,7 @@ place-goes g size far p behind s m d there enough h =
     let t = with_slot 5 (pos p) s in
     let w = h.written in
     let slots = w.slots_are in
-    let place : slice_index_or t.slots 5 (pos 0) ≡ pos p = get_or-set_same s.slots 5 (pos p) (pos 0) (omega (arith, slots)) in
+    let index : slice_index_or t.slots 5 (pos 0) ≡ pos p = get_or-set_same s.slots 5 (pos p) (pos 0) (omega (arith, slots)) in
     let base = (extent_in g.extents 0).0 in
     let first = d.first in
     let has = d.room in
@@ -134,12 +134,12 @@ place-goes g size far p behind s m d there enough h =
     let word : word_at m (base + p) ≡ pos (0 + times) =
     (λ i. word_at (w.memory_is i) (cell i)) ∙ times_word input far behind p (omega (arith, there, enough)) ∙ ap pos (times_inside input p there) ∙ ap pos (let e : times ≡ 0 + times = omega arith in e) in
     let begun : RepeatsWithin g cells p 0 t m = record {
-      repeats = record { output_is = w.output_is ∙ sym (append-nil (written_before input p)); memory_is = w.memory_is; slots_are = length-set s.slots 5 (pos p) ∙ slots; place_is = place };
+      repeats = record { output_is = w.output_is ∙ sym (append-nil (written_before input p)); memory_is = w.memory_is; slots_are = length-set s.slots 5 (pos p) ∙ slots; index_is = index };
       within = h.within;
     } in
     goes-on g 30 (For 6 (number 0) (Load 0 (Local 5)) emitted) end (RepeatsWithin g cells p (0 + times)) (WrittenWithin g cells (suc p)) full (first_bytes input) t m
     (goes-for g 30 6 (number 0) (Load 0 (Local 5)) emitted (RepeatsWithin g cells p (0 + times)) full (first_bytes input) t m 0 times (gives-number g 30 (pos 0) t m)
-    (subst (λ v. Gives g 30 (Load 0 (Local 5)) t m v) word (gives-load g 30 0 (Local 5) t m p (gives-local g 30 5 t m (pos p) place) (omega (arith, there, has))))
+    (subst (λ v. Gives g 30 (Load 0 (Local 5)) t m v) word (gives-load g 30 0 (Local 5) t m p (gives-local g 30 5 t m (pos p) index) (omega (arith, there, has))))
     (for-goes 6 (block_means g emitted) (RepeatsWithin g cells p) full (first_bytes input) 0 times (λ n a x low high q. emit-goes g size cells p n a x d there (omega (arith, high)) q) t m begun))
     (λ a x q. inl (record {
       state = a;
@@ -158,7 +158,7 @@ output-halts g size far behind s m d enough beyond h =
     let all : 0 + length g.input ≡ length g.input = omega arith in
     over (goes-for g 29 5 (number 0) Len repeated (WrittenWithin g cells (0 + length g.input)) full (first_bytes g.input) s m 0 (length g.input) (gives-number g 29 (pos 0) s m)
     (subst (λ n. Gives g 29 Len s m (pos n)) (sym all) (gives-len g 29 s m))
-    (for-goes 5 (block_means g repeated) (WrittenWithin g cells) full (first_bytes g.input) 0 (length g.input) (λ p a x low high q. place-goes g size far p behind a x d (omega (arith, high)) enough q) s m h))
+    (for-goes 5 (block_means g repeated) (WrittenWithin g cells) full (first_bytes g.input) 0 (length g.input) (λ p a x low high q. index-goes g size far p behind a x d (omega (arith, high)) enough q) s m h))
   where
     over : Goes (statement_means g 29 output) (WrittenWithin g (times_before g.input far ++ behind) (0 + length g.input)) full (first_bytes g.input) s m → Halts (statement_means g 29 output) full (first_bytes g.input) s m
     over (inr k) = k
@@ -198,7 +198,7 @@ stops size file written h small cells blocks u beyond =
     let zeros : zeros_of p (length file) ≡ memory_at file (length file + size) (size * 0) =
     ap (λ n. replicate n (pos 0)) (let e : cell_count_of p (length file) ≡ (length file + size) - 0 = omega (arith, cell_count) in e)
     ∙ ap (λ k. memory_at file (length file + size) k) (let e : 0 ≡ size * 0 = omega arith in e) in
-    let begun : BlockAt g size 0 (start_of p) (zeros_of p (length file)) = record { carried = pos 0; number = pos 0; left = pos 0; place = pos 0; byte = pos 0; out = pos 0; turn = pos 0; s_is = refl; m_is = zeros } in
+    let begun : BlockAt g size 0 (start_of p) (zeros_of p (length file)) = record { carried = pos 0; number = pos 0; left = pos 0; index = pos 0; byte = pos 0; out = pos 0; turn = pos 0; s_is = refl; m_is = zeros } in
     let r = main-halts g size (start_of p) (zeros_of p (length file)) d blocks (omega (arith, beyond, ap (λ (l : List ℕ). length l) is)) begun in
     let c = main-comes g p.main (start_of p) (zeros_of p (length file)) r.memory (Trapped full (first_bytes file)) r.comes tt in
     (λ i. outcome_from (c.answer i) (c.memory i)) ∙ ap (λ l. Stopped full (take max_output l)) is

@@ -21,7 +21,7 @@ use Rattle.spf_apps_programs.specs.Laws.{IsBlockSize}
 use Rattle.spf_apps_programs.specs.Writing.{number, plus, only, blocks_for}
 use Rattle.spf_apps_programs.specs.PackBits.{packbits_program, head, body, output}
 use Rattle.spf_apps_laws.proofs.Bytes.{read_on, file_read}
-use Rattle.spf_apps_laws.proofs.Places.{left_at, memory_at, written_all, bytes_small}
+use Rattle.spf_apps_laws.proofs.Indices.{left_at, memory_at, written_all, bytes_small}
 use Rattle.spf_apps_laws.proofs.Blocks.{Runs, BlockAt, block-yields}
 use Rattle.spf_apps_laws.proofs.Output.{Written, output-written}
 use Rattle.spf_apps_laws.proofs.Steps.{gives-row, comes-sets_row, main-comes, Gives, gives-number, gives-len, gives-binary, with_slot, Reaches, reached, reaches-on, reaches-end, fold-yields, gap-is, word-ok}
@@ -91,7 +91,7 @@ fold-comes g size s m d limit h =
       carried = last;
       number = at_end.number;
       left = at_end.left;
-      place = at_end.place;
+      index = at_end.index;
       byte = at_end.byte;
       out = at_end.out;
       turn = at_end.turn;
@@ -128,7 +128,7 @@ unpacks size file written h small cells blocks u room =
     let zeros : zeros_of p (length file) ≡ memory_at file (length file + size) (size * 0) =
     ap (λ n. replicate n (pos 0)) (let e : cell_count_of p (length file) ≡ (length file + size) - 0 = omega (arith, cell_count) in e)
     ∙ ap (λ k. memory_at file (length file + size) k) (let e : 0 ≡ size * 0 = omega arith in e) in
-    let begun : BlockAt g size 0 (start_of p) (zeros_of p (length file)) = record { carried = pos 0; number = pos 0; left = pos 0; place = pos 0; byte = pos 0; out = pos 0; turn = pos 0; s_is = refl; m_is = zeros } in
+    let begun : BlockAt g size 0 (start_of p) (zeros_of p (length file)) = record { carried = pos 0; number = pos 0; left = pos 0; index = pos 0; byte = pos 0; out = pos 0; turn = pos 0; s_is = refl; m_is = zeros } in
     let r = main-reaches g size (start_of p) (zeros_of p (length file)) d blocks (subst (λ (l : List ℕ). length l ≤ max_output) (sym is) room) begun in
     let c = main-comes g p.main (start_of p) (zeros_of p (length file)) r.memory (Value Onward r.state) r.comes tt in
     (r.memory, (λ i. outcome_from (c.answer i) (c.memory i)) ∙ ap (Done r.memory) (r.holds.output_is ∙ written_all file ∙ is))

@@ -204,7 +204,7 @@ entry_bytes file (suc count) entry = slice_index file (next_at entry) ∷ slice_
 
 -- each number is that of a byte
 abbrev EachByte : List ℕ → Type 0
-EachByte file = (place : ℕ) → slice_index file place < 256
+EachByte file = (offset : ℕ) → slice_index file offset < 256
 
 -- the entries of a state, for `count` classes from one on
 abbrev entries_text : List ℕ → (state count class : ℕ) → List ℕ
@@ -301,11 +301,11 @@ table_is file (suc count) byte h =
     ∙ ap (λ k. class_of file byte ∷ drop k file) next
     ∙ sym (drop_more file (class_at byte) 0 (omega arith))
 
--- what stands at a place
-stands : (xs : List ℕ) (place value : ℕ) → slice_get xs place ≡ Some value → slice_index xs place ≡ value
-stands [] place value e = cc
+-- what stands at an offset
+stands : (xs : List ℕ) (offset value : ℕ) → slice_get xs offset ≡ Some value → slice_index xs offset ≡ value
+stands [] offset value e = cc
 stands (x ∷ xs) zero value e = cc
-stands (x ∷ xs) (suc place) value e = stands xs place value e
+stands (x ∷ xs) (suc offset) value e = stands xs offset value e
 
 front_is : (file : List ℕ) → 6 ≤ length file → slice_index file 0 ≡ 76 → slice_index file 1 ≡ 69 → slice_index file 2 ≡ 88 → slice_index file 3 ≡ 49
     → file ≡ signature ++ (states_of file ∷ classes_of file ∷ []) ++ drop 6 file
@@ -318,14 +318,14 @@ front_is file h a b c d =
     ∙ (λ i. 76 ∷ 69 ∷ 88 ∷ 49 ∷ slice_index file 4 ∷ drop_more file 5 0 (omega arith) i)
 
 each_byte : (file : List ℕ) → AreBytes file → EachByte file
-each_byte file h place = by_length (below place (length file))
+each_byte file h offset = by_length (below offset (length file))
   where
     below : (a b : ℕ) → (a < b) ⊎ (b ≤ a)
     below a b = grind arith
 
-    by_length : (place < length file) ⊎ (length file ≤ place) → slice_index file place < 256
-    by_length (inl l) = h place 0 l
-    by_length (inr l) = let past = get_or_past file place 0 l in omega arith
+    by_length : (offset < length file) ⊎ (length file ≤ offset) → slice_index file offset < 256
+    by_length (inl l) = h offset 0 l
+    by_length (inr l) = let past = get_or_past file offset 0 l in omega arith
 
 -- ---- the whole text
 

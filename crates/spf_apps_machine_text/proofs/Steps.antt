@@ -19,21 +19,21 @@ by_no : (b : Bool) (value byte : ℕ) (rest : List ℕ) → b ≡ false → (if 
 by_no true value byte rest h = cc
 by_no false value byte rest h = refl
 
-pub digit_more : (value byte next place more : ℕ) (text : List ℕ) → place < length text → byte ≡ get_or text place 0 → is_digit byte ≡ true → next ≡ (value * 10 + (byte - 48)) % 256 → more ≡ place + 1
-    → number_from value (drop place text) ≡ number_from next (drop more text)
-digit_more value byte next place more text l e h n m =
-    ap (number_from value) (drop_more text place 0 l ∙ ap (λ b. b ∷ drop (place + 1) text) (sym e))
-    ∙ by_test (is_digit byte) value byte (drop (place + 1) text) h
+pub digit_more : (value byte next offset more : ℕ) (text : List ℕ) → offset < length text → byte ≡ get_or text offset 0 → is_digit byte ≡ true → next ≡ (value * 10 + (byte - 48)) % 256 → more ≡ offset + 1
+    → number_from value (drop offset text) ≡ number_from next (drop more text)
+digit_more value byte next offset more text l e h n m =
+    ap (number_from value) (drop_more text offset 0 l ∙ ap (λ b. b ∷ drop (offset + 1) text) (sym e))
+    ∙ by_test (is_digit byte) value byte (drop (offset + 1) text) h
     ∙ (λ i. number_from (sym n i) (drop (sym m i) text))
 
-pub digit_none : (value byte place : ℕ) (text : List ℕ) → place < length text → byte ≡ get_or text place 0 → is_digit byte ≡ false
-    → number_from value (drop place text) ≡ (value, drop place text)
-digit_none value byte place text l e h =
-    let split : drop place text ≡ byte ∷ drop (place + 1) text = drop_more text place 0 l ∙ ap (λ b. b ∷ drop (place + 1) text) (sym e) in
-    ap (number_from value) split ∙ by_no (is_digit byte) value byte (drop (place + 1) text) h ∙ ap (λ t. (value, t)) (sym split)
+pub digit_none : (value byte offset : ℕ) (text : List ℕ) → offset < length text → byte ≡ get_or text offset 0 → is_digit byte ≡ false
+    → number_from value (drop offset text) ≡ (value, drop offset text)
+digit_none value byte offset text l e h =
+    let split : drop offset text ≡ byte ∷ drop (offset + 1) text = drop_more text offset 0 l ∙ ap (λ b. b ∷ drop (offset + 1) text) (sym e) in
+    ap (number_from value) split ∙ by_no (is_digit byte) value byte (drop (offset + 1) text) h ∙ ap (λ t. (value, t)) (sym split)
 
-pub digits_all : (value place : ℕ) (text : List ℕ) → length text ≤ place → number_from value (drop place text) ≡ (value, drop place text)
-digits_all value place text l = ap (number_from value) (drop_all place text l) ∙ ap (λ t. (value, t)) (sym (drop_all place text l))
+pub digits_all : (value offset : ℕ) (text : List ℕ) → length text ≤ offset → number_from value (drop offset text) ≡ (value, drop offset text)
+digits_all value offset text l = ap (number_from value) (drop_all offset text l) ∙ ap (λ t. (value, t)) (sym (drop_all offset text l))
 
 -- ---- pieces of a text that are appended one by one
 

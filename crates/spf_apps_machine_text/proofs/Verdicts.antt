@@ -42,11 +42,11 @@ pub machine_or_none : Lex1HasOneVerdict → (text : List ℕ) → ((file : List 
 machine_or_none laws text =
     decide (file_read text) (λ file h. text_again text file h) (bytes_or_not (file_read text)) (laws.some (file_read text)) (same_or_not text (machine_text (file_read text)))
   where
-    other : {read : List ℕ} → ((place : ℕ) × IsNoLex1At read place) → IsMachine read → ⊥
+    other : {read : List ℕ} → ((offset : ℕ) × IsNoLex1At read offset) → IsMachine read → ⊥
     other {read} refused machine = laws.apart read refused.0 machine.0 machine.1 machine.2 refused.1
 
     decide : (read : List ℕ) → ((file : List ℕ) → IsTextOf text file → read ≡ file) → AreBytes read ⊎ (AreBytes read → ⊥)
-        → IsMachine read ⊎ ((place : ℕ) × IsNoLex1At read place) → (text ≡ machine_text read) ⊎ (text ≡ machine_text read → ⊥)
+        → IsMachine read ⊎ ((offset : ℕ) × IsNoLex1At read offset) → (text ≡ machine_text read) ⊎ (text ≡ machine_text read → ⊥)
         → ((file : List ℕ) × IsTextOf text file) ⊎ BelongsToNoMachine text
     decide read again (inl bytes) (inl machine) (inl same) = inl (read, record { bytes = bytes; machine = machine; text_is = same })
     decide read again (inl bytes) (inl machine) (inr differ) = inr (λ file h. differ (h.text_is ∙ ap machine_text (sym (again file h))))

@@ -40,9 +40,9 @@ fn number(text: &[u8]) -> (u8, &[u8])
     ensures rest { result.1.now ≡ (number_at text.now).1 }
 {
     let mut value = 0u8;
-    for (place, byte) in text.iter().enumerate() {
+    for (offset, byte) in text.iter().enumerate() {
         if !is_digit(*byte) {
-            return (value, after(text, place));
+            return (value, after(text, offset));
         }
         value = value.wrapping_mul(10).wrapping_add(*byte - b'0');
     }

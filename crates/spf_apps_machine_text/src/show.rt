@@ -113,11 +113,11 @@ fn push_entry(
     requires { entry_at file.now state class + 1 < length file.now }
     ensures { OnOk result (text.new.items ≡ text.old.items ++ entry_text file.now state class) }
 {
-    let place = ENTRIES + 2 * (state as usize * file[5] as usize + class as usize);
+    let offset = ENTRIES + 2 * (state as usize * file[5] as usize + class as usize);
     text.extend_from_slice(b" ")?;
-    push_number(alloc, text, file[place])?;
+    push_number(alloc, text, file[offset])?;
     text.extend_from_slice(b"/")?;
-    push_number(alloc, text, file[place + 1])
+    push_number(alloc, text, file[offset + 1])
 }
 
 /// Appends the entries of a state, by class.

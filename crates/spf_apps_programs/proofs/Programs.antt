@@ -30,7 +30,7 @@ packbits_lawful size h =
         taken_are_names = names-sound (names_taken p) refl;
         taken_are_different = differ-sound (names_taken p) refl;
         sizes = All-cons (λ (a : Array). IsNumber a.factor × IsNumber a.offset) _ [] (array_fits 1 (omega arith), array_fits size (omega (arith, h.1))) (All-nil _);
-        functions = λ place. tt;
+        functions = λ offset. tt;
         slots_are_names = names-sound p.slots refl;
         main = block-sound (names_at p 0 p.slots) true nothing_declared p.main refl (packbits_numbers size h.1);
         slots = refl;
@@ -77,10 +77,10 @@ look_lawful size =
 huffman_numbers : (size : ℕ) → size ≤ 65536 → Fit (numbers_in_block (huffman.huffman_program size).main)
 huffman_numbers size h = search rules
 
-huffman_functions : (size place : ℕ) → IfSome (slice_get (huffman.bite ∷ huffman.look ∷ []) place) (IsLawfulFunction (huffman.huffman_program size) place)
+huffman_functions : (size offset : ℕ) → IfSome (slice_get (huffman.bite ∷ huffman.look ∷ []) offset) (IsLawfulFunction (huffman.huffman_program size) offset)
 huffman_functions size zero = bite_lawful size
 huffman_functions size (suc zero) = look_lawful size
-huffman_functions size (suc (suc place)) = tt
+huffman_functions size (suc (suc offset)) = tt
 
 pub huffman_lawful : (size : ℕ) → IsBlockSize size → IsLawful (huffman.huffman_program size)
 huffman_lawful size h =
@@ -127,9 +127,9 @@ lexer_look_lawful size classes machine h k =
 lexer_numbers : (size classes machine : ℕ) → size ≤ 65536 → classes ≤ 64 → machine ≤ 65536 → Fit (numbers_in_block (lexer.program_for size classes machine).main)
 lexer_numbers size classes machine h k l = search rules
 
-lexer_functions : (size classes machine place : ℕ) → classes ≤ 64 → machine ≤ 65536 → IfSome (slice_get (lexer.look classes machine ∷ []) place) (IsLawfulFunction (lexer.program_for size classes machine) place)
+lexer_functions : (size classes machine offset : ℕ) → classes ≤ 64 → machine ≤ 65536 → IfSome (slice_get (lexer.look classes machine ∷ []) offset) (IsLawfulFunction (lexer.program_for size classes machine) offset)
 lexer_functions size classes machine zero h k = lexer_look_lawful size classes machine h k
-lexer_functions size classes machine (suc place) h k = tt
+lexer_functions size classes machine (suc offset) h k = tt
 
 sized_lawful : (size classes machine : ℕ) → IsBlockSize size → classes ≤ 64 → machine ≤ 65536 → IsLawful (lexer.program_for size classes machine)
 sized_lawful size classes machine h k l =
@@ -139,7 +139,7 @@ sized_lawful size classes machine h k l =
         taken_are_names = names-sound (names_taken p) refl;
         taken_are_different = differ-sound (names_taken p) refl;
         sizes = All-cons (λ (a : Array). IsNumber a.factor × IsNumber a.offset) _ [] (array_fits 1 (omega arith), array_fits size (omega (arith, h.1))) (All-nil _);
-        functions = λ place. lexer_functions size classes machine place k l;
+        functions = λ offset. lexer_functions size classes machine offset k l;
         slots_are_names = names-sound p.slots refl;
         main = block-sound (names_at p 1 p.slots) true nothing_declared p.main refl (lexer_numbers size classes machine h.1 k l);
         slots = refl;

@@ -274,12 +274,12 @@ params-sound None count e = tt
 params-sound (Some g) count e = same_number g.params count e
 
 abbrev callable : Names → ℕ → ℕ → Bool
-callable names f count = nat_lt f names.place && has_params (slice_get names.functions f) count
+callable names f count = nat_lt f names.index && has_params (slice_get names.functions f) count
 
 callable-sound : (names : Names) (f count : ℕ) → callable names f count ≡ true → IsCallable names f count
 callable-sound names f count e =
-    let parts = both (nat_lt f names.place) (has_params (slice_get names.functions f) count) e in
-    (ltb-true f names.place parts.0, params-sound (slice_get names.functions f) count parts.1)
+    let parts = both (nat_lt f names.index) (has_params (slice_get names.functions f) count) e in
+    (ltb-true f names.index parts.0, params-sound (slice_get names.functions f) count parts.1)
 
 abbrev mutual
   pub sees : Names → Scope → Expression → Bool

@@ -178,15 +178,15 @@ bits_begin size = times (number (8 * size)) (Local 4)
 abbrev pub bits_end : ℕ → Expression
 bits_end size = plus (bits_begin size) (number (8 * size))
 
--- 8SIZE * k + 8 * i + j: the place of a bit
-abbrev pub sym_place : ℕ → Expression
-sym_place size = plus (plus (bits_begin size) (times (number 8) (Local 6))) (Local 8)
+-- 8SIZE * k + 8 * i + j: the offset of a bit
+abbrev pub sym_offset : ℕ → Expression
+sym_offset size = plus (plus (bits_begin size) (times (number 8) (Local 6))) (Local 8)
 
 -- line 40: a code word is whole, or isn't yet
 abbrev pub word_end : ℕ → Block
 word_end size =
     only 40 (If (Compare Ne (Load 0 (Local 5)) (number 0))
-    (on_line 40 (Store 1 (sym_place size) (Load 0 (Local 5)))
+    (on_line 40 (Store 1 (sym_offset size) (Load 0 (Local 5)))
     (only 40 (Assign 5 (number 1)))) end)
 
 -- lines 37 to 41: a bit

@@ -69,10 +69,10 @@ use Rattle.spf_apps_programs.specs.Writing.{number, plus, minus, times, shifted_
 abbrev pub machine_length : ℕ → ℕ → ℕ
 machine_length states classes = 262 + 2 * (states * classes)
 
--- the place of the entry for the state in one slot and the byte at the place in another slot
-abbrev pub entry_at : (classes machine state place : ℕ) → Expression
-entry_at classes machine state place =
-    plus (number 262) (times (number 2) (plus (times (Local state) (number classes)) (Input (plus (number 6) (Input (plus (number machine) (Local place)))))))
+-- the offset of the entry for the state in one slot and the byte at the offset in another slot
+abbrev pub entry_at : (classes machine state at : ℕ) → Expression
+entry_at classes machine state at =
+    plus (number 262) (times (number 2) (plus (times (Local state) (number classes)) (Input (plus (number 6) (Input (plus (number machine) (Local at)))))))
 
 -- line 5
 abbrev pub look_byte : (classes machine : ℕ) → Block
@@ -135,17 +135,17 @@ head size machine = record {
   next_line = 20;
 }
 
--- a byte of the place, by how many bits it is shifted
-abbrev pub place_byte : ℕ → Statement
-place_byte places = Emit (masked (shifted_right (Local 5) (number places)) (number 255))
+-- a byte of the offset, by how many bits it is shifted
+abbrev pub offset_byte : ℕ → Statement
+offset_byte bits = Emit (masked (shifted_right (Local 5) (number bits)) (number 255))
 
--- lines 24 to 28: a token, as its kind and its place with the highest byte first
+-- lines 24 to 28: a token, as its kind and its offset with the highest byte first
 abbrev pub token : Block
 token =
     on_line 24 (Emit (Load 0 (Local 5)))
     (on_line 25 (Emit (shifted_right (Local 5) (number 24)))
-    (on_line 26 (place_byte 16)
-    (on_line 27 (place_byte 8)
+    (on_line 26 (offset_byte 16)
+    (on_line 27 (offset_byte 8)
     (only 28 (Emit (masked (Local 5) (number 255)))))))
 
 -- lines 22 to 30

@@ -15,7 +15,7 @@ ghost use Rattle.spf_apps_programs.specs.Huffman.{code_bytes as code_bytes_form}
 ghost use Rattle.spf_apps_programs.specs.Huffman.{block_begin as begin_form};
 ghost use Rattle.spf_apps_programs.specs.Huffman.{bits_begin as bits_begin_form};
 ghost use Rattle.spf_apps_programs.specs.Huffman.{bits_end as bits_end_form};
-ghost use Rattle.spf_apps_programs.specs.Huffman.{sym_place as sym_place_form};
+ghost use Rattle.spf_apps_programs.specs.Huffman.{sym_offset as sym_offset_form};
 ghost use Rattle.spf_apps_programs.specs.Huffman.{word_end as word_form, one_bit as bit_block_form};
 ghost use Rattle.spf_apps_programs.specs.Huffman.{byte_bits as bits_form, one_byte as byte_form};
 ghost use Rattle.spf_apps_programs.specs.Huffman.{body as body_form, head as head_form};
@@ -41,7 +41,7 @@ use std::alloc::{AllocError, Global};
 /// The array of symbols by code word: a symbol and one more at a 1 followed by its code word.
 const CODE: u32 = 0;
 
-/// The array of symbols by the place of the bit that ends their code word.
+/// The array of symbols by the offset of the bit that ends their code word.
 const SYM: u32 = 1;
 
 /// The functions.
@@ -63,7 +63,7 @@ const LOOK_END: u32 = 0;
 
 const LOOK_STATE: u32 = 1;
 
-const LOOK_PLACE: u32 = 2;
+const LOOK_OFFSET: u32 = 2;
 
 // The slots of `main`.
 const WORD: u32 = 0;
@@ -78,7 +78,7 @@ const BLOCK: u32 = 4;
 
 const STATE: u32 = 5;
 
-const PLACE: u32 = 6;
+const OFFSET: u32 = 6;
 
 const BYTE: u32 = 7;
 
@@ -88,14 +88,14 @@ const WANTED: u32 = 9;
 
 const GOT: u32 = 10;
 
-const OUT_PLACE: u32 = 11;
+const OUT_OFFSET: u32 = 11;
 
 /// The state with the next bit of a byte after it.
 fn with_bit(alloc: Global, state: u32, byte: u32, bit: u32) -> Result<Expr, AllocError>
     ensures { IfOk result (λ e. expression e ≡ bit_form state byte bit) }
 {
-    let places = binary(alloc, Op::Sub, number(7), local(bit));
-    let shifted = binary(alloc, Op::Shr, local(byte), places);
+    let distance = binary(alloc, Op::Sub, number(7), local(bit));
+    let shifted = binary(alloc, Op::Shr, local(byte), distance);
     let lowest = binary(alloc, Op::And, shifted, number(1));
     let moved = binary(alloc, Op::Mul, local(state), number(2));
     binary(alloc, Op::Add, moved, lowest)
@@ -157,11 +157,11 @@ fn bite(alloc: Global) -> Result<Function, AllocError>
 fn look_byte(alloc: Global) -> Result<Vec<Stmt>, AllocError>
     ensures { IfOk result (λ v. seen_block v.items ≡ look_byte_form) }
 {
-    let place = binary(alloc, Op::Add, number(264), local(LOOK_PLACE));
-    let byte = input(alloc, place);
+    let offset = binary(alloc, Op::Add, number(264), local(LOOK_OFFSET));
+    let byte = input(alloc, offset);
     let bitten = call_with_two(alloc, BITE, local(LOOK_STATE), byte);
     let step = only(alloc, 18, assign(LOOK_STATE, bitten));
-    let is_inside = compare(alloc, Test::Ge, local(LOOK_PLACE), number(0));
+    let is_inside = compare(alloc, Test::Ge, local(LOOK_OFFSET), number(0));
     only(alloc, 18, when(alloc, is_inside, step))
 }
 
@@ -171,11 +171,11 @@ fn look_body(alloc: Global) -> Result<Vec<Stmt>, AllocError>
 {
     let begun = declare(LOOK_STATE, number(1));
     let low = binary(alloc, Op::Sub, local(LOOK_END), number(16));
-    let bytes = count(LOOK_PLACE, low, local(LOOK_END), look_byte(alloc));
+    let bytes = count(LOOK_OFFSET, low, local(LOOK_END), look_byte(alloc));
     on_line(alloc, 16, begun, only(alloc, 17, bytes))
 }
 
-/// `look`, which decodes the 16 bytes before a place.
+/// `look`, which decodes the 16 bytes before an offset.
 fn look(alloc: Global) -> Result<Function, AllocError>
     ensures { IfOk result (λ f. seen_function f ≡ look_form) }
 {
@@ -199,8 +199,8 @@ fn table_entry(alloc: Global) -> Result<Vec<Stmt>, AllocError>
     let entry = store(CODE, index, symbol);
     let next = assign(WORD, binary(alloc, Op::Add, local(WORD), number(1)));
     let kept = on_line(alloc, 26, entry, only(alloc, 26, next));
-    let place = binary(alloc, Op::Add, number(4), local(SYMBOL));
-    let has_length = compare(alloc, Test::Eq, input(alloc, place), local(LENGTH));
+    let offset = binary(alloc, Op::Add, number(4), local(SYMBOL));
+    let has_length = compare(alloc, Test::Eq, input(alloc, offset), local(LENGTH));
     only(alloc, 26, when(alloc, has_length, kept))
 }
 
@@ -245,12 +245,12 @@ fn bits_end(alloc: Global, size: u64) -> Result<Expr, AllocError>
     binary(alloc, Op::Add, bits_begin(alloc, size), number(8 * size))
 }
 
-/// The place of a bit.
-fn sym_place(alloc: Global, size: u64) -> Result<Expr, AllocError>
+/// The offset of a bit.
+fn sym_offset(alloc: Global, size: u64) -> Result<Expr, AllocError>
     requires { size ≤ 65536 }
-    ensures { IfOk result (λ e. expression e ≡ sym_place_form size) }
+    ensures { IfOk result (λ e. expression e ≡ sym_offset_form size) }
 {
-    let bytes = binary(alloc, Op::Mul, number(8), local(PLACE));
+    let bytes = binary(alloc, Op::Mul, number(8), local(OFFSET));
     let byte = binary(alloc, Op::Add, bits_begin(alloc, size), bytes);
     binary(alloc, Op::Add, byte, local(BIT))
 }
@@ -261,7 +261,7 @@ fn word_end(alloc: Global, size: u64) -> Result<Vec<Stmt>, AllocError>
     ensures { IfOk result (λ v. seen_block v.items ≡ word_form size) }
 {
     let found = load(alloc, CODE, local(STATE));
-    let kept = store(SYM, sym_place(alloc, size), found);
+    let kept = store(SYM, sym_offset(alloc, size), found);
     let again = assign(STATE, number(1));
     let whole = on_line(alloc, 40, kept, only(alloc, 40, again));
     only(alloc, 40, when(alloc, is_whole(alloc, STATE), whole))
@@ -287,8 +287,8 @@ fn byte_bits(alloc: Global, size: u64) -> Result<Vec<Stmt>, AllocError>
     ensures { IfOk result (λ v. seen_block v.items ≡ bits_form size) }
 {
     let behind = binary(alloc, Op::Add, number(264), block_begin(alloc, size));
-    let place = binary(alloc, Op::Add, behind, local(PLACE));
-    let read = declare(BYTE, input(alloc, place));
+    let offset = binary(alloc, Op::Add, behind, local(OFFSET));
+    let read = declare(BYTE, input(alloc, offset));
     let bits = count(BIT, number(0), number(8), one_bit(alloc, size));
     on_line(alloc, 35, read, only(alloc, 36, bits))
 }
@@ -298,8 +298,8 @@ fn one_byte(alloc: Global, size: u64) -> Result<Vec<Stmt>, AllocError>
     requires { size ≤ 65536 }
     ensures { IfOk result (λ v. seen_block v.items ≡ byte_form size) }
 {
-    let place = binary(alloc, Op::Add, block_begin(alloc, size), local(PLACE));
-    let is_inside = compare(alloc, Test::Lt, place, code_bytes(alloc));
+    let offset = binary(alloc, Op::Add, block_begin(alloc, size), local(OFFSET));
+    let is_inside = compare(alloc, Test::Lt, offset, code_bytes(alloc));
     only(alloc, 34, when(alloc, is_inside, byte_bits(alloc, size)))
 }
 
@@ -312,7 +312,7 @@ fn body(alloc: Global, size: u64) -> Result<Vec<Stmt>, AllocError>
     let high = bits_end(alloc, size);
     let cleared = fill(SYM, low, high, number(0));
     let begun = declare(STATE, local(CARRIED));
-    let bytes = count(PLACE, number(0), number(size), one_byte(alloc, size));
+    let bytes = count(OFFSET, number(0), number(size), one_byte(alloc, size));
     let bytes = only(alloc, 33, bytes);
     on_line(alloc, 31, cleared, on_line(alloc, 32, begun, bytes))
 }
@@ -336,13 +336,13 @@ fn blocks(alloc: Global, size: u64) -> Result<StmtKind, AllocError>
 }
 
 /// A number with a byte of the header after it.
-fn with_byte(alloc: Global, high: Result<Expr, AllocError>, place: u64) -> Result<Expr, AllocError>
-    requires { place < 2 ^ 63 }
+fn with_byte(alloc: Global, high: Result<Expr, AllocError>, offset: u64) -> Result<Expr, AllocError>
+    requires { offset < 2 ^ 63 }
     ensures { (a : Expression) → IfOk high (λ e. expression e ≡ a)
-        → IfOk result (λ e. expression e ≡ with_byte_form a place) }
+        → IfOk result (λ e. expression e ≡ with_byte_form a offset) }
 {
     let moved = binary(alloc, Op::Mul, high, number(256));
-    binary(alloc, Op::Add, moved, input(alloc, number(place)))
+    binary(alloc, Op::Add, moved, input(alloc, number(offset)))
 }
 
 /// The count of symbols in the header.
@@ -359,13 +359,13 @@ fn symbol_count(alloc: Global) -> Result<Expr, AllocError>
 fn symbol_out(alloc: Global) -> Result<Vec<Stmt>, AllocError>
     ensures { IfOk result (λ v. seen_block v.items ≡ symbol_form) }
 {
-    let kept = load(alloc, SYM, local(OUT_PLACE));
+    let kept = load(alloc, SYM, local(OUT_OFFSET));
     let written = emit(binary(alloc, Op::Sub, kept, number(1)));
     let more = assign(GOT, binary(alloc, Op::Add, local(GOT), number(1)));
     let symbol = on_line(alloc, 50, written, only(alloc, 50, more));
     let is_wanted = compare(alloc, Test::Lt, local(GOT), local(WANTED));
     let choice = only(alloc, 50, when(alloc, is_wanted, symbol));
-    let ends = load(alloc, SYM, local(OUT_PLACE));
+    let ends = load(alloc, SYM, local(OUT_OFFSET));
     let is_end = compare(alloc, Test::Ne, ends, number(0));
     only(alloc, 50, when(alloc, is_end, choice))
 }
@@ -375,7 +375,7 @@ fn symbols_out(alloc: Global) -> Result<StmtKind, AllocError>
     ensures { IfOk result (λ s. statement s ≡ symbols_form) }
 {
     let bits = binary(alloc, Op::Mul, number(8), code_bytes(alloc));
-    count(OUT_PLACE, number(0), bits, symbol_out(alloc))
+    count(OUT_OFFSET, number(0), bits, symbol_out(alloc))
 }
 
 /// Traps where there are fewer symbols than the header wants.

@@ -10,7 +10,7 @@ ghost use Rattle.spf_apps_programs.specs.Lexer.{look_byte as look_byte_form, loo
 ghost use Rattle.spf_apps_programs.specs.Lexer.{block_begin as begin_form, block_end as end_form};
 ghost use Rattle.spf_apps_programs.specs.Lexer.{content as content_form, step as step_form};
 ghost use Rattle.spf_apps_programs.specs.Lexer.{one_byte as byte_form, body as body_form};
-ghost use Rattle.spf_apps_programs.specs.Lexer.{head as head_form, place_byte as place_byte_form};
+ghost use Rattle.spf_apps_programs.specs.Lexer.{head as head_form, offset_byte as offset_byte_form};
 ghost use Rattle.spf_apps_programs.specs.Lexer.{token as token_form, output as output_form};
 ghost use Rattle.spf_apps_programs.specs.Lexer.{program_for as program_form, lexer_program};
 
@@ -24,7 +24,7 @@ use spf_apps_builder::statement::{
 use spf_ast::syntax::{Expr, Function, Op, Program, Stmt, StmtKind, Test};
 use std::alloc::{AllocError, Global};
 
-/// The array of marks by place.
+/// The array of marks by offset.
 const MARK: u32 = 0;
 
 /// The function.
@@ -35,7 +35,7 @@ const LOOK_END: u32 = 0;
 
 const LOOK_STATE: u32 = 1;
 
-const LOOK_PLACE: u32 = 2;
+const LOOK_OFFSET: u32 = 2;
 
 // The slots of `main`.
 const CARRIED: u32 = 0;
@@ -44,11 +44,11 @@ const BLOCK: u32 = 1;
 
 const STATE: u32 = 2;
 
-const PLACE: u32 = 3;
+const OFFSET: u32 = 3;
 
 const ENTRY: u32 = 4;
 
-const OUT_PLACE: u32 = 5;
+const OUT_OFFSET: u32 = 5;
 
 /// What a program is made for: blocks of a size, and machines with a number of classes, whose files
 /// have this length.
@@ -63,11 +63,11 @@ struct Sizes {
     ghost short: { machine ≤ 65536 },
 }
 
-/// The place of the entry for the state in one slot and the byte at the place in another slot.
-fn entry_at(alloc: Global, sizes: Sizes, state: u32, place: u32) -> Result<Expr, AllocError>
-    ensures { IfOk result (λ e. expression e ≡ entry_form sizes.classes sizes.machine state place) }
+/// The offset of the entry for the state in one slot and the byte at the offset in another slot.
+fn entry_at(alloc: Global, sizes: Sizes, state: u32, at: u32) -> Result<Expr, AllocError>
+    ensures { IfOk result (λ e. expression e ≡ entry_form sizes.classes sizes.machine state at) }
 {
-    let behind = binary(alloc, Op::Add, number(sizes.machine), local(place));
+    let behind = binary(alloc, Op::Add, number(sizes.machine), local(at));
     let byte = input(alloc, behind);
     let class = input(alloc, binary(alloc, Op::Add, number(6), byte));
     let row = binary(alloc, Op::Mul, local(state), number(sizes.classes));
@@ -80,9 +80,9 @@ fn entry_at(alloc: Global, sizes: Sizes, state: u32, place: u32) -> Result<Expr,
 fn look_byte(alloc: Global, sizes: Sizes) -> Result<Vec<Stmt>, AllocError>
     ensures { IfOk result (λ v. seen_block v.items ≡ look_byte_form sizes.classes sizes.machine) }
 {
-    let next = input(alloc, entry_at(alloc, sizes, LOOK_STATE, LOOK_PLACE));
+    let next = input(alloc, entry_at(alloc, sizes, LOOK_STATE, LOOK_OFFSET));
     let step = only(alloc, 5, assign(LOOK_STATE, next));
-    let is_inside = compare(alloc, Test::Ge, local(LOOK_PLACE), number(0));
+    let is_inside = compare(alloc, Test::Ge, local(LOOK_OFFSET), number(0));
     only(alloc, 5, when(alloc, is_inside, step))
 }
 
@@ -92,11 +92,11 @@ fn look_body(alloc: Global, sizes: Sizes) -> Result<Vec<Stmt>, AllocError>
 {
     let begun = declare(LOOK_STATE, number(0));
     let low = binary(alloc, Op::Sub, local(LOOK_END), number(32));
-    let bytes = count(LOOK_PLACE, low, local(LOOK_END), look_byte(alloc, sizes));
+    let bytes = count(LOOK_OFFSET, low, local(LOOK_END), look_byte(alloc, sizes));
     on_line(alloc, 3, begun, only(alloc, 4, bytes))
 }
 
-/// `look`, which runs the machine over the 32 bytes before a place.
+/// `look`, which runs the machine over the 32 bytes before an offset.
 fn look(alloc: Global, sizes: Sizes) -> Result<Function, AllocError>
     ensures { IfOk result (λ f. seen_function f ≡ look_form sizes.classes sizes.machine) }
 {
@@ -115,14 +115,14 @@ fn look(alloc: Global, sizes: Sizes) -> Result<Function, AllocError>
     )
 }
 
-/// The first place of a block: its number times the size.
+/// The first offset of a block: its number times the size.
 fn block_begin(alloc: Global, sizes: Sizes) -> Result<Expr, AllocError>
     ensures { IfOk result (λ e. expression e ≡ begin_form sizes.block) }
 {
     binary(alloc, Op::Mul, number(sizes.block), local(BLOCK))
 }
 
-/// The place after a block.
+/// The offset after a block.
 fn block_end(alloc: Global, sizes: Sizes) -> Result<Expr, AllocError>
     ensures { IfOk result (λ e. expression e ≡ end_form sizes.block) }
 {
@@ -145,9 +145,9 @@ fn content(alloc: Global, sizes: Sizes) -> Result<Expr, AllocError>
 fn step(alloc: Global, sizes: Sizes) -> Result<Vec<Stmt>, AllocError>
     ensures { IfOk result (λ v. seen_block v.items ≡ step_form sizes.classes sizes.machine) }
 {
-    let entry = declare(ENTRY, entry_at(alloc, sizes, STATE, PLACE));
+    let entry = declare(ENTRY, entry_at(alloc, sizes, STATE, OFFSET));
     let mark = input(alloc, binary(alloc, Op::Add, local(ENTRY), number(1)));
-    let marked = store(MARK, local(PLACE), mark);
+    let marked = store(MARK, local(OFFSET), mark);
     let next = only(alloc, 17, assign(STATE, input(alloc, local(ENTRY))));
     on_line(alloc, 15, entry, on_line(alloc, 16, marked, next))
 }
@@ -156,7 +156,7 @@ fn step(alloc: Global, sizes: Sizes) -> Result<Vec<Stmt>, AllocError>
 fn one_byte(alloc: Global, sizes: Sizes) -> Result<Vec<Stmt>, AllocError>
     ensures { IfOk result (λ v. seen_block v.items ≡ byte_form sizes.classes sizes.machine) }
 {
-    let is_inside = compare(alloc, Test::Lt, local(PLACE), content(alloc, sizes));
+    let is_inside = compare(alloc, Test::Lt, local(OFFSET), content(alloc, sizes));
     only(alloc, 14, when(alloc, is_inside, step(alloc, sizes)))
 }
 
@@ -171,7 +171,7 @@ fn body(alloc: Global, sizes: Sizes) -> Result<Vec<Stmt>, AllocError>
     let begun = declare(STATE, local(CARRIED));
     let low = block_begin(alloc, sizes);
     let high = block_end(alloc, sizes);
-    let bytes = only(alloc, 13, count(PLACE, low, high, one_byte(alloc, sizes)));
+    let bytes = only(alloc, 13, count(OFFSET, low, high, one_byte(alloc, sizes)));
     on_line(alloc, 11, cleared, on_line(alloc, 12, begun, bytes))
 }
 
@@ -193,12 +193,12 @@ fn blocks(alloc: Global, sizes: Sizes) -> Result<StmtKind, AllocError>
     fold(alloc, rows, BLOCK, count, body(alloc, sizes))
 }
 
-/// Writes a byte of the place.
-fn emit_place(alloc: Global, places: u64) -> Result<StmtKind, AllocError>
-    requires { places < 2 ^ 63 }
-    ensures { IfOk result (λ s. statement s ≡ place_byte_form places) }
+/// Writes a byte of the offset.
+fn emit_offset(alloc: Global, bits: u64) -> Result<StmtKind, AllocError>
+    requires { bits < 2 ^ 63 }
+    ensures { IfOk result (λ s. statement s ≡ offset_byte_form bits) }
 {
-    let shifted = binary(alloc, Op::Shr, local(OUT_PLACE), number(places));
+    let shifted = binary(alloc, Op::Shr, local(OUT_OFFSET), number(bits));
     emit(binary(alloc, Op::And, shifted, number(255)))
 }
 
@@ -206,12 +206,12 @@ fn emit_place(alloc: Global, places: u64) -> Result<StmtKind, AllocError>
 fn token(alloc: Global) -> Result<Vec<Stmt>, AllocError>
     ensures { IfOk result (λ v. seen_block v.items ≡ token_form) }
 {
-    let mark = emit(load(alloc, MARK, local(OUT_PLACE)));
-    let highest = emit(binary(alloc, Op::Shr, local(OUT_PLACE), number(24)));
-    let lowest = emit(binary(alloc, Op::And, local(OUT_PLACE), number(255)));
+    let mark = emit(load(alloc, MARK, local(OUT_OFFSET)));
+    let highest = emit(binary(alloc, Op::Shr, local(OUT_OFFSET), number(24)));
+    let lowest = emit(binary(alloc, Op::And, local(OUT_OFFSET), number(255)));
     let bytes = only(alloc, 28, lowest);
-    let bytes = on_line(alloc, 27, emit_place(alloc, 8), bytes);
-    let bytes = on_line(alloc, 26, emit_place(alloc, 16), bytes);
+    let bytes = on_line(alloc, 27, emit_offset(alloc, 8), bytes);
+    let bytes = on_line(alloc, 26, emit_offset(alloc, 16), bytes);
     on_line(alloc, 24, mark, on_line(alloc, 25, highest, bytes))
 }
 
@@ -219,10 +219,10 @@ fn token(alloc: Global) -> Result<Vec<Stmt>, AllocError>
 fn output(alloc: Global, sizes: Sizes) -> Result<StmtKind, AllocError>
     ensures { IfOk result (λ s. statement s ≡ output_form sizes.machine) }
 {
-    let mark = load(alloc, MARK, local(OUT_PLACE));
+    let mark = load(alloc, MARK, local(OUT_OFFSET));
     let is_token = compare(alloc, Test::Ne, mark, number(0));
     let choice = only(alloc, 23, when(alloc, is_token, token(alloc)));
-    count(OUT_PLACE, number(0), content(alloc, sizes), choice)
+    count(OUT_OFFSET, number(0), content(alloc, sizes), choice)
 }
 
 /// The statements of `main`.

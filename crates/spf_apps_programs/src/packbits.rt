@@ -31,18 +31,18 @@ const BLOCK: u32 = 1;
 
 const LEFT: u32 = 2;
 
-const PLACE: u32 = 3;
+const OFFSET: u32 = 3;
 
 const BYTE: u32 = 4;
 
-const OUT_PLACE: u32 = 5;
+const OUT_OFFSET: u32 = 5;
 
 const OUT_TURN: u32 = 6;
 
 /// The array that says how often each byte of the input is written.
 const TIMES: u32 = 0;
 
-/// The first place of a block: its number times the size.
+/// The first offset of a block: its number times the size.
 fn block_begin(alloc: Global, size: u64) -> Result<Expr, AllocError>
     requires { size ≤ 65536 }
     ensures { IfOk result (λ e. expression e ≡ begin_form size) }
@@ -50,7 +50,7 @@ fn block_begin(alloc: Global, size: u64) -> Result<Expr, AllocError>
     binary(alloc, Op::Mul, number(size), local(BLOCK))
 }
 
-/// The place after a block.
+/// The offset after a block.
 fn block_end(alloc: Global, size: u64) -> Result<Expr, AllocError>
     requires { size ≤ 65536 }
     ensures { IfOk result (λ e. expression e ≡ end_form size) }
@@ -75,7 +75,7 @@ fn header(alloc: Global) -> Result<Vec<Stmt>, AllocError>
 fn copy_byte(alloc: Global) -> Result<Vec<Stmt>, AllocError>
     ensures { IfOk result (λ v. seen_block v.items ≡ copied_form) }
 {
-    let once = store(TIMES, local(PLACE), number(1));
+    let once = store(TIMES, local(OFFSET), number(1));
     let fewer = assign(LEFT, binary(alloc, Op::Sub, local(LEFT), number(1)));
     on_line(alloc, 18, once, only(alloc, 19, fewer))
 }
@@ -85,7 +85,7 @@ fn repeat_byte(alloc: Global) -> Result<Vec<Stmt>, AllocError>
     ensures { IfOk result (λ v. seen_block v.items ≡ repeated_form) }
 {
     let times = binary(alloc, Op::Sub, number(0), local(LEFT));
-    let often = store(TIMES, local(PLACE), times);
+    let often = store(TIMES, local(OFFSET), times);
     on_line(alloc, 21, often, only(alloc, 22, assign(LEFT, number(0))))
 }
 
@@ -105,7 +105,7 @@ fn data_byte(alloc: Global) -> Result<Vec<Stmt>, AllocError>
 fn one_byte(alloc: Global) -> Result<Vec<Stmt>, AllocError>
     ensures { IfOk result (λ v. seen_block v.items ≡ byte_form) }
 {
-    let read = declare(BYTE, input(alloc, local(PLACE)));
+    let read = declare(BYTE, input(alloc, local(OFFSET)));
     let is_header = compare(alloc, Test::Eq, local(LEFT), number(0));
     let packet = choose(is_header, header(alloc), data_byte(alloc));
     on_line(alloc, 8, read, only(alloc, 9, packet))
@@ -116,10 +116,10 @@ fn block_bytes(alloc: Global, size: u64) -> Result<StmtKind, AllocError>
     requires { size ≤ 65536 }
     ensures { IfOk result (λ s. statement s ≡ bytes_form size) }
 {
-    let is_inside = compare(alloc, Test::Lt, local(PLACE), length());
+    let is_inside = compare(alloc, Test::Lt, local(OFFSET), length());
     let byte = only(alloc, 7, when(alloc, is_inside, one_byte(alloc)));
     count(
-        PLACE,
+        OFFSET,
         block_begin(alloc, size),
         block_end(alloc, size),
         byte,
@@ -163,10 +163,10 @@ fn blocks(alloc: Global, size: u64) -> Result<StmtKind, AllocError>
 fn output(alloc: Global) -> Result<StmtKind, AllocError>
     ensures { IfOk result (λ s. statement s ≡ output_form) }
 {
-    let emitted = only(alloc, 31, emit(input(alloc, local(OUT_PLACE))));
-    let times = load(alloc, TIMES, local(OUT_PLACE));
+    let emitted = only(alloc, 31, emit(input(alloc, local(OUT_OFFSET))));
+    let times = load(alloc, TIMES, local(OUT_OFFSET));
     let repeated = only(alloc, 30, count(OUT_TURN, number(0), times, emitted));
-    count(OUT_PLACE, number(0), length(), repeated)
+    count(OUT_OFFSET, number(0), length(), repeated)
 }
 
 /// The statements of `main`.

@@ -7,7 +7,7 @@ use Rattle.spf_ast.specs.Syntax.{Local, Input, Load, Compare, Let, Assign, Store
 use Rattle.spf_print_forms.specs.Canonical.{canonical_text, expression_text, fold_line, array_text, arrays_text, function_text, functions_text, block_text, statement_text}
 use Rattle.spf_apps_programs.specs.Writing.{number, plus, only, blocks_for}
 use Rattle.spf_apps_programs.specs.Huffman as huffman
-use Rattle.spf_apps_programs.specs.Huffman.{with_bit, table, code_bytes, block_begin, bits_begin, bits_end, sym_place, word_end, one_bit, byte_bits, one_byte, body, head, output, huffman_program}
+use Rattle.spf_apps_programs.specs.Huffman.{with_bit, table, code_bytes, block_begin, bits_begin, bits_end, sym_offset, word_end, one_bit, byte_bits, one_byte, body, head, output, huffman_program}
 use Rattle.spf_apps_texts.specs.Texts.{huffman_lines, huffman_text}
 use Rattle.spf_apps_texts.proofs.Lines.{HasLines, part, if_line, for_line, ◌and◌, none, same, HasPieces, ◌then◌, piece, last, operands, between, input_at, ended, zero_written, one_written, eight_written, words_written, array_pieces}
 
@@ -37,8 +37,8 @@ block_count : (size : ℕ) → HasPieces (expression_text (spelled_expression na
 block_count size =
     operands (between (codes "(") (operands count (codes " + ") (piece (decimal (size - 1)))) (codes ")")) (codes " / ") (piece (decimal size))
 
-place_of_bit : (size : ℕ) → HasPieces (expression_text (spelled_expression names (sym_place size))) (decimal (8 * size) ∷ codes " * " ∷ codes "k" ∷ codes " + " ∷ codes "8" ∷ codes " * " ∷ codes "i" ∷ codes " + " ∷ codes "j" ∷ [])
-place_of_bit size =
+offset_of_bit : (size : ℕ) → HasPieces (expression_text (spelled_expression names (sym_offset size))) (decimal (8 * size) ∷ codes " * " ∷ codes "k" ∷ codes " + " ∷ codes "8" ∷ codes " * " ∷ codes "i" ∷ codes " + " ∷ codes "j" ∷ [])
+offset_of_bit size =
     operands (operands (bits_from size) (codes " + ") (operands eight_written (codes " * ") (piece (codes "i")))) (codes " + ") (piece (codes "j"))
 
 -- ---- the arrays, the functions and the table
@@ -92,9 +92,9 @@ whole : (size : ℕ) → HasLines (if_line names (codes "              ") (Compa
 unfolding digits
 whole size = record { are = refl }
 
-kept : (size : ℕ) → HasLines (statement_text (codes "                ") (spelled_statement names (Store 1 (sym_place size) (Load 0 (Local 5))))) (part 52 52 (text_lines size))
+kept : (size : ℕ) → HasLines (statement_text (codes "                ") (spelled_statement names (Store 1 (sym_offset size) (Load 0 (Local 5))))) (part 52 52 (text_lines size))
 kept size =
-    ended (piece (codes "                sym[") then place_of_bit size then piece (codes "] = ") then last (piece (codes "code[h];"))).are (simp append_assoc)
+    ended (piece (codes "                sym[") then offset_of_bit size then piece (codes "] = ") then last (piece (codes "code[h];"))).are (simp append_assoc)
 
 again : (size : ℕ) → HasLines (block_text (codes "                ") (spelled_block names (only 40 (Assign 5 (number 1))))) (part 53 53 (text_lines size))
 unfolding digits
@@ -131,8 +131,8 @@ in_content size =
 
 byte_read : (size : ℕ) → HasLines (statement_text (codes "        ") (spelled_statement names (Let 7 (Input (plus (plus (number 264) (block_begin size)) (Local 6)))))) (part 44 44 (text_lines size))
 byte_read size =
-    let place = operands (operands words_written (codes " + ") (begin size)) (codes " + ") (piece (codes "i")) in
-    ended (piece (codes "        let byte = ") then input_at place then last (piece (codes ";"))).are (simp append_assoc)
+    let offset = operands (operands words_written (codes " + ") (begin size)) (codes " + ") (piece (codes "i")) in
+    ended (piece (codes "        let byte = ") then input_at offset then last (piece (codes ";"))).are (simp append_assoc)
 
 bits_begin_line : (size : ℕ) → HasLines (for_line names (codes "        ") 8 (number 0) (number 8)) (part 45 45 (text_lines size))
 unfolding digits

@@ -37,11 +37,11 @@ block_count : (size machine : ℕ) → HasPieces (expression_text (spelled_expre
 block_count size machine =
     operands (between (codes "(") (operands (count machine) (codes " + ") (piece (decimal (size - 1)))) (codes ")")) (codes " / ") (piece (decimal size))
 
--- the pieces of the place of an entry
-abbrev entry_pieces : (state place : List ℕ) (classes machine : ℕ) → List (List ℕ)
-entry_pieces state place classes machine =
+-- the pieces of the offset of an entry
+abbrev entry_pieces : (state offset : List ℕ) (classes machine : ℕ) → List (List ℕ)
+entry_pieces state offset classes machine =
     codes "262" ∷ codes " + " ∷ codes "2" ∷ codes " * " ∷ codes "(" ∷ state ∷ codes " * " ∷ decimal classes ∷ codes " + "
-    ∷ codes "input" ∷ codes "[" ∷ codes "6" ∷ codes " + " ∷ codes "input" ∷ codes "[" ∷ decimal machine ∷ codes " + " ∷ place
+    ∷ codes "input" ∷ codes "[" ∷ codes "6" ∷ codes " + " ∷ codes "input" ∷ codes "[" ∷ decimal machine ∷ codes " + " ∷ offset
     ∷ codes "]" ∷ codes "]" ∷ codes ")" ∷ []
 
 look_entry : (classes machine : ℕ) → HasPieces (expression_text (spelled_expression look_names (entry_at classes machine 1 2))) (entry_pieces (codes "q") (codes "i") classes machine)
@@ -62,9 +62,9 @@ look_begins : (size classes machine : ℕ) → HasLines (statement_text (codes "
 unfolding digits
 look_begins size classes machine = record { are = refl }
 
-places_begin : (size classes machine : ℕ) → HasLines (for_line look_names (codes "  ") 2 (minus (Local 0) (number 32)) (Local 0)) (part 4 4 (text_lines size classes machine))
+offsets_begin : (size classes machine : ℕ) → HasLines (for_line look_names (codes "  ") 2 (minus (Local 0) (number 32)) (Local 0)) (part 4 4 (text_lines size classes machine))
 unfolding digits
-places_begin size classes machine = record { are = refl }
+offsets_begin size classes machine = record { are = refl }
 
 inside : (size classes machine : ℕ) → HasLines (if_line look_names (codes "    ") (Compare Ge (Local 2) (number 0))) (part 5 5 (text_lines size classes machine))
 unfolding digits
@@ -78,8 +78,8 @@ look : (size classes machine : ℕ) → HasLines (functions_text (spelled 0 (pro
 look size classes machine =
     let ls = text_lines size classes machine in
     let step = inside size classes machine and (look_step size classes machine and none) and same 7 7 ls in
-    let places = places_begin size classes machine and (step and none) and same 8 8 ls in
-    same 2 2 ls and (look_begins size classes machine and (places and none)) and same 9 9 ls and same 10 10 ls and none
+    let offsets = offsets_begin size classes machine and (step and none) and same 8 8 ls in
+    same 2 2 ls and (look_begins size classes machine and (offsets and none)) and same 9 9 ls and same 10 10 ls and none
 
 -- ---- the fold
 
@@ -124,8 +124,8 @@ blocks size classes machine =
 
 -- ---- the output
 
-places_written : (size classes machine : ℕ) → HasLines (for_line names (codes "  ") 5 (number 0) (content machine)) (part 24 24 (text_lines size classes machine))
-places_written size classes machine =
+offsets_written : (size classes machine : ℕ) → HasLines (for_line names (codes "  ") 5 (number 0) (content machine)) (part 24 24 (text_lines size classes machine))
+offsets_written size classes machine =
     ended (piece (codes "  for i in ") then zero_written then piece (codes "..") then count machine then last (piece (codes " {"))).are (simp append_assoc)
 
 token_written : (size classes machine : ℕ) → HasLines (block_text (codes "    ") (spelled_block names (only 23 (If (Compare Ne (Load 0 (Local 5)) (number 0)) token end)))) (part 25 31 (text_lines size classes machine))
@@ -133,7 +133,7 @@ unfolding digits
 token_written size classes machine = record { are = refl }
 
 written : (size classes machine : ℕ) → HasLines (statement_text (codes "  ") (spelled_statement names (output machine))) (part 24 32 (text_lines size classes machine))
-written size classes machine = places_written size classes machine and token_written size classes machine and same 32 32 (text_lines size classes machine)
+written size classes machine = offsets_written size classes machine and token_written size classes machine and same 32 32 (text_lines size classes machine)
 
 pub lexer_is_its_text : (size classes machine : ℕ) → 1 ≤ size → canonical_text (spelled 0 (program_for size classes machine)) ≡ lines (text_lines size classes machine)
 lexer_is_its_text size classes machine h =

@@ -148,10 +148,10 @@ mutual
 
 pub program-keeps : LawfulProgramsAreOrderly
 program-keeps p l = record {
-  functions = λ place. go (slice_get p.functions place) place (l.scoped.functions place);
+  functions = λ index. go (slice_get p.functions index) index (l.scoped.functions index);
   main = block-within _ true _ p.main l.scoped.main;
 }
   where
-    go : (o : Option Function) (place : ℕ) → IfSome o (IsLawfulFunction p place) → FunctionIsOrderly o
-    go None place h = tt
-    go (Some f) place h = (lawful-keeps _ false _ f.body h.body refl, block-within _ false _ f.body h.body)
+    go : (o : Option Function) (index : ℕ) → IfSome o (IsLawfulFunction p index) → FunctionIsOrderly o
+    go None index h = tt
+    go (Some f) index h = (lawful-keeps _ false _ f.body h.body refl, block-within _ false _ f.body h.body)

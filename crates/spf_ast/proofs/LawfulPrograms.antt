@@ -31,9 +31,9 @@ mutual
 
 -- no function of a lawful program emits
 pub functions-silent : (p : Program) → IsScoped p → FunctionsAreSilent p.functions
-functions-silent p h place = go (slice_get p.functions place) (h.functions place)
+functions-silent p h index = go (slice_get p.functions index) (h.functions index)
   where
-    go : (o : Option Function) → IfSome o (IsLawfulFunction p place) → FunctionIsSilent o
+    go : (o : Option Function) → IfSome o (IsLawfulFunction p index) → FunctionIsSilent o
     go None l = tt
     go (Some f) l = block-silent _ _ f.body l.body
 

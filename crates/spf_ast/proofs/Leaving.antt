@@ -255,19 +255,19 @@ function-leaves g calls (Some f) l given =
     own-leaves (own_slots (length f.slots) given) (block_means g f.body >> expression_means g f.answer_line f.answer)
     (leaves-then (block-leaves g calls f.body l) (λ u. expression-leaves g calls f.answer_line f.answer))
 
-call-leaves : (input : List ℕ) (extents : List Extent) (functions : List Function) → FunctionsAreSilent functions → (place f : ℕ) (given : List ℤ) → LeavesOutput (call_before input extents functions place f given)
+call-leaves : (input : List ℕ) (extents : List Extent) (functions : List Function) → FunctionsAreSilent functions → (index f : ℕ) (given : List ℤ) → LeavesOutput (call_before input extents functions index f given)
 call-leaves input extents functions l zero f given = gives-leaves (pos 0)
-call-leaves input extents functions l (suc place) f given =
-    leaves-if (f == place)
+call-leaves input extents functions l (suc index) f given =
+    leaves-if (f == index)
     (function-leaves
-    (record { input = input; extents = extents; callable = callable_before functions place; call = call_before input extents functions place })
-    (record { call = call-leaves input extents functions l place })
-    (slice_get functions place) (l place) given)
-    (call-leaves input extents functions l place f given)
+    (record { input = input; extents = extents; callable = callable_before functions index; call = call_before input extents functions index })
+    (record { call = call-leaves input extents functions l index })
+    (slice_get functions index) (l index) given)
+    (call-leaves input extents functions l index f given)
 
 -- calls leave the output alone where no function holds an `emit`
-pub calls-leave : (input : List ℕ) (extents : List Extent) (functions : List Function) → FunctionsAreSilent functions → (place : ℕ) → CallsLeave (environment_before input extents functions place)
-calls-leave input extents functions l place = record { call = call-leaves input extents functions l place }
+pub calls-leave : (input : List ℕ) (extents : List Extent) (functions : List Function) → FunctionsAreSilent functions → (index : ℕ) → CallsLeave (environment_before input extents functions index)
+calls-leave input extents functions l index = record { call = call-leaves input extents functions l index }
 
 -- ---- parts of constructs
 

@@ -40,12 +40,12 @@ IsBlockRun p construct part s memory events answer = IsPlainRun (part_asks p con
 
 -- what the guess of one part of a row asks of the memory
 abbrev pub guess_asks : Program → Construct → ℕ → List ℕ → List ℤ → ℤ → Interaction (Ending ℤ)
-guess_asks p construct place input slots number =
-    guess_part_means (environment_of p input) construct place number (record { slots = slots; output = [] })
+guess_asks p construct index input slots number =
+    guess_part_means (environment_of p input) construct index number (record { slots = slots; output = [] })
 
 -- What the guess of a part that is an expression comes to for a block number: its value or its trap, from the slots and
 -- the memory at the entry of its construct. No cell is shared: a load gives the entry's word, also after a store. A
 -- predictor that is supplied gives no value here.
 abbrev pub predicts : Program → List ℕ → Construct → List ℤ → List ℤ → ℤ → ℕ → Result ℤ Trap
-predicts p input construct slots memory number place =
-    result_of (unshared_answer (guess_asks p construct place input slots number) memory)
+predicts p input construct slots memory number index =
+    result_of (unshared_answer (guess_asks p construct index input slots number) memory)

@@ -100,10 +100,10 @@ guess_at g line None = gives (pos 0)
 guess_at g line (Some predictor) = guess_means g line predictor
 
 abbrev pub guess_part_means : Environment → Construct → ℕ → ℤ → Meaning ℤ
-guess_part_means g (fold line head body) place number = do
+guess_part_means g (fold line head body) index number = do
   sets head.block number
-  guess_at g line (slice_get head.predict place)
-guess_part_means g (pair line head producer consumer) place number = guess_at g line (slice_get head.predict place)
+  guess_at g line (slice_get head.predict index)
+guess_part_means g (pair line head producer consumer) index number = guess_at g line (slice_get head.predict index)
 
 -- ---- real values
 
@@ -160,10 +160,10 @@ begun_at value (Trapped trap output) others = record { values = value ∷ []; tr
 
 -- a count of blocks from an index on, with block number b and at value v
 abbrev pub blocks_from : Environment → Construct → ℕ → ℕ → ℤ → Carried → Moment → RealValues
-blocks_from g construct place zero b v m = record { values = []; trapped = false }
-blocks_from g construct place (suc count) b v m =
-    begun_at v (plainly (part_means g construct (part_of construct place) b v) m) (λ next state.
-    blocks_from g construct (suc place) count (b +ℤ pos 1) next (moment_after (part_means g construct (part_of construct place) b v) m state))
+blocks_from g construct index zero b v m = record { values = []; trapped = false }
+blocks_from g construct index (suc count) b v m =
+    begun_at v (plainly (part_means g construct (part_of construct index) b v) m) (λ next state.
+    blocks_from g construct (suc index) count (b +ℤ pos 1) next (moment_after (part_means g construct (part_of construct index) b v) m state))
 
 -- a top construct that a run reached, with its header done: the slots and the memory at its entry, the header, and its performed blocks
 pub record Reached : Type 0 where

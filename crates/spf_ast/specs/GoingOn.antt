@@ -44,7 +44,7 @@ FunctionIsOrderly (Some f) = (breaks f.body ≡ false) × BlockIsOrderly f.body
 
 -- each construct of a program has one width, and each `break` ends a loop of the same function, of the same part of a construct, or of `main` outside of constructs
 pub record IsOrderly (p : Program) : Type 0 where
-  pub functions : (place : ℕ) → FunctionIsOrderly (slice_get p.functions place)
+  pub functions : (index : ℕ) → FunctionIsOrderly (slice_get p.functions index)
   pub main : BlockIsOrderly p.main
 
 -- so it is in a lawful program

@@ -1,4 +1,4 @@
--- Lawful programs: every name, array, function and slot has its place, and every slot is used only where its declaration shows it.
+-- Lawful programs: every name, array, function and slot is declared, and every slot is used only where its declaration shows it.
 use Rattle.std.specs.Prelude.{
   ◌≡◌,
   Bool,
@@ -92,17 +92,17 @@ AreDifferent (x ∷ xs) = (Contains xs x → ⊥) × AreDifferent xs
 
 -- ---- scopes
 
--- what a form may name: the version of the language, how many arrays there are, the functions with the place before
+-- what a form may name: the version of the language, how many arrays there are, the functions with the index before
 -- which they may be called, the names of the arrays and functions, and the names of its own slots
 pub record Names : Type 0 where
   pub version : ℕ
   pub arrays : ℕ
   pub functions : List Function
-  pub place : ℕ
+  pub index : ℕ
   pub taken : List (List ℕ)
   pub slots : List (List ℕ)
 
--- at a place of the text: the slots that may be used, those of them that may not be assigned, the slot of the next
+-- at a point of the text: the slots that may be used, those of them that may not be assigned, the slot of the next
 -- declaration, and whether a `break` may stand there: within a loop, and in the same part of the same construct
 pub record Scope : Type 0 where
   pub visible : List ℕ
@@ -153,9 +153,9 @@ abbrev pub showing_each : List ℕ → Scope → Scope
 showing_each [] scope = scope
 showing_each (slot ∷ slots) scope = showing_each slots (behind 1 (showing slot scope))
 
--- a function that stands before this place has `count` parameters
+-- a function that stands before this index has `count` parameters
 abbrev pub IsCallable : Names → ℕ → ℕ → Type 0
-IsCallable names f count = (f < names.place) × IfSome (slice_get names.functions f) (λ function. function.params ≡ count)
+IsCallable names f count = (f < names.index) × IfSome (slice_get names.functions f) (λ function. function.params ≡ count)
 
 -- ---- forms
 
@@ -305,33 +305,33 @@ abbrev mutual
 abbrev pub names_taken : Program → List (List ℕ)
 names_taken p = map (λ (a : Array). a.name) p.arrays ++ map (λ (f : Function). f.name) p.functions
 
--- what the function at this place, or `main` after all of them, may name
+-- what the function at this index, or `main` after all of them, may name
 abbrev pub names_at : Program → ℕ → List (List ℕ) → Names
-names_at p place slots =
-    record { version = p.version; arrays = length p.arrays; functions = p.functions; place = place; taken = names_taken p; slots = slots }
+names_at p index slots =
+    record { version = p.version; arrays = length p.arrays; functions = p.functions; index = index; taken = names_taken p; slots = slots }
 
 -- the scope in which a function's body begins: its parameters may be used, and assigned
 abbrev pub parameters : ℕ → Scope
 parameters count = record { visible = range_with_len 0 count; fixed = []; next = count; in_loop = false }
 
--- the function at this place is lawful
-pub record IsLawfulFunction (p : Program) (place : ℕ) (f : Function) : Type 0 where
+-- the function at this index is lawful
+pub record IsLawfulFunction (p : Program) (index : ℕ) (f : Function) : Type 0 where
   pub names : All IsName f.slots
-  pub parameters_are_new : (slot : ℕ) → slot < f.params → IsNew (names_at p place f.slots) (parameters slot) slot
-  pub body : IsLawfulBlock (names_at p place f.slots) false (parameters f.params) f.body
-  pub answer : IsLawfulExpression (names_at p place f.slots) (scope_at_end (parameters f.params) f.body) f.answer
+  pub parameters_are_new : (slot : ℕ) → slot < f.params → IsNew (names_at p index f.slots) (parameters slot) slot
+  pub body : IsLawfulBlock (names_at p index f.slots) false (parameters f.params) f.body
+  pub answer : IsLawfulExpression (names_at p index f.slots) (scope_at_end (parameters f.params) f.body) f.answer
   pub slots : length f.slots ≡ f.params + declared_in f.body
 
 -- the scope in which `main` begins: nothing is declared
 abbrev pub nothing_declared : Scope
 nothing_declared = parameters 0
 
--- every name, array, function and slot of a program has its place, and is used only where its declaration shows it
+-- every name, array, function and slot of a program is declared, and is used only where its declaration shows it
 pub record IsScoped (p : Program) : Type 0 where
   pub taken_are_names : All IsName (names_taken p)
   pub taken_are_different : AreDifferent (names_taken p)
   pub sizes : All (λ (a : Array). IsNumber a.factor × IsNumber a.offset) p.arrays
-  pub functions : (place : ℕ) → IfSome (slice_get p.functions place) (IsLawfulFunction p place)
+  pub functions : (index : ℕ) → IfSome (slice_get p.functions index) (IsLawfulFunction p index)
   pub slots_are_names : All IsName p.slots
   pub main : IsLawfulBlock (names_at p (length p.functions) p.slots) true nothing_declared p.main
   pub slots : length p.slots ≡ declared_in p.main

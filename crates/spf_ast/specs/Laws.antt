@@ -51,8 +51,8 @@ pub record HasOneUnsharedAnswer {A : Type 0} (tree : Interaction A) (memory : Li
 
 -- the guess of each part of a row, for each block number
 abbrev pub GuessesHaveOneAnswer : Type 0
-GuessesHaveOneAnswer = (p : Program) (construct : Construct) (place : ℕ) (input : List ℕ) (slots : List ℤ) (number : ℤ) (memory : List ℤ)
-    → HasOneUnsharedAnswer (guess_asks p construct place input slots number) memory
+GuessesHaveOneAnswer = (p : Program) (construct : Construct) (index : ℕ) (input : List ℕ) (slots : List ℤ) (number : ℤ) (memory : List ℤ)
+    → HasOneUnsharedAnswer (guess_asks p construct index input slots number) memory
 
 -- ---- lawful programs
 
@@ -69,12 +69,12 @@ LawfulProgramsHaveFewConstructs = (p : Program) → IsLawful p → length (const
 -- where no function holds an `emit`, each part that holds none leaves the output alone
 abbrev pub SilentPartsLeaveTheOutput : Type 0
 SilentPartsLeaveTheOutput =
-    (input : List ℕ) (extents : List Extent) (functions : List Function) (place : ℕ) → FunctionsAreSilent functions
+    (input : List ℕ) (extents : List Extent) (functions : List Function) (index : ℕ) → FunctionsAreSilent functions
     → (construct : Construct) (part : Part) → PartIsSilent construct part → (number : ℤ) (carried : Carried)
-    → LeavesOutput (part_means (environment_before input extents functions place) construct part number carried)
+    → LeavesOutput (part_means (environment_before input extents functions index) construct part number carried)
 
 -- and so does each header
 abbrev pub HeadersLeaveTheOutput : Type 0
 HeadersLeaveTheOutput =
-    (input : List ℕ) (extents : List Extent) (functions : List Function) (place : ℕ) → FunctionsAreSilent functions
-    → (construct : Construct) → LeavesOutput (header_means (environment_before input extents functions place) construct)
+    (input : List ℕ) (extents : List Extent) (functions : List Function) (index : ℕ) → FunctionsAreSilent functions
+    → (construct : Construct) → LeavesOutput (header_means (environment_before input extents functions index) construct)

@@ -308,22 +308,22 @@ abbrev pub holds_arguments : Option Function → ℕ → Bool
 holds_arguments None count = false
 holds_arguments (Some f) count = nat_le count (length f.slots)
 
--- only functions that stand before this place may be called
+-- only functions that stand before this index may be called
 abbrev pub callable_before : List Function → ℕ → ℕ → ℕ → Bool
-callable_before functions place f count = nat_lt f place && holds_arguments (slice_get functions f) count
+callable_before functions index f count = nat_lt f index && holds_arguments (slice_get functions f) count
 
--- what calls of the functions before a place mean; each of them calls only functions before its own place
+-- what calls of the functions before an index mean; each of them calls only functions before its own index
 abbrev pub call_before : List ℕ → List Extent → List Function → ℕ → ℕ → List ℤ → Meaning ℤ
 call_before input extents functions zero f given = gives (pos 0)
-call_before input extents functions (suc place) f given =
-    if f == place then
+call_before input extents functions (suc index) f given =
+    if f == index then
     function_means
-    (record { input = input; extents = extents; callable = callable_before functions place; call = call_before input extents functions place })
-    (slice_get functions place)
+    (record { input = input; extents = extents; callable = callable_before functions index; call = call_before input extents functions index })
+    (slice_get functions index)
     given
-    else call_before input extents functions place f given
+    else call_before input extents functions index f given
 
--- the environment in which the functions before a place may be called
+-- the environment in which the functions before an index may be called
 abbrev pub environment_before : List ℕ → List Extent → List Function → ℕ → Environment
-environment_before input extents functions place =
-    record { input = input; extents = extents; callable = callable_before functions place; call = call_before input extents functions place }
+environment_before input extents functions index =
+    record { input = input; extents = extents; callable = callable_before functions index; call = call_before input extents functions index }

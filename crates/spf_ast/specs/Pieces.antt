@@ -3,11 +3,11 @@ use Rattle.std.specs.Prelude.{ℕ, zero, suc, if◌then◌else◌, Option, None}
 use Rattle.spf_ast.specs.Syntax.{Block, end, on_line}
 use Rattle.spf_ast.specs.Construct.{Construct, construct_of, is_construct}
 
--- the statements from a place on
+-- the statements from an index on
 abbrev pub rest_from : ℕ → Block → Block
 rest_from zero block = block
-rest_from (suc place) end = end
-rest_from (suc place) (on_line line first rest) = rest_from place rest
+rest_from (suc index) end = end
+rest_from (suc index) (on_line line first rest) = rest_from index rest
 
 -- how many statements a block has
 abbrev pub statement_count : Block → ℕ

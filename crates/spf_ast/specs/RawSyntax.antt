@@ -1,4 +1,4 @@
--- Programs as they are written, as plain data: names in place of the numbers of arrays, functions and slots.
+-- Programs as they are written, as plain data: names instead of the numbers of arrays, functions and slots.
 use Rattle.std.specs.Prelude.{ℕ, List, [], ◌∷◌, ℤ}
 use Rattle.spf_ast.specs.declared.syntax.Op.{Op}
 use Rattle.spf_ast.specs.declared.syntax.Test.{Test}

@@ -17,7 +17,7 @@ FunctionIsSilent (Some f) = BlockIsSilent f.body
 
 -- no function holds one
 abbrev pub FunctionsAreSilent : List Function → Type 0
-FunctionsAreSilent functions = (place : ℕ) → FunctionIsSilent (slice_get functions place)
+FunctionsAreSilent functions = (index : ℕ) → FunctionIsSilent (slice_get functions index)
 
 -- a part of a construct holds none; its last expression and a guess hold none anyway
 abbrev pub PartIsSilent : Construct → Part → Type 0

@@ -119,12 +119,12 @@ abbrev mutual
 
 -- ---- functions
 
--- what functions count by their number: each of those before a place is measured, given what the functions before it count
+-- what functions count by their number: each of those before an index is measured, given what the functions before it count
 abbrev pub counted_before : List Function → ((ℕ → ℕ) → Function → ℕ) → ℕ → ℕ → ℕ
 counted_before functions measure zero f = 0
-counted_before functions measure (suc place) f =
-    if f == place then counted (measure (counted_before functions measure place)) (slice_get functions place)
-    else counted_before functions measure place f
+counted_before functions measure (suc index) f =
+    if f == index then counted (measure (counted_before functions measure index)) (slice_get functions index)
+    else counted_before functions measure index f
   where
     counted : (Function → ℕ) → Option Function → ℕ
     counted of_function None = 0

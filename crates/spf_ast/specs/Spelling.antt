@@ -1,4 +1,4 @@
--- How programs are written: with names in place of the numbers of arrays, functions and slots.
+-- How programs are written: with names instead of the numbers of arrays, functions and slots.
 use Rattle.std.specs.Prelude.{◌≡◌, ◌⊎◌, Bool, true, false, ◌||◌, ℕ, suc, ◌<◌, ◌^◌, List, [], length, map, take, slice_index_or, pos}
 use Rattle.std.specs.List.{All}
 use Rattle.spf_ast.specs.Syntax as s
@@ -35,9 +35,9 @@ pub record Vocabulary : Type 0 where
   pub functions : List (List ℕ)
   pub slots : List (List ℕ)
 
--- the name at a place; at none, no bytes
+-- the name at an index; at none, no bytes
 abbrev pub name_at : List (List ℕ) → ℕ → List ℕ
-name_at names place = slice_index_or names place []
+name_at names index = slice_index_or names index []
 
 abbrev mutual
   -- an expression, written

@@ -1,4 +1,4 @@
-//! Programs as they are written: with names in place of the numbers of arrays, functions and slots.
+//! Programs as they are written: with names instead of the numbers of arrays, functions and slots.
 
 use crate::syntax::{Array, Name, Op, Test};
 

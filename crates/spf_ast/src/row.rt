@@ -81,12 +81,12 @@ impl Row {
         self.width
     }
 
-    /// Returns the word at a place.
-    pub fn part(&self, place: u32) -> i64
-        requires { place < length self.now }
-        ensures { result ≡ slice_index_or self.now place (pos 0) }
+    /// Returns the word at an index.
+    pub fn part(&self, index: u32) -> i64
+        requires { index < length self.now }
+        ensures { result ≡ slice_index_or self.now index (pos 0) }
     {
-        self.parts[place as usize]
+        self.parts[index as usize]
     }
 
     /// Returns the words.

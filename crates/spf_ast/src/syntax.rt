@@ -1,4 +1,4 @@
-//! Resolved programs: arrays, functions and slots go by their places in their lists.
+//! Resolved programs: arrays, functions and slots go by their indices in their lists.
 
 /// A name of the text, as its bytes.
 #[derive(Drop)]

@@ -186,26 +186,26 @@ block-more outer entry v next others chain later (Trapped u p) (Trapped t q) x y
     record { ends = (e.0, e.1); same_memory = same; values = refl; trapped = refl }
 
 fold-blocks : (g : Environment) → CallsSee g → CallsKeep g → PartsLeave g → (names : Names) (scope : Scope) → AreDeclared scope → (line : ℕ) (head : FoldHead) (body : Block) → IsLawfulStatement names true scope (Fold head body) → IsSelfContained scope.visible (fold line head body)
-    → (entry : State) (place count : ℕ) (b : ℤ) (v : Carried) (s : State) → LookAlike scope.visible s entry → (m : List ℤ)
+    → (entry : State) (index count : ℕ) (b : ℤ) (v : Carried) (s : State) → LookAlike scope.visible s entry → (m : List ℤ)
     → BlocksCame scope.visible entry
     (plain_answer (fold_blocks count b head.block head.carried v (block_means g body >> arguments_mean g head.next_line head.next) s) m)
     (plain_memory (fold_blocks count b head.block head.carried v (block_means g body >> arguments_mean g head.next_line head.next) s) m)
-    (blocks_from g (fold line head body) place count b v (record { state = s; memory = m }))
-    (chained g (fold line head body) entry.slots place count b v m)
-fold-blocks g see keep leave names scope d line head body l own entry place zero b v s h m =
+    (blocks_from g (fold line head body) index count b v (record { state = s; memory = m }))
+    (chained g (fold line head body) entry.slots index count b v m)
+fold-blocks g see keep leave names scope d line head body l own entry index zero b v s h m =
     record { ends = (refl, h); same_memory = refl; values = refl; trapped = refl }
-fold-blocks g see keep leave names scope d line head body l own entry place (suc count) b v s h m =
+fold-blocks g see keep leave names scope d line head body l own entry index (suc count) b v s h m =
     let value : Meaning Carried = block_means g body >> arguments_mean g head.next_line head.next in
     let later : Carried → Meaning Carried = λ next. fold_blocks count (b +ℤ pos 1) head.block head.carried next value in
     let form : Meaning Carried = part_means g (fold line head body) Body b v in
     let ran = one-block scope.visible (LookAlike scope.visible) form (leave (fold line head body) Body own.1 b v) (body-sees g see names scope line head body l b v) (body-keeps g keep names scope d line head body l own b v) s entry h m in
     let more = block-more scope.visible entry v later
-    (λ w t x. blocks_from g (fold line head body) (suc place) count (b +ℤ pos 1) w (record { state = t; memory = x }))
-    (λ w x. chained g (fold line head body) entry.slots (suc place) count (b +ℤ pos 1) w x)
-    (λ w t k x. fold-blocks g see keep leave names scope d line head body l own entry (suc place) count (b +ℤ pos 1) w t k x)
+    (λ w t x. blocks_from g (fold line head body) (suc index) count (b +ℤ pos 1) w (record { state = t; memory = x }))
+    (λ w x. chained g (fold line head body) entry.slots (suc index) count (b +ℤ pos 1) w x)
+    (λ w t k x. fold-blocks g see keep leave names scope d line head body l own entry (suc index) count (b +ℤ pos 1) w t k x)
     (plain_answer (form s) m) _ (plain_memory (form s) m) _ ran.ends ran.memory in
     record {
-      ends = subst (IsChainEnd scope.visible entry (chained g (fold line head body) entry.slots place (suc count) b v m).result)
+      ends = subst (IsChainEnd scope.visible entry (chained g (fold line head body) entry.slots index (suc count) b v m).result)
           (sym (answer-bind (form s) (after_ending later) m)) more.ends;
       same_memory = memory-bind (form s) (after_ending later) m ∙ more.same_memory;
       values = more.values;

@@ -32,18 +32,18 @@ function-sees visible R v g (Some f) given =
     own-sees visible R v (own_slots (length f.slots) given) (block_means g f.body >> expression_means g f.answer_line f.answer)
 
 -- nor does a call of one of them
-pub call-sees : (visible : List ℕ) (R : Relation) → IsView visible R → (input : List ℕ) (extents : List Extent) (functions : List Function) (place f : ℕ) (given : List ℤ) → Sees R R (call_before input extents functions place f given)
+pub call-sees : (visible : List ℕ) (R : Relation) → IsView visible R → (input : List ℕ) (extents : List Extent) (functions : List Function) (index f : ℕ) (given : List ℤ) → Sees R R (call_before input extents functions index f given)
 call-sees visible R v input extents functions zero f given = gives-sees (pos 0)
-call-sees visible R v input extents functions (suc place) f given =
-    sees-if (f == place)
+call-sees visible R v input extents functions (suc index) f given =
+    sees-if (f == index)
     (function-sees visible R v
-    (record { input = input; extents = extents; callable = callable_before functions place; call = call_before input extents functions place })
-    (slice_get functions place) given)
-    (call-sees visible R v input extents functions place f given)
+    (record { input = input; extents = extents; callable = callable_before functions index; call = call_before input extents functions index })
+    (slice_get functions index) given)
+    (call-sees visible R v input extents functions index f given)
 
 -- the calls of any functions see no slots
-pub calls-see : (input : List ℕ) (extents : List Extent) (functions : List Function) (place : ℕ) → CallsSee (environment_before input extents functions place)
-calls-see input extents functions place = record { call = λ visible R v f given. call-sees visible R v input extents functions place f given }
+pub calls-see : (input : List ℕ) (extents : List Extent) (functions : List Function) (index : ℕ) → CallsSee (environment_before input extents functions index)
+calls-see input extents functions index = record { call = λ visible R v f given. call-sees visible R v input extents functions index f given }
 
 -- ---- expressions and conditions
 

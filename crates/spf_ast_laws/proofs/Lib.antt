@@ -7,4 +7,4 @@ pub mod Keeping
 pub mod Chains
 pub mod SelfContained
 pub mod Parts
-pub mod Places
+pub mod Indices

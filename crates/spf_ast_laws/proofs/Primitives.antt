@@ -63,7 +63,7 @@ sees-then {A} {B} {Before} {Between} {After} {first} {next} f n = record {
     step (Trapped x o) (Value b t) h = elim h [ ]
     step (Trapped x o) (Trapped y p) h = h
 
--- the same with a statement in the second place
+-- the same with a statement in the second index
 pub sees-before : {A : Type 0} {Before Between After Out : Relation} {first : Meaning A} {next : A → Meaning Flow} → Sees Before Between first → ((a : A) → SeesLeft Between After Out (next a)) → SeesLeft Before After Out (first >>= next)
 sees-before {A} {Before} {Between} {After} {Out} {first} {next} f n = record {
   alike = λ one other h. bind-alike (EndAlike Between) (LeftAlike After Out) (after_ending next) (after_ending next) step (first one) (first other) (f.alike one other h);

@@ -66,7 +66,7 @@ set_same (x ∷ xs) [] slot v l = absurd (omega (arith, l))
 set_same (x ∷ xs) (y ∷ ys) zero v l = refl
 set_same (x ∷ xs) (y ∷ ys) (suc slot) v l = set_same xs ys slot v (omega (arith, l))
 
--- lists that agree at a place still do when the same word is set in both
+-- lists that agree at an index still do when the same word is set in both
 set_kept : (xs ys : List ℤ) (slot : ℕ) (v : ℤ) (k : ℕ) → length xs ≡ length ys → slice_get xs k ≡ slice_get ys k → slice_get (slice_set xs slot v) k ≡ slice_get (slice_set ys slot v) k
 set_kept [] [] slot v k l e = refl
 set_kept [] (y ∷ ys) slot v k l e = absurd (omega (arith, l))
@@ -104,7 +104,7 @@ look_row visible (slot ∷ slots) row one other h =
     look_narrower (slot ∷ (slots ++ visible)) (slots ++ (slot ∷ visible)) _ _ (within_midst slot slots visible)
     (look_row (slot ∷ visible) slots (drop 1 row) first second (look_set visible one other slot word h))
 
--- lists that agree at a place have the same word there
+-- lists that agree at an index have the same word there
 pub same_read : (xs ys : List ℤ) (slot : ℕ) → slice_get xs slot ≡ slice_get ys slot → slice_index_or xs slot (pos 0) ≡ slice_index_or ys slot (pos 0)
 same_read xs ys slot e =
     sym (unwrap_or-slice_get xs slot (pos 0)) ∙ ap (λ found. unwrap_or found (pos 0)) e ∙ unwrap_or-slice_get ys slot (pos 0)

@@ -77,37 +77,37 @@ RelatesLeft Before After Out form =
 abbrev pub ExpressionsSeeVisibleSlots : Type 0
 ExpressionsSeeVisibleSlots =
     (names : Names) (scope : Scope) (e : Expression) → IsLawfulExpression names scope e
-    → (input : List ℕ) (extents : List Extent) (functions : List Function) (place line : ℕ)
-    → Relates (Agree scope.visible) (Agree scope.visible) (expression_means (environment_before input extents functions place) line e)
+    → (input : List ℕ) (extents : List Extent) (functions : List Function) (index line : ℕ)
+    → Relates (Agree scope.visible) (Agree scope.visible) (expression_means (environment_before input extents functions index) line e)
 
 -- each lawful condition
 abbrev pub ConditionsSeeVisibleSlots : Type 0
 ConditionsSeeVisibleSlots =
     (names : Names) (scope : Scope) (c : Condition) → IsLawfulCondition names scope c
-    → (input : List ℕ) (extents : List Extent) (functions : List Function) (place line : ℕ)
-    → Relates (Agree scope.visible) (Agree scope.visible) (condition_means (environment_before input extents functions place) line c)
+    → (input : List ℕ) (extents : List Extent) (functions : List Function) (index line : ℕ)
+    → Relates (Agree scope.visible) (Agree scope.visible) (condition_means (environment_before input extents functions index) line c)
 
 -- each lawful statement, which may make further slots visible; where it breaks off, those that were visible before it are
 abbrev pub StatementsSeeVisibleSlots : Type 0
 StatementsSeeVisibleSlots =
     (names : Names) (in_main : Bool) (scope : Scope) (s : Statement) → IsLawfulStatement names in_main scope s
-    → (input : List ℕ) (extents : List Extent) (functions : List Function) (place line : ℕ)
-    → RelatesLeft (LookAlike scope.visible) (LookAlike (scope_after scope s).visible) (LookAlike scope.visible) (statement_means (environment_before input extents functions place) line s)
+    → (input : List ℕ) (extents : List Extent) (functions : List Function) (index line : ℕ)
+    → RelatesLeft (LookAlike scope.visible) (LookAlike (scope_after scope s).visible) (LookAlike scope.visible) (statement_means (environment_before input extents functions index) line s)
 
 -- each lawful block, so each body and each whole `main`
 abbrev pub BlocksSeeVisibleSlots : Type 0
 BlocksSeeVisibleSlots =
     (names : Names) (in_main : Bool) (scope : Scope) (block : Block) → IsLawfulBlock names in_main scope block
-    → (input : List ℕ) (extents : List Extent) (functions : List Function) (place : ℕ)
+    → (input : List ℕ) (extents : List Extent) (functions : List Function) (index : ℕ)
     → RelatesLeft (LookAlike scope.visible) (LookAlike (scope_at_end scope block).visible) (LookAlike scope.visible)
-    (block_means (environment_before input extents functions place) block)
+    (block_means (environment_before input extents functions index) block)
 
 -- the statements of `main`, from a lawful block on that isn't in a loop
 abbrev pub MainSeesVisibleSlots : Type 0
 MainSeesVisibleSlots =
     (names : Names) (scope : Scope) (block : Block) → IsLawfulBlock names true scope block → scope.in_loop ≡ false
-    → (input : List ℕ) (extents : List Extent) (functions : List Function) (place : ℕ)
-    → Relates (LookAlike scope.visible) (LookAlike (scope_at_end scope block).visible) (main_means (environment_before input extents functions place) block)
+    → (input : List ℕ) (extents : List Extent) (functions : List Function) (index : ℕ)
+    → Relates (LookAlike scope.visible) (LookAlike (scope_at_end scope block).visible) (main_means (environment_before input extents functions index) block)
 
 -- ---- constructs
 
@@ -116,16 +116,16 @@ abbrev pub PartsSeeVisibleSlots : Type 0
 PartsSeeVisibleSlots =
     (names : Names) (scope : Scope) (line : ℕ) (s : Statement) (construct : Construct)
     → construct_of line s ≡ Some construct → IsLawfulStatement names true scope s
-    → (input : List ℕ) (extents : List Extent) (functions : List Function) (place : ℕ) (part : Part) (number : ℤ) (carried : Carried)
-    → Relates (LookAlike scope.visible) (LookAlike scope.visible) (part_means (environment_before input extents functions place) construct part number carried)
+    → (input : List ℕ) (extents : List Extent) (functions : List Function) (index : ℕ) (part : Part) (number : ℤ) (carried : Carried)
+    → Relates (LookAlike scope.visible) (LookAlike scope.visible) (part_means (environment_before input extents functions index) construct part number carried)
 
 -- the header of each lawful construct of `main`
 abbrev pub HeadersSeeVisibleSlots : Type 0
 HeadersSeeVisibleSlots =
     (names : Names) (scope : Scope) (line : ℕ) (s : Statement) (construct : Construct)
     → construct_of line s ≡ Some construct → IsLawfulStatement names true scope s
-    → (input : List ℕ) (extents : List Extent) (functions : List Function) (place : ℕ)
-    → Relates (LookAlike scope.visible) (LookAlike scope.visible) (header_means (environment_before input extents functions place) construct)
+    → (input : List ℕ) (extents : List Extent) (functions : List Function) (index : ℕ)
+    → Relates (LookAlike scope.visible) (LookAlike scope.visible) (header_means (environment_before input extents functions index) construct)
 
 -- ---- what a part declares itself
 

@@ -73,11 +73,11 @@ abbrev pub ConstructsAreTheirBlocks : Type 0
 ConstructsAreTheirBlocks =
     (names : Names) (scope : Scope) (line : ℕ) (s : Statement) (construct : Construct)
     → construct_of line s ≡ Some construct → IsLawfulStatement names true scope s → AreDeclared scope → IsSelfContained scope.visible construct
-    → (input : List ℕ) (extents : List Extent) (functions : List Function) → FunctionsAreSilent functions → (place : ℕ)
+    → (input : List ℕ) (extents : List Extent) (functions : List Function) → FunctionsAreSilent functions → (index : ℕ)
     → (m : Moment) (header : Header) (after entry : State)
-    → plainly (header_means (environment_before input extents functions place) construct) m ≡ Value header after
+    → plainly (header_means (environment_before input extents functions index) construct) m ≡ Value header after
     → LookAlike scope.visible after entry
-    → IsItsBlocks (environment_before input extents functions place) scope.visible line s construct m header after entry
+    → IsItsBlocks (environment_before input extents functions index) scope.visible line s construct m header after entry
 
 -- a construct whose header traps ends with that trap
 abbrev pub HeadersTrap : Type 0

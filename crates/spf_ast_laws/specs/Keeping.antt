@@ -34,7 +34,7 @@ ConstructsAreSelfContained =
     → ((part : Part) → assigns_outer (statements_of construct part) ≡ false) → ((part : Part) → PartIsSilent construct part)
     → IsSelfContained scope.visible construct
 
--- the construct is a lawful statement at a place of `main`, whose visible slots were declared before
+-- the construct is a lawful statement at an index of `main`, whose visible slots were declared before
 pub record StandsInMain (p : Program) (construct : Construct) : Type 0 where
   pub scope : Scope
   pub line : ℕ

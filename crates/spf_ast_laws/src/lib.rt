@@ -25,11 +25,11 @@ pub fn each_form_sees_visible_slots_alone()
     ensures headers { HeadersSeeVisibleSlots }
 {}
 
-/// Each top construct of a lawful program stands at a place of `main` whose visible slots were
+/// Each top construct of a lawful program stands at an index of `main` whose visible slots were
 /// declared before it. So its parts find their own slots undeclared: what was in them before makes
 /// no difference to what a part does.
 pub fn each_part_declares_its_slots_anew()
-    ensures places { ConstructsStandInMain }
+    ensures constructs { ConstructsStandInMain }
     ensures parts { PartsDeclareAnew }
 {
     each_form_sees_visible_slots_alone();

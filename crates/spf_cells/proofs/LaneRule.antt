@@ -31,15 +31,15 @@ others n words words' logs owner warden j b id log' Spent mine other flags h = t
 others n words words' logs owner warden j b id log' (Lane c l) mine other flags h =
     let ne : c ≢ b = λ e. other (sym h.1 ∙ (ap owner e ∙ mine)) in (h.0, h.1, put_else logs b log' c ne ∙ h.2)
 others n words words' logs owner warden j b id log' (Warden p) mine other flags h =
-    let ne : (c : ℕ) → owner c ≡ j → c ≢ b = λ c o e. other (sym o ∙ (ap owner e ∙ mine)) in (
-      h.0,
-      h.1,
-      (λ c l. flags c l ∙ h.2 c l),
-      (λ i t at. let o = h.3 i t at in (o.0, put_else logs b log' t.block (ne t.block o.0) ∙ o.1)),
-      h.4,
-      h.5,
-      (λ c m. let o = h.6 c m in (o.0, put_else logs b log' c (ne c o.0) ∙ o.1)),
-    )
+    let ne : (c : ℕ) → owner c ≡ j → c ≢ b = λ c o e. other (sym o ∙ (ap owner e ∙ mine)) in record {
+      one = h.one;
+      count = h.count;
+      flags = (λ c l. flags c l ∙ h.flags c l);
+      taken = (λ i t at. let o = h.taken i t at in (o.0, put_else logs b log' t.block (ne t.block o.0) ∙ o.1));
+      once = h.once;
+      handed_out = h.handed_out;
+      kept = (λ c m. let o = h.kept c m in (o.0, put_else logs b log' c (ne c o.0) ∙ o.1));
+    }
 
 -- the lane of block b gets the log log', and the words become words'
 lane_step : (k : Setting) (s : State ℕ View) (r : IsConsistentTable k s) (id b : ℕ) (log log' : List LogEntry) (words' : List ℕ)

@@ -51,7 +51,15 @@ opens k apart fits =
       flags = λ b l. subst (λ (x : ℕ). (x ≤ 1) × (0 < x → Contains k.raisable b)) (sym (flag b l)) (omega arith, λ h. absurd (omega arith));
       settings = λ j v at. subst (λ (x : View). HasSetting k x.setting x.role) (alone (first k) v j at).1 refl;
       seats = λ j v at. subst (λ (x : ℕ × View). Knows n (zeros ++ rest) (λ _. []) (λ _. 0) 0 x.0 x.1.role) (λ t. (sym (alone (first k) v j at).0 t, (alone (first k) v j at).1 t))
-          (refl, length-replicate n 0, (λ b l. flag b l ∙ sym (get_or-replicate n b 0 0 l)), (λ i t e. absurd (some-ne-none t (sym e))), (λ i j t u e f s. absurd (some-ne-none t (sym e))), (λ i t e. absurd (some-ne-none t (sym e))), (λ b h. (refl, refl)));
+          (record {
+            one = refl;
+            count = length-replicate n 0;
+            flags = λ b l. flag b l ∙ sym (get_or-replicate n b 0 0 l);
+            taken = λ i t e. absurd (some-ne-none t (sym e));
+            once = λ i j t u e f s. absurd (some-ne-none t (sym e));
+            handed_out = λ i t e. absurd (some-ne-none t (sym e));
+            kept = λ b h. (refl, refl);
+          });
     }
 
 pub new_warden_ok : (a : Inside) (k : Setting) → a.seat.me ≡ (first k, []) → a.seat.table_id.words ≡ length k.plan + length (cells_with_blocks k.plan) → a.seat.table_id.words < 2 ^ 63 → IsWarden a

@@ -13,7 +13,7 @@ use Rattle.spf_region.specs.declared.span.Span.{Span}
 use Rattle.spf_cells.specs.declared.segment.Segment.{Segment}
 use Rattle.spf_cells.specs.Spans.{consecutive, cells_of, cells_of_plan, IsDisjointWithin}
 use Rattle.spf_cells.specs.declared.view.Setting.{Setting}
-use Rattle.spf_cells.specs.Finish.{StandFrom}
+use Rattle.spf_cells.specs.Finish.{HaveWordsFrom}
 use Rattle.spf_cells.specs.Segments.{HasNoCellTwice, Holds, AreSegmentsOf, IsSearchable, first_word}
 use Rattle.spf_cells.proofs.Spans.{below, at_left, at_right, at_append, consecutive_has, consecutive_at, length-consecutive, cells_split, cells_snoc}
 use Rattle.spf_cells.proofs.Plans.{pair_at, pair_once}
@@ -176,7 +176,7 @@ module _ (k : Setting) (b : ℕ) (ss : List Segment) (are : AreSegmentsOf ss (ce
       let word = l.1 in omega arith
 
   -- the words of its cells are those of the block
-  pub segment_stands : b < length k.plan → StandFrom k b s.word (consecutive s.span.from (s.span.to - s.span.from))
+  pub segment_stands : b < length k.plan → HaveWordsFrom k b s.word (consecutive s.span.from (s.span.to - s.span.from))
   segment_stands room j c at =
       let from : ℕ = s.span.from in
       let n : ℕ = s.span.to - from in

@@ -7,7 +7,7 @@ use Rattle.spf_cells.specs.declared.view.Setting.{Setting}
 use Rattle.spf_cells.specs.declared.view.TakenLane.{TakenLane}
 use Rattle.spf_cells.specs.Spans.{consecutive, cells_of, cells_of_plan, IsDisjointWithin}
 use Rattle.spf_cells.specs.Values.{LaneValue, CellsValue, content_at, spans_of, IsLaneOf}
-use Rattle.spf_cells.specs.Finish.{write_back, write_back_all, StandFrom, AreAllLanes, taken_as}
+use Rattle.spf_cells.specs.Finish.{write_back, write_back_all, HaveWordsFrom, AreAllLanes, taken_as}
 use Rattle.spf_cells.proofs.Spans.{consecutive_at, cells_snoc, consecutive_there, at_right}
 use Rattle.spf_cells.proofs.Plans.{pair_inside, consecutive-snoc, pair_at}
 
@@ -30,8 +30,8 @@ write_back-consecutive f from cell m low =
     ap (λ k. set (write_back f (consecutive from (cell - from)) m) k (f k)) (sym g) ∙ (sym (write_back-append f (consecutive from (cell - from)) ((from + (cell - from)) ∷ []) m) ∙ ap (λ l. write_back f l m) (sym (consecutive-snoc from (cell - from)) ∙ ap (consecutive from) (sym e)))
 
 -- the cells of one span stand where the block's cells do
-pub stand_part : (k : Setting) (b n : ℕ) (ss : List Span) (i : ℕ) (d : Span) → i < length ss → StandFrom k b n (cells_of ss)
-    → StandFrom k b (n + length (cells_of (take i ss))) (consecutive (get_or ss i d).from ((get_or ss i d).to - (get_or ss i d).from))
+pub stand_part : (k : Setting) (b n : ℕ) (ss : List Span) (i : ℕ) (d : Span) → i < length ss → HaveWordsFrom k b n (cells_of ss)
+    → HaveWordsFrom k b (n + length (cells_of (take i ss))) (consecutive (get_or ss i d).from ((get_or ss i d).to - (get_or ss i d).from))
 stand_part k b n ss i d h stand j c at =
     let front : List ℕ = cells_of (take i ss) in
     let mine : List ℕ = consecutive (get_or ss i d).from ((get_or ss i d).to - (get_or ss i d).from) in

@@ -27,9 +27,10 @@ taken_as l = record { block = l.block; log = l.log }
 abbrev pub HasTaken : WardenValue → LaneValue → Type 0
 HasTaken w l = (j : ℕ) × (get_elem? w.view.taken j ≡ some (taken_as l))
 
--- these cells of block b have the words from n on
-abbrev pub StandFrom : Setting → ℕ → ℕ → List ℕ → Type 0
-StandFrom k b n cs = (j c : ℕ) → get_elem? cs j ≡ some c → (i : ℕ) × (n + j ≡ length k.plan + i) × (get_elem? (cells_with_blocks k.plan) i ≡ some (b, c))
+-- The table has one word for each block's flag, then one for each cell of each block, block by block. These cells of
+-- block b have its words from n on.
+abbrev pub HaveWordsFrom : Setting → ℕ → ℕ → List ℕ → Type 0
+HaveWordsFrom k b n cs = (j c : ℕ) → get_elem? cs j ≡ some c → (i : ℕ) × (n + j ≡ length k.plan + i) × (get_elem? (cells_with_blocks k.plan) i ≡ some (b, c))
 
 -- these are the cells' lanes, one for each block in order
 abbrev pub AreAllLanes : CellsValue → List LaneValue → Type 0

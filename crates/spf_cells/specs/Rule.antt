@@ -6,6 +6,7 @@ use mir.Syntax.{w64}
 use mathlib.Core.Option.{some}
 use lib.ListN.{get_elem?}
 use Rattle.atomic_table.specs.Table.{State, Me, Step}
+use Rattle.spf_cells.specs.declared.view.WardenView.{WardenView}
 use Rattle.spf_cells.specs.declared.view.Setting.{Setting}
 use Rattle.spf_cells.specs.declared.view.LogEntry.{LogEntry}
 use Rattle.spf_cells.specs.declared.view.LogEntry.TheVariants.{Load, Store, Turn}
@@ -36,17 +37,27 @@ OwnsTaken logs owner j taken = (i : ℕ) (t : TakenLane) → get_elem? taken i �
 abbrev pub HasNoBlockTwice : List TakenLane → Type 0
 HasNoBlockTwice taken = (i j : ℕ) (t u : TakenLane) → get_elem? taken i ≡ some t → get_elem? taken j ≡ some u → t.block ≡ u.block → i ≡ j
 
+-- what the view of the warden, at the seat j, says holds
+pub record IsWardenAt (n : ℕ) (words : List ℕ) (logs : ℕ → List LogEntry) (owner : ℕ → ℕ) (warden j : ℕ) (p : WardenView) : Type 0 where
+  -- it is the one warden
+  pub one : warden ≡ j
+  -- it knows all flags
+  pub count : length p.flags ≡ n
+  pub flags : (b : ℕ) → b < n → slice_index words b ≡ slice_index p.flags b
+  -- each lane that it took over is now its own, and none is there twice
+  pub taken : OwnsTaken logs owner j p.taken
+  pub once : HasNoBlockTwice p.taken
+  -- each of them was handed out
+  pub handed_out : (i : ℕ) (t : TakenLane) → get_elem? p.taken i ≡ some t → t.block < p.made
+  -- each block that was not handed out is its own, with an empty log
+  pub kept : (b : ℕ) → p.made ≤ b → (owner b ≡ j) × (logs b ≡ [])
+
 -- what the view of the seat j says holds. A spent view says nothing. A lane has a block of the plan, which is its own,
--- and its log is that block's. The warden is the one warden; it knows all flags; each lane that it took over was handed
--- out, is now its own, and none is there twice; each block that was not handed out is its own, with an empty log
+-- and its log is that block's.
 abbrev pub Knows : ℕ → List ℕ → (ℕ → List LogEntry) → (ℕ → ℕ) → ℕ → ℕ → Role → Type 0
 Knows n words logs owner warden j Spent = Unit {0}
 Knows n words logs owner warden j (Lane b log) = (b < n) × (owner b ≡ j) × (logs b ≡ log)
-Knows n words logs owner warden j (Warden p) =
-    (warden ≡ j) × (length p.flags ≡ n) × ((b : ℕ) → b < n → slice_index words b ≡ slice_index p.flags b)
-    × OwnsTaken logs owner j p.taken × HasNoBlockTwice p.taken
-    × ((i : ℕ) (t : TakenLane) → get_elem? p.taken i ≡ some t → t.block < p.made)
-    × ((b : ℕ) → p.made ≤ b → (owner b ≡ j) × (logs b ≡ []))
+Knows n words logs owner warden j (Warden p) = IsWardenAt n words logs owner warden j p
 
 -- a view that is not spent has the setting k
 abbrev pub HasSetting : Setting → Setting → Role → Type 0

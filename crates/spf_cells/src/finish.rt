@@ -4,7 +4,7 @@ ghost use mathlib.Core.Option.{some};
 ghost use lib.ListN.{get_elem?};
 ghost use Rattle.spf_cells.specs.Spans.{consecutive, cells_of, cells_with_blocks};
 ghost use Rattle.spf_cells.specs.Values.{IsLaneOf, IsWardenOf, with_lane, content_at, spans_of};
-ghost use Rattle.spf_cells.specs.Finish.{write_back, HasTaken, StandFrom, AreAllLanes, IsFinish};
+ghost use Rattle.spf_cells.specs.Finish.{write_back, HasTaken, HaveWordsFrom, AreAllLanes, IsFinish};
 ghost use Rattle.spf_cells.specs.Log.{IsLogOf};
 ghost use Rattle.spf_cells.specs.Segments.{AreSegmentsOf, IsSearchable, first_word};
 
@@ -63,7 +63,7 @@ impl Warden {
         requires own { IsWardenOf cells.now self.old }
         requires taken { HasTaken self.old lane.now.value }
         requires setting { lane.now.value.setting ≡ cells.now.setting }
-        requires words { StandFrom cells.now.setting lane.now.value.block first
+        requires words { HaveWordsFrom cells.now.setting lane.now.value.block first
             (consecutive span.from (span.to - span.from)) }
         requires inside { (j c : ℕ)
             → get_elem? (consecutive span.from (span.to - span.from)) j ≡ some c

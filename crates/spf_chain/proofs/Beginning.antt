@@ -14,7 +14,7 @@ pub length-unvalidated : (k : ℕ) (start : Carried) (gs : List (Option Carried)
 length-unvalidated k start [] = refl
 length-unvalidated k start (g ∷ gs) = ap suc (length-unvalidated (k + 1) start gs)
 
--- a block at its place
+-- a block at its index
 record At (k : ℕ) (start : Carried) (gs : List (Option Carried)) (n : ℕ) (b : ChainBlock) : Type 0 where
   block : b.block ≡ k + n
   guess : slice_get gs n ≡ Some b.guess

@@ -15,7 +15,7 @@ use Rattle.spf_chain.specs.Chains.{ChainValue, next_block, IsOut, WaitsFor, IsAn
 use Rattle.spf_chain.specs.declared.chain.Filed.{Filed}
 use Rattle.spf_chain.specs.declared.chain.Filed.TheVariants.{Rerun, Waiting, Ended}
 use Rattle.spf_chain.specs.Kept.{chain_value, IsKept}
-use Rattle.spf_chain.specs.Histories.{IsHistory, HasItsPlaces, AreExclusive}
+use Rattle.spf_chain.specs.Histories.{IsHistory, HasItsHomes, AreExclusive}
 use Rattle.spf_chain.proofs.Keeping.{both-at, out-above, next-is}
 use Rattle.spf_chain.proofs.Raising.{not-both-settled}
 
@@ -66,15 +66,15 @@ out-from a h n out =
     let above = out-above (entry_at a.site.value) (guess_at a.site.value) a.homes.items a.validation n h.stands out in
     omega (arith, above, next-is a (chain_value a) h refl)
 
-places-inside : (a : Inside) → IsKept a → HasItsPlaces (chain_value a)
-places-inside a h = record {
+homes-inside : (a : Inside) → IsKept a → HasItsHomes (chain_value a)
+homes-inside a h = record {
   size = h.stands.blocks;
   within = omega (arith, h.within, h.stands.blocks, next-is a (chain_value a) h refl);
   out = λ n out. out-from a h n out;
 }
 
-pub places-are : (a : Inside) (v : ChainValue) → IsKept a → chain_value a ≡ v → HasItsPlaces v
-places-are a v h is = subst HasItsPlaces is (places-inside a h)
+pub homes-are : (a : Inside) (v : ChainValue) → IsKept a → chain_value a ≡ v → HasItsHomes v
+homes-are a v h is = subst HasItsHomes is (homes-inside a h)
 
 not-before : (b d : ℕ) → (d < b → ⊥) → (b < d → ⊥) → b ≡ d
 not-before b d h k = grind (arith, h, k)

@@ -60,7 +60,7 @@ stands-earlier law e guess logs others n values (settled.Trapped t) h same = rec
   ends = ends-earlier e guess logs others h.last values t h.ends (λ k low. same k (omega (arith, low, h.after)));
 }
 
--- ---- another report at a place after the validated ones
+-- ---- another report at an index after the validated ones
 
 pub over-set : PrefixesDependOnEarlierLogs → (e : Entry) (guess : ℕ → Carried) (homes : List (Option Report)) (x : Validation) (i : ℕ) (y : Option Report) → StandsOver e guess homes x → x.count ≤ i → StandsOver e guess (set homes i y) x
 over-set law e guess homes x i y h above = record {

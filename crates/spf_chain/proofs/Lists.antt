@@ -1,4 +1,4 @@
--- Lists and their places, and tests.
+-- Lists and their indices, and tests.
 use Rattle.std.proofs.Common.{◌≡◌, ◌≢◌, ◌⊎◌, ℕ, ◌+◌, ◌<◌, ◌≤◌, zero, suc, Bool, true, false, if◌then◌else◌, List, [], ◌∷◌, ◌++◌, length, take, set, refl, sym, ap, ◌∙◌, inl, inr, Option, Some, None, arith, slice_get}
 use Rattle.std.specs.Prelude.{map}
 
@@ -32,7 +32,7 @@ still false x h = (refl, h)
 pub less-or-same : (n i : ℕ) → n < i + 1 → (n < i) ⊎ (n ≡ i)
 less-or-same n i h = grind (arith, h)
 
--- one more place isn't out
+-- one more index isn't out
 pub none-below : {X : Type 0} (xs : List (Option X)) (i : ℕ) → ((n : ℕ) → n < i → slice_get xs n ≢ Some None) → slice_get xs i ≢ Some None → (n : ℕ) → n < i + 1 → slice_get xs n ≢ Some None
 none-below xs i h here n low out = elim (less-or-same n i low) [
   | inl less ↦ h n less out

@@ -123,7 +123,7 @@ one-more grow end e guess c homes bs k v o b h are many size low f known =
     (subst (λ n. StandsAt e guess (log_in homes) n (reals k bs ++ v ∷ []) o) more
     (stands-on grow end e guess homes k v (reals k bs) o h (omega (arith, low, many)) f real (subst (λ l. IsConsistent l e.memory) log home.consistent)))
 
--- what code read of a place
+-- what code read of an index
 pub there : (homes : List (Option Report)) (i : ℕ) (home : Option Report) → i < length homes → home ≡ get_or homes i home → slice_get homes i ≡ Some home
 there homes i home low read = slice_get-get_or homes i home low ∙ ap (λ x. Some x) (sym read)
 

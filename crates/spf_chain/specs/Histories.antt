@@ -17,8 +17,8 @@ pub record IsValidated (c : ChainValue) (n : ℕ) (b : ChainBlock) : Type 0 wher
 abbrev pub IsHistory : ChainValue → Type 0
 IsHistory c = (n : ℕ) (b : ChainBlock) → slice_get c.history n ≡ Some b → IsValidated c n b
 
--- there is a place for the report of each block; the validated blocks are some of them, and none of these is out
-pub record HasItsPlaces (c : ChainValue) : Type 0 where
+-- there is a home for the report of each block; the validated blocks are some of them, and none of these is out
+pub record HasItsHomes (c : ChainValue) : Type 0 where
   pub size : length c.homes ≡ c.site.blocks
   pub within : next_block c ≤ c.site.blocks
   pub out : (n : ℕ) → IsOut c n → next_block c ≤ n

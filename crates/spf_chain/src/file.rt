@@ -21,18 +21,18 @@ use spf_cells::cells::Cells;
 use spf_cells::warden::Warden;
 use spf_ticket::ticket::Report;
 
-// Returns whether a place has no report.
-fn is_out(homes: &[Option<Report>], place: usize) -> bool
-    requires { place < length homes.now }
-    ensures { IsTrue result ↔ (slice_get homes.now place ≡ Some None) }
+// Returns whether the block at an index has no report.
+fn is_out(homes: &[Option<Report>], index: usize) -> bool
+    requires { index < length homes.now }
+    ensures { IsTrue result ↔ (slice_get homes.now index ≡ Some None) }
 {
-    match &homes[place] {
+    match &homes[index] {
         Some(_) => false,
         None => true,
     }
 }
 
-// The lowest place without a report.
+// The lowest index without a report.
 fn lowest_out(homes: &[Option<Report>]) -> Option<u64>
     ensures { MatchOption result ((n : ℕ) → slice_get homes.now n ≢ Some None) (λ b.
         (slice_get homes.now b ≡ Some None)
@@ -54,7 +54,7 @@ fn still_again(again: bool, block: usize, next_block: usize) -> bool
 }
 
 impl Chain {
-    // Brings a report home. Its place is free, since the report has its block's only lane.
+    // Brings a report home. Its home is free, since the report has its block's only lane.
     fn come_home(&mut self, cells: &Cells, report: Report)
         requires own { cells.now ≡ cells_of self.old }
         requires lawful { IsLawfulReport (entry_at self.old.site) (guess_at self.old.site) cells.now
@@ -140,7 +140,7 @@ impl Chain {
     }
 }
 
-// Raises the flags of all places from this one on that have no report.
+// Raises the flags of all blocks from this one on that have no report.
 fn raise_out(warden: &mut Warden, cells: &Cells, homes: &[Option<Report>], from: usize)
     requires own { IsWardenOf cells.now warden.old }
     requires inside { length homes.now ≤ length warden.old.setting.plan }

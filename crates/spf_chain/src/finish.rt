@@ -20,8 +20,8 @@ fn lanes_of(room: Vec<Lane>, mut homes: Vec<Option<Report>>) -> Vec<Lane>
     ensures { result.items ≡ lanes_in homes.items }
 {
     let mut lanes = room;
-    for place in 0..homes.len() {
-        match homes[place].take() {
+    for index in 0..homes.len() {
+        match homes[index].take() {
             Some(report) => match lanes.push(report.ticket.into_lane()) {
                 Ok(()) => continue,
                 Err(_) => unreachable!(),

@@ -1,6 +1,6 @@
 //! The validated blocks.
 ghost use Rattle.std.specs.Prelude.{◌≡◌};
-ghost use Rattle.spf_chain.specs.Histories.{IsHistory, HasItsPlaces, AreExclusive};
+ghost use Rattle.spf_chain.specs.Histories.{IsHistory, HasItsHomes, AreExclusive};
 
 use crate::block::ChainBlock;
 use crate::chain::Chain;
@@ -10,7 +10,7 @@ impl Chain {
     pub fn history(&self) -> &[ChainBlock]
         ensures history { result.now ≡ self.now.history }
         ensures validated { IsHistory self.now }
-        ensures places { HasItsPlaces self.now }
+        ensures homes { HasItsHomes self.now }
     {
         &self.validation.blocks[..self.validation.count]
     }

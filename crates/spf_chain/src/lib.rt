@@ -8,7 +8,7 @@ pub mod chain;
 pub mod file;
 pub mod finish;
 pub mod history;
+mod home;
 pub mod laws;
-mod place;
 pub mod start;
 mod validation;

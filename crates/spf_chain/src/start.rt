@@ -87,7 +87,7 @@ fn blocks_of(alloc: Global, start: Row, guesses: &[Guess]) -> Result<Vec<ChainBl
     Ok(blocks)
 }
 
-/// `count` places without a report.
+/// `count` homes without a report.
 fn empty_homes(alloc: Global, count: usize) -> Result<Vec<Option<Report>>, AllocError>
     ensures { IfOk result (λ homes. homes.items ≡ replicate count None) }
 {

@@ -9,7 +9,7 @@ ghost use Rattle.spf_chain.specs.Homes.{AreHomes};
 ghost use Rattle.spf_chain.specs.Standing.{StandsOver, IsDone, GrowsTo};
 
 use crate::block::{ChainBlock, Settled};
-use crate::place::result_at;
+use crate::home::result_at;
 use spf_ticket::ticket::Report;
 
 /// How far the blocks of a chain are validated.

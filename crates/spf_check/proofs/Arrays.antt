@@ -26,7 +26,7 @@ use Rattle.spf_effects_laws.proofs.Parts.{Stands, main_names, stands}
 
 -- ---- lists of ranges
 
--- the array of each range stands before this place
+-- the array of each range stands before this index
 abbrev AllBelow : ℕ → List Range → Type 0
 AllBelow n [] = Unit {0}
 AllBelow n (r ∷ rest) = (array_of r < n) × AllBelow n rest
@@ -47,7 +47,7 @@ below-array n (Affine b g l i ∷ rest) a h (inr (f, o, w)) =
 
 -- ---- what is found
 
--- what may be written is in arrays before this place
+-- what may be written is in arrays before this index
 record Below (n : ℕ) (finds : Finds) : Type 0 where
   pub may : (w : Offsets) → AllBelow n (finds w).may
 
@@ -178,20 +178,20 @@ mutual
 
 -- ---- functions
 
-entered-below : (p : Program) (place : ℕ) (call : ℕ → List Bound → Entered) → ((f : ℕ) (given : List Bound) → Below (length p.arrays) (call f given).finds) → (f : Option Function) → IfSome f (IsLawfulFunction p place) → (given : List Bound) → Below (length p.arrays) (entered call f given).finds
-entered-below p place call calls None l given = below-nothing
-entered-below p place call calls (Some f) l given =
+entered-below : (p : Program) (index : ℕ) (call : ℕ → List Bound → Entered) → ((f : ℕ) (given : List Bound) → Below (length p.arrays) (call f given).finds) → (f : Option Function) → IfSome f (IsLawfulFunction p index) → (given : List Bound) → Below (length p.arrays) (entered call f given).finds
+entered-below p index call calls None l given = below-nothing
+entered-below p index call calls (Some f) l given =
     let g = setting_in call f.body in
     let slots = own_bounds g.is_assigned (length f.slots) given in
-    below-then (block-below (names_at p place f.slots) false _ g calls slots f.body l.body)
-    (expression-below (names_at p place f.slots) _ g calls (bounds_at_end g slots f.body) f.answer l.answer)
+    below-then (block-below (names_at p index f.slots) false _ g calls slots f.body l.body)
+    (expression-below (names_at p index f.slots) _ g calls (bounds_at_end g slots f.body) f.answer l.answer)
 
-calls-below : (p : Program) → IsScoped p → (place f : ℕ) (given : List Bound) → Below (length p.arrays) (call_before p.functions place f given).finds
+calls-below : (p : Program) → IsScoped p → (index f : ℕ) (given : List Bound) → Below (length p.arrays) (call_before p.functions index f given).finds
 calls-below p s zero f given = below-nothing
-calls-below p s (suc place) f given =
-    below-if (f == place) (entered (call_before p.functions place) (slice_get p.functions place) given) (call_before p.functions place f given)
-    (entered-below p place (call_before p.functions place) (calls-below p s place) (slice_get p.functions place) (s.functions place) given)
-    (calls-below p s place f given)
+calls-below p s (suc index) f given =
+    below-if (f == index) (entered (call_before p.functions index) (slice_get p.functions index) given) (call_before p.functions index f given)
+    (entered-below p index (call_before p.functions index) (calls-below p s index) (slice_get p.functions index) (s.functions index) given)
+    (calls-below p s index f given)
   where
     below-if : (b : Bool) (one other : Entered) → Below (length p.arrays) one.finds → Below (length p.arrays) other.finds → Below (length p.arrays) (if b then one else other).finds
     below-if true one other h k = h

@@ -68,9 +68,9 @@ kept-too p n k is before kept number other h at =
     (λ e. subst (KeepsTheRules p) (some_is k other (sym is ∙ ap (slice_get (constructs_in p.main)) (sym e) ∙ at)) kept)
     (λ l. before number other l at)
 
-from-place : EffectsHaveLists → (p : Program) (left n : ℕ) → n + left ≡ length (constructs_in p.main) → KeptBefore p n → IsAccepted p ⊎ IsRefused p
-from-place lists p zero n e before = let same : n ≡ length (constructs_in p.main) = omega (arith, e) in inl (all-kept p (subst (KeptBefore p) same before))
-from-place lists p (suc left) n e before = go (λ kept. from-place lists p left (n + 1) (omega (arith, e)) (kept-too p n here.0 here.1 before kept)) (ruled lists p here.0)
+from-index : EffectsHaveLists → (p : Program) (left n : ℕ) → n + left ≡ length (constructs_in p.main) → KeptBefore p n → IsAccepted p ⊎ IsRefused p
+from-index lists p zero n e before = let same : n ≡ length (constructs_in p.main) = omega (arith, e) in inl (all-kept p (subst (KeptBefore p) same before))
+from-index lists p (suc left) n e before = go (λ kept. from-index lists p left (n + 1) (omega (arith, e)) (kept-too p n here.0 here.1 before kept)) (ruled lists p here.0)
   where
     within : n < length (constructs_in p.main)
     within = omega (arith, e)
@@ -89,7 +89,7 @@ from-place lists p (suc left) n e before = go (λ kept. from-place lists p left 
     )
 
 pub accepted-or-refused : EffectsHaveLists → (p : Program) → IsAccepted p ⊎ IsRefused p
-accepted-or-refused lists p = from-place lists p (length (constructs_in p.main)) 0 (omega arith) (λ number k h is. absurd (omega (arith, h)))
+accepted-or-refused lists p = from-index lists p (length (constructs_in p.main)) 0 (omega arith) (λ number k h is. absurd (omega (arith, h)))
 
 -- ---- explanations
 

@@ -19,7 +19,7 @@ use Rattle.spf_region.proofs.Bools.{or-cases, or-left, or-right, both-true, int-
 use Rattle.spf_region.proofs.Covers.{has-parts}
 use Rattle.spf_check_rules.specs.Rules.{guessed_part, may_write, KeepsTheRules}
 use Rattle.spf_ast_lemmas.proofs.Members.{cases}
-use Rattle.spf_check_rules.proofs.Cells.{extent, AtWhole, AtOffset, has-array-of, entry-of, offset-inside, offset-place}
+use Rattle.spf_check_rules.proofs.Cells.{extent, AtWhole, AtOffset, has-array-of, entry-of, offset-inside, offset-index}
 use Rattle.spf_check_rules.specs.Freedom.{HaveDisjointSpans, TheRulesSetFree}
 use Rattle.spf_check_rules.proofs.Extents.{within}
 use Rattle.spf_check.specs.declared.checked.Writes.{Writes}
@@ -135,12 +135,12 @@ offset-there g k (r ∷ rest) a f o cell w at =
     inside : in_extent (extent g a) cell ≡ true
     inside = offset-inside g k a f o cell at
 
-    place : (at_block k f o ≤ℤ z) × (z ≤ℤ at_block k f o)
-    place = offset-place g k a f o cell at
+    index : (at_block k f o ≤ℤ z) × (z ≤ℤ at_block k f o)
+    index = offset-index g k a f o cell at
 
     wider : (l h : ℤ) → l ≤ℤ o → o ≤ℤ h → is_cell (extent g a) k (Affine a f l h) cell ≡ true
     wider l h low high =
-        both-true _ _ inside (both-true _ _ (int-le-of (at_block k f l) z (omega (arith, ints, place.0))) (int-le-of z (at_block k f h) (omega (arith, ints, place.1))))
+        both-true _ _ inside (both-true _ _ (int-le-of (at_block k f l) z (omega (arith, ints, index.0))) (int-le-of z (at_block k f h) (omega (arith, ints, index.1))))
 
     here : (r : Range) → has_offset r a f o ≡ true → is_cell (extent g (array_of r)) k r cell ≡ true
     here (Whole b) e = cc

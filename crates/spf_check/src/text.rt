@@ -25,10 +25,10 @@ pub fn rule_name(rule: Rule) -> &'static str
 }
 
 /// The name of an array, or no bytes where there is no such array.
-fn array_name(arrays: &[Array], place: u32) -> &[u8]
-    ensures { result.now ≡ array_name (map seen_array arrays.now) place }
+fn array_name(arrays: &[Array], index: u32) -> &[u8]
+    ensures { result.now ≡ array_name (map seen_array arrays.now) index }
 {
-    match arrays.get(place as usize) {
+    match arrays.get(index as usize) {
         Some(array) => &array.name.bytes,
         None => &[],
     }

@@ -45,14 +45,14 @@ single g k (Affine a f l i) rest cell h = inr (a, f, o, or-left _ _ (has-of a f 
     o : ℤ
     o = z -ℤ (f *ℤ k)
 
-    place : (at_block k f l ≤ℤ z) × (z ≤ℤ at_block k f i)
-    place = between-parts (at_block k f l) (at_block k f i) z (and-right (in_extent (extent g a) cell) _ h)
+    index : (at_block k f l ≤ℤ z) × (z ≤ℤ at_block k f i)
+    index = between-parts (at_block k f l) (at_block k f i) z (and-right (in_extent (extent g a) cell) _ h)
 
     low : l ≤ℤ o
-    low = omega (arith, ints, place.0)
+    low = omega (arith, ints, index.0)
 
     high : o ≤ℤ i
-    high = omega (arith, ints, place.1)
+    high = omega (arith, ints, index.1)
 
     at-one : IsCellAt g k (Affine a f o o) cell
     at-one = both-true _ _ (and-left (in_extent (extent g a) cell) _ h) (between-of (at_block k f o) (at_block k f o) z (omega (arith, ints)) (omega (arith, ints)))
@@ -139,6 +139,6 @@ nothing-shared g apart one other share k j cell x y = go (entry-of g k one cell 
         cases (same-or-not a b) (both a b f h o q w v at at') (λ ne. apart a b cell ne (offset-inside g k a f o cell at) (offset-inside g j b h q cell at'))
 
 -- where the cell of an offset stands in its array
-pub offset-place : (g : List Extent) (k : ℤ) (a : ℕ) (f o : ℤ) (cell : ℕ) → IsCellAt g k (Affine a f o o) cell → (at_block k f o ≤ℤ (pos cell -ℤ pos (extent g a).0)) × ((pos cell -ℤ pos (extent g a).0) ≤ℤ at_block k f o)
-offset-place g k a f o cell h =
+pub offset-index : (g : List Extent) (k : ℤ) (a : ℕ) (f o : ℤ) (cell : ℕ) → IsCellAt g k (Affine a f o o) cell → (at_block k f o ≤ℤ (pos cell -ℤ pos (extent g a).0)) × ((pos cell -ℤ pos (extent g a).0) ≤ℤ at_block k f o)
+offset-index g k a f o cell h =
     between-parts (at_block k f o) (at_block k f o) (pos cell -ℤ pos (extent g a).0) (and-right (in_extent (extent g a) cell) _ h)

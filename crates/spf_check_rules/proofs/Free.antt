@@ -24,7 +24,7 @@ use Rattle.spf_check_rules.specs.Rules.{IsBlockPart, guessed_part, may_write, re
 use Rattle.spf_check_rules.specs.Freedom.{IsOwn, IsWrittenCell, HaveDisjointSpans, IsRollbackFree, TheRulesSetFree}
 use Rattle.spf_ast_lemmas.proofs.Members.{cases, none-in}
 use Rattle.spf_check_rules.proofs.Along.{Along, Comes, stored_by, along, stores-along, loads-along, load-after, stored-has}
-use Rattle.spf_check_rules.proofs.Cells.{AtWhole, AtOffset, entry-of, offset-inside, offset-place, has-array-of, has-this-array, separate-blocks, nothing-shared}
+use Rattle.spf_check_rules.proofs.Cells.{AtWhole, AtOffset, entry-of, offset-inside, offset-index, has-array-of, has-this-array, separate-blocks, nothing-shared}
 use Rattle.spf_check_rules.proofs.Extents.{lie-apart, within}
 use Rattle.spf_check_rules.proofs.Slots.{Anything, HasWord, part-keeps, calls-keep}
 use Rattle.spf_check_rules.proofs.Quiet.{HasOutput, part-quiet}
@@ -57,8 +57,8 @@ guessed-block (pair line head producer consumer) = tt
 -- ---- all that may be written is stored
 
 -- the cell of an offset at a block
-place-is : (base cell : ℕ) (t o : ℤ) → base ≤ cell → (t +ℤ o) ≤ℤ (pos cell -ℤ pos base) → (pos cell -ℤ pos base) ≤ℤ (t +ℤ o) → pos (cell - base) ≡ t +ℤ o
-place-is base cell t o le low high = omega (arith, ints)
+index-is : (base cell : ℕ) (t o : ℤ) → base ≤ cell → (t +ℤ o) ≤ℤ (pos cell -ℤ pos base) → (pos cell -ℤ pos base) ≤ℤ (t +ℤ o) → pos (cell - base) ≡ t +ℤ o
+index-is base cell t o le low high = omega (arith, ints)
 
 stores-own : (p : Program) (c : Construct) (part : Part) (s : Setup) (stored : List ℕ) (cell : ℕ) → ((array : ℕ) → wholes_of (may_write p c part) array ≡ false) → ((array : ℕ) (f o : ℤ) → offsets_of (may_write p c part) array f o ≡ true → (part_effects p c part).must array f o ≡ true) → AreStored (extents_of p (length s.input)) s.number (part_effects p c part).must stored → IsAmong p s (may_write p c part) cell → Contains stored cell
 stores-own p c part s stored cell no-whole sure are own = go (entry-of (extents_of p (length s.input)) s.number (may_write p c part) cell own)
@@ -75,8 +75,8 @@ stores-own p c part s stored cell no-whole sure are own = go (entry-of (extents_
     go (inl (a, w, h)) = let n = no-whole a in cc
     go (inr (a, f, o, w, h)) =
         let i = within (ext a) cell (offset-inside (extents_of p (length s.input)) s.number a f o cell h) in
-        let z = offset-place (extents_of p (length s.input)) s.number a f o cell h in
-        at a f o w i.0 i.1 (place-is (ext a).0 cell (f *ℤ s.number) o i.0 z.0 z.1)
+        let z = offset-index (extents_of p (length s.input)) s.number a f o cell h in
+        at a f o w i.0 i.1 (index-is (ext a).0 cell (f *ℤ s.number) o i.0 z.0 z.1)
 
 -- ---- point by point
 

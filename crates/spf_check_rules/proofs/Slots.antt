@@ -276,18 +276,18 @@ function-keeps g None given = gives-keeps (pos 0)
 function-keeps g (Some f) given =
     own-keeps (own_slots (length f.slots) given) (block_means g f.body >> expression_means g f.answer_line f.answer)
 
-call-keeps : {kept : ℕ} (input : List ℕ) (extents : List Extent) (functions : List Function) (place f : ℕ) (given : List ℤ) → KeepsSlot kept (call_before input extents functions place f given)
+call-keeps : {kept : ℕ} (input : List ℕ) (extents : List Extent) (functions : List Function) (index f : ℕ) (given : List ℤ) → KeepsSlot kept (call_before input extents functions index f given)
 call-keeps input extents functions zero f given = gives-keeps (pos 0)
-call-keeps input extents functions (suc place) f given =
-    keeps-if (f == place)
+call-keeps input extents functions (suc index) f given =
+    keeps-if (f == index)
     (function-keeps
-    (record { input = input; extents = extents; callable = callable_before functions place; call = call_before input extents functions place })
-    (slice_get functions place) given)
-    (call-keeps input extents functions place f given)
+    (record { input = input; extents = extents; callable = callable_before functions index; call = call_before input extents functions index })
+    (slice_get functions index) given)
+    (call-keeps input extents functions index f given)
 
 -- calls keep the slots of their caller
-pub calls-keep : {kept : ℕ} (input : List ℕ) (extents : List Extent) (functions : List Function) (place : ℕ) → CallsKeep kept (environment_before input extents functions place)
-calls-keep input extents functions place = record { call = call-keeps input extents functions place }
+pub calls-keep : {kept : ℕ} (input : List ℕ) (extents : List Extent) (functions : List Function) (index : ℕ) → CallsKeep kept (environment_before input extents functions index)
+calls-keep input extents functions index = record { call = call-keeps input extents functions index }
 
 -- ---- parts of constructs
 

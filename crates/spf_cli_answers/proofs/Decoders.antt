@@ -37,17 +37,17 @@ pub answers_huf1 : Huf1HasOneVerdict → (file : List ℕ) (next : Course) (old 
 answers_huf1 laws file next old new r huf1 h = answers_as next (WithHuf1 file next) old new r (λ a fetches. only_huf1 laws file next a fetches huf1) h
 
 -- a file that isn't HUF1
-pub huf1_left : Huf1HasOneVerdict → (file : List ℕ) (next : Course) (place : ℕ) (state : FilesState) (a : Answer) → IsNoHuf1At file place → a ≡ not_huf1 place → IsFollowed (WithHuf1 file next) state state a
-huf1_left laws file next place state a none e = record {
+pub huf1_left : Huf1HasOneVerdict → (file : List ℕ) (next : Course) (offset : ℕ) (state : FilesState) (a : Answer) → IsNoHuf1At file offset → a ≡ not_huf1 offset → IsFollowed (WithHuf1 file next) state state a
+huf1_left laws file next offset state a none e = record {
   fetches = [];
   made = made_none state;
-  only = record { is = inr (place, none, e); only = λ b x. other b x };
+  only = record { is = inr (offset, none, e); only = λ b x. other b x };
 }
   where
     other : (b : Answer) → WithHuf1 file next [] b → b ≡ a
     other b x = elim x [
-      | inl y ↦ absurd (laws.apart file place y.0 none)
-      | inr z ↦ z.2 ∙ ap not_huf1 (laws.one file z.0 place z.1 none) ∙ sym e
+      | inl y ↦ absurd (laws.apart file offset y.0 none)
+      | inr z ↦ z.2 ∙ ap not_huf1 (laws.one file z.0 offset z.1 none) ∙ sym e
     ]
 
 -- ---- LEX1
@@ -67,17 +67,17 @@ pub answers_lex1 : Lex1HasOneVerdict → (file : List ℕ) (next : ℕ → ℕ �
 answers_lex1 laws file next states classes old new r lex1 h = answers_as (next states classes) (WithLex1 file next) old new r (λ a fetches. only_lex1 laws file next states classes a fetches lex1) h
 
 -- a file that isn't LEX1
-pub lex1_left : Lex1HasOneVerdict → (file : List ℕ) (next : ℕ → ℕ → Course) (place : ℕ) (state : FilesState) (a : Answer) → IsNoLex1At file place → a ≡ not_lex1 place → IsFollowed (WithLex1 file next) state state a
-lex1_left laws file next place state a none e = record {
+pub lex1_left : Lex1HasOneVerdict → (file : List ℕ) (next : ℕ → ℕ → Course) (offset : ℕ) (state : FilesState) (a : Answer) → IsNoLex1At file offset → a ≡ not_lex1 offset → IsFollowed (WithLex1 file next) state state a
+lex1_left laws file next offset state a none e = record {
   fetches = [];
   made = made_none state;
-  only = record { is = inr (place, none, e); only = λ b x. other b x };
+  only = record { is = inr (offset, none, e); only = λ b x. other b x };
 }
   where
     other : (b : Answer) → WithLex1 file next [] b → b ≡ a
     other b x = elim x [
-      | inl y ↦ absurd (laws.apart file place y.0 y.1 y.2 none)
-      | inr z ↦ z.2 ∙ ap not_lex1 (laws.one file z.0 place z.1 none) ∙ sym e
+      | inl y ↦ absurd (laws.apart file offset y.0 y.1 y.2 none)
+      | inr z ↦ z.2 ∙ ap not_lex1 (laws.one file z.0 offset z.1 none) ∙ sym e
     ]
 
 -- ---- demos

@@ -187,11 +187,11 @@ ruled_so one hosts p input log v a is e = record {
 
 -- ---- files of logs
 
--- bytes are a log in one way, or break at one place
+-- bytes are a log in one way, or break at one offset
 pub record LogLaws : Type 0 where
   pub one : BytesAreOneLog
   pub none : LogsDoNotBreak
-  pub place : LogsBreakOnce
+  pub offset : LogsBreakOnce
 
 -- a file that is a log leads on
 pub followed_log : LogLaws → (file : List ℕ) (log : List (List logged.Step)) (next : List (List logged.Step) → Course) (old new : FilesState) (a : Answer) → IsLog log file → IsFollowed (next log) old new a
@@ -215,7 +215,7 @@ log_left laws file next state (Answered a) h = record {
     other : (b : Answer) → WithLog file next [] b → b ≡ seen_answer a
     other b x = elim x [
       | inl y ↦ absurd (laws.none file y.0 h.0 y.1 h.1)
-      | inr z ↦ z.2 ∙ ap not_a_log (laws.place file z.0 h.0 z.1 h.1) ∙ sym h.2
+      | inr z ↦ z.2 ∙ ap not_a_log (laws.offset file z.0 h.0 z.1 h.1) ∙ sym h.2
     ]
 log_left laws file next state NoMemory h = tt
 

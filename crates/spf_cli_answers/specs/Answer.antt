@@ -75,13 +75,13 @@ too_many_cells count limit = refused 7 (too_many_line count limit)
 abbrev pub host_missing : ℕ → Answer
 host_missing host = refused 7 (host_line host)
 
--- the input isn't a HUF1 file, because of what stands, or is missing, at this place
+-- the input isn't a HUF1 file, because of what stands, or is missing, at this offset
 abbrev pub not_huf1 : ℕ → Answer
-not_huf1 place = refused 9 (not_huf1_line place)
+not_huf1 offset = refused 9 (not_huf1_line offset)
 
--- the machine isn't a LEX1 file, because of what stands, or is missing, at this place
+-- the machine isn't a LEX1 file, because of what stands, or is missing, at this offset
 abbrev pub not_lex1 : ℕ → Answer
-not_lex1 place = refused 9 (not_lex1_line place)
+not_lex1 offset = refused 9 (not_lex1_line offset)
 
 -- the text is that of no machine
 abbrev pub not_a_machine : Answer
@@ -91,9 +91,9 @@ not_a_machine = refused 9 not_machine_line
 abbrev pub not_a_name : ℕ → Answer
 not_a_name number = refused 9 (not_name_line number)
 
--- the file isn't a log, because of what stands, or is missing, at this place
+-- the file isn't a log, because of what stands, or is missing, at this offset
 abbrev pub not_a_log : ℕ → Answer
-not_a_log place = refused 9 (not_log_line place)
+not_a_log offset = refused 9 (not_log_line offset)
 
 -- a schedule has too many steps
 abbrev pub too_many_steps : Answer

@@ -42,7 +42,7 @@ IsReadLog old new name log =
 
 -- bytes aren't a log: there is the answer to that, or memory ran out
 abbrev pub IsLogExit : List ℕ → Exit → Type 0
-IsLogExit bytes (Answered a) = (place : ℕ) × LogBreaksAt bytes place × (seen_answer a ≡ not_a_log place)
+IsLogExit bytes (Answered a) = (offset : ℕ) × LogBreaksAt bytes offset × (seen_answer a ≡ not_a_log offset)
 IsLogExit bytes NoMemory = Unit {0}
 
 -- the file can't be fetched, or isn't a log; there is the answer to that, or memory ran out

@@ -41,11 +41,11 @@ host_line host = line (codes "host " ∷ decimal host ∷ codes " not handed in"
 
 -- `input byte N: not HUF1`
 abbrev pub not_huf1_line : ℕ → List ℕ
-not_huf1_line place = line (codes "input byte " ∷ decimal place ∷ codes ": not HUF1" ∷ [])
+not_huf1_line offset = line (codes "input byte " ∷ decimal offset ∷ codes ": not HUF1" ∷ [])
 
 -- `machine byte N: not LEX1`
 abbrev pub not_lex1_line : ℕ → List ℕ
-not_lex1_line place = line (codes "machine byte " ∷ decimal place ∷ codes ": not LEX1" ∷ [])
+not_lex1_line offset = line (codes "machine byte " ∷ decimal offset ∷ codes ": not LEX1" ∷ [])
 
 -- `not a machine`
 abbrev pub not_machine_line : List ℕ
@@ -57,7 +57,7 @@ not_name_line number = line (codes "list line " ∷ decimal number ∷ codes ": 
 
 -- `log byte N: not SPL1`
 abbrev pub not_log_line : ℕ → List ℕ
-not_log_line place = line (codes "log byte " ∷ decimal place ∷ codes ": not SPL1" ∷ [])
+not_log_line offset = line (codes "log byte " ∷ decimal offset ∷ codes ": not SPL1" ∷ [])
 
 -- `steps over LIMIT`
 abbrev pub steps_line : List ℕ

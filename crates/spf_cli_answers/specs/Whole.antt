@@ -177,17 +177,17 @@ run_options options = record { workers = options.workers; stats = options.stats;
 abbrev pub Decodes : DecodeOptions → Program → List ℕ → Wanted
 Decodes options p input = Runs (run_options options) (handed []) p input
 
--- with a file that is HUF1, or by the place at which it isn't
+-- with a file that is HUF1, or by the offset at which it isn't
 abbrev pub WithHuf1 : List ℕ → Course → Course
 WithHuf1 file next fetches answer =
     (IsHuf1 file × next fetches answer)
-    ⊎ ((place : ℕ) × IsNoHuf1At file place × Ends (Is (not_huf1 place)) fetches answer)
+    ⊎ ((offset : ℕ) × IsNoHuf1At file offset × Ends (Is (not_huf1 offset)) fetches answer)
 
--- with a file that is LEX1, or by the place at which it isn't
+-- with a file that is LEX1, or by the offset at which it isn't
 abbrev pub WithLex1 : List ℕ → (ℕ → ℕ → Course) → Course
 WithLex1 file next fetches answer =
     ((states : ℕ) × (classes : ℕ) × IsLex1 file states classes × next states classes fetches answer)
-    ⊎ ((place : ℕ) × IsNoLex1At file place × Ends (Is (not_lex1 place)) fetches answer)
+    ⊎ ((offset : ℕ) × IsNoLex1At file offset × Ends (Is (not_lex1 offset)) fetches answer)
 
 -- what is wanted of the answers of the decoders: that of a run of their programs, which writes what the formats mean
 abbrev pub Unpacking : DecodeOptions → List ℕ → Wanted
@@ -229,11 +229,11 @@ BatchesOn given list p =
 
 -- ---- logs
 
--- with the log that a file is, or by the place at which it is none
+-- with the log that a file is, or by the offset at which it is none
 abbrev pub WithLog : List ℕ → (List (List logged.Step) → Course) → Course
 WithLog file next fetches answer =
     ((log : List (List logged.Step)) × IsLog log file × next log fetches answer)
-    ⊎ ((place : ℕ) × LogBreaksAt file place × Ends (Is (not_a_log place)) fetches answer)
+    ⊎ ((offset : ℕ) × LogBreaksAt file offset × Ends (Is (not_a_log offset)) fetches answer)
 
 -- the log of the run whose schedule a seed draws, unless it has too many steps
 abbrev pub Drawn : Hosts → Program → List ℕ → (seed : ℕ) → Wanted

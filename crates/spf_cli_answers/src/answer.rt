@@ -262,8 +262,8 @@ fn push_arrays(
         ≡ lines_of messages.old.items ++ array_lines len (map seen_array arrays.now) cells.now) }
 {
     let mut rest = cells;
-    for (place, array) in arrays.iter().enumerate() {
-        let (_, size) = extents[place];
+    for (index, array) in arrays.iter().enumerate() {
+        let (_, size) = extents[index];
         let (own, others) = rest.split_at((size as usize).min(rest.len()));
         messages.push(array_line(alloc, &array.name, own)?)?;
         rest = others;

@@ -91,17 +91,17 @@ fn accept_built_in(alloc: Global, program: Program) -> Result<Checked, AllocErro
 }
 
 /// The answer where an input isn't HUF1.
-fn not_huf1(alloc: Global, place: u64) -> Result<Answer, AllocError>
-    ensures { IfOk result (λ a. seen_answer a ≡ not_huf1_answer place) }
+fn not_huf1(alloc: Global, offset: u64) -> Result<Answer, AllocError>
+    ensures { IfOk result (λ a. seen_answer a ≡ not_huf1_answer offset) }
 {
-    refuse(alloc, Status::WrongFormat, not_huf1_line(alloc, place)?)
+    refuse(alloc, Status::WrongFormat, not_huf1_line(alloc, offset)?)
 }
 
 /// The answer where a machine isn't LEX1.
-pub(crate) fn not_lex1(alloc: Global, place: u64) -> Result<Answer, AllocError>
-    ensures { IfOk result (λ a. seen_answer a ≡ not_lex1_answer place) }
+pub(crate) fn not_lex1(alloc: Global, offset: u64) -> Result<Answer, AllocError>
+    ensures { IfOk result (λ a. seen_answer a ≡ not_lex1_answer offset) }
 {
-    refuse(alloc, Status::WrongFormat, not_lex1_line(alloc, place)?)
+    refuse(alloc, Status::WrongFormat, not_lex1_line(alloc, offset)?)
 }
 
 /// The sum of bytes.
@@ -203,13 +203,13 @@ impl<'a, R: Threads + Wait + Sync, G: Gate + Sync> Context<'a, R, G> {
             (WholeOf given (unhuff_command input.now (seen_decode_options options)))
             (F.state files.old) (F.state files.new)) result }
     {
-        // Law: a file is of its format, or refused at one place.
+        // Law: a file is of its format, or refused at one offset.
         spf_apps_formats::laws::files_have_one_verdict();
         // Law: a decoder's run answers what its format says.
         crate::laws::decoders_keep_their_formats();
         let content = fetch(self.alloc, files, input, MAX_INPUT)?;
-        if let Err(place) = huf1_check(&content) {
-            return Ok(not_huf1(self.alloc, place)?);
+        if let Err(offset) = huf1_check(&content) {
+            return Ok(not_huf1(self.alloc, offset)?);
         }
         let program = huffman(self.alloc, block_size(options))?;
         self.decode(options, program, &content)
@@ -252,12 +252,12 @@ impl<'a, R: Threads + Wait + Sync, G: Gate + Sync> Context<'a, R, G> {
             (WholeOf given (lex_command machine.now input.now (seen_decode_options options)))
             (F.state files.old) (F.state files.new)) result }
     {
-        // Law: a file is of its format, or refused at one place.
+        // Law: a file is of its format, or refused at one offset.
         spf_apps_formats::laws::files_have_one_verdict();
         let table = fetch(self.alloc, files, machine, MAX_MACHINE)?;
         match lex1_check(&table) {
             Ok((states, classes)) => self.lex_on(options, &table, states, classes, input, files),
-            Err(place) => Ok(not_lex1(self.alloc, place)?),
+            Err(offset) => Ok(not_lex1(self.alloc, offset)?),
         }
     }
 

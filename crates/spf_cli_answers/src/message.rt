@@ -90,17 +90,17 @@ pub(crate) fn host_line(alloc: Global, host: u64) -> Result<String, AllocError>
 }
 
 /// `input byte N: not HUF1`.
-pub(crate) fn not_huf1_line(alloc: Global, place: u64) -> Result<String, AllocError>
-    ensures { IfOk result (λ text. string_bytes text ≡ not_huf1_line_of place) }
+pub(crate) fn not_huf1_line(alloc: Global, offset: u64) -> Result<String, AllocError>
+    ensures { IfOk result (λ text. string_bytes text ≡ not_huf1_line_of offset) }
 {
-    format!(in alloc; "input byte {place}: not HUF1\n")
+    format!(in alloc; "input byte {offset}: not HUF1\n")
 }
 
 /// `machine byte N: not LEX1`.
-pub(crate) fn not_lex1_line(alloc: Global, place: u64) -> Result<String, AllocError>
-    ensures { IfOk result (λ text. string_bytes text ≡ not_lex1_line_of place) }
+pub(crate) fn not_lex1_line(alloc: Global, offset: u64) -> Result<String, AllocError>
+    ensures { IfOk result (λ text. string_bytes text ≡ not_lex1_line_of offset) }
 {
-    format!(in alloc; "machine byte {place}: not LEX1\n")
+    format!(in alloc; "machine byte {offset}: not LEX1\n")
 }
 
 /// `not a machine`.
@@ -118,10 +118,10 @@ pub(crate) fn not_name_line(alloc: Global, number: u64) -> Result<String, AllocE
 }
 
 /// `log byte N: not SPL1`.
-pub(crate) fn not_log_line(alloc: Global, place: u64) -> Result<String, AllocError>
-    ensures { IfOk result (λ text. string_bytes text ≡ not_log_line_of place) }
+pub(crate) fn not_log_line(alloc: Global, offset: u64) -> Result<String, AllocError>
+    ensures { IfOk result (λ text. string_bytes text ≡ not_log_line_of offset) }
 {
-    format!(in alloc; "log byte {place}: not SPL1\n")
+    format!(in alloc; "log byte {offset}: not SPL1\n")
 }
 
 /// `steps over LIMIT`.

@@ -107,10 +107,10 @@ fn simulate(
 }
 
 /// The answer where a file is no log.
-fn not_a_log(alloc: Global, place: u64) -> Result<Answer, AllocError>
-    ensures { IfOk result (λ a. seen_answer a ≡ not_a_log_answer place) }
+fn not_a_log(alloc: Global, offset: u64) -> Result<Answer, AllocError>
+    ensures { IfOk result (λ a. seen_answer a ≡ not_a_log_answer offset) }
 {
-    refuse(alloc, Status::WrongFormat, not_log_line(alloc, place)?)
+    refuse(alloc, Status::WrongFormat, not_log_line(alloc, offset)?)
 }
 
 /// The log that a file is.
@@ -217,7 +217,7 @@ pub(crate) fn replay_files<F: Files>(
 {
     // Law: a program has one verdict and one explanation.
     crate::laws::rules_say_one_thing();
-    // Law: bytes are one log at most, and break at one place at most.
+    // Law: bytes are one log at most, and break at one offset at most.
     spf_replay_log::laws::bytes_have_one_reading();
     let checked = fetch_accepted(alloc, program, files)?;
     let content = fetch(alloc, files, input, MAX_INPUT)?;

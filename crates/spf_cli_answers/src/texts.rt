@@ -47,12 +47,12 @@ pub(crate) fn show_file<F: Files>(
         (WholeOf given (show_command machine.now)) (F.state files.old) (F.state files.new))
         result }
 {
-    // Law: a file is of its format, or refused at one place.
+    // Law: a file is of its format, or refused at one offset.
     spf_apps_formats::laws::files_have_one_verdict();
     let table = fetch(alloc, files, machine, MAX_MACHINE)?;
     match lex1_check(&table) {
         Ok(_) => Ok(written(alloc, show_machine(alloc, &table)?)),
-        Err(place) => Ok(not_lex1(alloc, place)?),
+        Err(offset) => Ok(not_lex1(alloc, offset)?),
     }
 }
 

@@ -4,7 +4,7 @@ ghost use Rattle.spf_cli_help.specs.Pages.{words_of, text_of, IsAnswer};
 
 use crate::texts;
 
-/// A text that is shown in place of a command's work.
+/// A text that is shown instead of a command's work.
 #[derive(Clone, Copy, PartialEq, Eq, Debug)]
 pub enum Page {
     /// The help of the program.

@@ -58,7 +58,7 @@ use Rattle.spf_cli_laws.specs.Laws.{VerdictsAreTheSame, NoTextIsLeftUnjudged, Ho
 pub record LogLaws : Type 0 where
   pub one : BytesAreOneLog
   pub none : LogsDoNotBreak
-  pub place : LogsBreakOnce
+  pub offset : LogsBreakOnce
   pub some : LogsAreOrBreak
   pub schedule : SchedulesOfRunsAreOne
   pub scheduled : SchedulesOfRunsExist
@@ -252,7 +252,7 @@ same_log laws files file next f a b x y = by x.2 y.2
     by (inl u) (inl v) = f u.0 a b (x.0, x.1, u.2) (y.0, y.1, subst (λ log. next log y.0 b) (laws.one file v.0 u.0 v.1 u.1) v.2)
     by (inl u) (inr v) = absurd (laws.none file u.0 v.0 u.1 v.1)
     by (inr u) (inl v) = absurd (laws.none file v.0 u.0 v.1 u.1)
-    by (inr u) (inr v) = ends_said files (not_a_log u.0) x.0 a u.2 ∙ ap not_a_log (laws.place file u.0 v.0 u.1 v.1) ∙ sym (ends_said files (not_a_log v.0) y.0 b v.2)
+    by (inr u) (inr v) = ends_said files (not_a_log u.0) x.0 a u.2 ∙ ap not_a_log (laws.offset file u.0 v.0 u.1 v.1) ∙ sym (ends_said files (not_a_log v.0) y.0 b v.2)
 
 same_drawn : LogLaws → (hosts : Hosts) (p : Program) (input : List ℕ) (seed : ℕ) → AtMostOne (Drawn hosts p input seed)
 same_drawn laws hosts p input seed a b x y = by x y

@@ -14,7 +14,7 @@ same_number n = grind (arith, nat_tests)
 other_number : (k n : ℕ) → k ≢ n → nat_eq k n ≡ false
 other_number k n h = grind (arith, nat_tests)
 
--- a call of the function at a place needs what the function needs, given those before it
+-- a call of the function at an index needs what the function needs, given those before it
 room_at : (fs : List Function) (n : ℕ) (f : Function) → slice_get fs n ≡ Some f → rooms_before fs (suc n) n ≡ function_needs (rooms_before fs n) f
 room_at fs n f e = rw (same_number n, e) refl
 

@@ -6,7 +6,7 @@ use lib.ListN.{get_elem?, length-replicate}
 use Rattle.atomic_table.proofs.Lists.{at_longer, at_last, at_set}
 use Rattle.spf_pool.specs.Hands.{HandValue}
 use Rattle.spf_crew.specs.declared.view.CrewSetting.{CrewSetting}
-use Rattle.spf_crew.specs.Values.{CrewValue, PlaceValue}
+use Rattle.spf_crew.specs.Values.{CrewValue, ChainSeatValue}
 use Rattle.spf_crew.specs.Mates.{MateValue, IsMateOf}
 use Rattle.spf_crew.specs.Crews.{IsNumbered, AreFirstMates, AreAllMates, HaveRead, dealt, capacities_for, IsDealtTo, AreDealt, IsNewMate}
 use Rattle.spf_crew.specs.declared.held.Held.TheVariants as held
@@ -40,7 +40,7 @@ fewer c all mates m is first = λ i x at. first i x (ap (λ (l : List MateValue)
 pub fewer_read : (all mates : List MateValue) (m : MateValue) → all ≡ mates ++ m ∷ [] → HaveRead all → HaveRead mates
 fewer_read all mates m is read = λ i x at. read i x (ap (λ (l : List MateValue). get_elem? l i) is ∙ at_longer mates (m ∷ []) i x at)
 
-pub last_one : (c : CrewValue) (all mates : List MateValue) (m : MateValue) → all ≡ mates ++ m ∷ [] → AreFirstMates c all → HaveRead all → IsNumbered c (length mates) m × (m.place.read ≡ true) × (length all ≡ length mates + 1)
+pub last_one : (c : CrewValue) (all mates : List MateValue) (m : MateValue) → all ≡ mates ++ m ∷ [] → AreFirstMates c all → HaveRead all → IsNumbered c (length mates) m × (m.seat.read ≡ true) × (length all ≡ length mates + 1)
 last_one c all mates m is first read =
     let at : get_elem? all (length mates) ≡ some m = ap (λ (l : List MateValue). get_elem? l (length mates)) is ∙ at_last mates m (length mates) refl in
     (first (length mates) m at, read (length mates) m at, ap length is ∙ length-append mates (m ∷ []))
@@ -58,8 +58,8 @@ dealt-on k tickets n m hands rest deal is next = λ i h at.
 pub dealt-first : (k : CrewSetting) (tickets n : ℕ) (hands : List (HandValue CrewSetting)) (h : HandValue CrewSetting) → AreDealt k tickets n hands → get_elem? hands 0 ≡ some h → IsDealtTo k (dealt tickets n) h
 dealt-first k tickets n hands h deal at = let e : n + 0 ≡ n = omega arith in subst (λ x. IsDealtTo k (dealt tickets x) h) e (deal 0 h at)
 
--- a mate that was made of a new place and a dealt hand
-pub new-mate : (k : CrewSetting) (tickets : ℕ) (m : MateValue) (p : PlaceValue) (h : HandValue CrewSetting) → m ≡ record { place = p; hand = h; held = held.Nothing } → p.seen ≡ 0 → p.read ≡ false → IsDealtTo k tickets h → IsNewMate tickets m
+-- a mate that was made of a new seat and a dealt hand
+pub new-mate : (k : CrewSetting) (tickets : ℕ) (m : MateValue) (p : ChainSeatValue) (h : HandValue CrewSetting) → m ≡ record { seat = p; hand = h; held = held.Nothing } → p.seen ≡ 0 → p.read ≡ false → IsDealtTo k tickets h → IsNewMate tickets m
 new-mate k tickets m p h is seen read d = subst (IsNewMate tickets) (sym is) (record { held = refl; seen = seen; read = read; given = d.given })
 
 -- ---- new hands

@@ -10,46 +10,46 @@ use Rattle.spf_crew.specs.declared.held.Held.{Held}
 use Rattle.spf_crew.specs.declared.held.Held.TheVariants as held
 use Rattle.spf_crew.specs.declared.mate.Mate.TheInside.{Inside}
 use Rattle.spf_crew.specs.Rule.{expected, half_of}
-use Rattle.spf_crew.specs.Values.{PlaceValue}
+use Rattle.spf_crew.specs.Values.{ChainSeatValue}
 use Rattle.spf_crew.specs.Tickets.{IsFreshOf, IsLawfulOf, IsAttemptBy}
 use Rattle.spf_crew.specs.Filing.{RerunsFresh, IsFiledAt, held_after, read_after}
 use Rattle.spf_crew.specs.Mates.{MateValue, HasFiled, HasRerun, HasRun, IsKeptOut}
 use Rattle.spf_crew.specs.Mate.{mate_value}
 
--- the place after this answer
-abbrev pub place_after : PlaceValue → Filed → PlaceValue
-place_after p answer = record p { seen = expected p.seen + 2; read = read_after answer p.read }
+-- the seat after this answer
+abbrev pub seat_after : ChainSeatValue → Filed → ChainSeatValue
+seat_after p answer = record p { seen = expected p.seen + 2; read = read_after answer p.read }
 
-pub has-filed : (a : Inside) (m : MateValue) (report : Report) (said answer : Filed) (p : PlaceValue) (h : Held) → mate_value a ≡ m → said ≡ answer
-    → IsFiledAt a.place.setting (half_of a.place.seen) report said → p ≡ place_after a.place said → h ≡ held_after answer → HasFiled (record m { held = held.Report report }) (record { place = p; hand = a.hand; held = h })
-has-filed a m report said answer p h v is filed place holds =
-    subst (λ (x : MateValue). HasFiled (record x { held = held.Report report }) (record { place = p; hand = a.hand; held = h })) v (record {
+pub has-filed : (a : Inside) (m : MateValue) (report : Report) (said answer : Filed) (p : ChainSeatValue) (h : Held) → mate_value a ≡ m → said ≡ answer
+    → IsFiledAt a.seat.setting (half_of a.seat.seen) report said → p ≡ seat_after a.seat said → h ≡ held_after answer → HasFiled (record m { held = held.Report report }) (record { seat = p; hand = a.hand; held = h })
+has-filed a m report said answer p h v is filed seat holds =
+    subst (λ (x : MateValue). HasFiled (record x { held = held.Report report }) (record { seat = p; hand = a.hand; held = h })) v (record {
       report = report;
       before = refl;
       answer = said;
       filed = filed;
-      after = λ t. record { place = place t; hand = a.hand; held = (holds ∙ ap held_after (sym is)) t };
+      after = λ t. record { seat = seat t; hand = a.hand; held = (holds ∙ ap held_after (sym is)) t };
     })
 
-pub kept-out : (a : Inside) (m : MateValue) (report again : Report) (seen : ℕ) (p : PlaceValue) → mate_value a ≡ m → again ≡ report → (seen ≡ 16384) ⊎ (seen ≢ expected a.place.seen) → p ≡ record a.place { seen = seen }
-    → IsKeptOut seen (record m { held = held.Report report }) (record { place = p; hand = a.hand; held = held.Report again })
-kept-out a m report again seen p v same number place =
-    subst (λ (x : MateValue). IsKeptOut seen (record x { held = held.Report report }) (record { place = p; hand = a.hand; held = held.Report again })) v (record {
+pub kept-out : (a : Inside) (m : MateValue) (report again : Report) (seen : ℕ) (p : ChainSeatValue) → mate_value a ≡ m → again ≡ report → (seen ≡ 16384) ⊎ (seen ≢ expected a.seat.seen) → p ≡ record a.seat { seen = seen }
+    → IsKeptOut seen (record m { held = held.Report report }) (record { seat = p; hand = a.hand; held = held.Report again })
+kept-out a m report again seen p v same number seat =
+    subst (λ (x : MateValue). IsKeptOut seen (record x { held = held.Report report }) (record { seat = p; hand = a.hand; held = held.Report again })) v (record {
       report = report;
       before = refl;
       number = number;
-      after = λ t. record { place = place t; hand = a.hand; held = held.Report (same t) };
+      after = λ t. record { seat = seat t; hand = a.hand; held = held.Report (same t) };
     })
 
 pub has-rerun : (a : Inside) (m m' : MateValue) (ticket : Ticket) → mate_value a ≡ m → a.held ≡ held.Ticket ticket
-    → (r : Report) × IsAttemptBy a.place.setting ticket r × (m' ≡ record { place = a.place; hand = a.hand; held = held.Report r }) → HasRerun m m'
+    → (r : Report) × IsAttemptBy a.seat.setting ticket r × (m' ≡ record { seat = a.seat; hand = a.hand; held = held.Report r }) → HasRerun m m'
 has-rerun a m m' ticket v holds ran = subst (λ x. HasRerun x m') v (record { ticket = ticket; report = ran.0; before = holds; ran = ran.1; after = ran.2 })
 
-pub has-run : (a : Inside) (m m' : MateValue) (p : PlaceValue) (h : HandValue CrewSetting) (ticket : Ticket) (b : Bool) → mate_value a ≡ m → a.held ≡ held.Nothing → p ≡ record a.place { read = b } → b ≡ false
-    → TookOne a.hand h → LaterHand a.hand h → (r : Report) × IsAttemptBy p.setting ticket r × (m' ≡ record { place = p; hand = h; held = held.Report r }) → HasRun m m'
-has-run a m m' p h ticket b v free place off took later ran =
-    let setting : p.setting ≡ a.place.setting = ap (λ (x : PlaceValue). x.setting) place in
-    let at : MateValue = record { place = p; hand = h; held = held.Report ran.0 } in
+pub has-run : (a : Inside) (m m' : MateValue) (p : ChainSeatValue) (h : HandValue CrewSetting) (ticket : Ticket) (b : Bool) → mate_value a ≡ m → a.held ≡ held.Nothing → p ≡ record a.seat { read = b } → b ≡ false
+    → TookOne a.hand h → LaterHand a.hand h → (r : Report) × IsAttemptBy p.setting ticket r × (m' ≡ record { seat = p; hand = h; held = held.Report r }) → HasRun m m'
+has-run a m m' p h ticket b v free seat off took later ran =
+    let setting : p.setting ≡ a.seat.setting = ap (λ (x : ChainSeatValue). x.setting) seat in
+    let at : MateValue = record { seat = p; hand = h; held = held.Report ran.0 } in
     let one : HasRun (mate_value a) at = record {
       ticket = ticket;
       report = ran.0;
@@ -57,7 +57,7 @@ has-run a m m' p h ticket b v free place off took later ran =
       took = took;
       hand = later;
       ran = subst (λ k. IsAttemptBy k ticket ran.0) setting ran.1;
-      place = place ∙ ap (λ r. let x : PlaceValue = record a.place { read = r } in x) off;
+      seat = seat ∙ ap (λ r. let x : ChainSeatValue = record a.seat { read = r } in x) off;
       after = refl;
     } in
     subst (λ (x : MateValue × MateValue). HasRun x.0 x.1) (λ t. (v t, sym ran.2 t)) one

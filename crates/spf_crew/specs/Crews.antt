@@ -11,8 +11,8 @@ use Rattle.spf_crew.specs.Mates.{MateValue, IsMateOf}
 -- the mate is of this crew, and has this number
 pub record IsNumbered (c : CrewValue) (i : ℕ) (m : MateValue) : Type 0 where
   pub of : IsMateOf c m
-  pub from : m.place.from ≡ i
-  pub to : m.place.to ≡ i + 1
+  pub from : m.seat.from ≡ i
+  pub to : m.seat.to ≡ i + 1
 
 -- these are the first mates of this crew, in their order
 abbrev pub AreFirstMates : CrewValue → List MateValue → Type 0
@@ -20,7 +20,7 @@ AreFirstMates c mates = (i : ℕ) (m : MateValue) → get_elem? mates i ≡ some
 
 -- each has read 1 in the ending word
 abbrev pub HaveRead : List MateValue → Type 0
-HaveRead mates = (i : ℕ) (m : MateValue) → get_elem? mates i ≡ some m → m.place.read ≡ true
+HaveRead mates = (i : ℕ) (m : MateValue) → get_elem? mates i ≡ some m → m.seat.read ≡ true
 
 -- these are all mates of this crew, in their order
 pub record AreAllMates (c : CrewValue) (mates : List MateValue) : Type 0 where
@@ -50,8 +50,8 @@ AreDealt k tickets from hands = (i : ℕ) (h : HandValue CrewSetting) → get_el
 -- a new mate: it holds nothing, has seen the turn number 0, and not read 1; its own deque was given `tickets` tickets
 pub record IsNewMate (tickets : ℕ) (m : MateValue) : Type 0 where
   pub held : m.held ≡ held.Nothing
-  pub seen : m.place.seen ≡ 0
-  pub read : m.place.read ≡ false
+  pub seen : m.seat.seen ≡ 0
+  pub read : m.seat.read ≡ false
   pub given : slice_index m.hand.given m.hand.own ≡ tickets
 
 -- the mates of a new crew: all tickets were given to the deque of the first one

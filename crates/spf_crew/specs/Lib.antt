@@ -3,7 +3,7 @@ pub mod Endings
 pub mod Values
 pub mod Rule
 pub mod Seats
-pub mod Place
+pub mod ChainSeat
 pub mod Crew
 pub mod Tickets
 pub mod Filing

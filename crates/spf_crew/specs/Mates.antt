@@ -12,23 +12,23 @@ use Rattle.spf_crew.specs.declared.turn.Why.TheVariants.{ChainOut, Empty, Again}
 use Rattle.spf_crew.specs.declared.turn.Turn.{Turn}
 use Rattle.spf_crew.specs.declared.turn.Turn.TheVariants.{Worked, Idle, Ended}
 use Rattle.spf_crew.specs.Rule.{expected, half_of}
-use Rattle.spf_crew.specs.Values.{CrewValue, PlaceValue}
+use Rattle.spf_crew.specs.Values.{CrewValue, ChainSeatValue}
 use Rattle.spf_crew.specs.Tickets.{IsFreshOf, IsLawfulOf, IsAttemptBy}
 use Rattle.spf_crew.specs.Filing.{IsFiledAt, held_after, read_after}
 
--- its place at the chain, what its hand has seen, and what it holds
+-- its seat at the chain, what its hand has seen, and what it holds
 pub record MateValue : Type 0 where
-  pub place : PlaceValue
+  pub seat : ChainSeatValue
   pub hand : HandValue CrewSetting
   pub held : Held
 
--- the place of the numbers from this one on, of a new crew
-abbrev pub new_place : CrewValue → ℕ → PlaceValue
-new_place c from = record { table = c.table; setting = c.setting; from = from; to = c.setting.mates; seen = 0; read = false }
+-- the seat of the numbers from this one on, of a new crew
+abbrev pub new_seat : CrewValue → ℕ → ChainSeatValue
+new_seat c from = record { table = c.table; setting = c.setting; from = from; to = c.setting.mates; seen = 0; read = false }
 
 -- the mate is of this crew
 abbrev pub IsMateOf : CrewValue → MateValue → Type 0
-IsMateOf c m = (m.place.table ≡ c.table) × (m.place.setting ≡ c.setting)
+IsMateOf c m = (m.seat.table ≡ c.table) × (m.seat.setting ≡ c.setting)
 
 -- what is held is a fresh ticket of this crew, or a lawful report of it
 abbrev pub IsHeldBy : CrewSetting → Held → Type 0
@@ -41,15 +41,15 @@ pub record HasFiled (m m' : MateValue) : Type 0 where
   pub report : Report
   pub before : m.held ≡ held.Report report
   pub answer : Filed
-  pub filed : IsFiledAt m.place.setting (half_of m.place.seen) report answer
-  pub after : m' ≡ record m { place = record m.place { seen = expected m.place.seen + 2; read = read_after answer m.place.read }; held = held_after answer }
+  pub filed : IsFiledAt m.seat.setting (half_of m.seat.seen) report answer
+  pub after : m' ≡ record m { seat = record m.seat { seen = expected m.seat.seen + 2; read = read_after answer m.seat.read }; held = held_after answer }
 
 -- it ran the ticket that it held, and holds the report
 pub record HasRerun (m m' : MateValue) : Type 0 where
   pub ticket : Ticket
   pub report : Report
   pub before : m.held ≡ held.Ticket ticket
-  pub ran : IsAttemptBy m.place.setting ticket report
+  pub ran : IsAttemptBy m.seat.setting ticket report
   pub after : m' ≡ record m { held = held.Report report }
 
 -- its hands were free, and the ending word wasn't 1; it took a ticket, ran it, and holds the report
@@ -59,16 +59,16 @@ pub record HasRun (m m' : MateValue) : Type 0 where
   pub before : m.held ≡ held.Nothing
   pub took : TookOne m.hand m'.hand
   pub hand : LaterHand m.hand m'.hand
-  pub ran : IsAttemptBy m.place.setting ticket report
-  pub place : m'.place ≡ record m.place { read = false }
+  pub ran : IsAttemptBy m.seat.setting ticket report
+  pub seat : m'.seat ≡ record m.seat { read = false }
   pub after : m'.held ≡ held.Report report
 
 -- it has a report, which it keeps, and found this turn number, which isn't the one expected, or is the last one
 pub record IsKeptOut (seen : ℕ) (m m' : MateValue) : Type 0 where
   pub report : Report
   pub before : m.held ≡ held.Report report
-  pub number : (seen ≡ last_turn) ⊎ (seen ≢ expected m.place.seen)
-  pub after : m' ≡ record m { place = record m.place { seen = seen } }
+  pub number : (seen ≡ last_turn) ⊎ (seen ≢ expected m.seat.seen)
+  pub after : m' ≡ record m { seat = record m.seat { seen = seen } }
 
 -- its hands are free, the ending word wasn't 1, and its hand found no ticket, since P
 pub record FindsNone (P : Type 0) (m m' : MateValue) : Type 0 where
@@ -76,13 +76,13 @@ pub record FindsNone (P : Type 0) (m m' : MateValue) : Type 0 where
   pub why : P
   pub took : TookNone m.hand m'.hand
   pub hand : LaterHand m.hand m'.hand
-  pub place : m'.place ≡ record m.place { read = false }
+  pub seat : m'.seat ≡ record m.seat { read = false }
   pub after : m'.held ≡ held.Nothing
 
 -- its hands are free, and it read 1 in the ending word
 pub record HasEnded (m m' : MateValue) : Type 0 where
   pub before : m.held ≡ held.Nothing
-  pub after : m' ≡ record m { place = record m.place { read = true } }
+  pub after : m' ≡ record m { seat = record m.seat { read = true } }
 
 -- what a turn of a mate comes to
 abbrev pub IsTurn : MateValue → Turn → MateValue → Type 0

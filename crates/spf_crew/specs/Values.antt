@@ -1,4 +1,4 @@
--- What contracts see of a crew and of a mate's place in it.
+-- What contracts see of a crew and of a mate's seat in it.
 use Rattle.std.specs.Prelude.{◌≡◌, ℕ, Bool}
 use Rattle.atomic_table.specs.Seated.{TableId}
 use Rattle.spf_chain.specs.Chains.{ChainValue, cells_of}
@@ -9,8 +9,8 @@ pub record CrewValue : Type 0 where
   pub table : TableId
   pub setting : CrewSetting
 
--- a place: its table and what is fixed, its numbers, the turn number that it saw last, and whether it has read 1 in the ending word
-pub record PlaceValue : Type 0 where
+-- a seat: its table and what is fixed, its numbers, the turn number that it saw last, and whether it has read 1 in the ending word
+pub record ChainSeatValue : Type 0 where
   pub table : TableId
   pub setting : CrewSetting
   pub from : ℕ
@@ -18,9 +18,9 @@ pub record PlaceValue : Type 0 where
   pub seen : ℕ
   pub read : Bool
 
--- the place is of this crew
-abbrev pub IsPlaceOf : CrewValue → PlaceValue → Type 0
-IsPlaceOf c p = (p.table ≡ c.table) × (p.setting ≡ c.setting)
+-- the seat is of this crew
+abbrev pub IsChainSeatOf : CrewValue → ChainSeatValue → Type 0
+IsChainSeatOf c p = (p.table ≡ c.table) × (p.setting ≡ c.setting)
 
 -- what is fixed for a crew of `mates` mates over this chain
 abbrev pub setting_of : ChainValue → ℕ → CrewSetting

@@ -4,28 +4,28 @@ ghost use Rattle.spf_chain.specs.Chains.{cells_of, HasEnded};
 ghost use Rattle.spf_chain.specs.Finishing.{EveryMergingRuns};
 ghost use Rattle.spf_chain.specs.Homes.{log_in};
 ghost use Rattle.spf_crew.specs.Crews.{AreFirstMates, AreAllMates, HaveRead};
-ghost use Rattle.spf_crew.specs.Values.{IsPlaceOf};
+ghost use Rattle.spf_crew.specs.Values.{IsChainSeatOf};
 
 use crate::crew::Crew;
 use crate::mate::Mate;
-use crate::place::Place;
+use crate::seat::ChainSeat;
 use spf_cells::cells::Cells;
 use spf_chain::chain::Chain;
 
 impl Crew {
-    // Joins all places.
-    fn dismiss_all(&self, last: Place, mut mates: Vec<Mate>) -> Place
-        requires last { IsPlaceOf self.now last × (last.read ≡ true)
+    // Joins all seats.
+    fn dismiss_all(&self, last: ChainSeat, mut mates: Vec<Mate>) -> ChainSeat
+        requires last { IsChainSeatOf self.now last × (last.read ≡ true)
             × (last.from ≡ length mates.items) × (last.to ≡ self.now.setting.mates) }
         requires mates { AreFirstMates self.now mates.items × HaveRead mates.items }
-        ensures { IsPlaceOf self.now result × (result.read ≡ true) × (result.from ≡ 0)
+        ensures { IsChainSeatOf self.now result × (result.read ≡ true) × (result.from ≡ 0)
             × (result.to ≡ self.now.setting.mates) }
     {
         let mut all = last;
         while let Some(mate) = mates.pop() {
-            let mut place = mate.into_place();
-            place.dismiss(self, all);
-            all = place;
+            let mut seat = mate.into_seat();
+            seat.dismiss(self, all);
+            all = seat;
         }
         all
     }
@@ -42,7 +42,7 @@ impl Crew {
         ensures cells { result.1 ≡ self.setting.cells }
         ensures merging { EveryMergingRuns result.0 (log_in result.0.homes) }
     {
-        let last = mates.pop().unwrap().into_place();
+        let last = mates.pop().unwrap().into_seat();
         let all = self.dismiss_all(last, mates);
         let (chain, cells) = self.end(all);
         chain.merged_logs_are_speculative_runs();

@@ -16,7 +16,7 @@ pub mod mate;
 mod mates;
 pub mod merged;
 mod open;
-mod place;
 mod rule;
+mod seat;
 pub mod turn;
 pub mod view;

@@ -9,7 +9,7 @@ ghost use Rattle.spf_crew.specs.Mates.{IsMateOf, IsTurn};
 use crate::attempt::Attempter;
 use crate::crew::Crew;
 use crate::held::Held;
-use crate::place::Place;
+use crate::seat::ChainSeat;
 use crate::turn::{Turn, Why};
 use crate::view::CrewSetting;
 use spf_chain::chain::Filed;
@@ -21,12 +21,12 @@ use std::mem;
 
 /// One worker of a crew, for one thread.
 ///
-/// Contracts see of it its place at the chain, what its hand has seen, and what it holds. Of the
-/// place they see the numbers of its mate, the turn number that it saw last, and whether it has
+/// Contracts see of it its seat at the chain, what its hand has seen, and what it holds. Of the
+/// seat they see the numbers of its mate, the turn number that it saw last, and whether it has
 /// read 1 in the ending word.
 #[derive(Drop)]
 pub struct Mate {
-    pub(crate) place: Place,
+    pub(crate) seat: ChainSeat,
     pub(crate) hand: Hand<Ticket, CrewSetting>,
     pub(crate) held: Held,
 }
@@ -51,39 +51,39 @@ impl Model for Mate {
 
 impl Mate {
     // A mate that holds nothing.
-    pub(crate) fn new(place: Place, hand: Hand<Ticket, CrewSetting>) -> Mate
-        requires { hand.key ≡ place.setting }
-        ensures { result ≡ record { place = place; hand = hand; held = held.Nothing } }
+    pub(crate) fn new(seat: ChainSeat, hand: Hand<Ticket, CrewSetting>) -> Mate
+        requires { hand.key ≡ seat.setting }
+        ensures { result ≡ record { seat = seat; hand = hand; held = held.Nothing } }
     {
         Mate {
-            place,
+            seat,
             hand,
             held: Held::Nothing,
         }
     }
 
-    pub(crate) fn into_place(self) -> Place
-        ensures { result ≡ self.place }
+    pub(crate) fn into_seat(self) -> ChainSeat
+        ensures { result ≡ self.seat }
     {
         let Mate {
-            place,
+            seat,
             hand: _,
             held: _,
         } = self;
-        place
+        seat
     }
 
     // Tries to file a report.
     fn file(&mut self, crew: &Crew, report: Report) -> Turn
         requires own { IsMateOf crew.now self.old }
         requires free { self.old.held ≡ held.Nothing }
-        requires lawful { IsLawfulOf self.old.place.setting report }
+        requires lawful { IsLawfulOf self.old.seat.setting report }
         ensures turn { IsTurn (record self.old { held = held.Report report }) result self.new }
         ensures own { IsMateOf crew.now self.new }
-        ensures numbers { (self.new.place.from ≡ self.old.place.from)
-            × (self.new.place.to ≡ self.old.place.to) }
+        ensures numbers { (self.new.seat.from ≡ self.old.seat.from)
+            × (self.new.seat.to ≡ self.old.seat.to) }
     {
-        match self.place.file(crew, report) {
+        match self.seat.file(crew, report) {
             Ok(filed) => match filed {
                 Filed::Rerun(ticket) => {
                     self.held = Held::Ticket(ticket);
@@ -105,9 +105,9 @@ impl Mate {
     fn run<A: Attempter>(&mut self, crew: &Crew, attempter: &A, ticket: Ticket) -> Turn
         requires own { IsMateOf crew.now self.old }
         requires serves { A.serves crew.now.setting attempter.now }
-        requires fresh { IsFreshOf self.old.place.setting ticket }
+        requires fresh { IsFreshOf self.old.seat.setting ticket }
         ensures worked { result ≡ turn.Worked }
-        ensures report { (r : SeenReport) × IsAttemptBy self.old.place.setting ticket r
+        ensures report { (r : SeenReport) × IsAttemptBy self.old.seat.setting ticket r
             × (self.new ≡ record self.old { held = held.Report r }) }
     {
         self.held = Held::Report(attempter.attempt(crew, ticket));
@@ -121,11 +121,11 @@ impl Mate {
         requires free { self.old.held ≡ held.Nothing }
         ensures turn { IsTurn self.old result self.new }
         ensures own { IsMateOf crew.now self.new }
-        ensures numbers { (self.new.place.from ≡ self.old.place.from)
-            × (self.new.place.to ≡ self.old.place.to) }
-        ensures ended { self.old.place.read ≡ true → result ≡ turn.Ended }
+        ensures numbers { (self.new.seat.from ≡ self.old.seat.from)
+            × (self.new.seat.to ≡ self.old.seat.to) }
+        ensures ended { self.old.seat.read ≡ true → result ≡ turn.Ended }
     {
-        if self.place.reads_end(crew) {
+        if self.seat.reads_end(crew) {
             return Turn::Ended;
         }
         match self.hand.next() {
@@ -149,9 +149,9 @@ impl Mate {
         requires serves { A.serves crew.now.setting attempter.now }
         ensures turn { IsTurn self.old result self.new }
         ensures own { IsMateOf crew.now self.new }
-        ensures numbers { (self.new.place.from ≡ self.old.place.from)
-            × (self.new.place.to ≡ self.old.place.to) }
-        ensures ended { self.old.held ≡ held.Nothing → self.old.place.read ≡ true
+        ensures numbers { (self.new.seat.from ≡ self.old.seat.from)
+            × (self.new.seat.to ≡ self.old.seat.to) }
+        ensures ended { self.old.held ≡ held.Nothing → self.old.seat.read ≡ true
             → result ≡ turn.Ended }
     {
         match mem::replace(&mut self.held, Held::Nothing) {

@@ -24,14 +24,14 @@ all-of c mates all = λ k d low. (all.each k (get_or mates k d) (present mates k
 
 -- one mate after all have ended
 one : (c : CrewValue) (old new : List MateValue) → AreAllMates c old → length new ≡ length old → ((i : ℕ) (d : MateValue) → i < length old → HasReadAt c (get_or old i d) (get_or new i d))
-    → (i : ℕ) (m : MateValue) → get_elem? new i ≡ some m → IsNumbered c i m × (m.place.read ≡ true)
+    → (i : ℕ) (m : MateValue) → get_elem? new i ≡ some m → IsNumbered c i m × (m.seat.read ≡ true)
 one c old new all count each i m at =
     let low = below new i m at in
     let inside : i < length old = omega (arith, low, count) in
     let h = each i m inside in
     let is : get_or new i m ≡ m = some-injective (get_or new i m) m (sym (present new i m low) ∙ at) in
     let was = all.each i (get_or old i m) (present old i m inside) in
-    subst (λ (y : MateValue). IsNumbered c i y × (y.place.read ≡ true)) is (record { of = h.of; from = h.from ∙ was.from; to = h.to ∙ was.to }, h.read)
+    subst (λ (y : MateValue). IsNumbered c i y × (y.seat.read ≡ true)) is (record { of = h.of; from = h.from ∙ was.from; to = h.to ∙ was.to }, h.read)
 
 pub still-all : (c : CrewValue) (old new : List MateValue) → AreAllMates c old → length new ≡ length old → ((i : ℕ) (d : MateValue) → i < length old → HasReadAt c (get_or old i d) (get_or new i d)) → AreAllMates c new
 still-all c old new all count each = record { each = λ i m at. (one c old new all count each i m at).0; count = count ∙ all.count }

@@ -10,7 +10,7 @@ use Rattle.spf_effects_findings.specs.Parts.{guess_finds, guesses_find}
 use Rattle.spf_effects_findings.proofs.Then.{extends_nothing, extends_then}
 use Rattle.spf_effects_walk.proofs.Walks.{item_at}
 
--- what is found in the guesses from a place on gives what is found in all
+-- what is found in the guesses from an index on gives what is found in all
 pub record GuessesLead (g : Setting) (slots : List Bound) (all : List Predict) (old : Lists) (i : ℕ) (now : Lists) : Type 0 where
   pub finds : (new : Lists) → Extends (guesses_find g slots (map predictor (drop i all))) now new → Extends (guesses_find g slots (map predictor all)) old new
 

@@ -173,11 +173,11 @@ module _ (laws : SetsStayListed) where
   either_entered true x y l m = l
   either_entered false x y l m = m
 
-  calls_listed : (functions : List Function) (place : ℕ) → CallsStayListed (call_before functions place)
+  calls_listed : (functions : List Function) (index : ℕ) → CallsStayListed (call_before functions index)
   calls_listed functions zero = record { finds = λ f given. nothing }
-  calls_listed functions (suc place) = record {
-    finds = λ f given. either_entered (f == place) (entered (call_before functions place) (slice_get functions place) given) (call_before functions place f given)
-        (entered_listed (call_before functions place) (calls_listed functions place) (slice_get functions place) given) ((calls_listed functions place).finds f given);
+  calls_listed functions (suc index) = record {
+    finds = λ f given. either_entered (f == index) (entered (call_before functions index) (slice_get functions index) given) (call_before functions index f given)
+        (entered_listed (call_before functions index) (calls_listed functions index) (slice_get functions index) given) ((calls_listed functions index).finds f given);
   }
 
   part_listed : (p : Program) (k : Construct) (part : Part) → StaysListed (part_finds p k part)

@@ -109,7 +109,7 @@ fn pair_effects(
     }
 }
 
-/// The place before which functions may be called in `main`: that after the last one.
+/// The index before which functions may be called in `main`: that after the last one.
 fn callable(program: &Program) -> usize
     ensures { result ≡ length program.now.functions.items }
 {

@@ -40,7 +40,7 @@ read_range (Ok x) array f low high uncovered may written new bare h k = record {
 }
 read_range (Err e) array f low high uncovered may written new bare h k = tt
 
--- an array into which a write may go at any place
+-- an array into which a write may go at any index
 pub write_whole : {E : Type 0} (result : Result (Unit {0}) E) (array : ℕ) (uncovered may written new : List Range) → OnOk result (offsets_of new ≡ joined (Whole array) (offsets_of may)) → OnOk result (wholes_of new ≡ whole_joined (Whole array) (wholes_of may)) → OnOk result (Extends (may_write_whole array) (record { uncovered = uncovered; may = may; written = written }) (record { uncovered = uncovered; may = new; written = written }))
 write_whole (Ok x) array uncovered may written new h k =
     record { uncovered = nothing_more uncovered; may = one_more (Whole array) may new h k; written = refl; wholes = refl }

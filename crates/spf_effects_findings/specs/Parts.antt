@@ -57,11 +57,11 @@ entered call (Some f) given =
     let slots = own_bounds g.is_assigned (length f.slots) given in
     record { bound = expression_bound g (bounds_at_end g slots f.body) f.answer; finds = block_then g slots f.body f.answer }
 
--- calls of the functions before a place; each of them calls only functions before its own place
+-- calls of the functions before an index; each of them calls only functions before its own index
 abbrev pub call_before : List Function → ℕ → ℕ → List Bound → Entered
 call_before functions zero f given = record { bound = Unknown; finds = finds_nothing }
-call_before functions (suc place) f given =
-    if f == place then entered (call_before functions place) (slice_get functions place) given else call_before functions place f given
+call_before functions (suc index) f given =
+    if f == index then entered (call_before functions index) (slice_get functions index) given else call_before functions index f given
 
 -- ---- parts
 

@@ -28,7 +28,7 @@ if-cell : (b : Bool) (base i cell : ℕ) (why : TrapKind) → (if b then Ok (bas
 if-cell true base i cell why e = (refl, cc)
 if-cell false base i cell why e = cc
 
-pub cell_of-is : (extent : Extent) (z : ℤ) (cell : ℕ) → cell_of extent z ≡ Ok cell → (place : ℕ) × IsElement extent cell place × (z ≡ pos place)
+pub cell_of-is : (extent : Extent) (z : ℤ) (cell : ℕ) → cell_of extent z ≡ Ok cell → (index : ℕ) × IsElement extent cell index × (z ≡ pos index)
 cell_of-is extent (pos i) cell e =
     let h = if-cell (nat_lt i extent.1) extent.0 i cell _ e in
     let t : nat_lt i extent.1 ≡ true = h.0 in
@@ -37,17 +37,17 @@ cell_of-is extent (negsuc i) cell e = cc
 
 -- ---- a load
 
-load-known : (g : Environment) (k : ℤ) (a : ℕ) (f l h z : ℤ) (cell place : ℕ) (s : State) (w : Offsets) (done : List ℕ) → IsWithin k (Known f l h) z → IsElement (extent_in g.extents a) cell place → z ≡ pos place → AreStored g.extents k w done → (b : Bool) → covers w (Affine a f l h) ≡ b → Keeps (IsAmong g.extents k []) (IsAmong g.extents k (if b then [] else Affine a f l h ∷ [])) (EndsWith g.extents k w (λ x e d. e.slots ≡ s.slots)) done (AskLoad cell (λ x. Answer (Value x s)))
-load-known g k a f l h z cell place s w done within el is stored true e =
+load-known : (g : Environment) (k : ℤ) (a : ℕ) (f l h z : ℤ) (cell index : ℕ) (s : State) (w : Offsets) (done : List ℕ) → IsWithin k (Known f l h) z → IsElement (extent_in g.extents a) cell index → z ≡ pos index → AreStored g.extents k w done → (b : Bool) → covers w (Affine a f l h) ≡ b → Keeps (IsAmong g.extents k []) (IsAmong g.extents k (if b then [] else Affine a f l h ∷ [])) (EndsWith g.extents k w (λ x e d. e.slots ≡ s.slots)) done (AskLoad cell (λ x. Answer (Value x s)))
+load-known g k a f l h z cell index s w done within el is stored true e =
     let o = z -ℤ (f *ℤ k) in
     let c : w a f o ≡ true = covers-each w a f l h e o (omega (arith, ints, within.0)) (omega (arith, ints, within.1)) in
-    (inr (stored a f o cell place c el (omega (arith, ints))), λ x. (stored, refl))
-load-known g k a f l h z cell place s w done within el is stored false e =
-    (inl (inl (place, el, (rw is at within.0), (rw is at within.1))), λ x. (stored, refl))
+    (inr (stored a f o cell index c el (omega (arith, ints))), λ x. (stored, refl))
+load-known g k a f l h z cell index s w done within el is stored false e =
+    (inl (inl (index, el, (rw is at within.0), (rw is at within.1))), λ x. (stored, refl))
 
-load-found : (g : Environment) (k : ℤ) (a : ℕ) (b : Bound) (z : ℤ) (cell place : ℕ) (s : State) → IsWithin k b z → IsElement (extent_in g.extents a) cell place → z ≡ pos place → Meets g.extents k (reads_element a b) (λ x e d. e.slots ≡ s.slots) (AskLoad cell (λ x. Answer (Value x s)))
-load-found g k a Unknown z cell place s within el is = record { holds = λ w done stored. (inl (inl (place, el)), λ x. (stored, refl)) }
-load-found g k a (Known f l h) z cell place s within el is = record { holds = λ w done stored. load-known g k a f l h z cell place s w done within el is stored (covers w (Affine a f l h)) refl }
+load-found : (g : Environment) (k : ℤ) (a : ℕ) (b : Bound) (z : ℤ) (cell index : ℕ) (s : State) → IsWithin k b z → IsElement (extent_in g.extents a) cell index → z ≡ pos index → Meets g.extents k (reads_element a b) (λ x e d. e.slots ≡ s.slots) (AskLoad cell (λ x. Answer (Value x s)))
+load-found g k a Unknown z cell index s within el is = record { holds = λ w done stored. (inl (inl (index, el)), λ x. (stored, refl)) }
+load-found g k a (Known f l h) z cell index s within el is = record { holds = λ w done stored. load-known g k a f l h z cell index s w done within el is stored (covers w (Affine a f l h)) refl }
 
 load-meets : (g : Environment) (k : ℤ) (a : ℕ) (b : Bound) (z : ℤ) (line : ℕ) (s : State) → IsWithin k b z → Meets g.extents k (reads_element a b) (λ x e d. e.slots ≡ s.slots) (bind (checked line (cell_of (extent_in g.extents a) z) s) (after_ending loads))
 load-meets g k a b z line s within = go (cell_of (extent_in g.extents a) z) refl

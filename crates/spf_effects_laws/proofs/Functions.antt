@@ -73,8 +73,8 @@ zero-plus x = omega arith
 room : (count given : ℕ) → count ≤ given + (count - given)
 room count given = omega arith
 
-function-meets : (p : Program) (place : ℕ) (g : Environment) (k : ℤ) (calls : ℕ → List Bound → Entered) (f : Function) → IsLawfulFunction p place f → IsKnown g (setting_in calls f.body) k (names_at p place f.slots) → (bounds : List Bound) (values : List ℤ) (s : State) → f.params ≡ length bounds → EachWithin k bounds values → Meets g.extents k (entered calls (Some f) bounds).finds (λ z e d. (e.slots ≡ s.slots) × IsWithin k (entered calls (Some f) bounds).bound z) (function_means g (Some f) values s)
-function-meets p place g k calls f lawful known bounds values s count within =
+function-meets : (p : Program) (index : ℕ) (g : Environment) (k : ℤ) (calls : ℕ → List Bound → Entered) (f : Function) → IsLawfulFunction p index f → IsKnown g (setting_in calls f.body) k (names_at p index f.slots) → (bounds : List Bound) (values : List ℤ) (s : State) → f.params ≡ length bounds → EachWithin k bounds values → Meets g.extents k (entered calls (Some f) bounds).finds (λ z e d. (e.slots ≡ s.slots) × IsWithin k (entered calls (Some f) bounds).bound z) (function_means g (Some f) values s)
+function-meets p index g k calls f lawful known bounds values s count within =
     let v : Setting = setting_in calls f.body in
     let size : ℕ = length f.slots in
     let env : List Bound = own_bounds v.is_assigned size bounds in
@@ -86,8 +86,8 @@ function-meets p place g k calls f lawful known bounds values s count within =
     let len : size ≤ length own = simp (length-append, length-replicate) (room size (length values)) in
     let fits : f.params + declared_in f.body ≤ size = omega (arith, lawful.slots) in
     own-meets g.extents k _ _ s.slots _
-    (meets-then (meets-onward (block-goes g f.body (lawful-keeps (names_at p place f.slots) false (parameters f.params) f.body lawful.body refl) (record { slots = own; output = s.output })) (block-meets g v k (names_at p place f.slots) false size known f.body (parameters f.params) env lawful.body (λ x e. e) scope fits (record { slots = own; output = s.output }) len (parameters-within k v.is_assigned 0 (size - length bounds) bounds values _ within)))
-    (λ u e d h. meets-post (λ z e' d' r. r.1) (expression-meets g v k (names_at p place f.slots) (scope_at_end (parameters f.params) f.body) (bounds_at_end v env f.body) f.answer_line known f.answer lawful.answer e h.0)))
+    (meets-then (meets-onward (block-goes g f.body (lawful-keeps (names_at p index f.slots) false (parameters f.params) f.body lawful.body refl) (record { slots = own; output = s.output })) (block-meets g v k (names_at p index f.slots) false size known f.body (parameters f.params) env lawful.body (λ x e. e) scope fits (record { slots = own; output = s.output }) len (parameters-within k v.is_assigned 0 (size - length bounds) bounds values _ within)))
+    (λ u e d h. meets-post (λ z e' d' r. r.1) (expression-meets g v k (names_at p index f.slots) (scope_at_end (parameters f.params) f.body) (bounds_at_end v env f.body) f.answer_line known f.answer lawful.answer e h.0)))
 
 -- ---- all functions
 
@@ -102,56 +102,56 @@ none-outside (y ∷ xs) zero e below = cc
 none-outside (y ∷ xs) (suc i) e below = none-outside xs i e (omega (arith, below))
 
 -- a call that may be named is made
-callable-made : (p : Program) → IsScoped p → (place f count : ℕ) → place ≤ length p.functions → f < place → IfSome (slice_get p.functions f) (λ h. h.params ≡ count) → callable_before p.functions place f count ≡ true
-callable-made p scoped place f count le below params = both-true _ _ before (go (slice_get p.functions f) refl params (scoped.functions f))
+callable-made : (p : Program) → IsScoped p → (index f count : ℕ) → index ≤ length p.functions → f < index → IfSome (slice_get p.functions f) (λ h. h.params ≡ count) → callable_before p.functions index f count ≡ true
+callable-made p scoped index f count le below params = both-true _ _ before (go (slice_get p.functions f) refl params (scoped.functions f))
   where
-    before : nat_lt f place ≡ true
+    before : nat_lt f index ≡ true
     before = grind (arith, below)
 
     go : (o : Option Function) → slice_get p.functions f ≡ o → IfSome o (λ h. h.params ≡ count) → IfSome o (IsLawfulFunction p f) → holds_arguments o count ≡ true
     go None e i l = absurd (none-outside p.functions f e (omega (arith, below, le)))
     go (Some h) e i l = let fits : count ≤ length h.slots = omega (arith, i, l.slots) in grind (arith, fits)
 
--- calls of the functions before a place do no more than is found in them
+-- calls of the functions before an index do no more than is found in them
 abbrev pub CallsMeet : Program → List ℕ → List Extent → ℤ → ℕ → Type 0
-CallsMeet p input extents k place =
-    (f : ℕ) (bounds : List Bound) (values : List ℤ) (s : State) → f < place → IfSome (slice_get p.functions f) (λ h. h.params ≡ length bounds) → EachWithin k bounds values → Meets extents k (parts.call_before p.functions place f bounds).finds (λ z e d. (e.slots ≡ s.slots) × IsWithin k (parts.call_before p.functions place f bounds).bound z) (means.call_before input extents p.functions place f values s)
+CallsMeet p input extents k index =
+    (f : ℕ) (bounds : List Bound) (values : List ℤ) (s : State) → f < index → IfSome (slice_get p.functions f) (λ h. h.params ≡ length bounds) → EachWithin k bounds values → Meets extents k (parts.call_before p.functions index f bounds).finds (λ z e d. (e.slots ≡ s.slots) × IsWithin k (parts.call_before p.functions index f bounds).bound z) (means.call_before input extents p.functions index f values s)
 
 -- so a block knows of its calls
-known-where : (p : Program) (input : List ℕ) (extents : List Extent) (k : ℤ) → ((i : ℕ) → i < length input → slice_index input i < 256) → IsScoped p → (place : ℕ) → place ≤ length p.functions → CallsMeet p input extents k place → (slots : List (List ℕ)) (block : Block) → IsKnown (environment_before input extents p.functions place) (setting_in (parts.call_before p.functions place) block) k (names_at p place slots)
-known-where p input extents k bytes scoped place le calls slots block = record {
+known-where : (p : Program) (input : List ℕ) (extents : List Extent) (k : ℤ) → ((i : ℕ) → i < length input → slice_index input i < 256) → IsScoped p → (index : ℕ) → index ≤ length p.functions → CallsMeet p input extents k index → (slots : List (List ℕ)) (block : Block) → IsKnown (environment_before input extents p.functions index) (setting_in (parts.call_before p.functions index) block) k (names_at p index slots)
+known-where p input extents k bytes scoped index le calls slots block = record {
   bytes = bytes;
   called = λ f b v s c q. calls f b v s c.0 c.1 q;
-  callable = λ f count c. callable-made p scoped place f count le c.0 c.1;
+  callable = λ f count c. callable-made p scoped index f count le c.0 c.1;
 }
 
 -- and so do calls of one more function
-next-meet : (p : Program) (input : List ℕ) (extents : List Extent) (k : ℤ) → ((i : ℕ) → i < length input → slice_index input i < 256) → IsScoped p → (place : ℕ) → CallsMeet p input extents k place → CallsMeet p input extents k (suc place)
-next-meet p input extents k bytes scoped place calls f bounds values s below params within = choose (f == place) refl
+next-meet : (p : Program) (input : List ℕ) (extents : List Extent) (k : ℤ) → ((i : ℕ) → i < length input → slice_index input i < 256) → IsScoped p → (index : ℕ) → CallsMeet p input extents k index → CallsMeet p input extents k (suc index)
+next-meet p input extents k bytes scoped index calls f bounds values s below params within = choose (f == index) refl
   where
     g : Environment
-    g = environment_before input extents p.functions place
+    g = environment_before input extents p.functions index
 
-    here : (o : Option Function) → slice_get p.functions place ≡ o → IfSome o (λ h. h.params ≡ length bounds) → IfSome o (IsLawfulFunction p place) → Meets extents k (entered (parts.call_before p.functions place) o bounds).finds (λ z e d. (e.slots ≡ s.slots) × IsWithin k (entered (parts.call_before p.functions place) o bounds).bound z) (function_means g o values s)
+    here : (o : Option Function) → slice_get p.functions index ≡ o → IfSome o (λ h. h.params ≡ length bounds) → IfSome o (IsLawfulFunction p index) → Meets extents k (entered (parts.call_before p.functions index) o bounds).finds (λ z e d. (e.slots ≡ s.slots) × IsWithin k (entered (parts.call_before p.functions index) o bounds).bound z) (function_means g o values s)
     here None e i l = meets-value (λ d. (refl, tt))
     here (Some h) e i l =
-        let inside = some-inside p.functions place h e in
-        function-meets p place g k (parts.call_before p.functions place) h l (known-where p input extents k bytes scoped place (omega (arith, inside)) calls h.slots h.body) bounds values s i within
+        let inside = some-inside p.functions index h e in
+        function-meets p index g k (parts.call_before p.functions index) h l (known-where p input extents k bytes scoped index (omega (arith, inside)) calls h.slots h.body) bounds values s i within
 
-    choose : (b : Bool) → (f == place) ≡ b → Meets extents k (if◌then◌else◌ {A = Entered} b (entered (parts.call_before p.functions place) (slice_get p.functions place) bounds) (parts.call_before p.functions place f bounds)).finds (λ z e d. (e.slots ≡ s.slots) × IsWithin k (if◌then◌else◌ {A = Entered} b (entered (parts.call_before p.functions place) (slice_get p.functions place) bounds) (parts.call_before p.functions place f bounds)).bound z) ((if b then function_means g (slice_get p.functions place) values else means.call_before input extents p.functions place f values) s)
+    choose : (b : Bool) → (f == index) ≡ b → Meets extents k (if◌then◌else◌ {A = Entered} b (entered (parts.call_before p.functions index) (slice_get p.functions index) bounds) (parts.call_before p.functions index f bounds)).finds (λ z e d. (e.slots ≡ s.slots) × IsWithin k (if◌then◌else◌ {A = Entered} b (entered (parts.call_before p.functions index) (slice_get p.functions index) bounds) (parts.call_before p.functions index f bounds)).bound z) ((if b then function_means g (slice_get p.functions index) values else means.call_before input extents p.functions index f values) s)
     choose true e =
-        let same : f ≡ place = (Decides-eqb f place).0 e in
-        here (slice_get p.functions place) refl (subst (λ i. IfSome (slice_get p.functions i) (λ h. h.params ≡ length bounds)) same params) (scoped.functions place)
+        let same : f ≡ index = (Decides-eqb f index).0 e in
+        here (slice_get p.functions index) refl (subst (λ i. IfSome (slice_get p.functions i) (λ h. h.params ≡ length bounds)) same params) (scoped.functions index)
     choose false e =
-        let less : f < place = grind (arith, e, below) in
+        let less : f < index = grind (arith, e, below) in
         calls f bounds values s less params within
 
-calls-meet : (p : Program) (input : List ℕ) (extents : List Extent) (k : ℤ) → ((i : ℕ) → i < length input → slice_index input i < 256) → IsScoped p → (place : ℕ) → CallsMeet p input extents k place
+calls-meet : (p : Program) (input : List ℕ) (extents : List Extent) (k : ℤ) → ((i : ℕ) → i < length input → slice_index input i < 256) → IsScoped p → (index : ℕ) → CallsMeet p input extents k index
 calls-meet p input extents k bytes scoped zero f bounds values s below params within = absurd (omega (arith, below))
-calls-meet p input extents k bytes scoped (suc place) f bounds values s below params within =
-    next-meet p input extents k bytes scoped place (calls-meet p input extents k bytes scoped place) f bounds values s below params within
+calls-meet p input extents k bytes scoped (suc index) f bounds values s below params within =
+    next-meet p input extents k bytes scoped index (calls-meet p input extents k bytes scoped index) f bounds values s below params within
 
--- the forms of a block from which the functions before a place may be called
-pub known-before : (p : Program) (input : List ℕ) (extents : List Extent) (k : ℤ) → ((i : ℕ) → i < length input → slice_index input i < 256) → IsScoped p → (place : ℕ) → place ≤ length p.functions → (slots : List (List ℕ)) (block : Block) → IsKnown (environment_before input extents p.functions place) (setting_in (parts.call_before p.functions place) block) k (names_at p place slots)
-known-before p input extents k bytes scoped place le slots block =
-    known-where p input extents k bytes scoped place le (calls-meet p input extents k bytes scoped place) slots block
+-- the forms of a block from which the functions before an index may be called
+pub known-before : (p : Program) (input : List ℕ) (extents : List Extent) (k : ℤ) → ((i : ℕ) → i < length input → slice_index input i < 256) → IsScoped p → (index : ℕ) → index ≤ length p.functions → (slots : List (List ℕ)) (block : Block) → IsKnown (environment_before input extents p.functions index) (setting_in (parts.call_before p.functions index) block) k (names_at p index slots)
+known-before p input extents k bytes scoped index le slots block =
+    known-where p input extents k bytes scoped index le (calls-meet p input extents k bytes scoped index) slots block

@@ -22,8 +22,8 @@ use Rattle.spf_effects_laws.proofs.Parts.{AnyEnd, stands, asks-meets}
 
 -- ---- cells of ranges, by a test
 
-in-its-extent : (e : Extent) (cell place : ℕ) → IsElement e cell place → in_extent e cell ≡ true
-in-its-extent e cell place el =
+in-its-extent : (e : Extent) (cell index : ℕ) → IsElement e cell index → in_extent e cell ≡ true
+in-its-extent e cell index el =
     let above : e.0 ≤ cell = omega (arith, el.is) in
     let below : cell < e.0 + e.1 = omega (arith, el.is, el.inside) in
     let first : nat_le e.0 cell ≡ true = grind (arith, above) in
@@ -31,13 +31,13 @@ in-its-extent e cell place el =
     both-true _ _ first second
 
 -- how far a cell is after the first one of its array
-its-place : (e : Extent) (cell place : ℕ) → IsElement e cell place → pos cell -ℤ pos e.0 ≡ pos place
-its-place e cell place el = omega (arith, ints, el.is)
+its-index : (e : Extent) (cell index : ℕ) → IsElement e cell index → pos cell -ℤ pos e.0 ≡ pos index
+its-index e cell index el = omega (arith, ints, el.is)
 
 cell-at : (g : List Extent) (k : ℤ) (r : Range) (cell : ℕ) → IsCellOf g k r cell → is_cell (extent_in g (array_of r)) k r cell ≡ true
 cell-at g k (Whole a) cell h = in-its-extent (extent_in g a) cell h.0 h.1
 cell-at g k (Affine a f from to) cell h =
-    let same = its-place (extent_in g a) cell h.0 h.1 in
+    let same = its-index (extent_in g a) cell h.0 h.1 in
     both-true _ _ (in-its-extent (extent_in g a) cell h.0 h.1)
     (both-true _ _ (int-le-of (at_block k f from) (pos cell -ℤ pos (extent_in g a).0) (rw same h.2)) (int-le-of (pos cell -ℤ pos (extent_in g a).0) (at_block k f to) (rw same h.3)))
 
@@ -59,5 +59,5 @@ keeps-to-its-effects p n construct part s lawful e setup =
     (met.holds nowhere [] (stored-nothing g k []))
   where
     ending : (a : Ending Carried) (d : List ℕ) → Grows [] d → EndsWith (extents_of p (length s.input)) s.number (part_finds p construct part nowhere).written AnyEnd a d → keeping.HasStored p construct part s a d
-    ending (Value z state) d grows h = λ array place factor offset written at below. h.0 array factor offset ((extent_in (extents_of p (length s.input)) array).0 + place) place written (record { inside = below; is = refl }) at
+    ending (Value z state) d grows h = λ array index factor offset written at below. h.0 array factor offset ((extent_in (extents_of p (length s.input)) array).0 + index) index written (record { inside = below; is = refl }) at
     ending (Trapped trap output) d grows h = tt

@@ -123,8 +123,8 @@ meets-left {g} {k} {f} {onward} {broken} {t} m = record {
 }
   where
     ending : (w : Offsets) (done : List ℕ) → AreStored g k w done → (e : Ending Flow) (d : List ℕ) → Grows done d → LeavesWith g k (f w).written onward broken e d → EndsWith g k w (ByFlow onward broken) e d
-    ending w done stored (Value Onward s) d grows h = ((λ a q o cell place e i j. grows cell (stored a q o cell place e i j)), h.1)
-    ending w done stored (Value Broken s) d grows h = ((λ a q o cell place e i j. grows cell (stored a q o cell place e i j)), h)
+    ending w done stored (Value Onward s) d grows h = ((λ a q o cell index e i j. grows cell (stored a q o cell index e i j)), h.1)
+    ending w done stored (Value Broken s) d grows h = ((λ a q o cell index e i j. grows cell (stored a q o cell index e i j)), h)
     ending w done stored (Trapped t' out) d grows h = tt
 
 -- ---- statements that go on

@@ -26,14 +26,14 @@ bound_at bounds slot = slice_index_or bounds slot Unknown
 -- ---- cells
 
 -- the cell is that of an element of the array
-pub record IsElement (extent : Extent) (cell place : ℕ) : Type 0 where
-  pub inside : place < extent.1
-  pub is : cell ≡ extent.0 + place
+pub record IsElement (extent : Extent) (cell index : ℕ) : Type 0 where
+  pub inside : index < extent.1
+  pub is : cell ≡ extent.0 + index
 
 abbrev pub IsCellOf : List Extent → ℤ → Range → ℕ → Type 0
-IsCellOf g k (Whole a) cell = (place : ℕ) × IsElement (extent_in g a) cell place
+IsCellOf g k (Whole a) cell = (index : ℕ) × IsElement (extent_in g a) cell index
 IsCellOf g k (Affine a f from to) cell =
-    (place : ℕ) × IsElement (extent_in g a) cell place × (at_block k f from ≤ℤ pos place) × (pos place ≤ℤ at_block k f to)
+    (index : ℕ) × IsElement (extent_in g a) cell index × (at_block k f from ≤ℤ pos index) × (pos index ≤ℤ at_block k f to)
 
 abbrev pub IsAmong : List Extent → ℤ → List Range → ℕ → Type 0
 IsAmong g k [] cell = ⊥
@@ -42,7 +42,7 @@ IsAmong g k (r ∷ rest) cell = IsCellOf g k r cell ⊎ IsAmong g k rest cell
 -- each cell of the written offsets is among the stored ones
 abbrev pub AreStored : List Extent → ℤ → Offsets → List ℕ → Type 0
 AreStored g k w done =
-    (array : ℕ) (factor offset : ℤ) (cell place : ℕ) → w array factor offset ≡ true → IsElement (extent_in g array) cell place → pos place ≡ at_block k factor offset → IsIn cell done
+    (array : ℕ) (factor offset : ℤ) (cell index : ℕ) → w array factor offset ≡ true → IsElement (extent_in g array) cell index → pos index ≡ at_block k factor offset → IsIn cell done
 
 -- ---- what is found
 
@@ -87,4 +87,4 @@ pub record IsKnown (g : Environment) (v : Setting) (k : ℤ) (names : Names) : T
 abbrev pub AreSwept : List Extent → List Sweep → ℤ → List ℕ → Type 0
 AreSwept g [] z d = Unit {0}
 AreSwept g (s ∷ rest) z d =
-    ((cell place : ℕ) → IsElement (extent_in g s.array) cell place → pos place ≡ z +ℤ s.distance → IsIn cell d) × AreSwept g rest z d
+    ((cell index : ℕ) → IsElement (extent_in g s.array) cell index → pos index ≡ z +ℤ s.distance → IsIn cell d) × AreSwept g rest z d

@@ -88,14 +88,14 @@ pub meets-then : {A B : Type 0} {g : List Extent} {k : ℤ} {first next : Finds}
 meets-then m n = meets-then-grown m (λ a s d h. meets-post (λ b e d' i grows. i) (n a s d h))
 
 pub meets-perhaps : {A : Type 0} {g : List Extent} {k : ℤ} {f : Finds} {post : A → State → List ℕ → Type 0} {t : Interaction (Ending A)} → Meets g k f post t → Meets g k (perhaps f) post t
-meets-perhaps {A} {g} {k} {f} m = meets-as (record { may = λ w c h. h; uncovered = λ w c h. h; written = λ w done d p grows r a q o cell place e i j. grows cell (p a q o cell place e i j) }) (λ a s d h. h) m
+meets-perhaps {A} {g} {k} {f} m = meets-as (record { may = λ w c h. h; uncovered = λ w c h. h; written = λ w done d p grows r a q o cell index e i j. grows cell (p a q o cell index e i j) }) (λ a s d h. h) m
 
 -- one of two
 pub less-left : (g : List Extent) (k : ℤ) (f h : Finds) → IsLess g k f (either f h)
-less-left g k f h = record { may = λ w c i. among-left g k (f w).may (h w).may c i; uncovered = λ w c i. among-left g k (f w).uncovered (h w).uncovered c i; written = λ w done d p grows r a q o cell place e i j. r a q o cell place (and-left ((f w).written a q o) _ e) i j }
+less-left g k f h = record { may = λ w c i. among-left g k (f w).may (h w).may c i; uncovered = λ w c i. among-left g k (f w).uncovered (h w).uncovered c i; written = λ w done d p grows r a q o cell index e i j. r a q o cell index (and-left ((f w).written a q o) _ e) i j }
 
 pub less-right : (g : List Extent) (k : ℤ) (f h : Finds) → IsLess g k h (either f h)
-less-right g k f h = record { may = λ w c i. among-right g k (f w).may (h w).may c i; uncovered = λ w c i. among-right g k (f w).uncovered (h w).uncovered c i; written = λ w done d p grows r a q o cell place e i j. r a q o cell place (and-right ((f w).written a q o) _ e) i j }
+less-right g k f h = record { may = λ w c i. among-right g k (f w).may (h w).may c i; uncovered = λ w c i. among-right g k (f w).uncovered (h w).uncovered c i; written = λ w done d p grows r a q o cell index e i j. r a q o cell index (and-right ((f w).written a q o) _ e) i j }
 
 less-nothing : (g : List Extent) (k : ℤ) (f : Finds) → IsLess g k (f then finds_nothing) f
 less-nothing g k f = record { may = λ w c h. among-nil g k (f w).may c h; uncovered = λ w c h. among-nil g k (f w).uncovered c h; written = λ w done d p q r. r }

@@ -21,15 +21,15 @@ use Rattle.spf_effects_laws.proofs.Meets.{among-left, meets-trap}
 use Rattle.spf_effects_laws.proofs.Expressions.{cell_of-is}
 
 pub stored-grows : (g : List Extent) (k : ℤ) (w : Offsets) (d e : List ℕ) → Grows d e → AreStored g k w d → AreStored g k w e
-stored-grows g k w d e grows p a f o cell place is el at = grows cell (p a f o cell place is el at)
+stored-grows g k w d e grows p a f o cell index is el at = grows cell (p a f o cell index is el at)
 
 -- what is joined, and what was written before
-pub stored-joined : (g : List Extent) (k : ℤ) (a : ℕ) (f from to : ℤ) (w : Offsets) (d : List ℕ) → ((o : ℤ) (cell place : ℕ) → from ≤ℤ o → o ≤ℤ to → IsElement (extent_in g a) cell place → pos place ≡ at_block k f o → IsIn cell d) → AreStored g k w d → AreStored g k (joined (Affine a f from to) w) d
-stored-joined g k a f from to w d fresh old a' f' o cell place is el spot =
+pub stored-joined : (g : List Extent) (k : ℤ) (a : ℕ) (f from to : ℤ) (w : Offsets) (d : List ℕ) → ((o : ℤ) (cell index : ℕ) → from ≤ℤ o → o ≤ℤ to → IsElement (extent_in g a) cell index → pos index ≡ at_block k f o → IsIn cell d) → AreStored g k w d → AreStored g k (joined (Affine a f from to) w) d
+stored-joined g k a f from to w d fresh old a' f' o cell index is el spot =
     go (or-cases ((a' == a) && (int_eq f' f && is_between from to o)) _ is)
   where
     go : (((a' == a) && (int_eq f' f && is_between from to o)) ≡ true) ⊎ (w a' f' o ≡ true) → IsIn cell d
-    go (inr e) = old a' f' o cell place e el spot
+    go (inr e) = old a' f' o cell index e el spot
     go (inl e) =
         let ea : a' ≡ a = (Decides-eqb a' a).0 (and-left _ _ e) in
         let rest = and-right (a' == a) _ e in
@@ -37,15 +37,15 @@ stored-joined g k a f from to w d fresh old a' f' o cell place is el spot =
         let tests = and-right (int_eq f' f) _ rest in
         let low : from ≤ℤ o = int-le-is from o (and-left _ _ tests) in
         let high : o ≤ℤ to = int-le-is o to (and-right (int_le from o) _ tests) in
-        fresh o cell place low high (rw ea at el) (rw ef at spot)
+        fresh o cell index low high (rw ea at el) (rw ef at spot)
 
--- two elements at one place are one cell
+-- two elements at one index are one cell
 same-cell : (extent : Extent) (c d p q : ℕ) → IsElement extent c p → IsElement extent d q → pos p ≡ pos q → c ≡ d
 same-cell extent c d p q x y e = let f : p ≡ q = cc in omega (arith, x.is, y.is)
 
 -- the element at z has been stored
 abbrev pub HasElement : List Extent → ℕ → ℤ → List ℕ → Type 0
-HasElement g a z d = (cell place : ℕ) → IsElement (extent_in g a) cell place → pos place ≡ z → IsIn cell d
+HasElement g a z d = (cell index : ℕ) → IsElement (extent_in g a) cell index → pos index ≡ z → IsIn cell d
 
 store-known : (g : List Extent) (k : ℤ) (a : ℕ) (f l h z : ℤ) (cell : ℕ) (w : Offsets) (done : List ℕ) → IsWithin k (Known f l h) z → HasElement g a z (cell ∷ done) → AreStored g k w (cell ∷ done) → (b : Bool) → int_eq l h ≡ b → AreStored g k (if b then joined (Affine a f l h) w else w) (cell ∷ done)
 store-known g k a f l h z cell w done within has stored false e = stored
@@ -55,20 +55,20 @@ store-known g k a f l h z cell w done within has stored true e =
     (λ o c p low high el spot. has c p el (let same : o ≡ l = omega (arith, ints) in let at_l : pos p ≡ at_block k f l = rw same at spot in omega (arith, ints, within.0, within.1)))
     stored
 
-store-found : (g : List Extent) (k : ℤ) (a : ℕ) (b : Bound) (z v : ℤ) (cell place : ℕ) (s : State) → IsWithin k b z → IsElement (extent_in g a) cell place → z ≡ pos place → Meets g k (writes_element a b) (λ u e d. (e.slots ≡ s.slots) × HasElement g a z d) (stores cell v s)
-store-found g k a b z v cell place s within el is = go b within
+store-found : (g : List Extent) (k : ℤ) (a : ℕ) (b : Bound) (z v : ℤ) (cell index : ℕ) (s : State) → IsWithin k b z → IsElement (extent_in g a) cell index → z ≡ pos index → Meets g k (writes_element a b) (λ u e d. (e.slots ≡ s.slots) × HasElement g a z d) (stores cell v s)
+store-found g k a b z v cell index s within el is = go b within
   where
     has : (done : List ℕ) → HasElement g a z (cell ∷ done)
-    has done c p el' e = in-first c cell done (same-cell (extent_in g a) c cell p place el' el (e ∙ is))
+    has done c p el' e = in-first c cell done (same-cell (extent_in g a) c cell p index el' el (e ∙ is))
 
     more : (w : Offsets) (done : List ℕ) → AreStored g k w done → AreStored g k w (cell ∷ done)
     more w done stored = stored-grows g k w done (cell ∷ done) (λ c i. in-rest c cell done i) stored
 
     go : (b : Bound) → IsWithin k b z → Meets g k (writes_element a b) (λ u e d. (e.slots ≡ s.slots) × HasElement g a z d) (stores cell v s)
-    go Unknown p = record { holds = λ w done stored. (inl (place, el), (more w done stored, (refl, has done))) }
+    go Unknown p = record { holds = λ w done stored. (inl (index, el), (more w done stored, (refl, has done))) }
     go (Known f l h) p = record {
       holds = λ w done stored. (
-        inl (place, el, (rw is at p.0), (rw is at p.1)),
+        inl (index, el, (rw is at p.0), (rw is at p.1)),
         (store-known g k a f l h z cell w done p (has done) (more w done stored) (int_eq l h) refl, (refl, has done)),
       );
     }
@@ -99,7 +99,7 @@ if-cells : (b : Bool) (p q : ℕ) (cells : ℕ × ℕ) (why : TrapKind) → (if 
 if-cells true p q cells why e = (refl, cc)
 if-cells false p q cells why e = cc
 
--- a filled part of an array: its first place and the place after it
+-- a filled part of an array: its first index and the index after it
 pub record IsPart (extent cells : ℕ × ℕ) (x y : ℤ) : Type 0 where
   pub first : ℕ
   pub past : ℕ
@@ -144,11 +144,11 @@ part-meets g k a f l h m i x y v cells s part p q = record {
         let lh : l ≡ h = (Decides-int_eq l h).0 (and-left _ _ e) in
         let rest = and-right (int_eq l h) _ e in
         let mi : m ≡ i = (Decides-int_eq m i).0 (and-left _ _ rest) in
-        stored-joined g k a f l (m -ℤ pos 1) w d (λ o c place low high el spot.
+        stored-joined g k a f l (m -ℤ pos 1) w d (λ o c index low high el spot.
         let count = part.count_is in
-        let above : part.first ≤ place = omega (arith, ints, p.0, p.1, part.from_is) in
-        let below : place < part.past = omega (arith, ints, q.0, q.1, part.to_is, mi) in
-        subst (λ z. IsIn z d) (omega (arith, el.is, part.cell_is)) (all (place - part.first) (omega arith)))
+        let above : part.first ≤ index = omega (arith, ints, p.0, p.1, part.from_is) in
+        let below : index < part.past = omega (arith, ints, q.0, q.1, part.to_is, mi) in
+        subst (λ z. IsIn z d) (omega (arith, el.is, part.cell_is)) (all (index - part.first) (omega arith)))
         stored
 
 -- what is filled where nothing is known

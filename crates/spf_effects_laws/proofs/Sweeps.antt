@@ -28,7 +28,7 @@ if-same true n d e = (refl, cc)
 if-same false n d e = cc
 
 pub stored-nothing : (g : List Extent) (k : ℤ) (d : List ℕ) → AreStored g k nowhere d
-stored-nothing g k d a f o cell place e el spot = cc
+stored-nothing g k d a f o cell index e el spot = cc
 
 -- where there is no such index
 no-step : (g : List Extent) (k : ℤ) (post : ℤ → State → List ℕ → Type 0) (t : Interaction (Ending ℤ)) (done : List ℕ) → ((z : ℤ) (s : State) (d : List ℕ) → post z s d) → Keeps Anything Anything (EndsWith g k nowhere post) done t
@@ -78,7 +78,7 @@ store-swept g a i s z d x stepped has = go (distance x i) refl
   where
     go : (o : Option ℤ) → distance x i ≡ o → AreSwept g (sweep a o []) (slice_index_or s.slots x (pos 0)) d
     go None e = tt
-    go (Some m) e = ((λ cell place el spot. has cell place el (spot ∙ sym (stepped x m e))), tt)
+    go (Some m) e = ((λ cell index el spot. has cell index el (spot ∙ sym (stepped x m e))), tt)
 
 -- the sweeps of a statement, and of those after it
 pub swept-line : (g : List Extent) (x line : ℕ) (s : Statement) (rest : Block) (z : ℤ) (d : List ℕ) → AreSwept g (sweeps_of x s) z d → AreSwept g (sweeps x rest) z d → AreSwept g (sweeps x (on_line line s rest)) z d

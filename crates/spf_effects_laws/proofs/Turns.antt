@@ -103,9 +103,9 @@ swept-each g k f l m (s ∷ rest) w d all stored =
     go false = stored
     go true =
         stored-joined g k s.array f (l +ℤ s.distance) ((m -ℤ pos 1) +ℤ s.distance) w d
-        (λ o cell place low high el spot.
-        let z = pos place -ℤ s.distance in
-        (all z (omega (arith, ints)) (omega (arith, ints))).0 cell place el (omega (arith, ints)))
+        (λ o cell index low high el spot.
+        let z = pos index -ℤ s.distance in
+        (all z (omega (arith, ints)) (omega (arith, ints))).0 cell index el (omega (arith, ints)))
         stored
 
 pub swept-stored : (g : List Extent) (k : ℤ) (b c : Bound) (i j : ℤ) (sweeps : List Sweep) (w : Offsets) (d : List ℕ) → IsWithin k b i → IsWithin k c j → ((z : ℤ) → i ≤ℤ z → (z +ℤ pos 1) ≤ℤ j → AreSwept g sweeps z d) → AreStored g k w d → AreStored g k (swept b c sweeps w) d
@@ -126,4 +126,4 @@ swept-stored g k (Known f l h) (Known f' m t) i j sweeps w d p q all stored = go
 
 pub swept-grows : (g : List Extent) (sweeps : List Sweep) (z : ℤ) (d e : List ℕ) → Grows d e → AreSwept g sweeps z d → AreSwept g sweeps z e
 swept-grows g [] z d e grows p = tt
-swept-grows g (s ∷ rest) z d e grows p = ((λ cell place el spot. grows cell (p.0 cell place el spot)), swept-grows g rest z d e grows p.1)
+swept-grows g (s ∷ rest) z d e grows p = ((λ cell index el spot. grows cell (p.0 cell index el spot)), swept-grows g rest z d e grows p.1)

@@ -22,9 +22,9 @@ IsAmong p s list cell = cells_at (extents_of p (length s.input)) s.number list c
 -- each element at one of these offsets at block k, where its array has it, has been stored
 abbrev pub AreStored : List Extent → ℤ → Offsets → List ℕ → Type 0
 AreStored extents k written stored =
-    (array place : ℕ) (factor offset : ℤ) →
-    written array factor offset ≡ true → pos place ≡ at_block k factor offset → place < (slice_index_or extents array (0, 0)).1 →
-    Contains stored ((slice_index_or extents array (0, 0)).0 + place)
+    (array index : ℕ) (factor offset : ℤ) →
+    written array factor offset ≡ true → pos index ≡ at_block k factor offset → index < (slice_index_or extents array (0, 0)).1 →
+    Contains stored ((slice_index_or extents array (0, 0)).0 + index)
 
 -- at an end with a value all that is surely written has been stored
 abbrev pub HasStored : Program → Construct → Part → Setup → Ending Carried → List ℕ → Type 0

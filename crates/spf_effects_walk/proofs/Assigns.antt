@@ -17,7 +17,7 @@ use Rattle.spf_ast.proofs.Views.{statement-if, statement-for, statement-while, s
 use Rattle.spf_ast.specs.Slots.{assigns, statement_assigns}
 use Rattle.spf_effects_walk.proofs.Walks.{item_at}
 
--- whether the statements from a place on assign a slot that passes
+-- whether the statements from an index on assign a slot that passes
 abbrev pub assigns_from : (ℕ → Bool) → List Stmt → ℕ → Bool
 assigns_from pass statements i = assigns pass (block (drop i statements))
 

@@ -16,7 +16,7 @@ use Rattle.spf_ast.proofs.Views.{statement-if, statement-fold, statement-pair}
 use Rattle.spf_ast.specs.Slots.{breaks, statement_breaks}
 use Rattle.spf_effects_walk.proofs.Walks.{item_at}
 
--- whether the statements from a place on hold a `break`
+-- whether the statements from an index on hold a `break`
 abbrev pub breaks_from : List Stmt → ℕ → Bool
 breaks_from statements i = breaks (block (drop i statements))
 

@@ -1,4 +1,4 @@
--- Calls of functions that stand before a place.
+-- Calls of functions that stand before an index.
 use Rattle.std.proofs.Common.{◌≡◌, ℕ, zero, suc, ◌+◌, ◌-◌, ◌*◌, ◌<◌, ◌≤◌, Bool, true, false, List, [], ◌∷◌, ◌++◌, length, get_or, take, replicate, max, refl, sym, ap, ◌∙◌, arith}
 use Rattle.std.proofs.lemmas.Bool.Decides.{Decides-eqb}
 use Rattle.std.proofs.lemmas.List.{take_all}
@@ -20,7 +20,7 @@ last_or_before_at false f n e h p q =
 last_or_before : {P : Type 0} (f n : ℕ) → f < suc n → (f ≡ n → P) → (f < n → (f == n) ≡ false → P) → P
 last_or_before f n h p q = last_or_before_at (f == n) f n refl h p q
 
--- a call of a function that stands before the place
+-- a call of a function that stands before the index
 pub call_of : (fs : List Function) (f n : ℕ) (given : List Bound) → f < n → call_before fs n f given ≡ entered (call_before fs f) (slice_get fs f) given
 call_of fs f zero given h = let no : ⊥ = omega arith in absurd no
 call_of fs f (suc n) given h =
@@ -35,7 +35,7 @@ apart f n h = at_test (f == n) refl
     at_test true e = let same = (Decides-eqb f n).0 e in let no : ⊥ = omega (arith, same) in absurd no
     at_test false e = e
 
--- a call of a function that doesn't stand before the place
+-- a call of a function that doesn't stand before the index
 pub call_beyond : (fs : List Function) (f n : ℕ) (given : List Bound) → n ≤ f → call_before fs n f given ≡ never_entered
 call_beyond fs f zero given h = refl
 call_beyond fs f (suc n) given h =

@@ -10,7 +10,7 @@ use Rattle.spf_effects_findings.specs.Forms.{Setting, expression_bound, expressi
 use Rattle.spf_effects_findings.proofs.Then.{extends_nothing, extends_then}
 use Rattle.spf_effects_walk.proofs.Walks.{item_at}
 
--- of these arguments, those from a place on are left; the bounds of the others are known
+-- of these arguments, those from an index on are left; the bounds of the others are known
 pub record ArgumentsLead (g : Setting) (slots : List Bound) (all : List Expr) (old : Lists) (i : ℕ) (known : List Bound) (now : Lists) : Type 0 where
   pub bounds : known ++ argument_bounds g slots (arguments (drop i all)) ≡ argument_bounds g slots (arguments all)
   pub finds : (new : Lists) → Extends (arguments_find g slots (arguments (drop i all))) now new → Extends (arguments_find g slots (arguments all)) old new
@@ -36,7 +36,7 @@ pub arguments_end_finds : (g : Setting) (slots : List Bound) (all : List Expr) (
 arguments_end_finds g slots all old i known now h lead =
     lead.finds now (subst (λ l. Extends (arguments_find g slots (arguments l)) now now) (sym (drop_all i all h)) (extends_nothing now))
 
--- of these statements, those from a place on are left, and the slots have these bounds there
+-- of these statements, those from an index on are left, and the slots have these bounds there
 pub record StatementsLead (g : Setting) (slots : List Bound) (all : List Stmt) (old : Lists) (i : ℕ) (known : List Bound) (now : Lists) : Type 0 where
   pub bounds : bounds_at_end g known (block (drop i all)) ≡ bounds_at_end g slots (block all)
   pub finds : (new : Lists) → Extends (block_finds g known (block (drop i all))) now new → Extends (block_finds g slots (block all)) old new

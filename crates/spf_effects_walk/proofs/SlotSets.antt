@@ -42,20 +42,20 @@ padded (Ok u) flags new n more h e =
     ∙ (λ i x. padded_at flags more x i)
 padded (Err x) flags new n more h e = tt
 
-flag_at : (flags : List Bool) (place x : ℕ) → place < length flags → get_or (set flags place true) x false ≡ ((x == place) || get_or flags x false)
-flag_at flags place x h = at_test (x == place) refl
+flag_at : (flags : List Bool) (index x : ℕ) → index < length flags → get_or (set flags index true) x false ≡ ((x == index) || get_or flags x false)
+flag_at flags index x h = at_test (x == index) refl
   where
-    at_test : (b : Bool) → (x == place) ≡ b → get_or (set flags place true) x false ≡ ((x == place) || get_or flags x false)
+    at_test : (b : Bool) → (x == index) ≡ b → get_or (set flags index true) x false ≡ ((x == index) || get_or flags x false)
     at_test true e =
-        let same : x ≡ place = (Decides-eqb x place).0 e in
-        ap (λ y. get_or (set flags place true) y false) same ∙ get_or-set_same flags place true false h ∙ sym (ap (λ b. b || get_or flags x false) e)
+        let same : x ≡ index = (Decides-eqb x index).0 e in
+        ap (λ y. get_or (set flags index true) y false) same ∙ get_or-set_same flags index true false h ∙ sym (ap (λ b. b || get_or flags x false) e)
     at_test false e =
-        let apart : x ≡ place → ⊥ = λ same. let yes = (Decides-eqb x place).1 same in cc in
-        get_or-set_other flags place x true false apart ∙ sym (ap (λ b. b || get_or flags x false) e)
+        let apart : x ≡ index → ⊥ = λ same. let yes = (Decides-eqb x index).1 same in cc in
+        get_or-set_other flags index x true false apart ∙ sym (ap (λ b. b || get_or flags x false) e)
 
 -- a flag that is set
-pub flagged : (old flags : List Bool) (place : ℕ) → has_slot flags ≡ has_slot old → place < length flags → has_slot (set flags place true) ≡ with_slot place (has_slot old)
-flagged old flags place e h = (λ i x. flag_at flags place x h i) ∙ ap (with_slot place) e
+pub flagged : (old flags : List Bool) (index : ℕ) → has_slot flags ≡ has_slot old → index < length flags → has_slot (set flags index true) ≡ with_slot index (has_slot old)
+flagged old flags index e h = (λ i x. flag_at flags index x h i) ∙ ap (with_slot index) e
 
 -- ---- a set that many slots are put into
 
@@ -132,7 +132,7 @@ pub pair_kind_with : (kind : StmtKind) (pair : Box Pair Global) → kind ≡ s.P
 pair_kind_with kind pair is sets =
     ap (λ t. with_statement t sets) (sym (statement-pair pair)) ∙ ap (λ k. with_statement (statement k) sets) (sym is)
 
--- ---- the statements of a block, from a place on
+-- ---- the statements of a block, from an index on
 
 pub with_next : (xs : List Stmt) (i : ℕ) (x : Stmt) (now new whole : SlotSets) → i < length xs → x ≡ get_or xs i x → new ≡ with_statement (statement x.kind) now → with_block (block (drop i xs)) now ≡ whole → with_block (block (drop (i + 1) xs)) new ≡ whole
 with_next xs i x now new whole h is e k =

@@ -48,7 +48,7 @@ sweeps_then name line f a b (Fold head body) rest w = refl
 sweeps_then name line f a b (Pair head producer consumer) rest w = refl
 sweeps_then name line f a b Break rest w = refl
 
--- the sweeps of these statements from a place on are left
+-- the sweeps of these statements from an index on are left
 pub record SweepsLead (name : ℕ) (f a b : ℤ) (all : List Stmt) (old : Lists) (i : ℕ) (now : Lists) : Type 0 where
   pub uncovered : now.uncovered ≡ old.uncovered
   pub may : now.may ≡ old.may

@@ -22,7 +22,7 @@ pub item_at : {A : Type 0} (xs : List A) (i : ℕ) (x : A) → i < length xs →
 item_at xs i x h e =
     drop-cons xs i x h ∙ ap (λ z. z ∷ drop (suc i) xs) (sym e) ∙ ap (λ n. x ∷ drop n xs) (let n : suc i ≡ i + 1 = omega arith in n)
 
--- whether the statements from a place on emit
+-- whether the statements from an index on emit
 abbrev pub emits_from : List Stmt → ℕ → Bool
 emits_from statements i = emits (block (drop i statements))
 

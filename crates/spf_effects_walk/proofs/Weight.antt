@@ -51,7 +51,7 @@ abbrev pub weight_of : Option Function → ℕ
 weight_of None = 0
 weight_of (Some f) = block_weight f.body + expression_weight f.answer
 
--- the weight of the functions before a place
+-- the weight of the functions before an index
 abbrev pub weight_before : List Function → ℕ → ℕ
 weight_before functions zero = 0
-weight_before functions (suc place) = 2 * weight_of (slice_get functions place) + 6 + weight_before functions place
+weight_before functions (suc index) = 2 * weight_of (slice_get functions index) + 6 + weight_before functions index

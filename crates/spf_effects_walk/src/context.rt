@@ -41,29 +41,29 @@ pub fn declare(assigned: &SlotSet, slot: u32, bound: Bound, bounds: &mut [Bound]
     ensures { bounds.new
         ≡ (if has_slot assigned.now slot then bounds.old else slice_set bounds.old slot bound) }
 {
-    let place = slot as usize;
-    if assigned.contains(place) {
+    let index = slot as usize;
+    if assigned.contains(index) {
         return;
     }
-    if place < bounds.len() {
-        bounds[place] = bound;
+    if index < bounds.len() {
+        bounds[index] = bound;
     }
 }
 
-/// The function that a call reaches, where it stands before the place `below`.
-pub(crate) fn callee(functions: &[Function], below: usize, place: usize) -> Option<&Function>
+/// The function that a call reaches, where it stands before the index `below`.
+pub(crate) fn callee(functions: &[Function], below: usize, index: usize) -> Option<&Function>
     ensures { MatchOption result ((given : List bound_form)
-        → call_before (map seen_function functions.now) below place given ≡ never_entered) (λ f.
-        (place < below)
-        × (slice_get (map seen_function functions.now) place ≡ Some (seen_function f.now))) }
+        → call_before (map seen_function functions.now) below index given ≡ never_entered) (λ f.
+        (index < below)
+        × (slice_get (map seen_function functions.now) index ≡ Some (seen_function f.now))) }
 {
-    if place >= below {
+    if index >= below {
         return None;
     }
-    if place >= functions.len() {
+    if index >= functions.len() {
         return None;
     }
-    Some(&functions[place])
+    Some(&functions[index])
 }
 
 /// What is known of a parameter whose argument has this bound.

@@ -51,9 +51,9 @@ impl SlotSet {
     pub fn insert(&mut self, slot: u32) -> Result<(), AllocError>
         ensures { OnOk result (has_slot self.new ≡ with_slot slot (has_slot self.old)) }
     {
-        let place = slot as usize;
-        self.reach(place)?;
-        self.flags[place] = true;
+        let index = slot as usize;
+        self.reach(index)?;
+        self.flags[index] = true;
         Ok(())
     }
 
@@ -72,15 +72,15 @@ impl SlotSet {
     }
 
     /// Makes room for the flag of a slot.
-    fn reach(&mut self, place: usize) -> Result<(), AllocError>
-        requires { place < 2 ^ 32 }
+    fn reach(&mut self, index: usize) -> Result<(), AllocError>
+        requires { index < 2 ^ 32 }
         ensures same { OnOk result (has_slot self.new ≡ has_slot self.old) }
-        ensures reached { OnOk result (place < length self.new) }
+        ensures reached { OnOk result (index < length self.new) }
     {
-        if place < self.flags.len() {
+        if index < self.flags.len() {
             return Ok(());
         }
-        self.flags.resize(place + 1, false)
+        self.flags.resize(index + 1, false)
     }
 }
 

@@ -112,13 +112,13 @@ fn call(
         (call_form function (seen_arguments given.now))) found.old found.new) }
 {
     let given = arguments(context, bounds, given, found)?;
-    let place = function as usize;
-    match callee(context.functions, context.below, place) {
+    let index = function as usize;
+    match callee(context.functions, context.below, index) {
         None => Ok(Bound::Unknown),
         Some(callee) => enter(
             context.alloc,
             context.functions,
-            place,
+            index,
             callee,
             &given,
             found,
@@ -132,16 +132,16 @@ fn call(
 fn enter(
     alloc: Global,
     functions: &[Function],
-    place: usize,
+    index: usize,
     function: &Function,
     given: &[Bound],
     found: &mut Findings,
 ) -> Result<Bound, AllocError>
     ensures bound { IfOk result (λ b. b
-        ≡ (entered (call_before (map seen_function functions.now) place)
+        ≡ (entered (call_before (map seen_function functions.now) index)
         (Some (seen_function function.now)) given.now).bound) }
     ensures finds { OnOk result (Extends (entered
-        (call_before (map seen_function functions.now) place) (Some (seen_function function.now))
+        (call_before (map seen_function functions.now) index) (Some (seen_function function.now))
         given.now).finds found.old found.new) }
 {
     let slots = slots_in(alloc, &function.body)?;
@@ -149,7 +149,7 @@ fn enter(
     let context = Context {
         alloc,
         functions,
-        below: place,
+        below: index,
         assigned: &slots.assigned,
     };
     block_and(&context, &own, &function.body, &function.answer, found)

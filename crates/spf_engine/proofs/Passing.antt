@@ -27,10 +27,10 @@ use Rattle.spf_guess_statistics.specs.Statistics.{none, plus, statistics_with}
 use Rattle.spf_guess.specs.Answers.{WereTold}
 use Rattle.spf_engine_laws.specs.Traces.{Trace}
 use Rattle.spf_engine_laws.specs.Passed.{PassedConstruct, where_blocks, passed_from, real_rows_from, OneByOne, IsItsTrace}
-use Rattle.spf_engine_laws.specs.Progress.{Progress, HasCome, BlocksComeTo, entry_there, guess_there, with_construct}
+use Rattle.spf_engine_laws.specs.Progress.{Progress, HasCome, BlocksComeTo, entry_there, entry_guess, with_construct, past_construct, HasEntered, IsLeftThere}
 use Rattle.spf_engine_laws.specs.Laws.{ConstructsSettle, ConstructsEndRuns}
 use Rattle.spf_engine.specs.declared.step.Step.{Step}
-use Rattle.spf_engine.specs.Runs.{IsThere, IsSettledSo, HasEntered}
+use Rattle.spf_engine.specs.Runs.{IsThere, IsSettledSo}
 
 -- ---- blocks of a header
 
@@ -45,30 +45,21 @@ has-its-blocks g (pair line head producer consumer) m h s e = let two : 2 ≡ h.
 
 -- ---- where it leads
 
--- the run was left where the header left it, but for its cells
-pub record IsLeftThere (after now : Stand) : Type 0 where
-  pub frame : now.frame ≡ after.frame
-  pub output : now.output ≡ after.output
-  pub place : now.place ≡ after.place
-
 -- A construct was entered, its blocks came to this, and the run was settled with it. Then the run goes on past it, or
 -- has reached its end, with what the construct adds to its progress.
 pub goes-past-blocks : ConstructsSettle → ConstructsEndRuns → (hosts : Hosts) (p : Program) (input : List ℕ) (after now last : Stand) (progress : Progress) (c : Construct) (h : Header) (settled : Settled) (taken : Step)
     → HasEntered hosts p input c h after progress → FunctionsAreSilent p.functions → KeepsTheRules p c → IsLeftThere after now
     → BlocksComeTo (entry_there p input c h after) (result_as settled) now.cells → IsSettledSo p c now last settled taken
-    → IsThere hosts p input taken last (with_construct (entry_there p input c h after) (guess_there hosts progress.telling p input c h after) progress)
+    → IsThere hosts p input taken last (past_construct hosts (entry_there p input c h after) progress)
 goes-past-blocks settle ends hosts p input after now last progress c h (Carried v) taken e silent keeps left came so =
-    let s = so.1 in
-    subst (λ t. IsThere hosts p input t last (with_construct (entry_there p input c h after) (guess_there hosts progress.telling p input c h after) progress)) (sym so.0)
-    (settle hosts p input e.before after last progress c h v e.goes e.first e.header silent keeps
-    (subst (λ cells. BlocksComeTo (entry_there p input c h after) (Ok v) cells) (sym s.cells) came)
-    (s.slots ∙ ap (λ f. carried.with_carried (carried_of c) v (main_slots p f)) left.frame) (s.output ∙ left.output) (s.place ∙ ap (λ n. n + 1) (left.place ∙ e.place)))
+    subst (λ t. IsThere hosts p input t last (past_construct hosts (entry_there p input c h after) progress)) (sym so.0)
+    (settle hosts p input progress c h after now last v e silent keeps left came so.1)
 goes-past-blocks settle ends hosts p input after now last progress c h (Trapped t) taken e silent keeps left came so =
-    let later = with_construct (entry_there p input c h after) (guess_there hosts progress.telling p input c h after) progress in
+    let later = past_construct hosts (entry_there p input c h after) progress in
     subst (λ x. IsThere hosts p input x last later) (sym so.0)
     (subst (λ (x : Stand). HasCome hosts p input (Stopped t x.output) later) (sym so.1)
     (subst (λ out. HasCome hosts p input (Stopped t out) later) (sym left.output)
-    (ends hosts p input e.before after progress c h t now.cells e.goes e.first e.header silent keeps came)))
+    (ends hosts p input progress c h after t now.cells e silent keeps came)))
 
 -- ---- without blocks
 
@@ -106,7 +97,7 @@ pub goes-past-none : ConstructsSettle → ConstructsEndRuns → (hosts : Hosts) 
     → HasEntered hosts p input c h after progress → FunctionsAreSilent p.functions → KeepsTheRules p c → h.blocks ≡ 0
     → IsSettledSo p c after last (Carried h.start) taken → IsThere hosts p input taken last progress
 goes-past-none settle ends hosts p input after last progress c h taken e silent keeps none_there so =
-    subst (IsThere hosts p input taken last) (adds-nothing p input c h after (guess_there hosts progress.telling p input c h after) progress none_there)
+    subst (IsThere hosts p input taken last) (adds-nothing p input c h after (entry_guess hosts progress.telling (entry_there p input c h after)) progress none_there)
     (goes-past-blocks settle ends hosts p input after after last progress c h (Carried h.start) taken e silent keeps
     (record { frame = refl; output = refl; place = refl }) (no-blocks-come p input c h after none_there) so)
 

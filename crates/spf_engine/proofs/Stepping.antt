@@ -12,7 +12,7 @@ use Rattle.spf_ast.specs.declared.outcome.Trap.{Trap}
 use Rattle.spf_ast.specs.Program.{environment_of, Outcome, outcome, Done, Stopped}
 use Rattle.spf_exec.specs.declared.pieces.Pause.{Pause}
 use Rattle.spf_exec.specs.Pieces.{Stand, Advanced, ahead}
-use Rattle.spf_engine_laws.specs.Progress.{Progress, GoesOn, HasCome}
+use Rattle.spf_engine_laws.specs.Progress.{Progress, GoesOn, HasCome, HasEntered}
 use Rattle.spf_engine.specs.declared.account.Account.{Account}
 use Rattle.spf_engine_laws.specs.Laws.{RunsAdvance, IsPausedSo, PassedHaveTheTraces}
 use Rattle.spf_engine_laws.specs.Traces.{Trace, AreTraces}
@@ -27,7 +27,7 @@ use Rattle.spf_engine.specs.declared.step.Step.{Step}
 use Rattle.spf_engine.specs.declared.step.Step.TheVariants as step
 use Rattle.spf_engine.specs.declared.step.Arrival.{Arrival}
 use Rattle.spf_engine.specs.declared.step.Arrival.TheVariants.{AtBlocks, Over}
-use Rattle.spf_engine.specs.Runs.{HasEntered, IsSettledSo, AreFew, IsThere, GoesFurther, ComesNearer, WereToldFirst}
+use Rattle.spf_engine.specs.Runs.{IsSettledSo, AreFew, IsThere, GoesFurther, ComesNearer, WereToldFirst}
 use Rattle.spf_engine.specs.Accounts.{AgreesWith, StepsTo}
 use Rattle.spf_engine.proofs.Ending.{advance-counts, few-none, few-advanced, goes-past, few-past}
 use Rattle.spf_engine.proofs.Passing.{plus-none}

@@ -9,10 +9,10 @@ use Rattle.spf_guess.specs.Answers.{WereTold}
 use Rattle.spf_engine_construct.specs.declared.construct.ConstructReport.{ConstructReport}
 use Rattle.spf_engine_construct.specs.Coming.{ComesTo}
 use Rattle.spf_engine_laws.specs.Passed.{OneByOne, IsItsTrace}
-use Rattle.spf_engine_laws.specs.Progress.{Progress, GoesOn, entry_there, guess_there}
+use Rattle.spf_engine_laws.specs.Progress.{Progress, GoesOn, HasEntered, entry_there, entry_guess}
 use Rattle.spf_engine.specs.declared.account.Account.{Account}
 use Rattle.spf_engine.specs.declared.step.Step.{Step}
-use Rattle.spf_engine.specs.Runs.{HasEntered, IsThere}
+use Rattle.spf_engine.specs.Runs.{IsThere}
 
 -- an account has what the progress of a run has, but for what hosts were told: its statistics, and a trace of each construct that was passed
 pub record AgreesWith (progress : Progress) (account : Account) : Type 0 where
@@ -44,4 +44,4 @@ Passes i s account then construct header taken after counted now =
 abbrev pub BlocksCome : InstanceValue → Stand → Hosts → Construct → Header → ConstructReport → List ℤ → Type 0
 BlocksCome i s then construct header report memory =
     (before : Hosts) (telling : List Telling) → WereTold before telling then
-    → ComesTo (entry_there (program_of i) i.input construct header s) (guess_there before telling (program_of i) i.input construct header s) report memory
+    → ComesTo (entry_there (program_of i) i.input construct header s) (entry_guess before telling (entry_there (program_of i) i.input construct header s)) report memory

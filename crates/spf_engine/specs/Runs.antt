@@ -2,13 +2,13 @@
 use Rattle.std.specs.Prelude.{◌≡◌, ◌<◌, ◌≤◌, ◌≤ℤ◌, ◌+ℤ◌, ℕ, ◌*◌, ◌-◌, List, ◌++◌, length, slice_get, Some, pos}
 use Rattle.spf_ast.specs.Meaning.{max_blocks}
 use Rattle.spf_ast.specs.Syntax.{Program}
-use Rattle.spf_ast.specs.Program.{environment_of, Done, Stopped}
-use Rattle.spf_ast.specs.Construct.{Construct, Header, header_means, constructs_in}
+use Rattle.spf_ast.specs.Program.{Done, Stopped}
+use Rattle.spf_ast.specs.Construct.{Construct, Header, constructs_in}
 use Rattle.spf_ast.specs.ConstructView.{construct as seen_construct}
 use Rattle.spf_ast.specs.Pieces.{statement_count, construct_first}
 use Rattle.spf_check.specs.Plans.{AreBlocksOf}
 use Rattle.spf_exec.specs.declared.pieces.Header as code_header
-use Rattle.spf_exec.specs.Pieces.{Stand, EndsAt, IsSettled, ahead, seen_header}
+use Rattle.spf_exec.specs.Pieces.{Stand, IsSettled, ahead, seen_header}
 use Rattle.spf_exec_instance.specs.Instance.{InstanceValue, program_of}
 use Rattle.spf_chain.specs.declared.block.Settled.{Settled}
 use Rattle.spf_chain.specs.declared.block.Settled.TheVariants.{Carried, Trapped}
@@ -18,7 +18,7 @@ use Rattle.spf_guess_statistics.specs.Statistics.{tally}
 use Rattle.spf_guess.specs.Answers.{WereTold}
 use Rattle.spf_engine_construct.specs.Guesses.{AreAtMost}
 use Rattle.spf_speculation_entry.specs.Entry.{plain_blocks}
-use Rattle.spf_engine_laws.specs.Progress.{Progress, GoesOn, HasCome, entry_there}
+use Rattle.spf_engine_laws.specs.Progress.{Progress, GoesOn, HasCome, HasEntered, entry_there}
 use Rattle.spf_engine.specs.declared.step.Step.{Step}
 use Rattle.spf_engine.specs.declared.step.Step.TheVariants as step
 use Rattle.spf_engine.specs.declared.step.Arrival.{Arrival}
@@ -47,14 +47,6 @@ GoesFurther p step.Next before after counted = (statement_count (ahead p after) 
 GoesFurther p _ before after counted = Unit {0}
 
 -- ---- where a run stands
-
--- a run has reached a construct and done its header, which left it here
-pub record HasEntered (hosts : Hosts) (p : Program) (input : List ℕ) (c : Construct) (h : Header) (s : Stand) (progress : Progress) : Type 0 where
-  pub before : Stand
-  pub goes : GoesOn hosts p input before progress
-  pub first : construct_first (ahead p before) ≡ Some c
-  pub header : EndsAt p (header_means (environment_of p input) c) before s h
-  pub place : s.place ≡ before.place
 
 -- this holds where a run arrives
 abbrev pub IsArrived : Hosts → Program → List ℕ → Arrival → Stand → Progress → Type 0

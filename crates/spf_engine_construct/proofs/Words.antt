@@ -22,10 +22,10 @@ use Rattle.spf_engine_construct.specs.Guesses.{predicted, answered, Results}
 -- ---- rows
 
 -- where the words so far are those of a row, and then one more is
-pub set-next : (words all : List ℤ) (place : ℕ) (w : ℤ) → place < length words → place < length all → take place words ≡ take place all → w ≡ slice_index_or all place w
-    → take (suc place) (slice_set words place w) ≡ take (suc place) all
-set-next [] all place w h k same read = absurd (omega (arith, h))
-set-next (x ∷ xs) [] place w h k same read = absurd (omega (arith, k))
+pub set-next : (words all : List ℤ) (index : ℕ) (w : ℤ) → index < length words → index < length all → take index words ≡ take index all → w ≡ slice_index_or all index w
+    → take (suc index) (slice_set words index w) ≡ take (suc index) all
+set-next [] all index w h k same read = absurd (omega (arith, h))
+set-next (x ∷ xs) [] index w h k same read = absurd (omega (arith, k))
 set-next (x ∷ xs) (y ∷ ys) zero w h k same read = ap (λ v. v ∷ []) read
 set-next (x ∷ xs) (y ∷ ys) (suc n) w h k same read =
     let first : x ≡ y = cc in
@@ -34,52 +34,52 @@ set-next (x ∷ xs) (y ∷ ys) (suc n) w h k same read =
 
 -- ---- parts
 
-pub parts-length : (answer : ℕ → ℤ) (results : Results) (place : ℕ) (ps : List Predictor) → length (parts_from answer results place ps) ≡ length ps
-parts-length answer results place [] = refl
-parts-length answer results place (p ∷ ps) = ap suc (parts-length answer results (suc place) ps)
+pub parts-length : (answer : ℕ → ℤ) (results : Results) (index : ℕ) (ps : List Predictor) → length (parts_from answer results index ps) ≡ length ps
+parts-length answer results index [] = refl
+parts-length answer results index (p ∷ ps) = ap suc (parts-length answer results (suc index) ps)
 
 -- the word of a part
-pub word-at : (answer : ℕ → ℤ) (results : Results) (place : ℕ) (ps : List Predictor) (n : ℕ) (p : Predictor) (d : ℤ) → slice_get ps n ≡ Some p
-    → slice_index_or (map (λ (part : PartGuess). part.word) (parts_from answer results place ps)) n d ≡ (part_by answer (results (place + n)) p).word
-word-at answer results place [] n p d at = cc
-word-at answer results place (q ∷ ps) zero p d at =
-    let here : place ≡ place + 0 = omega arith in
+pub word-at : (answer : ℕ → ℤ) (results : Results) (index : ℕ) (ps : List Predictor) (n : ℕ) (p : Predictor) (d : ℤ) → slice_get ps n ≡ Some p
+    → slice_index_or (map (λ (part : PartGuess). part.word) (parts_from answer results index ps)) n d ≡ (part_by answer (results (index + n)) p).word
+word-at answer results index [] n p d at = cc
+word-at answer results index (q ∷ ps) zero p d at =
+    let here : index ≡ index + 0 = omega arith in
     let same : q ≡ p = cc in
     λ i. (part_by answer (results (here i)) (same i)).word
-word-at answer results place (q ∷ ps) (suc n) p d at =
-    let there : suc place + n ≡ place + suc n = omega arith in
-    word-at answer results (suc place) ps n p d at ∙ ap (λ k. (part_by answer (results k) p).word) there
+word-at answer results index (q ∷ ps) (suc n) p d at =
+    let there : suc index + n ≡ index + suc n = omega arith in
+    word-at answer results (suc index) ps n p d at ∙ ap (λ k. (part_by answer (results k) p).word) there
 
 -- whether one of the parts so far trapped, and then one more
-pub traps-more : (answer : ℕ → ℤ) (results : Results) (place : ℕ) (ps : List Predictor) (n : ℕ) (p : Predictor) → slice_get ps n ≡ Some p
-    → list_any (λ (part : PartGuess). part.traps) (take (suc n) (parts_from answer results place ps))
-    ≡ (list_any (λ (part : PartGuess). part.traps) (take n (parts_from answer results place ps)) || (part_by answer (results (place + n)) p).traps)
-traps-more answer results place [] n p at = cc
-traps-more answer results place (q ∷ ps) zero p at =
-    let here : place ≡ place + 0 = omega arith in
+pub traps-more : (answer : ℕ → ℤ) (results : Results) (index : ℕ) (ps : List Predictor) (n : ℕ) (p : Predictor) → slice_get ps n ≡ Some p
+    → list_any (λ (part : PartGuess). part.traps) (take (suc n) (parts_from answer results index ps))
+    ≡ (list_any (λ (part : PartGuess). part.traps) (take n (parts_from answer results index ps)) || (part_by answer (results (index + n)) p).traps)
+traps-more answer results index [] n p at = cc
+traps-more answer results index (q ∷ ps) zero p at =
+    let here : index ≡ index + 0 = omega arith in
     let same : q ≡ p = cc in
-    alone (part_by answer (results place) q).traps ∙ (λ i. (part_by answer (results (here i)) (same i)).traps)
+    alone (part_by answer (results index) q).traps ∙ (λ i. (part_by answer (results (here i)) (same i)).traps)
   where
     alone : (b : Bool) → (b || false) ≡ b
     alone true = refl
     alone false = refl
-traps-more answer results place (q ∷ ps) (suc n) p at =
-    let there : suc place + n ≡ place + suc n = omega arith in
-    ap (λ later. (part_by answer (results place) q).traps || later)
-    (traps-more answer results (suc place) ps n p at
-    ∙ ap (λ k. list_any (λ (part : PartGuess). part.traps) (take n (parts_from answer results (suc place) ps)) || (part_by answer (results k) p).traps) there)
-    ∙ regroup (part_by answer (results place) q).traps (list_any (λ (part : PartGuess). part.traps) (take n (parts_from answer results (suc place) ps))) (part_by answer (results (place + suc n)) p).traps
+traps-more answer results index (q ∷ ps) (suc n) p at =
+    let there : suc index + n ≡ index + suc n = omega arith in
+    ap (λ later. (part_by answer (results index) q).traps || later)
+    (traps-more answer results (suc index) ps n p at
+    ∙ ap (λ k. list_any (λ (part : PartGuess). part.traps) (take n (parts_from answer results (suc index) ps)) || (part_by answer (results k) p).traps) there)
+    ∙ regroup (part_by answer (results index) q).traps (list_any (λ (part : PartGuess). part.traps) (take n (parts_from answer results (suc index) ps))) (part_by answer (results (index + suc n)) p).traps
   where
     regroup : (a b c : Bool) → (a || (b || c)) ≡ ((a || b) || c)
     regroup true b c = refl
     regroup false b c = refl
 
 -- whether one trapped doesn't depend on what hosts answer
-pub traps-alike : (one other : ℕ → ℤ) (results : Results) (place : ℕ) (ps : List Predictor)
-    → list_any (λ (part : PartGuess). part.traps) (parts_from one results place ps) ≡ list_any (λ (part : PartGuess). part.traps) (parts_from other results place ps)
-traps-alike one other results place [] = refl
-traps-alike one other results place (By guess ∷ ps) = ap (λ later. (part_of_result (results place)).traps || later) (traps-alike one other results (suc place) ps)
-traps-alike one other results place (Host host ∷ ps) = traps-alike one other results (suc place) ps
+pub traps-alike : (one other : ℕ → ℤ) (results : Results) (index : ℕ) (ps : List Predictor)
+    → list_any (λ (part : PartGuess). part.traps) (parts_from one results index ps) ≡ list_any (λ (part : PartGuess). part.traps) (parts_from other results index ps)
+traps-alike one other results index [] = refl
+traps-alike one other results index (By guess ∷ ps) = ap (λ later. (part_of_result (results index)).traps || later) (traps-alike one other results (suc index) ps)
+traps-alike one other results index (Host host ∷ ps) = traps-alike one other results (suc index) ps
 
 -- ---- expressions
 
@@ -187,7 +187,7 @@ get-mapped f (y ∷ ys) (suc n) x h read = get-mapped f ys n x (omega (arith, h)
 pub one-handed-in : {A : Type 0} (f : A → Predictor) (count : ℕ) (xs : List A) (n : ℕ) (x : A) → n < length xs → x ≡ slice_index_or xs n x
     → AreAllHandedIn count (map f xs) → AreAllHandedIn count (f x ∷ [])
 one-handed-in f count xs n x h read all zero host at = all n host (get-mapped f xs n x h read ∙ at)
-one-handed-in f count xs n x h read all (suc place) host at = cc
+one-handed-in f count xs n x h read all (suc index) host at = cc
 
 -- the word of a part by its host, and that of the expression where it has none
 answer-word : (zeros answer : ℕ → ℤ) (r : Result ℤ Trap) (q : Predictor) → (part_by answer (Ok (part_by zeros r q).word) q).word ≡ (part_by answer r q).word

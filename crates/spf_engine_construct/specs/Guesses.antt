@@ -40,7 +40,7 @@ predicted_at at header n = predicted at (header.low +ℤ pos n)
 abbrev pub answered : Hosts → List Telling → ℤ → ℕ → ℤ
 answered hosts telling number host = hosts host (told_to host telling) number
 
--- what the expression of each part comes to, by the part's place
+-- what the expression of each part comes to, by the part's index
 abbrev pub Results : Type 0
 Results = ℕ → Result ℤ Trap
 

@@ -48,8 +48,8 @@ pub fn count_blocks(reals: &[Row], guesses: &[Guess]) -> Stats
     let Some((_, others)) = reals.split_first() else {
         return stats;
     };
-    for place in 0..others.len() {
-        stats = with_guess(stats, &guesses[place], &others[place]);
+    for index in 0..others.len() {
+        stats = with_guess(stats, &guesses[index], &others[index]);
     }
     stats
 }

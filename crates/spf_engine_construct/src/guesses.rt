@@ -64,19 +64,19 @@ pub(crate) fn predict(at: Stand, number: i64, frame: &mut Frame) -> Guess
     let width = at.construct.predictors().len();
     let mut words = [0; 4];
     let mut blind = false;
-    for place in 0..width {
+    for index in 0..width {
         frame.restore(at.frame);
         let word = exec_predictor(
             at.instance,
             at.construct,
             at.index,
-            place as u32,
+            index as u32,
             number,
             frame,
             at.cells,
         );
         blind |= word.is_err();
-        words[place] = word.unwrap_or(0);
+        words[index] = word.unwrap_or(0);
     }
     Guess {
         value: Row::of(&words[..width]),
@@ -128,9 +128,9 @@ fn ask_row(
     ensures count { length hosts.new.items ≡ length hosts.old.items }
 {
     let mut words = [0; 4];
-    for place in 0..predictors.len() {
-        let word = predicted.value.part(place as u32);
-        words[place] = ask_part(&predictors[place], word, number, hosts);
+    for index in 0..predictors.len() {
+        let word = predicted.value.part(index as u32);
+        words[index] = ask_part(&predictors[index], word, number, hosts);
     }
     Guess {
         value: Row::of(&words[..predictors.len()]),

@@ -45,8 +45,8 @@ fn tell_row(predictors: &[Predict], number: i64, row: &Row, hosts: &mut Vec<Box<
     ensures count { length hosts.new.items ≡ length hosts.old.items }
 {
     let words = row.words();
-    for place in 0..predictors.len().min(words.len()) {
-        tell_part(&predictors[place], number, words[place], hosts);
+    for index in 0..predictors.len().min(words.len()) {
+        tell_part(&predictors[index], number, words[index], hosts);
     }
 }
 

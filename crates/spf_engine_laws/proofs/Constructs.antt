@@ -32,7 +32,7 @@ use Rattle.spf_speculation.specs.Alike.{SlotsLookAlike}
 use Rattle.spf_guess_statistics.specs.Guess.{Guess, Hosts, Telling, guess_for}
 use Rattle.spf_guess_statistics.specs.Statistics.{guess_at}
 use Rattle.spf_engine_laws.specs.Passed.{PassedConstruct, where_blocks, passed_from, passed_plainly, real_rows_from, OneByOne, PassedAlike}
-use Rattle.spf_engine_laws.specs.Progress.{IsAt, Progress, IsCompletedBy, GoesOn, HasCome, BlocksComeTo, entry_there, guess_there, with_construct}
+use Rattle.spf_engine_laws.specs.Progress.{IsAt, Progress, IsCompletedBy, GoesOn, HasCome, BlocksComeTo, entry_there, entry_guess, with_construct, past_construct}
 use Rattle.spf_engine_laws.specs.Laws.{ConstructsSettle, ConstructsEndRuns}
 use Rattle.spf_engine_laws.proofs.Places.{goes-to}
 use Rattle.spf_engine_laws.proofs.Fronts.{declared-after}
@@ -56,18 +56,18 @@ stands-before end c e = cc
 stands-before (on_line line first rest) c e = record { line = line; statement = first; rest = rest; is = refl; construct = e }
 
 -- what comes after it
-pub rest-next : (place : ℕ) (b : Block) (line : ℕ) (s : Statement) (rest : Block) → rest_from place b ≡ on_line line s rest → rest_from (place + 1) b ≡ rest
-rest-next place b line s rest e = ap (λ n. rest_from n b) (add-one place) ∙ go place b e
+pub rest-next : (index : ℕ) (b : Block) (line : ℕ) (s : Statement) (rest : Block) → rest_from index b ≡ on_line line s rest → rest_from (index + 1) b ≡ rest
+rest-next index b line s rest e = ap (λ n. rest_from n b) (add-one index) ∙ go index b e
   where
     tail : Block → Block
     tail end = end
     tail (on_line n t more) = more
 
-    go : (place : ℕ) (b : Block) → rest_from place b ≡ on_line line s rest → rest_from (suc place) b ≡ rest
+    go : (index : ℕ) (b : Block) → rest_from index b ≡ on_line line s rest → rest_from (suc index) b ≡ rest
     go zero end e = cc
     go zero (on_line n t more) e = ap tail e
-    go (suc place) end e = cc
-    go (suc place) (on_line n t more) e = go place more e
+    go (suc index) end e = cc
+    go (suc index) (on_line n t more) e = go index more e
 
 -- ---- entering a construct
 
@@ -163,9 +163,9 @@ reached_as g c m h entered = record {
 
 -- ---- guesses
 
--- the construct stands at its place in `main`
-abbrev place-of : (hosts : Hosts) (p : Program) (input : List ℕ) (before after : Stand) (progress : Progress) (c : Construct) (h : Header) (e : Entered hosts p input before after progress c h) → StandsInMain p c
-place-of hosts p input before after progress c h e = record {
+-- where the construct stands in `main`
+abbrev stands-at : (hosts : Hosts) (p : Program) (input : List ℕ) (before after : Stand) (progress : Progress) (c : Construct) (h : Header) (e : Entered hosts p input before after progress c h) → StandsInMain p c
+stands-at hosts p input before after progress c h e = record {
   scope = e.goes.scope;
   line = e.stands.line;
   statement = e.stands.statement;
@@ -176,7 +176,7 @@ place-of hosts p input before after progress c h e = record {
 
 -- the guesses are those at the entry of the run
 guesses-alike : Laws → (hosts : Hosts) (p : Program) (input : List ℕ) (before after : Stand) (progress : Progress) (c : Construct) (h : Header) (e : Entered hosts p input before after progress c h) (n : ℕ)
-    → guess_at hosts progress.telling p input c (reached_as (environment_of p input) c e.goes.moment h e.header.state) n ≡ guess_there hosts progress.telling p input c h after n
+    → guess_at hosts progress.telling p input c (reached_as (environment_of p input) c e.goes.moment h e.header.state) n ≡ entry_guess hosts progress.telling (entry_there p input c h after) n
 guesses-alike laws hosts p input before after progress c h e n =
     let x = plain_memory (header_means (environment_of p input) c e.goes.moment.state) e.goes.moment.memory in
     let lawful = (first-lawful hosts p input before progress e.goes c e.stands).0 in
@@ -219,12 +219,12 @@ record IsReachedSo (hosts : Hosts) (p : Program) (input : List ℕ) (telling : L
 
 is-reached-so : (laws : Laws) (hosts : Hosts) (p : Program) (input : List ℕ) (before after : Stand) (progress : Progress) (c : Construct) (h : Header) (e : Entered hosts p input before after progress c h)
     → FunctionsAreSilent p.functions → KeepsTheRules p c
-    → IsReachedSo hosts p input progress.telling c (reached_as (environment_of p input) c e.goes.moment h e.header.state) (guess_there hosts progress.telling p input c h after)
-    (plain_blocks (entry_there p input c h after)).values (passed_from (entry_there p input c h after) (guess_there hosts progress.telling p input c h after))
+    → IsReachedSo hosts p input progress.telling c (reached_as (environment_of p input) c e.goes.moment h e.header.state) (entry_guess hosts progress.telling (entry_there p input c h after))
+    (plain_blocks (entry_there p input c h after)).values (passed_from (entry_there p input c h after) (entry_guess hosts progress.telling (entry_there p input c h after)))
 is-reached-so laws hosts p input before after progress c h e silent keeps =
     let g = environment_of p input in
     let there = reached_as g c e.goes.moment h e.header.state in
-    let guess = guess_there hosts progress.telling p input c h after in
+    let guess = entry_guess hosts progress.telling (entry_there p input c h after) in
     let law = is-its-blocks laws hosts p input before after progress c h e silent (contained-here laws hosts p input before after progress c h e keeps) in
     let real = law.values ∙ ap (λ y. (chained g c (main_slots p after.frame) 0 h.blocks h.low h.start y).values) e.header.comes.memory in
     let trap = law.trapped ∙ ap (λ y. is_trap (chained g c (main_slots p after.frame) 0 h.blocks h.low h.start y).result) e.header.comes.memory in
@@ -238,7 +238,7 @@ is-reached-so laws hosts p input before after progress c h e silent keeps =
           (record { entry = entry_there p input c h after; guess = λ n. (guess n).value; reals = real_rows_from (entry_there p input c h after) })
           (passed_plainly hosts progress.telling p input c there)
           (record {
-            place = place-of hosts p input before after progress c h e;
+            stands = stands-at hosts p input before after progress c h e;
             slots = back;
             rest = λ i. record {
               entry = record { program = p; construct = c; input = input; slots = e.header.state.slots; memory = e.header.comes.memory i; header = h };
@@ -289,12 +289,12 @@ pub settles-so : Laws → (hosts : Hosts) (p : Program) (input : List ℕ) (befo
     → FunctionsAreSilent p.functions → KeepsTheRules p c → (v : Carried)
     → BlocksComeTo (entry_there p input c h after) (Ok v) last.cells
     → main_slots p last.frame ≡ with_carried (carried_of c) v (main_slots p after.frame) → last.output ≡ after.output → last.place ≡ before.place + 1
-    → GoesOn hosts p input last (with_construct (entry_there p input c h after) (guess_there hosts progress.telling p input c h after) progress)
+    → GoesOn hosts p input last (past_construct hosts (entry_there p input c h after) progress)
 settles-so laws hosts p input before after progress last c h e silent keeps v out slots output place =
     let g = environment_of p input in
     let m = e.goes.moment in
     let b = e.stands in
-    let guess = guess_there hosts progress.telling p input c h after in
+    let guess = entry_guess hosts progress.telling (entry_there p input c h after) in
     let law = is-its-blocks laws hosts p input before after progress c h e silent (contained-here laws hosts p input before after progress c h e keeps) in
     let x = plain_memory (header_means g c m.state) m.memory in
     let chain : List ℤ → Result Carried Trap = λ y. (chained g c (main_slots p after.frame) 0 h.blocks h.low h.start y).result in
@@ -338,12 +338,12 @@ settles-so laws hosts p input before after progress last c h e silent keeps v ou
 pub settles-to-trap : Laws → (hosts : Hosts) (p : Program) (input : List ℕ) (before after : Stand) (progress : Progress) (c : Construct) (h : Header) (e : Entered hosts p input before after progress c h)
     → FunctionsAreSilent p.functions → KeepsTheRules p c → (t : Trap) (memory : List ℤ)
     → BlocksComeTo (entry_there p input c h after) (Err t) memory
-    → HasCome hosts p input (Stopped t after.output) (with_construct (entry_there p input c h after) (guess_there hosts progress.telling p input c h after) progress)
+    → HasCome hosts p input (Stopped t after.output) (past_construct hosts (entry_there p input c h after) progress)
 settles-to-trap laws hosts p input before after progress c h e silent keeps t memory out =
     let g = environment_of p input in
     let m = e.goes.moment in
     let b = e.stands in
-    let guess = guess_there hosts progress.telling p input c h after in
+    let guess = entry_guess hosts progress.telling (entry_there p input c h after) in
     let law = is-its-blocks laws hosts p input before after progress c h e silent (contained-here laws hosts p input before after progress c h e keeps) in
     let x = plain_memory (header_means g c m.state) m.memory in
     let chain : List ℤ → Result Carried Trap = λ y. (chained g c (main_slots p after.frame) 0 h.blocks h.low h.start y).result in
@@ -368,10 +368,13 @@ settles-to-trap laws hosts p input before after progress c h e silent keeps t me
 
 pub construct-settles : Laws → ConstructsSettle
 unfolding enters
-construct-settles laws hosts p input before after last progress c h v goes first went silent keeps out slots output place =
-    settles-so laws hosts p input before after progress last c h (enters laws hosts p input before after progress c h goes first went) silent keeps v out slots output place
+construct-settles laws hosts p input progress c h after now last v e silent keeps left came settled =
+    settles-so laws hosts p input e.before after progress last c h (enters laws hosts p input e.before after progress c h e.goes e.first e.header) silent keeps v
+    (subst (λ cells. BlocksComeTo (entry_there p input c h after) (Ok v) cells) (sym settled.cells) came)
+    (settled.slots ∙ ap (λ f. with_carried (carried_of c) v (main_slots p f)) left.frame) (settled.output ∙ left.output)
+    (settled.place ∙ ap (λ n. n + 1) (left.place ∙ e.place))
 
 pub construct-ends-run : Laws → ConstructsEndRuns
 unfolding enters
-construct-ends-run laws hosts p input before after progress c h t memory goes first went silent keeps out =
-    settles-to-trap laws hosts p input before after progress c h (enters laws hosts p input before after progress c h goes first went) silent keeps t memory out
+construct-ends-run laws hosts p input progress c h after t memory e silent keeps out =
+    settles-to-trap laws hosts p input e.before after progress c h (enters laws hosts p input e.before after progress c h e.goes e.first e.header) silent keeps t memory out

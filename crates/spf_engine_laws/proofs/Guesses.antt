@@ -26,20 +26,20 @@ predictor-sees : (g : Environment) → CallsSee g → (names : Names) (scope : S
 predictor-sees g calls names scope line (By guess) l = operand-sees g calls names scope line guess l
 predictor-sees g calls names scope line (Host number) l = gives-sees (pos 0)
 
-part-sees : (g : Environment) → CallsSee g → (names : Names) (scope : Scope) (line : ℕ) (ps : List Predictor) (place : ℕ) → AreLawfulPredictors names scope ps
-    → Sees (LookAlike scope.visible) (LookAlike scope.visible) (guess_at g line (slice_get ps place))
-part-sees g calls names scope line [] place l = gives-sees (pos 0)
+part-sees : (g : Environment) → CallsSee g → (names : Names) (scope : Scope) (line : ℕ) (ps : List Predictor) (index : ℕ) → AreLawfulPredictors names scope ps
+    → Sees (LookAlike scope.visible) (LookAlike scope.visible) (guess_at g line (slice_get ps index))
+part-sees g calls names scope line [] index l = gives-sees (pos 0)
 part-sees g calls names scope line (p ∷ ps) zero l = predictor-sees g calls names scope line p l.0
-part-sees g calls names scope line (p ∷ ps) (suc place) l = part-sees g calls names scope line ps place l.1
+part-sees g calls names scope line (p ∷ ps) (suc index) l = part-sees g calls names scope line ps index l.1
 
 guess-sees : (g : Environment) → CallsSee g → (names : Names) (scope : Scope) (line : ℕ) (s : Statement) (c : Construct) → construct_of line s ≡ Some c → IsLawfulStatement names true scope s
-    → (place : ℕ) (number : ℤ) → Sees (LookAlike scope.visible) (LookAlike scope.visible) (guess_part_means g c place number)
-guess-sees g calls names scope line s c is l place number =
+    → (index : ℕ) (number : ℤ) → Sees (LookAlike scope.visible) (LookAlike scope.visible) (guess_part_means g c index number)
+guess-sees g calls names scope line s c is l index number =
     is-statement line s c
-    (λ t k. IsLawfulStatement names true scope t → Sees (LookAlike scope.visible) (LookAlike scope.visible) (guess_part_means g k place number))
+    (λ t k. IsLawfulStatement names true scope t → Sees (LookAlike scope.visible) (LookAlike scope.visible) (guess_part_means g k index number))
     (λ head body l. sees-then (sets-sees head.block number)
-    (λ u. sees-fewer (cons_rest head.block scope.visible) (part-sees g calls names (in_predictor scope head.block) line head.predict place l.5)))
-    (λ head producer consumer l. part-sees g calls names scope line head.predict place l.3)
+    (λ u. sees-fewer (cons_rest head.block scope.visible) (part-sees g calls names (in_predictor scope head.block) line head.predict index l.5)))
+    (λ head producer consumer l. part-sees g calls names scope line head.predict index l.3)
     is l
 
 -- ---- what it comes to
@@ -64,20 +64,20 @@ same-result {A} After t u m one other alike = go (perform no_cell m None u one.e
 -- from slots that look alike the guess of a part gives the same result
 same-part : (p : Program) (input : List ℕ) (scope : Scope) (line : ℕ) (s : Statement) (c : Construct) → construct_of line s ≡ Some c
     → IsLawfulStatement (names_at p (length p.functions) p.slots) true scope s
-    → (one other : State) → LookAlike scope.visible one other → (m : List ℤ) (k : ℤ) (place : ℕ) → predicts p input c one.slots m k place ≡ predicts p input c other.slots m k place
-same-part p input scope line s c is l one other h m k place =
-    same-result (LookAlike scope.visible) (guess_asks p c place input one.slots k) (guess_asks p c place input other.slots k) m
-    (one_unshared_answer (guess_asks p c place input one.slots k) m) (one_unshared_answer (guess_asks p c place input other.slots k) m)
-    (λ es. performed (guess-sees (environment_of p input) (calls-see input (extents_of p (length input)) p.functions (length p.functions)) (names_at p (length p.functions) p.slots) scope line s c is l place k)
+    → (one other : State) → LookAlike scope.visible one other → (m : List ℤ) (k : ℤ) (index : ℕ) → predicts p input c one.slots m k index ≡ predicts p input c other.slots m k index
+same-part p input scope line s c is l one other h m k index =
+    same-result (LookAlike scope.visible) (guess_asks p c index input one.slots k) (guess_asks p c index input other.slots k) m
+    (one_unshared_answer (guess_asks p c index input one.slots k) m) (one_unshared_answer (guess_asks p c index input other.slots k) m)
+    (λ es. performed (guess-sees (environment_of p input) (calls-see input (extents_of p (length input)) p.functions (length p.functions)) (names_at p (length p.functions) p.slots) scope line s c is l index k)
     (record { slots = one.slots; output = [] }) (record { slots = other.slots; output = [] })
     (record { agree = record { slots = h.agree.slots; output = refl }; slot_count = h.slot_count }) no_cell m None es)
 
 -- ---- whole guesses
 
 -- parts whose expressions give the same result are guessed alike
-same-parts : (answer : ℕ → ℤ) (one other : ℕ → _) → ((place : ℕ) → one place ≡ other place) → (place : ℕ) (ps : List Predictor) → parts_from answer one place ps ≡ parts_from answer other place ps
-same-parts answer one other same place [] = refl
-same-parts answer one other same place (p ∷ ps) = λ i. part_by answer (same place i) p ∷ same-parts answer one other same (suc place) ps i
+same-parts : (answer : ℕ → ℤ) (one other : ℕ → _) → ((index : ℕ) → one index ≡ other index) → (index : ℕ) (ps : List Predictor) → parts_from answer one index ps ≡ parts_from answer other index ps
+same-parts answer one other same index [] = refl
+same-parts answer one other same index (p ∷ ps) = λ i. part_by answer (same index i) p ∷ same-parts answer one other same (suc index) ps i
 
 -- from slots that look alike the guesses are the same
 pub same-guess : (p : Program) (input : List ℕ) (scope : Scope) (line : ℕ) (s : Statement) (c : Construct) → construct_of line s ≡ Some c

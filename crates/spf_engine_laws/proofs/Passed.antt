@@ -43,7 +43,7 @@ trace-alike law one other trace h t = subst (λ x. IsItsTrace x trace) (sym h.re
       let r = t.merging steps merges in
       record {
         result = r.result;
-        run = law one.entry other.entry.slots h.place one.guess steps one.reals.values r.result h.slots r.run;
+        run = law one.entry other.entry.slots h.stands one.guess steps one.reals.values r.result h.slots r.run;
         trapped = r.trapped;
       };
 })

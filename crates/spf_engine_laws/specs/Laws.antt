@@ -1,22 +1,21 @@
 -- What runs in pieces come to.
-use Rattle.std.specs.Prelude.{◌≡◌, ℕ, ◌+◌, List, [], length, Some, Ok, Err, ℤ}
+use Rattle.std.specs.Prelude.{◌≡◌, ℕ, List, [], length, Some, Ok, Err, ℤ}
 use Rattle.spf_ast.specs.declared.outcome.Trap.{Trap}
 use Rattle.spf_ast.specs.Syntax.{Program}
 use Rattle.spf_ast.specs.Program.{environment_of, Done, Stopped}
-use Rattle.spf_ast.specs.Construct.{Construct, Header, header_means, carried_of, constructs_in, reals}
+use Rattle.spf_ast.specs.Construct.{Construct, Header, header_means, constructs_in, reals}
 use Rattle.spf_ast.specs.Pieces.{construct_first}
-use Rattle.spf_ast.specs.Carried.{Carried, with_carried}
+use Rattle.spf_ast.specs.Carried.{Carried}
 use Rattle.spf_ast.specs.Silence.{FunctionsAreSilent}
 use Rattle.spf_ast.specs.Lawful.{IsLawful}
-use Rattle.spf_exec_instance.specs.Frame.{main_slots}
 use Rattle.spf_exec.specs.declared.pieces.Pause.{Pause}
 use Rattle.spf_exec.specs.declared.pieces.Pause.TheVariants as pause
-use Rattle.spf_exec.specs.Pieces.{Stand, HasBegun, Advanced, EndsAt, TrapsAt, ahead}
+use Rattle.spf_exec.specs.Pieces.{Stand, HasBegun, Advanced, TrapsAt, IsSettled, ahead}
 use Rattle.spf_check_rules.specs.Rules.{KeepsTheRules}
 use Rattle.spf_guess_statistics.specs.Guess.{Hosts}
 use Rattle.spf_engine_laws.specs.Traces.{Trace, AreTraces}
 use Rattle.spf_engine_laws.specs.Passed.{OneByOne, IsItsTrace}
-use Rattle.spf_engine_laws.specs.Progress.{Progress, no_progress, GoesOn, IsWhole, HasCome, BlocksComeTo, entry_there, guess_there, with_construct}
+use Rattle.spf_engine_laws.specs.Progress.{Progress, no_progress, GoesOn, IsWhole, HasCome, BlocksComeTo, HasEntered, IsLeftThere, entry_there, past_construct}
 
 -- a run that begins goes on as the plain run of its program
 abbrev pub RunsBegin : Type 0
@@ -42,32 +41,25 @@ HeadersEndRuns =
     → TrapsAt p (header_means (environment_of p input) construct) before after trap
     → HasCome hosts p input (Stopped trap after.output) progress
 
--- Where the header of a construct is done that keeps the rules, and its blocks came to a row: the run goes on after
--- it, with this row in the carried slots and with the memory that the blocks left.
+-- A run has entered a construct that keeps the rules, its blocks came to a row in the run's cells, and it was settled
+-- with this row: the run goes on after the construct.
 abbrev pub ConstructsSettle : Type 0
 ConstructsSettle =
-    (hosts : Hosts) (p : Program) (input : List ℕ) (before after last : Stand) (progress : Progress)
-    (construct : Construct) (header : Header) (value : Carried)
-    → GoesOn hosts p input before progress → construct_first (ahead p before) ≡ Some construct
-    → EndsAt p (header_means (environment_of p input) construct) before after header
-    → FunctionsAreSilent p.functions → KeepsTheRules p construct
-    → BlocksComeTo (entry_there p input construct header after) (Ok value) last.cells
-    → main_slots p last.frame ≡ with_carried (carried_of construct) value (main_slots p after.frame)
-    → last.output ≡ after.output → last.place ≡ before.place + 1
-    → GoesOn hosts p input last
-    (with_construct (entry_there p input construct header after) (guess_there hosts progress.telling p input construct header after) progress)
+    (hosts : Hosts) (p : Program) (input : List ℕ) (progress : Progress) (construct : Construct) (header : Header)
+    (after now last : Stand) (value : Carried)
+    → HasEntered hosts p input construct header after progress → FunctionsAreSilent p.functions → KeepsTheRules p construct
+    → IsLeftThere after now → BlocksComeTo (entry_there p input construct header after) (Ok value) now.cells
+    → IsSettled p construct now last value
+    → GoesOn hosts p input last (past_construct hosts (entry_there p input construct header after) progress)
 
 -- where one of them trapped, the run has reached its end
 abbrev pub ConstructsEndRuns : Type 0
 ConstructsEndRuns =
-    (hosts : Hosts) (p : Program) (input : List ℕ) (before after : Stand) (progress : Progress)
-    (construct : Construct) (header : Header) (trap : Trap) (memory : List ℤ)
-    → GoesOn hosts p input before progress → construct_first (ahead p before) ≡ Some construct
-    → EndsAt p (header_means (environment_of p input) construct) before after header
-    → FunctionsAreSilent p.functions → KeepsTheRules p construct
+    (hosts : Hosts) (p : Program) (input : List ℕ) (progress : Progress) (construct : Construct) (header : Header)
+    (after : Stand) (trap : Trap) (memory : List ℤ)
+    → HasEntered hosts p input construct header after progress → FunctionsAreSilent p.functions → KeepsTheRules p construct
     → BlocksComeTo (entry_there p input construct header after) (Err trap) memory
-    → HasCome hosts p input (Stopped trap after.output)
-    (with_construct (entry_there p input construct header after) (guess_there hosts progress.telling p input construct header after) progress)
+    → HasCome hosts p input (Stopped trap after.output) (past_construct hosts (entry_there p input construct header after) progress)
 
 -- traces of the constructs that a run has passed by its end are the traces of the whole run
 abbrev pub PassedHaveTheTraces : Type 0

@@ -64,8 +64,8 @@ OneByOne Related _ _ = ⊥
 
 -- the other is the same construct, but for slots of `main` that aren't visible at it
 pub record PassedAlike (one other : PassedConstruct) : Type 0 where
-  pub place : StandsInMain one.entry.program one.entry.construct
-  pub slots : SlotsLookAlike place.scope.visible one.entry.slots other.entry.slots
+  pub stands : StandsInMain one.entry.program one.entry.construct
+  pub slots : SlotsLookAlike stands.scope.visible one.entry.slots other.entry.slots
   pub rest : other ≡ record one { entry = with_slots one.entry other.entry.slots }
 
 -- a trace of a construct that was passed

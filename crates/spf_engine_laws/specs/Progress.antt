@@ -1,5 +1,5 @@
 -- A run in pieces that goes on as the plain run of its program does.
-use Rattle.std.specs.Prelude.{◌≡◌, ℕ, true, false, List, [], ◌++◌, length, Result, Ok, ℤ, pos, ◌+ℤ◌}
+use Rattle.std.specs.Prelude.{◌≡◌, ℕ, true, false, List, [], ◌++◌, length, Some, Result, Ok, ℤ}
 use Rattle.spf_ast.specs.declared.outcome.Trap.{Trap}
 use Rattle.spf_ast.specs.Interaction.{Value}
 use Rattle.spf_ast.specs.Syntax.{Program, Block, followed_by}
@@ -7,13 +7,14 @@ use Rattle.spf_ast.specs.Meaning.{main_means}
 use Rattle.spf_ast.specs.Carried.{Carried}
 use Rattle.spf_ast.specs.Plain.{plain_answer, plain_memory}
 use Rattle.spf_ast.specs.Program.{environment_of, start_of, zeros_of, Outcome, outcome, outcome_from}
-use Rattle.spf_ast.specs.Construct.{Moment, Construct, Header, constructs_in, Reached, reached_from}
+use Rattle.spf_ast.specs.Construct.{Moment, Construct, Header, header_means, constructs_in, Reached, reached_from}
+use Rattle.spf_ast.specs.Pieces.{construct_first}
 use Rattle.spf_ast.specs.Lawful.{Scope, names_at, IsLawfulBlock}
 use Rattle.spf_exec_instance.specs.Frame.{main_slots}
-use Rattle.spf_exec.specs.Pieces.{Stand, moment_of, ahead}
+use Rattle.spf_exec.specs.Pieces.{Stand, EndsAt, moment_of, ahead}
 use Rattle.spf_ast_laws.specs.Agreement.{LookAlike}
 use Rattle.spf_ast_laws.specs.Keeping.{AreDeclared}
-use Rattle.spf_speculation_entry.specs.Entry.{Entry, plain_blocks}
+use Rattle.spf_speculation_entry.specs.Entry.{Entry, plain_blocks, number_of}
 use Rattle.spf_guess_statistics.specs.declared.stats.Stats.{Stats}
 use Rattle.spf_guess_statistics.specs.Guess.{Guess, Hosts, Telling, guess_for, tells}
 use Rattle.spf_guess_statistics.specs.Statistics.{none, plus, statistics_with, tally_from, tally}
@@ -79,8 +80,8 @@ entry_there p input c h s = record {
 }
 
 -- the guess for each of its blocks, after hosts were told these pairs
-abbrev pub guess_there : Hosts → List Telling → Program → List ℕ → Construct → Header → Stand → ℕ → Guess
-guess_there hosts telling p input c h s n = guess_for hosts telling p input c (main_slots p s.frame) s.cells (h.low +ℤ pos n)
+abbrev pub entry_guess : Hosts → List Telling → Entry → ℕ → Guess
+entry_guess hosts telling e n = guess_for hosts telling e.program e.input e.construct e.slots e.memory (number_of e n)
 
 -- the blocks from this entry come to this result, and leave this memory where none traps
 pub record BlocksComeTo (e : Entry) (r : Result Carried Trap) (memory : List ℤ) : Type 0 where
@@ -94,6 +95,24 @@ with_construct e guess progress = record {
   telling = progress.telling ++ tells e.construct e.header (plain_blocks e).values;
   passed = progress.passed ++ passed_from e guess;
 }
+
+-- so, where the blocks had the guesses after all that hosts were told before
+abbrev pub past_construct : Hosts → Entry → Progress → Progress
+past_construct hosts e progress = with_construct e (entry_guess hosts progress.telling e) progress
+
+-- a run has reached a construct and done its header, which left it here
+pub record HasEntered (hosts : Hosts) (p : Program) (input : List ℕ) (c : Construct) (h : Header) (s : Stand) (progress : Progress) : Type 0 where
+  pub before : Stand
+  pub goes : GoesOn hosts p input before progress
+  pub first : construct_first (ahead p before) ≡ Some c
+  pub header : EndsAt p (header_means (environment_of p input) c) before s h
+  pub place : s.place ≡ before.place
+
+-- the run was left where the header left it, but for its cells
+pub record IsLeftThere (after now : Stand) : Type 0 where
+  pub frame : now.frame ≡ after.frame
+  pub output : now.output ≡ after.output
+  pub place : now.place ≡ after.place
 
 -- ---- the end
 

@@ -78,8 +78,8 @@ with_any_output {stop = stop} form l slots full out {own = own} {a = a} {r = r} 
 }
 
 -- what a memory does that emits nothing, the memory does that is lent to it
-unquiet : {S M N A : Type 0} {leads : List Event → M → M → Type 0} {stop : M → Option ℕ} {output : M → List ℕ} {lent : S → M} {place : S → N} {may_lack : Type 0} {t : Interaction (Ending A)} {a b : S} {r : Result A Halt} {s : State}
-    → Performs (LeadsQuietly leads output lent place) (λ m. stop (lent m)) may_lack t a b r s → Performs leads stop may_lack t (lent a) (lent b) r s
+unquiet : {S M N A : Type 0} {leads : List Event → M → M → Type 0} {stop : M → Option ℕ} {output : M → List ℕ} {lent : S → M} {fixed : S → N} {may_lack : Type 0} {t : Interaction (Ending A)} {a b : S} {r : Result A Halt} {s : State}
+    → Performs (LeadsQuietly leads output lent fixed) (λ m. stop (lent m)) may_lack t a b r s → Performs leads stop may_lack t (lent a) (lent b) r s
 unquiet p = record { events = p.events; led = p.led.led; lacking = p.lacking; performed = p.performed }
 
 -- a part that holds no `emit` leaves the output alone
@@ -88,9 +88,9 @@ part_leaves p input c part n v silent functions =
     part-leaves (environment_of p input) (calls-leave input (extents_of p (length input)) p.functions functions (length p.functions)) c part silent n v
 
 -- a part that emits nothing, performed with any output, is a block run
-pub quiet_run : {S M N : Type 0} {leads : List Event → M → M → Type 0} {stop : M → Option ℕ} {output : M → List ℕ} {lent : S → M} {place : S → N} (p : Program) (input : List ℕ) (c : Construct) (part : Part) (slots own : List ℤ) (full : List ℕ) (n : ℤ) (v : Carried) {a b : S} {r : Result Carried Halt}
+pub quiet_run : {S M N : Type 0} {leads : List Event → M → M → Type 0} {stop : M → Option ℕ} {output : M → List ℕ} {lent : S → M} {fixed : S → N} (p : Program) (input : List ℕ) (c : Construct) (part : Part) (slots own : List ℤ) (full : List ℕ) (n : ℤ) (v : Carried) {a b : S} {r : Result Carried Halt}
     → PartIsSilent c part → FunctionsAreSilent p.functions
-    → Performs (LeadsQuietly leads output lent place) (λ m. stop (lent m)) ⊥ (part_means (environment_of p input) c part n v (record { slots = slots; output = full })) a b r (record { slots = own; output = full })
+    → Performs (LeadsQuietly leads output lent fixed) (λ m. stop (lent m)) ⊥ (part_means (environment_of p input) c part n v (record { slots = slots; output = full })) a b r (record { slots = own; output = full })
     → PerformsOver leads stop ⊥ (part_asks p c part (block_setup input slots n v)) (lent a) (lent b) r []
 quiet_run p input c part slots own full n v silent functions q = record {
   slots = own;
@@ -98,10 +98,10 @@ quiet_run p input c part slots own full n v silent functions q = record {
 }
 
 -- on a memory of its own such a form has its plain outcome, whatever the output is
-pub quiet_outcome : {S M N A : Type 0} (cells : M → List ℤ) (output : M → List ℕ) (lent : S → M) (place : S → N) (form : Meaning A) → LeavesOutput form → (slots : List ℤ) (full out : List ℕ) (own : List ℤ) (a b : S) (r : Result A Halt)
-    → Performs (LeadsQuietly (λ es x y. LeadsPlainly es (cells x) (cells y)) output lent place) (λ m. None) ⊥ (form (record { slots = slots; output = full })) a b r (record { slots = own; output = full })
+pub quiet_outcome : {S M N A : Type 0} (cells : M → List ℤ) (output : M → List ℕ) (lent : S → M) (fixed : S → N) (form : Meaning A) → LeavesOutput form → (slots : List ℤ) (full out : List ℕ) (own : List ℤ) (a b : S) (r : Result A Halt)
+    → Performs (LeadsQuietly (λ es x y. LeadsPlainly es (cells x) (cells y)) output lent fixed) (λ m. None) ⊥ (form (record { slots = slots; output = full })) a b r (record { slots = own; output = full })
     → IsPlainOutcome r (form (record { slots = slots; output = out })) (cells (lent a)) (cells (lent b)) (record { slots = own; output = out })
-quiet_outcome cells output lent place form l slots full out own a b r p =
+quiet_outcome cells output lent fixed form l slots full out own a b r p =
     plain_outcome cells (form (record { slots = slots; output = out })) (lent a) (lent b) r (record { slots = own; output = out }) ⊥
     (unquiet (with_any_output form l slots full out p))
 
@@ -168,18 +168,18 @@ guess_at_leaves g calls line None = record { same = λ slots output. refl }
 guess_at_leaves g calls line (Some (By guess)) = expression-leaves g calls line guess
 guess_at_leaves g calls line (Some (Host number)) = record { same = λ slots output. refl }
 
-guess_leaves : (p : Program) (input : List ℕ) (c : Construct) (place : ℕ) (number : ℤ) → FunctionsAreSilent p.functions → LeavesOutput (guess_part_means (environment_of p input) c place number)
-guess_leaves p input (fold line head body) place number functions =
-    leaves-then {first = sets head.block number} {next = λ u. guess_at (environment_of p input) line (slice_get head.predict place)} (record { same = λ slots output. refl })
-    (λ u. guess_at_leaves (environment_of p input) (calls-leave input (extents_of p (length input)) p.functions functions (length p.functions)) line (slice_get head.predict place))
-guess_leaves p input (pair line head producer consumer) place number functions =
-    guess_at_leaves (environment_of p input) (calls-leave input (extents_of p (length input)) p.functions functions (length p.functions)) line (slice_get head.predict place)
+guess_leaves : (p : Program) (input : List ℕ) (c : Construct) (index : ℕ) (number : ℤ) → FunctionsAreSilent p.functions → LeavesOutput (guess_part_means (environment_of p input) c index number)
+guess_leaves p input (fold line head body) index number functions =
+    leaves-then {first = sets head.block number} {next = λ u. guess_at (environment_of p input) line (slice_get head.predict index)} (record { same = λ slots output. refl })
+    (λ u. guess_at_leaves (environment_of p input) (calls-leave input (extents_of p (length input)) p.functions functions (length p.functions)) line (slice_get head.predict index))
+guess_leaves p input (pair line head producer consumer) index number functions =
+    guess_at_leaves (environment_of p input) (calls-leave input (extents_of p (length input)) p.functions functions (length p.functions)) line (slice_get head.predict index)
 
 -- a guess, performed over cells that are only read with any output
-pub guess_answer : {S : Type 0} (cells : S → List ℤ) (p : Program) (input : List ℕ) (c : Construct) (slots own : List ℤ) (full : List ℕ) (n : ℤ) (place : ℕ) (a b : S) (r d : Result ℤ Halt) → r ≡ d
+pub guess_answer : {S : Type 0} (cells : S → List ℤ) (p : Program) (input : List ℕ) (c : Construct) (slots own : List ℤ) (full : List ℕ) (n : ℤ) (index : ℕ) (a b : S) (r d : Result ℤ Halt) → r ≡ d
     → FunctionsAreSilent p.functions
-    → Performs (λ es x y. LeadsUnstored es (cells x) (cells y)) (λ m. None) ⊥ (guess_part_means (environment_of p input) c place n (record { slots = slots; output = full })) a b r (record { slots = own; output = full })
-    → IsUnshared d (guess_asks p c place input slots n) (cells a)
-guess_answer cells p input c slots own full n place a b r d e functions q =
-    came cells _ a b d _ (subst (λ x. Performs (λ es y z. LeadsUnstored es (cells y) (cells z)) (λ m. None) ⊥ (guess_asks p c place input slots n) a b x (record { slots = own; output = [] })) e
-    (with_any_output (guess_part_means (environment_of p input) c place n) (guess_leaves p input c place n functions) slots full [] q))
+    → Performs (λ es x y. LeadsUnstored es (cells x) (cells y)) (λ m. None) ⊥ (guess_part_means (environment_of p input) c index n (record { slots = slots; output = full })) a b r (record { slots = own; output = full })
+    → IsUnshared d (guess_asks p c index input slots n) (cells a)
+guess_answer cells p input c slots own full n index a b r d e functions q =
+    came cells _ a b d _ (subst (λ x. Performs (λ es y z. LeadsUnstored es (cells y) (cells z)) (λ m. None) ⊥ (guess_asks p c index input slots n) a b x (record { slots = own; output = [] })) e
+    (with_any_output (guess_part_means (environment_of p input) c index n) (guess_leaves p input c index n functions) slots full [] q))

@@ -329,7 +329,7 @@ fn guess_of<M: Memory>(
     codes: &[ValueCode],
     line: u32,
     predict: &[Predict],
-    place: u32,
+    part: u32,
     registers: &mut [i64],
     memory: &mut M,
 ) -> Result<i64, Halt>
@@ -343,22 +343,22 @@ fn guess_of<M: Memory>(
         ≤ length registers.old }
     ensures performs { Performs M.leads M.stop M.may_lack_memory (guess_at
         (environment_of (program_of instance.now) instance.now.input) line
-        (slice_get (map predictor predict.now) place)
+        (slice_get (map predictor predict.now) part)
         (state (main_slots (program_of instance.now) registers.old) (M.output memory.old)))
         memory.old memory.new result
         (state (main_slots (program_of instance.now) registers.new) (M.output memory.new)) }
     ensures kept { main_slots (program_of instance.now) registers.new
         ≡ main_slots (program_of instance.now) registers.old }
 {
-    let place = place as usize;
-    if place >= predict.len() {
+    let part = part as usize;
+    if part >= predict.len() {
         return Ok(0);
     }
     perform_guess(
         instance,
-        &codes[place],
+        &codes[part],
         line,
-        &predict[place],
+        &predict[part],
         registers,
         memory,
     )
@@ -370,7 +370,7 @@ fn perform_guess_at<M: Memory>(
     code: &ConstructCode,
     construct: TopConstruct,
     number: i64,
-    place: u32,
+    part: u32,
     registers: &mut [i64],
     memory: &mut M,
 ) -> Result<i64, Halt>
@@ -384,7 +384,7 @@ fn perform_guess_at<M: Memory>(
         ≤ length registers.old }
     ensures performs { Performs M.leads M.stop M.may_lack_memory (guess_part_means
         (environment_of (program_of instance.now) instance.now.input)
-        (seen_construct construct.entry) place number
+        (seen_construct construct.entry) part number
         (state (main_slots (program_of instance.now) registers.old) (M.output memory.old)))
         memory.old memory.new result
         (state (main_slots (program_of instance.now) registers.new) (M.output memory.new)) }
@@ -402,7 +402,7 @@ fn perform_guess_at<M: Memory>(
                 codes,
                 line,
                 &fold.predict,
-                place,
+                part,
                 registers,
                 memory,
             )
@@ -413,7 +413,7 @@ fn perform_guess_at<M: Memory>(
                 codes,
                 line,
                 &pair.predict,
-                place,
+                part,
                 registers,
                 memory,
             )
@@ -433,7 +433,7 @@ pub fn exec_predictor(
     instance: &Instance,
     construct: TopConstruct,
     index: u32,
-    place: u32,
+    part: u32,
     number: i64,
     frame: &mut Frame,
     cells: &[i64],
@@ -446,7 +446,7 @@ pub fn exec_predictor(
     requires functions_silent { FunctionsAreSilent (program_of instance.now).functions }
     ensures guess { result
         ≡ predicts (program_of instance.now) instance.now.input (seen_construct construct.entry)
-        (main_slots (program_of instance.now) frame.old) cells.now number place }
+        (main_slots (program_of instance.now) frame.old) cells.now number part }
     ensures kept { LeavesOtherSlots (seen_construct construct.entry) Predictor
         (main_slots (program_of instance.now) frame.old)
         (main_slots (program_of instance.now) frame.new) }
@@ -459,7 +459,7 @@ pub fn exec_predictor(
         code,
         construct,
         number,
-        place,
+        part,
         &mut frame.registers,
         &mut memory,
     ) {

@@ -13,7 +13,7 @@ use Rattle.spf_ast.specs.declared.syntax.Array as code
 use Rattle.spf_ast.specs.View.{array}
 use Rattle.spf_ast.specs.Program.{size_or_none, size_of, sizes, extents_from}
 
--- the arrays from one place on
+-- the arrays from one index on
 pub next_array : (xs : List code.Array) (i : ℕ) (x : code.Array) → i < length xs → x ≡ get_or xs i x → drop i xs ≡ x ∷ drop (i + 1) xs
 next_array xs i x h e = drop-cons xs i x h ∙ ap (λ y. y ∷ drop (suc i) xs) (sym e) ∙ ap (λ n. x ∷ drop n xs) (sym (add-one i))
 

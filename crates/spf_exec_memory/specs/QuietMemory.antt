@@ -20,21 +20,21 @@ full_output = record { bytes = replicate max_output 0; full = zeros_are_full max
 
 -- the events lead the memory that is lent from one state to the other, its output is as before, and it is the same one that is lent
 pub record LeadsQuietly {S M N : Type 0} (leads : List Event → M → M → Type 0) (output : M → List ℕ) (lent : S → M)
-    (place : S → N) (es : List Event) (a b : S) : Type 0 where
+    (fixed : S → N) (es : List Event) (a b : S) : Type 0 where
   pub led : leads es (lent a) (lent b)
   pub same_output : output (lent b) ≡ output (lent a)
-  pub same_place : place b ≡ place a
+  pub same_fixed : fixed b ≡ fixed a
 
 -- a memory that emits nothing keeps the laws of memories
 pub quiet_laws : {S M N : Type 0} {leads : List Event → M → M → Type 0} {stop : M → Option ℕ} (output : M → List ℕ)
-    (lent : S → M) (place : S → N) → Laws leads stop
-    → Laws {M = S} (LeadsQuietly leads output lent place) (λ s. stop (lent s))
-quiet_laws output lent place laws = record {
-  empty = λ m. record { led = laws.empty (lent m); same_output = refl; same_place = refl };
+    (lent : S → M) (fixed : S → N) → Laws leads stop
+    → Laws {M = S} (LeadsQuietly leads output lent fixed) (λ s. stop (lent s))
+quiet_laws output lent fixed laws = record {
+  empty = λ m. record { led = laws.empty (lent m); same_output = refl; same_fixed = refl };
   joined = λ es fs a b c p q. record {
     led = laws.joined es fs (lent a) (lent b) (lent c) p.led q.led;
     same_output = q.same_output ∙ p.same_output;
-    same_place = q.same_place ∙ p.same_place;
+    same_fixed = q.same_fixed ∙ p.same_fixed;
   };
   keeps_stop = λ es a b p. laws.keeps_stop es (lent a) (lent b) p.led;
 }

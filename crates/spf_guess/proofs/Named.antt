@@ -64,11 +64,11 @@ one_handed_in count host none = go (nat_le count host) refl
 
 -- where no host is missing, each that a predictor names is supplied
 handed_in_all : (count : ℕ) (predictors : List Predictor) → missing_among count (hosts_among predictors) ≡ None → AreAllHandedIn count predictors
-handed_in_all count [] none place host at = absurd (apart (Host host) (sym at))
+handed_in_all count [] none index host at = absurd (apart (Host host) (sym at))
 handed_in_all count (x ∷ xs) none zero host at =
     let same : x ≡ Host host = cc in
     one_handed_in count host (ap (λ predictor. missing_among count (host_named_by predictor)) (sym same) ∙ none_in_first count (host_named_by x) (hosts_among xs) none)
-handed_in_all count (x ∷ xs) none (suc place) host at = handed_in_all count xs (none_later count (host_named_by x) (hosts_among xs) none) place host at
+handed_in_all count (x ∷ xs) none (suc index) host at = handed_in_all count xs (none_later count (host_named_by x) (hosts_among xs) none) index host at
 
 -- where no host is missing, each that a construct names is supplied
 pub all_handed_in : (count : ℕ) (constructs : List Construct) → missing_host count constructs ≡ None → AreHandedIn count constructs

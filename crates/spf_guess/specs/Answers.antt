@@ -14,7 +14,7 @@ AnswersAlike before now = (pairs : List Told) (block : ℤ) → now pairs block 
 abbrev pub WasTold : Answers → Told → Answers → Type 0
 WasTold before told now = (pairs : List Told) (block : ℤ) → now pairs block ≡ before (told ∷ pairs) block
 
--- the hosts that these predictors are, by their places; a host that isn't supplied answers 0
+-- the hosts that these predictors are, by their indices; a host that isn't supplied answers 0
 abbrev pub handed_in : List Answers → Hosts
 handed_in predictors host = unwrap_or (slice_get predictors host) (λ pairs block. pos 0)
 

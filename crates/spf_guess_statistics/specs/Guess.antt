@@ -58,10 +58,10 @@ abbrev pub part_by : (ℕ → ℤ) → Result ℤ Trap → Predictor → PartGue
 part_by answer result (By guess) = part_of_result result
 part_by answer result (Host host) = record { word = answer host; traps = false }
 
--- the guesses of the parts from a place on, where hosts answer these words and the expression at each place comes to this
+-- the guesses of the parts from an index on, where hosts answer these words and the expression at each index comes to this
 abbrev pub parts_from : (ℕ → ℤ) → (ℕ → Result ℤ Trap) → ℕ → List Predictor → List PartGuess
-parts_from answer result place [] = []
-parts_from answer result place (first ∷ others) = part_by answer (result place) first ∷ parts_from answer result (suc place) others
+parts_from answer result index [] = []
+parts_from answer result index (first ∷ others) = part_by answer (result index) first ∷ parts_from answer result (suc index) others
 
 -- The guess for the block of this number of a construct that was entered with these slots and this memory. A host
 -- answers after all that it was told, and an expression comes to what it does at the entry.

@@ -11,7 +11,7 @@ use Rattle.spf_ast.specs.Syntax.{Array}
 use Rattle.spf_ast.specs.RawSyntax.{RawFunction, RawProgram}
 use Rattle.spf_parse_grammar.specs.declared.Lexeme as code
 use Rattle.spf_parse_grammar.specs.Lexemes.{Lexeme, lexemes}
-use Rattle.spf_parse_grammar.specs.Texts.{place}
+use Rattle.spf_parse_grammar.specs.Texts.{offset}
 use Rattle.spf_parse_grammar.specs.Parts.{token, many, header, array, function, block, program, Rule, give, part, either}
 use Rattle.spf_parse_grammar.specs.Rules.{all, version_rule, has_breaks}
 use Rattle.spf_parse_grammar.specs.Derivations.{Says}
@@ -123,7 +123,7 @@ program_more {ts} {rest} {p} l never = record {
   dead = λ free k b vs binds same x s. same_empty rest k never same (sym (l.only free k b vs same x (stops_all vs)).1 ∙ only_end vs s);
 }
 
-pub place_at : (end n : ℕ) (ts : List code.Lexeme) (d : code.Lexeme) → n < length ts → (get_or ts n d).from ≡ place end (drop n (lexemes ts))
-place_at end n [] d h = absurd (omega (arith, h))
-place_at end zero (t ∷ ts) d h = refl
-place_at end (suc n) (t ∷ ts) d h = place_at end n ts d (omega (arith, h))
+pub offset_at : (end n : ℕ) (ts : List code.Lexeme) (d : code.Lexeme) → n < length ts → (get_or ts n d).from ≡ offset end (drop n (lexemes ts))
+offset_at end n [] d h = absurd (omega (arith, h))
+offset_at end zero (t ∷ ts) d h = refl
+offset_at end (suc n) (t ∷ ts) d h = offset_at end n ts d (omega (arith, h))

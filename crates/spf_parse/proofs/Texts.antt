@@ -6,7 +6,7 @@ use Rattle.spf_parse_grammar.specs.Lexemes.{Lexeme}
 use Rattle.spf_parse_grammar.specs.Parts.{program, give}
 use Rattle.spf_parse_grammar.specs.Rules.{all}
 use Rattle.spf_parse_grammar.specs.Reading.{Reads}
-use Rattle.spf_parse_grammar.specs.Texts.{IsFront, place, CannotGoOn, IsUnexpected, IsTooDeep}
+use Rattle.spf_parse_grammar.specs.Texts.{IsFront, offset, CannotGoOn, IsUnexpected, IsTooDeep}
 use Rattle.spf_parse_grammar.specs.Derivations.{Says, Reading}
 use Rattle.spf_parse_parts.specs.Answers.{ahead, Leads, Faults}
 use Rattle.spf_parse.specs.Laws.{GoWrongOnce}
@@ -31,8 +31,8 @@ only_is {ts} {p} l free q d = (l.only free [] q [] refl (subst (λ l. Reading fr
 
 -- ---- where it goes wrong
 
-place_is : {ts : List Lexeme} {d : Bool} {left : ℕ} → (f : Faults d 14 (all program) ts left) → drop (length ts - left) ts ≡ f.rest
-place_is {ts} {left = left} f =
+offset_is : {ts : List Lexeme} {d : Bool} {left : ℕ} → (f : Faults d 14 (all program) ts left) → drop (length ts - left) ts ≡ f.rest
+offset_is {ts} {left = left} f =
     let n : length f.read ≡ length ts - left = omega (arith, ap length f.split, length-append f.read f.rest, f.left_is) in
     ap (drop (length ts - left)) f.split ∙ drop_at f.read f.rest (length ts - left) n
 
@@ -49,23 +49,23 @@ front f free room =
     let e : f.more ++ [] ≡ f.more = append-nil f.more in
     from_reading free (f.read ++ f.more) f.value (subst (λ l. Reading free (all program) (f.read ++ l) f.value []) e (f.viable free [] (subst (λ l. length l ≤ free) (sym e) room)))
 
-pub unexpected_is : {ts : List Lexeme} {left : ℕ} (end : ℕ) → Faults false 14 (all program) ts left → IsUnexpected ts end (place end (drop (length ts - left) ts))
+pub unexpected_is : {ts : List Lexeme} {left : ℕ} (end : ℕ) → Faults false 14 (all program) ts left → IsUnexpected ts end (offset end (drop (length ts - left) ts))
 unexpected_is end f = record {
   read = f.read;
   rest = f.rest;
   split = f.split;
-  at_is = ap (place end) (place_is f);
+  at_is = ap (offset end) (offset_is f);
   front = (f.more, f.value, front f (0 + length f.more) (omega arith));
   stuck = cannot f f.rest refl;
 }
 
-pub too_deep_is : {ts : List Lexeme} {left : ℕ} (end : ℕ) → Faults true 14 (all program) ts left → IsTooDeep ts (place end (drop (length ts - left) ts))
+pub too_deep_is : {ts : List Lexeme} {left : ℕ} (end : ℕ) → Faults true 14 (all program) ts left → IsTooDeep ts (offset end (drop (length ts - left) ts))
 too_deep_is end f = let t = f.begins.0 in let us = f.begins.1 in let vs = f.begins.2 in record {
   read = f.read;
   next = t;
   rest = us;
   split = f.split ∙ ap (λ l. f.read ++ l) f.begins.3;
-  at_is = ap (place end) (place_is f ∙ f.begins.3);
+  at_is = ap (offset end) (offset_is f ∙ f.begins.3);
   allowed = (vs, f.value, subst (λ l. Reads (1 + length vs) l f.value) (ap (λ l. f.read ++ l) f.begins.4 ∙ sym (append_assoc f.read (t ∷ []) vs)) (front f (1 + length vs) (omega (arith, ap length f.begins.4))));
   forbidden = λ m.
       f.dead (0 + length m.0) (t ∷ m.0) m.1 [] (omega arith) (ap ahead (sym f.begins.3)) (subst (λ l. Reading (0 + length m.0) (all program) l m.1 []) (append_assoc f.read (t ∷ []) m.0) (to_reading (0 + length m.0) ((f.read ++ t ∷ []) ++ m.0) m.1 m.2)) tt;
@@ -129,7 +129,7 @@ module _ {ts : List Lexeme} (end : ℕ) where
     where
       compare : Splits u.read u.rest v.read v.rest → a ≡ b
       compare (shorter x m p q) = absurd (stuck_front end a u x m (m ++ v.rest) 0 q (subst (IsFront 0) (p ∙ one_more u.read x m) v.front))
-      compare (same p q) = u.at_is ∙ ap (place end) q ∙ sym v.at_is
+      compare (same p q) = u.at_is ∙ ap (offset end) q ∙ sym v.at_is
       compare (longer x m p q) = absurd (stuck_front end b v x m (m ++ u.rest) 0 q (subst (IsFront 0) (p ∙ one_more v.read x m) u.front))
 
   pub unexpected_not_deep : (a b : ℕ) → IsUnexpected ts end a → IsTooDeep ts b → ⊥

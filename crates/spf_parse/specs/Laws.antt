@@ -6,7 +6,7 @@ use Rattle.spf_parse_grammar.specs.Lexemes.{Lexeme}
 use Rattle.spf_parse_grammar.specs.Reading.{Reads}
 use Rattle.spf_parse_grammar.specs.Texts.{IsProgramOf, IsUnexpected, IsTooDeep}
 
--- tokens go wrong at one place and in one way, and not at all where they are those of a program
+-- tokens go wrong at one offset and in one way, and not at all where they are those of a program
 pub record GoWrongOnce (tokens : List Lexeme) (end : ℕ) : Type 0 where
   pub unexpected : (at other : ℕ) → IsUnexpected tokens end at → IsUnexpected tokens end other → at ≡ other
   pub too_deep : (at other : ℕ) → IsTooDeep tokens at → IsTooDeep tokens other → at ≡ other

@@ -6,7 +6,7 @@ use Rattle.spf_parse.specs.declared.program.ParseError.{ParseError}
 use Rattle.spf_parse.specs.declared.program.ParseError.TheVariants as parse
 use Rattle.spf_text.specs.Tokens.{IsFaultyAt, BeginsNothing, BeginsTooLarge, max_text}
 
--- the text is too long, or otherwise the first fault of its bytes stands at this place
+-- the text is too long, or otherwise the first fault of its bytes stands at this offset
 abbrev pub IsNoTokenText : List ℕ → ScanError → Type 0
 IsNoTokenText text (error.TooLong at) = (max_text < length text) × (at ≡ max_text)
 IsNoTokenText text (error.BadByte at) = (length text ≤ max_text) × IsFaultyAt BeginsNothing text at

@@ -4,7 +4,7 @@ ghost use Rattle.spf_parse.specs.Laws.{TokensGoWrongOnce, TextsSayWritableProgra
 
 use spf_text::laws::tokens_are_spelled_by_their_slices;
 
-/// Tokens go wrong at one place and in one way at most, and not at all where they are those of a
+/// Tokens go wrong at one offset and in one way at most, and not at all where they are those of a
 /// program.
 pub fn tokens_go_wrong_once()
     ensures { TokensGoWrongOnce }

@@ -14,7 +14,7 @@ ghost use Rattle.spf_parse_grammar.specs.Parts.{many, header as header_part, arr
 ghost use Rattle.spf_parse_grammar.specs.Parts.{function as function_part, program as program_part};
 ghost use Rattle.spf_parse_grammar.specs.Rules.{all};
 ghost use Rattle.spf_parse_grammar.specs.Texts.{IsProgramOf, IsUnexpectedAt, IsTooDeepAt};
-ghost use Rattle.spf_parse_grammar.specs.Texts.{place as place_of};
+ghost use Rattle.spf_parse_grammar.specs.Texts.{offset as index_of};
 ghost use Rattle.spf_parse_parts.specs.Answers.{Answers, Answered};
 ghost use Rattle.spf_parse.specs.Refusals.{IsNoTokenText, as_refusal};
 
@@ -149,10 +149,10 @@ fn whole(alloc: Global, tokens: &[Lexeme]) -> Result<RawProgram, Fault>
     Ok(found)
 }
 
-/// The place of the token from which `left` tokens are left. The text ends at `end`.
-fn place(tokens: &[Lexeme], end: usize, left: usize) -> usize
+/// The offset of the token from which `left` tokens are left. The text ends at `end`.
+fn offset(tokens: &[Lexeme], end: usize, left: usize) -> usize
     requires { left ≤ length tokens.now }
-    ensures { result ≡ place_of end (drop (length tokens.now - left) (seen_lexemes tokens.now)) }
+    ensures { result ≡ index_of end (drop (length tokens.now - left) (seen_lexemes tokens.now)) }
 {
     if left == 0 {
         end
@@ -179,7 +179,7 @@ fn of_scan(e: ScanError) -> ParseError
 ///
 /// `Scan` comes first, where the text has no tokens. Otherwise the first token that can't stand
 /// where it stands decides: `TooDeep` where the limits alone forbid it, and `Unexpected` where the
-/// grammar does. `OutOfMemory` may come in place of each.
+/// grammar does. `OutOfMemory` may come instead of each.
 pub fn parse(alloc: Global, text: &[u8]) -> Result<RawProgram, ParseError>
     // What is given is the program of the text, which has no other.
     ensures program { IfOk result (λ p. IsProgramOf text.now (raw_program p)) }
@@ -214,10 +214,10 @@ pub fn parse(alloc: Global, text: &[u8]) -> Result<RawProgram, ParseError>
     match whole(alloc, &found) {
         Ok(program) => Ok(program),
         Err(Fault::Unexpected(left)) => Err(ParseError::Unexpected {
-            at: place(&found, text.len(), left),
+            at: offset(&found, text.len(), left),
         }),
         Err(Fault::TooDeep(left)) => Err(ParseError::TooDeep {
-            at: place(&found, text.len(), left),
+            at: offset(&found, text.len(), left),
         }),
         Err(Fault::OutOfMemory) => Err(ParseError::OutOfMemory),
     }

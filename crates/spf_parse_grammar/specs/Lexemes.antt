@@ -4,16 +4,16 @@ use Rattle.spf_text.specs.declared.token.TokenKind.{TokenKind}
 use Rattle.spf_text.specs.declared.token.Token.{Token}
 use Rattle.spf_parse_grammar.specs.declared.Lexeme as code
 
--- a token: what it is, its bytes, the place of its first byte, and its line
+-- a token: what it is, its bytes, the offset of its first byte, and its line
 pub record Lexeme : Type 0 where
   pub kind : TokenKind
   pub bytes : List ℕ
   pub from : ℕ
   pub line : ℕ
 
--- a place of a text is on the line that as many line feeds stand before, counted from 1
+-- an offset of a text is on the line that as many line feeds stand before, counted from 1
 abbrev pub line_at : List ℕ → ℕ → ℕ
-line_at text place = count_by (λ b. b == 10) (take place text) + 1
+line_at text offset = count_by (λ b. b == 10) (take offset text) + 1
 
 -- a token of a text, as a lexeme
 abbrev pub lexeme_of : List ℕ → Token → Lexeme

@@ -3,7 +3,7 @@
 
 use spf_text::token::TokenKind;
 
-/// A token as the grammar reads it: what it is, its bytes, the place of its first byte, and its
+/// A token as the grammar reads it: what it is, its bytes, the offset of its first byte, and its
 /// line.
 #[derive(Clone, Copy, Debug)]
 pub struct Lexeme<'a> {
@@ -11,7 +11,7 @@ pub struct Lexeme<'a> {
     pub kind: TokenKind,
     /// Its slice of the text.
     pub bytes: &'a [u8],
-    /// The place of its first byte.
+    /// The offset of its first byte.
     pub from: usize,
     /// Its line, counted from 1.
     pub line: u32,

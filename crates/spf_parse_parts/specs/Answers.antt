@@ -132,7 +132,9 @@ pub record Faults {A : Type 0} (deep : Bool) (n : ℕ) (F : Rule A) (ts : List L
   pub more : List Lexeme
   pub value : A
   pub begins : Begins deep rest more
+  -- what was read is a prefix of what F says
   pub viable : (free : ℕ) (k : List Lexeme) → length (more ++ k) ≤ free → Reading free F (read ++ (more ++ k)) value k
+  -- with the next token it is none
   pub dead : (free : ℕ) (k : List Lexeme) (b : A) (vs : List Lexeme) → Binds deep free k → ahead k ≡ ahead rest
       → Reading free F (read ++ k) b vs → Stops n vs → ⊥
 

@@ -117,10 +117,10 @@ fn row<T: Item<K>, K>(alloc: Global, owners: &mut [End<T, K>]) -> Result<Vec<End
     ensures row { IfOk result (λ v. v.items ≡ map as_guest owners.old) }
 {
     let mut ends = Vec::new(alloc);
-    let mut place = 0;
-    while place < owners.len() {
-        ends.push(owners[place].guest()?)?;
-        place += 1;
+    let mut index = 0;
+    while index < owners.len() {
+        ends.push(owners[index].guest()?)?;
+        index += 1;
     }
     Ok(ends)
 }

@@ -15,18 +15,18 @@ fn either(one: bool, other: bool) -> bool
 
 // Looks into one deque, unless it is the hand's own. Returns whether an item was given to it that
 // isn't counted as taken, or, as the error, the item that was taken.
-fn look_at<T: Item<K>, K>(ends: &mut [End<T, K>], own: usize, place: usize) -> Result<bool, T>
+fn look_at<T: Item<K>, K>(ends: &mut [End<T, K>], own: usize, index: usize) -> Result<bool, T>
     requires order { AreOrdered ends.old }
-    requires within { place < length ends.old }
-    ensures looked { MatchResult result (λ busy. LookedAt own place busy ends.old ends.new)
-        (λ x. MeetsAtSome T.meets ends.old x × TookAt own place ends.old ends.new) }
+    requires within { index < length ends.old }
+    ensures looked { MatchResult result (λ busy. LookedAt own index busy ends.old ends.new)
+        (λ x. MeetsAtSome T.meets ends.old x × TookAt own index ends.old ends.new) }
     ensures took { MatchResult result (λ _. TookNoneOf ends.old ends.new)
         (λ _. TookOneOf ends.old ends.new) }
 {
-    if place == own {
+    if index == own {
         return Ok(false);
     }
-    match ends[place].find() {
+    match ends[index].find() {
         Found::Got(item) => Err(item),
         Found::Empty => Ok(false),
         Found::Busy => Ok(true),
@@ -45,13 +45,13 @@ pub(crate) fn sweep<T: Item<K>, K>(ends: &mut [End<T, K>], own: usize) -> Found<
         (TookNoneOf ends.old ends.new) (TookNoneOf ends.old ends.new) }
 {
     let mut busy = false;
-    let mut place = 0;
-    while place < ends.len() {
-        match look_at(ends, own, place) {
+    let mut index = 0;
+    while index < ends.len() {
+        match look_at(ends, own, index) {
             Err(item) => return Found::Got(item),
             Ok(also) => {
                 busy = either(busy, also);
-                place += 1;
+                index += 1;
             }
         }
     }

@@ -38,30 +38,30 @@ pub struct Names<'a> {
 }
 
 /// Returns the name of an array, or no bytes where there is no such array.
-pub fn array_name(arrays: &[Array], place: u32) -> &[u8]
-    ensures { result.now ≡ name_at (map (λ a. seen_name a.name) arrays.now) place }
+pub fn array_name(arrays: &[Array], index: u32) -> &[u8]
+    ensures { result.now ≡ name_at (map (λ a. seen_name a.name) arrays.now) index }
 {
-    match arrays.get(place as usize) {
+    match arrays.get(index as usize) {
         Some(array) => &array.name.bytes,
         None => &[],
     }
 }
 
 /// Returns the name of a function, or no bytes where there is no such function.
-pub fn function_name(functions: &[Function], place: u32) -> &[u8]
-    ensures { result.now ≡ name_at (map (λ f. seen_name f.name) functions.now) place }
+pub fn function_name(functions: &[Function], index: u32) -> &[u8]
+    ensures { result.now ≡ name_at (map (λ f. seen_name f.name) functions.now) index }
 {
-    match functions.get(place as usize) {
+    match functions.get(index as usize) {
         Some(function) => &function.name.bytes,
         None => &[],
     }
 }
 
 /// Returns the name of a slot, or no bytes where there is no such slot.
-pub fn slot_name(slots: &[Name], place: u32) -> &[u8]
-    ensures { result.now ≡ name_at (map seen_name slots.now) place }
+pub fn slot_name(slots: &[Name], index: u32) -> &[u8]
+    ensures { result.now ≡ name_at (map seen_name slots.now) index }
 {
-    match slots.get(place as usize) {
+    match slots.get(index as usize) {
         Some(name) => &name.bytes,
         None => &[],
     }

@@ -270,8 +270,8 @@ all_taken [] (suc n) h = h
 all_taken (x ∷ xs) zero h = all_none IsName
 all_taken (x ∷ xs) (suc n) h = all_more IsName x (take n xs) (h 0 x (omega arith)) (all_taken xs n (λ k d q. h (suc k) d (omega (arith, q))))
 
-has_names : (p : Program) (place : ℕ) (slots : List (List ℕ)) → IsScoped p → place ≤ length p.functions → All IsName slots → HasNames (names_at p place slots) (vocabulary p slots)
-has_names p place slots w h names =
+has_names : (p : Program) (offset : ℕ) (slots : List (List ℕ)) → IsScoped p → offset ≤ length p.functions → All IsName slots → HasNames (names_at p offset slots) (vocabulary p slots)
+has_names p offset slots w h names =
     let a = map (λ (a : Array). a.name) p.arrays in
     let f = map (λ (f : Function). f.name) p.functions in
     record {
@@ -280,11 +280,11 @@ has_names p place slots w h names =
       slots = named slots names;
     }
 
-writable_function : (p : Program) (place : ℕ) (f : Function) → IsScoped p → place ≤ length p.functions → IsName f.name → IsLawfulFunction p place f → IsWritableFunction (spelled_function p f)
-writable_function p place f w h name l =
-    let names = names_at p place f.slots in
+writable_function : (p : Program) (offset : ℕ) (f : Function) → IsScoped p → offset ≤ length p.functions → IsName f.name → IsLawfulFunction p offset f → IsWritableFunction (spelled_function p f)
+writable_function p offset f w h name l =
+    let names = names_at p offset f.slots in
     let v = vocabulary p f.slots in
-    let has = has_names p place f.slots w h l.names in
+    let has = has_names p offset f.slots w h l.names in
     let slots = l.slots in
     let room : Room names (parameters f.params) (declared_in f.body) = record { inside = λ k c. (let r = range_in f.params k c in omega (arith, r, slots)); room = omega (arith, slots) } in (
       name,
@@ -300,30 +300,30 @@ arrays_are (a ∷ rest) n s =
     all_more IsWritableArray a rest (n 0 a.name (omega arith), z.0, z.1) (arrays_are rest (λ k d q. n (suc k) d (omega (arith, q))) (λ k d q. s (suc k) d (omega (arith, q))))
 
 -- the functions from an index on
-functions_are : (p : Program) (place : ℕ) (fs : List Function) → IsScoped p → place + length fs ≤ length p.functions → All IsName (map (λ (f : Function). f.name) fs) → ((i : ℕ) → IfSome (slice_get fs i) (IsLawfulFunction p (place + i))) → All IsWritableFunction (map (spelled_function p) fs)
-functions_are p place [] w h n each = all_none IsWritableFunction
-functions_are p place (f ∷ rest) w h n each =
+functions_are : (p : Program) (offset : ℕ) (fs : List Function) → IsScoped p → offset + length fs ≤ length p.functions → All IsName (map (λ (f : Function). f.name) fs) → ((i : ℕ) → IfSome (slice_get fs i) (IsLawfulFunction p (offset + i))) → All IsWritableFunction (map (spelled_function p) fs)
+functions_are p offset [] w h n each = all_none IsWritableFunction
+functions_are p offset (f ∷ rest) w h n each =
     all_more IsWritableFunction (spelled_function p f) (map (spelled_function p) rest)
-    (writable_function p place f w (omega (arith, h)) (n 0 f.name (omega arith)) (subst (λ k. IsLawfulFunction p k f) (let e : place + 0 ≡ place = omega arith in e) (each 0)))
-    (functions_are p (place + 1) rest w (omega (arith, h)) (λ k d q. n (suc k) d (omega (arith, q))) (λ i. subst (λ k. IfSome (slice_get rest i) (IsLawfulFunction p k)) (let e : place + suc i ≡ place + 1 + i = omega arith in e) (each (suc i))))
+    (writable_function p offset f w (omega (arith, h)) (n 0 f.name (omega arith)) (subst (λ k. IsLawfulFunction p k f) (let e : offset + 0 ≡ offset = omega arith in e) (each 0)))
+    (functions_are p (offset + 1) rest w (omega (arith, h)) (λ k d q. n (suc k) d (omega (arith, q))) (λ i. subst (λ k. IfSome (slice_get rest i) (IsLawfulFunction p k)) (let e : offset + suc i ≡ offset + 1 + i = omega arith in e) (each (suc i))))
 
 -- no function of a scoped program of version 1 holds a `break`
-functions_unbroken : (p : Program) → p.version ≡ 1 → (place : ℕ) (fs : List Function) → ((i : ℕ) → IfSome (slice_get fs i) (IsLawfulFunction p (place + i))) → All (λ (f : RawFunction). holds_break f.body ≡ false) (map (spelled_function p) fs)
-functions_unbroken p one place [] each = all_none (λ (f : RawFunction). holds_break f.body ≡ false)
-functions_unbroken p one place (f ∷ rest) each =
-    let here = subst (λ k. IsLawfulFunction p k f) (let e : place + 0 ≡ place = omega arith in e) (each 0) in
+functions_unbroken : (p : Program) → p.version ≡ 1 → (offset : ℕ) (fs : List Function) → ((i : ℕ) → IfSome (slice_get fs i) (IsLawfulFunction p (offset + i))) → All (λ (f : RawFunction). holds_break f.body ≡ false) (map (spelled_function p) fs)
+functions_unbroken p one offset [] each = all_none (λ (f : RawFunction). holds_break f.body ≡ false)
+functions_unbroken p one offset (f ∷ rest) each =
+    let here = subst (λ k. IsLawfulFunction p k f) (let e : offset + 0 ≡ offset = omega arith in e) (each 0) in
     all_more (λ (f : RawFunction). holds_break f.body ≡ false) (spelled_function p f) (map (spelled_function p) rest)
-    (block_unbroken (names_at p place f.slots) (vocabulary p f.slots) false (parameters f.params) one f.body here.body)
-    (functions_unbroken p one (place + 1) rest (λ i. subst (λ k. IfSome (slice_get rest i) (IsLawfulFunction p k)) (let e : place + suc i ≡ place + 1 + i = omega arith in e) (each (suc i))))
+    (block_unbroken (names_at p offset f.slots) (vocabulary p f.slots) false (parameters f.params) one f.body here.body)
+    (functions_unbroken p one (offset + 1) rest (λ i. subst (λ k. IfSome (slice_get rest i) (IsLawfulFunction p k)) (let e : offset + suc i ≡ offset + 1 + i = omega arith in e) (each (suc i))))
 
 -- the functions of a scoped program have rows
-functions_rows : (p : Program) (place : ℕ) (fs : List Function) → ((i : ℕ) → IfSome (slice_get fs i) (IsLawfulFunction p (place + i))) → All (λ (f : RawFunction). HoldRows f.body) (map (spelled_function p) fs)
-functions_rows p place [] each = all_none (λ (f : RawFunction). HoldRows f.body)
-functions_rows p place (f ∷ rest) each =
-    let here = subst (λ k. IsLawfulFunction p k f) (let e : place + 0 ≡ place = omega arith in e) (each 0) in
+functions_rows : (p : Program) (offset : ℕ) (fs : List Function) → ((i : ℕ) → IfSome (slice_get fs i) (IsLawfulFunction p (offset + i))) → All (λ (f : RawFunction). HoldRows f.body) (map (spelled_function p) fs)
+functions_rows p offset [] each = all_none (λ (f : RawFunction). HoldRows f.body)
+functions_rows p offset (f ∷ rest) each =
+    let here = subst (λ k. IsLawfulFunction p k f) (let e : offset + 0 ≡ offset = omega arith in e) (each 0) in
     all_more (λ (f : RawFunction). HoldRows f.body) (spelled_function p f) (map (spelled_function p) rest)
-    (block_rows (names_at p place f.slots) (vocabulary p f.slots) false (parameters f.params) f.body here.body)
-    (functions_rows p (place + 1) rest (λ i. subst (λ k. IfSome (slice_get rest i) (IsLawfulFunction p k)) (let e : place + suc i ≡ place + 1 + i = omega arith in e) (each (suc i))))
+    (block_rows (names_at p offset f.slots) (vocabulary p f.slots) false (parameters f.params) f.body here.body)
+    (functions_rows p (offset + 1) rest (λ i. subst (λ k. IfSome (slice_get rest i) (IsLawfulFunction p k)) (let e : offset + suc i ≡ offset + 1 + i = omega arith in e) (each (suc i))))
 
 -- a scoped program is spelled as a well-formed one
 well_formed : (main_line : ℕ) (p : Program) → IsScoped p → IsWellFormed (spelled main_line p)

@@ -84,7 +84,7 @@ TextsSayTheirPrograms = (p : Program) → IsScoped p → SaysButForLines (text_o
 abbrev pub TokensAreOfOneProgram : Type 0
 TokensAreOfOneProgram = (free : ℕ) (tokens : List Lexeme) (p q : RawProgram) → Reads free tokens p → Reads free tokens q → p ≡ q
 
--- no tokens are left that neither are those of a program nor go wrong at a place
+-- no tokens are left that neither are those of a program nor go wrong at an offset
 abbrev pub NoTokensAreLeft : Type 0
 NoTokensAreLeft =
     (tokens : List Lexeme) (end : ℕ) → ((p : RawProgram) → Reads 0 tokens p → ⊥)

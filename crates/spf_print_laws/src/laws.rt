@@ -26,7 +26,7 @@ pub fn printed_programs_read_back()
 {}
 
 /// No tokens can be read as two programs, and all tokens either are those of a program or go wrong
-/// at a place.
+/// at an offset.
 pub fn tokens_are_of_one_program()
     ensures one { TokensAreOfOneProgram }
     ensures left { NoTokensAreLeft }

@@ -45,8 +45,8 @@ inside e k (Whole a) cell t = t
 inside e k (Affine a f l h) cell t = and-left _ _ t
 
 -- where it stands
-place-of : (e : Extent) (k : ℤ) (a : ℕ) (f l h : ℤ) (cell : ℕ) → is_cell e k (Affine a f l h) cell ≡ true → (at_block k f l ≤ℤ (pos cell -ℤ pos e.0)) × ((pos cell -ℤ pos e.0) ≤ℤ at_block k f h)
-place-of e k a f l h cell t =
+index-of : (e : Extent) (k : ℤ) (a : ℕ) (f l h : ℤ) (cell : ℕ) → is_cell e k (Affine a f l h) cell ≡ true → (at_block k f l ≤ℤ (pos cell -ℤ pos e.0)) × ((pos cell -ℤ pos e.0) ≤ℤ at_block k f h)
+index-of e k a f l h cell t =
     let b = and-right (in_extent e cell) _ t in
     (int-le-is (at_block k f l) (pos cell -ℤ pos e.0) (and-left _ _ b), int-le-is (pos cell -ℤ pos e.0) (at_block k f h) (and-right (int_le (at_block k f l) (pos cell -ℤ pos e.0)) _ b))
 
@@ -78,9 +78,9 @@ same-array g k j a b f l h f' m i cell ne ab e x y =
     let up = int-lt-is (pos 0) f (and-left _ _ e1) in
     let first = int-lt-is (h -ℤ m) f (and-left _ _ e2) in
     let second = int-lt-is (i -ℤ l) f (and-right (int_lt (h -ℤ m) f) _ e2) in
-    let p = place-of (extent g a) k a f l h cell x in
+    let p = index-of (extent g a) k a f l h cell x in
     let y' : is_cell (extent g a) j (Affine a f m i) cell ≡ true = rw (ab, ff) y in
-    let q = place-of (extent g a) j a f m i cell y' in
+    let q = index-of (extent g a) j a f m i cell y' in
     which first second up p q (lt-cases k j ne)
   where
     which : (h -ℤ m) <ℤ f → (i -ℤ l) <ℤ f → pos 0 <ℤ f → (at_block k f l ≤ℤ (pos cell -ℤ pos (extent g a).0)) × ((pos cell -ℤ pos (extent g a).0) ≤ℤ at_block k f h) → (at_block j f m ≤ℤ (pos cell -ℤ pos (extent g a).0)) × ((pos cell -ℤ pos (extent g a).0) ≤ℤ at_block j f i) → (k <ℤ j) ⊎ (j <ℤ k) → ⊥
@@ -114,9 +114,9 @@ disjoint-cells g k j (Affine a f l h) (Affine b f' m i) cell apart e x y = go (a
         let none = int-lt-is (int_min h i) (int_max l m) (and-right (int_eq f' (pos 0)) _ e1) in
         let fz : f ≡ pos 0 = grind (arith, ints, e0) in
         let gz : f' ≡ pos 0 = grind (arith, ints, e2) in
-        let p = place-of (extent g a) k a f l h cell x in
+        let p = index-of (extent g a) k a f l h cell x in
         let y' : is_cell (extent g a) j (Affine a f' m i) cell ≡ true = rw ab y in
-        let q = place-of (extent g a) j a f' m i cell y' in
+        let q = index-of (extent g a) j a f' m i cell y' in
         omega (arith, ints, clamps, p.0, p.1, q.0, q.1, still f k fz, still f' j gz)
 
     go : (t : Bool) → (a == b) ≡ t → (not t || disjoint_offsets f l h f' m i) ≡ true → ⊥

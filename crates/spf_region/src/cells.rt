@@ -28,15 +28,15 @@ fn at_block(factor: i64, k: i64, offset: i64) -> i128
     product(factor, k) + i128::from(offset)
 }
 
-// How many of the cells of an array stand before a place.
-fn clamp(place: i128, size: u64) -> u64
-    ensures value { pos result ≡ int_max (pos 0) (int_min place (pos size)) }
+// How many of the cells of an array stand before an index.
+fn clamp(index: i128, size: u64) -> u64
+    ensures value { pos result ≡ int_max (pos 0) (int_min index (pos size)) }
     ensures size { result ≤ size }
 {
-    if place <= 0 {
+    if index <= 0 {
         0
-    } else if place < i128::from(size) {
-        place as u64
+    } else if index < i128::from(size) {
+        index as u64
     } else {
         size
     }

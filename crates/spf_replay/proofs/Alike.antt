@@ -13,9 +13,9 @@ other-way visible one other h = record {
   slot_count = sym h.slot_count;
 }
 
-pub look-alike : RunsSeeVisibleSlots → (e : Entry) (slots : List ℤ) (place : StandsInMain e.program e.construct) (guess : ℕ → Carried) (steps : List Step)
-    → SlotsLookAlike place.scope.visible e.slots slots → IsRun e guess steps ↔ IsRun (with_slots e slots) guess steps
-look-alike law e slots place guess steps h = (
-  λ r. record { values = r.values; result = r.result; run = law e slots place guess steps r.values r.result h r.run },
-  λ r. record { values = r.values; result = r.result; run = law (with_slots e slots) e.slots place guess steps r.values r.result (other-way place.scope.visible e.slots slots h) r.run },
+pub look-alike : RunsSeeVisibleSlots → (e : Entry) (slots : List ℤ) (stands : StandsInMain e.program e.construct) (guess : ℕ → Carried) (steps : List Step)
+    → SlotsLookAlike stands.scope.visible e.slots slots → IsRun e guess steps ↔ IsRun (with_slots e slots) guess steps
+look-alike law e slots stands guess steps h = (
+  λ r. record { values = r.values; result = r.result; run = law e slots stands guess steps r.values r.result h r.run },
+  λ r. record { values = r.values; result = r.result; run = law (with_slots e slots) e.slots stands guess steps r.values r.result (other-way stands.scope.visible e.slots slots h) r.run },
 )

@@ -50,5 +50,5 @@ IsReadEnd (Some (stop, at)) size = at ≡ size
 -- a run is also one from other slots that agree on those that are visible at the construct, and only then
 abbrev pub RunsLookAlike : Type 0
 RunsLookAlike =
-    (e : Entry) (slots : List ℤ) (place : StandsInMain e.program e.construct) (guess : ℕ → Carried) (steps : List Step)
-    → SlotsLookAlike place.scope.visible e.slots slots → IsRun e guess steps ↔ IsRun (with_slots e slots) guess steps
+    (e : Entry) (slots : List ℤ) (stands : StandsInMain e.program e.construct) (guess : ℕ → Carried) (steps : List Step)
+    → SlotsLookAlike stands.scope.visible e.slots slots → IsRun e guess steps ↔ IsRun (with_slots e slots) guess steps

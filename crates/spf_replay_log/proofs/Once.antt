@@ -155,53 +155,53 @@ there x bytes r p e Cell =
 there x bytes r p e Content = let whole = ap length e in (omega (arith, whole), tt)
 
 -- a field that is there doesn't fail
-there-fails : (begin end place : ℕ) (right : Type 0) (bytes : List ℕ) → (end ≤ length bytes) × right → FailsAt begin end right bytes place → ⊥
-there-fails begin end place right bytes h (inl x) = x.1 h.1
-there-fails begin end place right bytes h (inr x) = let a = h.0 in let b = x.0 in omega (arith, a, b)
+there-fails : (begin end offset : ℕ) (right : Type 0) (bytes : List ℕ) → (end ≤ length bytes) × right → FailsAt begin end right bytes offset → ⊥
+there-fails begin end offset right bytes h (inl x) = x.1 h.1
+there-fails begin end offset right bytes h (inr x) = let a = h.0 in let b = x.0 in omega (arith, a, b)
 
-step-breaks : (x : Step) (bytes r : List ℕ) (place : ℕ) → IsStep x → bytes ≡ step_bytes x ++ r → StepBreaksAt bytes place → ⊥
-step-breaks x bytes r place p e b = there-fails _ _ place _ bytes (there x bytes r p e b.field) b.fails
+step-breaks : (x : Step) (bytes r : List ℕ) (offset : ℕ) → IsStep x → bytes ≡ step_bytes x ++ r → StepBreaksAt bytes offset → ⊥
+step-breaks x bytes r offset p e b = there-fails _ _ offset _ bytes (there x bytes r p e b.field) b.fails
 
 -- more steps than these go on with one
-steps-longer : (xs ys : List Step) (r s : List ℕ) (place : ℕ) → AreSteps xs → AreSteps ys → length ys < length xs → flat_map step_bytes xs ++ r ≡ flat_map step_bytes ys ++ s → StepBreaksAt s place → ⊥
-steps-longer [] ys r s place p q more e b = omega (arith, more)
-steps-longer (x ∷ xs) [] r s place p q more e b =
-    step-breaks x s (flat_map step_bytes xs ++ r) place (first-step x xs p) (sym e ∙ append_assoc (step_bytes x) (flat_map step_bytes xs) r) b
-steps-longer (x ∷ xs) (y ∷ ys) r s place p q more e b =
+steps-longer : (xs ys : List Step) (r s : List ℕ) (offset : ℕ) → AreSteps xs → AreSteps ys → length ys < length xs → flat_map step_bytes xs ++ r ≡ flat_map step_bytes ys ++ s → StepBreaksAt s offset → ⊥
+steps-longer [] ys r s offset p q more e b = omega (arith, more)
+steps-longer (x ∷ xs) [] r s offset p q more e b =
+    step-breaks x s (flat_map step_bytes xs ++ r) offset (first-step x xs p) (sym e ∙ append_assoc (step_bytes x) (flat_map step_bytes xs) r) b
+steps-longer (x ∷ xs) (y ∷ ys) r s offset p q more e b =
     let c = step-cut x y (flat_map step_bytes xs ++ r) (flat_map step_bytes ys ++ s) (first-step x xs p) (first-step y ys q)
     (sym (append_assoc (step_bytes x) (flat_map step_bytes xs) r) ∙ e ∙ append_assoc (step_bytes y) (flat_map step_bytes ys) s) in
-    steps-longer xs ys r s place (later-steps x xs p) (later-steps y ys q) (omega (arith, more)) c.1 b
+    steps-longer xs ys r s offset (later-steps x xs p) (later-steps y ys q) (omega (arith, more)) c.1 b
 
-section-breaks : (xs : List Step) (bytes r : List ℕ) (place : ℕ) → IsSection xs → bytes ≡ section_bytes xs ++ r → SectionBreaksAt bytes place → ⊥
-section-breaks xs bytes r place p e (inl b) =
+section-breaks : (xs : List Step) (bytes r : List ℕ) (offset : ℕ) → IsSection xs → bytes ≡ section_bytes xs ++ r → SectionBreaksAt bytes offset → ⊥
+section-breaks xs bytes r offset p e (inl b) =
     let whole : length bytes ≡ length (section_bytes xs ++ r) = ap length e in
     let short = b.short in
     omega (arith, whole, short)
-section-breaks xs bytes r place p e (inr b) =
+section-breaks xs bytes r offset p e (inr b) =
     let c = cut-at (to_be_bytes w64 (length xs)) (to_be_bytes w64 b.count) (flat_map step_bytes xs ++ r) (flat_map step_bytes b.steps ++ b.rest) refl
     (sym (append_assoc (to_be_bytes w64 (length xs)) (flat_map step_bytes xs) r) ∙ sym e ∙ b.bytes_are) in
     let size : length xs ≡ b.count = eight-same (length xs) b.count p.few b.small c.0 in
     let fewer = b.fewer in
-    steps-longer xs b.steps r b.rest b.offset p.each b.are_steps (omega (arith, size, fewer)) c.1 b.breaks
+    steps-longer xs b.steps r b.rest b.rest_offset p.each b.are_steps (omega (arith, size, fewer)) c.1 b.breaks
 
-sections-break : (log done : List (List Step)) (rest : List ℕ) (place : ℕ) → All IsSection log → All IsSection done → flat_map section_bytes log ≡ flat_map section_bytes done ++ rest → 1 ≤ length rest → SectionBreaksAt rest place → ⊥
-sections-break [] [] rest place p q e some b = let none : 0 ≡ length rest = ap length e in omega (arith, none, some)
-sections-break (x ∷ log) [] rest place p q e some b = section-breaks x rest (flat_map section_bytes log) place (first-section x log p) (sym e) b
-sections-break [] (y ∷ done) rest place p q e some b = cc
-sections-break (x ∷ log) (y ∷ done) rest place p q e some b =
+sections-break : (log done : List (List Step)) (rest : List ℕ) (offset : ℕ) → All IsSection log → All IsSection done → flat_map section_bytes log ≡ flat_map section_bytes done ++ rest → 1 ≤ length rest → SectionBreaksAt rest offset → ⊥
+sections-break [] [] rest offset p q e some b = let none : 0 ≡ length rest = ap length e in omega (arith, none, some)
+sections-break (x ∷ log) [] rest offset p q e some b = section-breaks x rest (flat_map section_bytes log) offset (first-section x log p) (sym e) b
+sections-break [] (y ∷ done) rest offset p q e some b = cc
+sections-break (x ∷ log) (y ∷ done) rest offset p q e some b =
     let c = section-cut x y (flat_map section_bytes log) (flat_map section_bytes done ++ rest) (first-section x log p) (first-section y done q)
     (e ∙ append_assoc (section_bytes y) (flat_map section_bytes done) rest) in
-    sections-break log done rest place (later-sections x log p) (later-sections y done q) c.1 some b
+    sections-break log done rest offset (later-sections x log p) (later-sections y done q) c.1 some b
 
-pub none-breaks : (bytes : List ℕ) (log : List (List Step)) (place : ℕ) → IsLog log bytes → LogBreaksAt bytes place → ⊥
-none-breaks bytes log place p (inl b) =
+pub none-breaks : (bytes : List ℕ) (log : List (List Step)) (offset : ℕ) → IsLog log bytes → LogBreaksAt bytes offset → ⊥
+none-breaks bytes log offset p (inl b) =
     let whole : length bytes ≡ length (log_bytes log) = ap length p.bytes_are in
-    there-fails 0 (length signature) place _ bytes (omega (arith, whole), ap (take (length signature)) p.bytes_are) b
-none-breaks bytes log place p (inr b) =
-    sections-break log b.log b.rest b.offset p.sections b.are_sections
+    there-fails 0 (length signature) offset _ bytes (omega (arith, whole), ap (take (length signature)) p.bytes_are) b
+none-breaks bytes log offset p (inr b) =
+    sections-break log b.log b.rest b.rest_offset p.sections b.are_sections
     (append_cancel_left signature (flat_map section_bytes log) (flat_map section_bytes b.log ++ b.rest) (sym p.bytes_are ∙ b.bytes_are ∙ append_assoc signature (flat_map section_bytes b.log) b.rest)) b.goes_on b.breaks
 
--- ---- bytes break at one place
+-- ---- bytes break at one offset
 
 cases : {A B C : Type 0} → A ⊎ B → (A → C) → (B → C) → C
 cases (inl a) f g = f a
@@ -256,15 +256,15 @@ count-whole bytes p q b c =
     omega (arith, whole, short)
 
 section-once : (bytes : List ℕ) (p q : ℕ) → SectionBreaksAt bytes p → SectionBreaksAt bytes q → p ≡ q
-section-once bytes p q (inl b) (inl c) = b.place_is ∙ sym c.place_is
+section-once bytes p q (inl b) (inl c) = b.offset_is ∙ sym c.offset_is
 section-once bytes p q (inl b) (inr c) = absurd (count-whole bytes p q b c)
 section-once bytes p q (inr b) (inl c) = absurd (count-whole bytes q p c b)
 section-once bytes p q (inr b) (inr c) =
     let cut = cut-at (to_be_bytes w64 b.count) (to_be_bytes w64 c.count) (flat_map step_bytes b.steps ++ b.rest) (flat_map step_bytes c.steps ++ c.rest) refl (sym b.bytes_are ∙ c.bytes_are) in
-    let long = as-long b.steps c.steps b.rest c.rest b.offset c.offset b.are_steps c.are_steps cut.1 b.breaks c.breaks in
+    let long = as-long b.steps c.steps b.rest c.rest b.rest_offset c.rest_offset b.are_steps c.are_steps cut.1 b.breaks c.breaks in
     let same = steps-cut b.steps c.steps b.rest c.rest b.are_steps c.are_steps long cut.1 in
-    let offsets : b.offset ≡ c.offset = break-once c.rest b.offset c.offset (subst (λ l. StepBreaksAt l b.offset) same.1 b.breaks) c.breaks in
-    b.place_is ∙ (λ i. 8 + 19 * long i + offsets i) ∙ sym c.place_is
+    let offsets : b.rest_offset ≡ c.rest_offset = break-once c.rest b.rest_offset c.rest_offset (subst (λ l. StepBreaksAt l b.rest_offset) same.1 b.breaks) c.breaks in
+    b.offset_is ∙ (λ i. 8 + 19 * long i + offsets i) ∙ sym c.offset_is
 
 -- where what follows whole sections breaks
 sections-once : (xs ys : List (List Step)) (r s : List ℕ) (p q : ℕ) → All IsSection xs → All IsSection ys → flat_map section_bytes xs ++ r ≡ flat_map section_bytes ys ++ s
@@ -300,9 +300,9 @@ log-once bytes p q (inr b) (inl c) = absurd (signed bytes q p b c)
 log-once bytes p q (inr b) (inr c) =
     let e = append_cancel_left signature (flat_map section_bytes b.log ++ b.rest) (flat_map section_bytes c.log ++ c.rest)
     (sym (append_assoc signature (flat_map section_bytes b.log) b.rest) ∙ sym b.bytes_are ∙ c.bytes_are ∙ append_assoc signature (flat_map section_bytes c.log) c.rest) in
-    let same = sections-once b.log c.log b.rest c.rest b.offset c.offset b.are_sections c.are_sections e b.breaks c.breaks in
-    b.place_is ∙ shifted (length signature) (length (flat_map section_bytes b.log)) (length (flat_map section_bytes c.log)) _ _ b.offset c.offset
-    (length-append signature (flat_map section_bytes b.log)) (length-append signature (flat_map section_bytes c.log)) same ∙ sym c.place_is
+    let same = sections-once b.log c.log b.rest c.rest b.rest_offset c.rest_offset b.are_sections c.are_sections e b.breaks c.breaks in
+    b.offset_is ∙ shifted (length signature) (length (flat_map section_bytes b.log)) (length (flat_map section_bytes c.log)) _ _ b.rest_offset c.rest_offset
+    (length-append signature (flat_map section_bytes b.log)) (length-append signature (flat_map section_bytes c.log)) same ∙ sym c.offset_is
   where
     shifted : (c u v m n p q : ℕ) → m ≡ c + u → n ≡ c + v → u + p ≡ v + q → m + p ≡ n + q
     shifted c u v m n p q f g h = omega (arith, f, g, h)

@@ -21,7 +21,7 @@ all_one_more P xs new x is before here = subst (All P) (sym is) (All-append P xs
     single P x h zero d low = h
     single P x h (suc k) d low = absurd (omega arith)
 
--- what is left, as a slice from a place on
+-- what is left, as a slice from an offset on
 pub rest-at : {X : Type 0} (p : ℕ) (bytes : List X) → take (length bytes - p) (drop p bytes) ≡ drop p bytes
 rest-at p bytes = take_all (length bytes - p) (drop p bytes) (omega (arith, length-drop p bytes))
 
@@ -44,27 +44,27 @@ pub section_breaks : (bytes slice : List ℕ) (at count p offset : ℕ) (steps :
     → drop at bytes ≡ to_be_bytes w64 count ++ (flat_map step_bytes steps ++ drop p bytes)
     → slice ≡ drop p bytes → StepBreaksAt slice offset
     → (o : ℕ) × (p + offset ≡ at + o) × SectionBreaksAt (drop at bytes) o
-section_breaks bytes slice at count p offset steps small are more place read front breaks = (
+section_breaks bytes slice at count p offset steps small are more begin read front breaks = (
   8 + 19 * length steps + offset,
   omega arith,
   inr (record {
     count = count;
     steps = steps;
     rest = drop p bytes;
-    offset = offset;
+    rest_offset = offset;
     small = small;
     are_steps = are;
     fewer = more;
     bytes_are = read;
     breaks = subst (λ l. StepBreaksAt l offset) front breaks;
-    place_is = refl;
+    offset_is = refl;
   }),
 )
 
 -- where a section breaks after those that were read, the log does
 pub log_breaks : (bytes : List ℕ) (log : List (List Step)) (at : ℕ) (why : LogError) → All IsSection log → at < length bytes
     → bytes ≡ log_bytes log ++ drop at bytes → IsNoSection bytes at why → IsNoLog bytes why
-log_breaks bytes log at (NotLog place) are more read h =
+log_breaks bytes log at (NotLog offset) are more read h =
     let size = length-drop at bytes in
     let joined = length-append (log_bytes log) (drop at bytes) in
     let whole : length bytes ≡ length (log_bytes log ++ drop at bytes) = ap length read in
@@ -72,12 +72,12 @@ log_breaks bytes log at (NotLog place) are more read h =
     inr (record {
       log = log;
       rest = drop at bytes;
-      offset = h.0;
+      rest_offset = h.0;
       are_sections = are;
       goes_on = omega (arith, size);
       bytes_are = read;
       breaks = h.2;
-      place_is = h.1 ∙ ap (λ n. n + h.0) here;
+      offset_is = h.1 ∙ ap (λ n. n + h.0) here;
     })
 log_breaks bytes log at OutOfMemory are more read h = tt
 

@@ -43,7 +43,7 @@ IsByte byte = byte < 256
 abbrev AreBytes : List ℕ → Type 0
 AreBytes bytes = All IsByte bytes
 
--- at each place, and 0 past the end
+-- at each offset, and 0 past the end
 small-at : (bytes : List ℕ) → AreBytes bytes → (i : ℕ) → get_or bytes i 0 < 256
 small-at [] are i = omega arith
 small-at (x ∷ bytes) are zero = are 0 x (omega arith)
@@ -87,7 +87,7 @@ is-right Cell bytes =
 is-right Content bytes = yes tt
 
 abbrev BreaksInStep : List ℕ → Type 0
-BreaksInStep bytes = (place : ℕ) × StepBreaksAt bytes place
+BreaksInStep bytes = (offset : ℕ) × StepBreaksAt bytes offset
 
 -- where those before it are there, a field is there, or the bytes break at it
 field-or-break : (field : Field) (bytes : List ℕ)
@@ -225,7 +225,7 @@ record HasSection (bytes : List ℕ) : Type 0 where
   bytes_are : bytes ≡ section_bytes section ++ rest
 
 abbrev BreaksInSection : List ℕ → Type 0
-BreaksInSection bytes = (place : ℕ) × SectionBreaksAt bytes place
+BreaksInSection bytes = (offset : ℕ) × SectionBreaksAt bytes offset
 
 -- the steps after their number
 counted-or-break : (bytes behind : List ℕ) (count : ℕ) → count < 2 ^ 64 → bytes ≡ to_be_bytes w64 count ++ behind
@@ -246,13 +246,13 @@ counted-or-break bytes behind count small front (inr h) = inr (
     count = count;
     steps = h.steps;
     rest = h.rest;
-    offset = h.offset;
+    rest_offset = h.offset;
     small = small;
     are_steps = h.are_steps;
     fewer = h.fewer;
     bytes_are = front ∙ ap (λ l. to_be_bytes w64 count ++ l) h.bytes_are;
     breaks = h.breaks;
-    place_is = refl;
+    offset_is = refl;
   }),
 )
 
@@ -265,7 +265,7 @@ section-or-break bytes are = elim (whole-or-short count_size (length bytes)) [
       (eight-low (take count_size bytes) (piece-are count_size 0 bytes are))
       (sym (take-append-drop count_size bytes) ∙ number)
       (steps-or-break _ (drop count_size bytes) (All-drop IsByte count_size bytes are))
-  | inr short ↦ inr (length bytes, inl (record { short = short; place_is = refl }))
+  | inr short ↦ inr (length bytes, inl (record { short = short; offset_is = refl }))
 ]
 
 -- ---- logs
@@ -339,7 +339,7 @@ sections-or-break (suc limit) (x ∷ bytes) few are = elim (section-or-break (x 
 ]
 
 abbrev LogOrBreak : List ℕ → Type 0
-LogOrBreak bytes = ((log : List (List Step)) × IsLog log bytes) ⊎ ((place : ℕ) × LogBreaksAt bytes place)
+LogOrBreak bytes = ((log : List (List Step)) × IsLog log bytes) ⊎ ((offset : ℕ) × LogBreaksAt bytes offset)
 
 -- what follows the signature
 signed-or-break : (bytes behind : List ℕ) → bytes ≡ signature ++ behind
@@ -351,14 +351,14 @@ signed-or-break bytes behind front (inr h) = inr (
   inr (record {
     log = h.log;
     rest = h.rest;
-    offset = h.offset;
+    rest_offset = h.offset;
     are_sections = h.are_sections;
     goes_on = h.goes_on;
     bytes_are =
         front ∙ ap (λ l. signature ++ l) h.bytes_are
         ∙ sym (append_assoc signature (flat_map section_bytes h.log) h.rest);
     breaks = h.breaks;
-    place_is = refl;
+    offset_is = refl;
   }),
 )
 

@@ -11,14 +11,14 @@ BytesAreOneLog = (bytes : List ℕ) (one other : List (List Step)) → IsLog one
 
 -- no bytes are a log and break somewhere
 abbrev pub LogsDoNotBreak : Type 0
-LogsDoNotBreak = (bytes : List ℕ) (log : List (List Step)) (place : ℕ) → IsLog log bytes → LogBreaksAt bytes place → ⊥
+LogsDoNotBreak = (bytes : List ℕ) (log : List (List Step)) (offset : ℕ) → IsLog log bytes → LogBreaksAt bytes offset → ⊥
 
--- bytes break at one place at most
+-- bytes break at one offset at most
 abbrev pub LogsBreakOnce : Type 0
 LogsBreakOnce = (bytes : List ℕ) (one other : ℕ) → LogBreaksAt bytes one → LogBreaksAt bytes other → one ≡ other
 
--- bytes are a log, or break at a place
+-- bytes are a log, or break at an offset
 abbrev pub LogsAreOrBreak : Type 0
 LogsAreOrBreak =
     (bytes : List ℕ) → All (λ byte. byte < 256) bytes
-    → ((log : List (List Step)) × IsLog log bytes) ⊎ ((place : ℕ) × LogBreaksAt bytes place)
+    → ((log : List (List Step)) × IsLog log bytes) ⊎ ((offset : ℕ) × LogBreaksAt bytes offset)

@@ -9,8 +9,8 @@ use Rattle.spf_replay_log.specs.Log.{signature, max_blocks, IsKind, AreSteps, Is
 
 -- a field from one offset to another is whole and not right, or the bytes end before it is whole
 abbrev pub FailsAt : ℕ → ℕ → Type 0 → List ℕ → ℕ → Type 0
-FailsAt begin end right bytes place =
-    ((end ≤ length bytes) × (right → ⊥) × (place ≡ begin)) ⊎ ((length bytes < end) × (place ≡ length bytes))
+FailsAt begin end right bytes offset =
+    ((end ≤ length bytes) × (right → ⊥) × (offset ≡ begin)) ⊎ ((length bytes < end) × (offset ≡ length bytes))
 
 -- ---- steps
 
@@ -51,10 +51,10 @@ abbrev pub IsThere : List ℕ → Field → Type 0
 IsThere bytes field = (end_of field ≤ length bytes) × IsRight field bytes
 
 -- the bytes begin with no step: this is the first field that isn't there
-pub record StepBreaksAt (bytes : List ℕ) (place : ℕ) : Type 0 where
+pub record StepBreaksAt (bytes : List ℕ) (offset : ℕ) : Type 0 where
   pub field : Field
   pub earlier : (other : Field) → begin_of other < begin_of field → IsThere bytes other
-  pub fails : FailsAt (begin_of field) (end_of field) (IsRight field bytes) bytes place
+  pub fails : FailsAt (begin_of field) (end_of field) (IsRight field bytes) bytes offset
 
 -- ---- sections
 
@@ -63,52 +63,52 @@ abbrev pub count_size : ℕ
 count_size = 8
 
 -- the bytes end inside the number of steps
-pub record LacksCount (bytes : List ℕ) (place : ℕ) : Type 0 where
+pub record LacksCount (bytes : List ℕ) (offset : ℕ) : Type 0 where
   pub short : length bytes < count_size
-  pub place_is : place ≡ length bytes
+  pub offset_is : offset ≡ length bytes
 
 -- fewer steps stand there than the section counts, and what follows them isn't a step
-pub record LacksStep (bytes : List ℕ) (place : ℕ) : Type 0 where
+pub record LacksStep (bytes : List ℕ) (offset : ℕ) : Type 0 where
   pub count : ℕ
   pub steps : List Step
   pub rest : List ℕ
-  pub offset : ℕ
+  pub rest_offset : ℕ
   pub small : count < 2 ^ 64
   pub are_steps : AreSteps steps
   pub fewer : length steps < count
   pub bytes_are : bytes ≡ to_be_bytes w64 count ++ (flat_map step_bytes steps ++ rest)
-  pub breaks : StepBreaksAt rest offset
-  pub place_is : place ≡ count_size + step_size * length steps + offset
+  pub breaks : StepBreaksAt rest rest_offset
+  pub offset_is : offset ≡ count_size + step_size * length steps + rest_offset
 
 -- the bytes begin with no section
 abbrev pub SectionBreaksAt : List ℕ → ℕ → Type 0
-SectionBreaksAt bytes place = LacksCount bytes place ⊎ LacksStep bytes place
+SectionBreaksAt bytes offset = LacksCount bytes offset ⊎ LacksStep bytes offset
 
 -- ---- logs
 
 -- sections stand there, and what follows them isn't a section
-pub record LacksSection (bytes : List ℕ) (place : ℕ) : Type 0 where
+pub record LacksSection (bytes : List ℕ) (offset : ℕ) : Type 0 where
   pub log : List (List Step)
   pub rest : List ℕ
-  pub offset : ℕ
+  pub rest_offset : ℕ
   pub are_sections : All IsSection log
   pub goes_on : 1 ≤ length rest
   pub bytes_are : bytes ≡ log_bytes log ++ rest
-  pub breaks : SectionBreaksAt rest offset
-  pub place_is : place ≡ length (log_bytes log) + offset
+  pub breaks : SectionBreaksAt rest rest_offset
+  pub offset_is : offset ≡ length (log_bytes log) + rest_offset
 
 -- the bytes aren't a log, and this is where they stop being one; the signature is one field
 abbrev pub LogBreaksAt : List ℕ → ℕ → Type 0
-LogBreaksAt bytes place = FailsAt 0 (length signature) (take (length signature) bytes ≡ signature) bytes place ⊎ LacksSection bytes place
+LogBreaksAt bytes offset = FailsAt 0 (length signature) (take (length signature) bytes ≡ signature) bytes offset ⊎ LacksSection bytes offset
 
 -- ---- errors
 
--- what an error says of the bytes from a place on; running out of memory has no cause in them
+-- what an error says of the bytes from an offset on; running out of memory has no cause in them
 abbrev pub IsNoSection : List ℕ → ℕ → LogError → Type 0
-IsNoSection bytes at (NotLog place) = (offset : ℕ) × (place ≡ at + offset) × SectionBreaksAt (drop at bytes) offset
+IsNoSection bytes at (NotLog offset) = (inside : ℕ) × (offset ≡ at + inside) × SectionBreaksAt (drop at bytes) inside
 IsNoSection bytes at OutOfMemory = Unit {0}
 
 -- what an error says of all bytes
 abbrev pub IsNoLog : List ℕ → LogError → Type 0
-IsNoLog bytes (NotLog place) = LogBreaksAt bytes place
+IsNoLog bytes (NotLog offset) = LogBreaksAt bytes offset
 IsNoLog bytes OutOfMemory = Unit {0}

@@ -111,12 +111,12 @@ fn read_section(alloc: Global, bytes: &[u8], at: usize) -> Result<Vec<Step>, Log
     let count = eight_at(bytes, at);
     let mut steps = Vec::new(alloc);
     for index in 0..count {
-        let place = at + COUNT_SIZE + STEP_SIZE * index as usize;
-        match read_step(&bytes[place..]) {
+        let begin = at + COUNT_SIZE + STEP_SIZE * index as usize;
+        match read_step(&bytes[begin..]) {
             Ok(step) => push_step(&mut steps, step)?,
             Err(offset) => {
                 return Err(LogError::NotLog {
-                    at: (place + offset) as u64,
+                    at: (begin + offset) as u64,
                 });
             }
         }
@@ -136,7 +136,7 @@ fn is_signed(bytes: &[u8]) -> bool
 ///
 /// # Errors
 ///
-/// - `NotLog` where they are none. Its place is where the first wrong field begins: the signature,
+/// - `NotLog` where they are none. Its offset is where the first wrong field begins: the signature,
 ///   a kind, a block, or the cell of a turn. Where the bytes end inside a field or a section, it is
 ///   their number.
 /// - `OutOfMemory` where memory runs out.

@@ -44,11 +44,11 @@ abbrev BlocksRunAlike : Entry → List ℤ → Relation → Type 0
 BlocksRunAlike e slots After = (n : ℕ) (b : ℤ) (v : Carried) (m : List ℤ)
     → RunAlike After (block_asks (environment_of e.program e.input) e.construct e.slots n b v) (block_asks (environment_of e.program e.input) e.construct slots n b v) m
 
-blocks-run-alike : PartsSeeVisibleSlots → (e : Entry) (slots : List ℤ) (place : StandsInMain e.program e.construct) → SlotsLookAlike place.scope.visible e.slots slots
-    → BlocksRunAlike e slots (LookAlike place.scope.visible)
-blocks-run-alike see e slots place alike n b v m =
-    run-alike (LookAlike place.scope.visible) (block_asks (environment_of e.program e.input) e.construct e.slots n b v) (block_asks (environment_of e.program e.input) e.construct slots n b v) m
-    (λ es. see (names_at e.program (length e.program.functions) e.program.slots) place.scope place.line place.statement e.construct place.is place.lawful
+blocks-run-alike : PartsSeeVisibleSlots → (e : Entry) (slots : List ℤ) (stands : StandsInMain e.program e.construct) → SlotsLookAlike stands.scope.visible e.slots slots
+    → BlocksRunAlike e slots (LookAlike stands.scope.visible)
+blocks-run-alike see e slots stands alike n b v m =
+    run-alike (LookAlike stands.scope.visible) (block_asks (environment_of e.program e.input) e.construct e.slots n b v) (block_asks (environment_of e.program e.input) e.construct slots n b v) m
+    (λ es. see (names_at e.program (length e.program.functions) e.program.slots) stands.scope stands.line stands.statement e.construct stands.is stands.lawful
     e.input (extents_of e.program (length e.input)) e.program.functions (length e.program.functions) (part_of e.construct n) b v
     (record { slots = e.slots; output = [] }) (record { slots = slots; output = [] }) alike every_cell [] None es)
 
@@ -144,8 +144,8 @@ begin-too e slots same guess state = λ i. record { status = λ n. first n i; fl
     first zero = ap (Running 1 e.header.start) (same.attempts zero e.header.start [])
     first (suc n) = ap (Running 1 (guess (suc n))) (same.attempts (suc n) (guess (suc n)) [])
 
-pub scheduled-too : PartsSeeVisibleSlots → (e : Entry) (slots : List ℤ) (place : StandsInMain e.program e.construct) (guess : ℕ → Carried) (state last : ℕ) (steps : List Step)
-    → SlotsLookAlike place.scope.visible e.slots slots → IsScheduled e guess state steps last → IsScheduled (with_slots e slots) guess state steps last
-scheduled-too see e slots place guess state last steps alike runs =
-    let same = same-blocks e slots (LookAlike place.scope.visible) (blocks-run-alike see e slots place alike) in
+pub scheduled-too : PartsSeeVisibleSlots → (e : Entry) (slots : List ℤ) (stands : StandsInMain e.program e.construct) (guess : ℕ → Carried) (state last : ℕ) (steps : List Step)
+    → SlotsLookAlike stands.scope.visible e.slots slots → IsScheduled e guess state steps last → IsScheduled (with_slots e slots) guess state steps last
+scheduled-too see e slots stands guess state last steps alike runs =
+    let same = same-blocks e slots (LookAlike stands.scope.visible) (blocks-run-alike see e slots stands alike) in
     subst (λ s. RunsTo (with_slots e slots) s steps last) (begin-too e slots same guess state) (runs-too e slots same runs)

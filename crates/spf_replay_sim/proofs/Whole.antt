@@ -28,12 +28,12 @@ other-way visible one other h = record {
 there : SchedulesSeeVisibleSlots → (one other : PassedConstruct) → PassedAlike one other → (state last : ℕ) (steps : List Step)
     → IsScheduled one.entry one.guess state steps last → IsScheduled other.entry other.guess state steps last
 there law one other h state last steps is =
-    subst (λ (x : PassedConstruct). IsScheduled x.entry x.guess state steps last) (sym h.rest) (law one.entry other.entry.slots h.place one.guess state last steps h.slots is)
+    subst (λ (x : PassedConstruct). IsScheduled x.entry x.guess state steps last) (sym h.rest) (law one.entry other.entry.slots h.stands one.guess state last steps h.slots is)
 
 back : SchedulesSeeVisibleSlots → (one other : PassedConstruct) → PassedAlike one other → (state last : ℕ) (steps : List Step)
     → IsScheduled other.entry other.guess state steps last → IsScheduled one.entry one.guess state steps last
 back law one other h state last steps is =
-    law (record one.entry { slots = other.entry.slots }) one.entry.slots h.place one.guess state last steps (other-way h.place.scope.visible one.entry.slots other.entry.slots h.slots)
+    law (record one.entry { slots = other.entry.slots }) one.entry.slots h.stands one.guess state last steps (other-way h.stands.scope.visible one.entry.slots other.entry.slots h.slots)
     (subst (λ (x : PassedConstruct). IsScheduled x.entry x.guess state steps last) h.rest is)
 
 all-there : SchedulesSeeVisibleSlots → (xs ys : List PassedConstruct) → OneByOne PassedAlike xs ys → (state : ℕ) (log : List (List Step))

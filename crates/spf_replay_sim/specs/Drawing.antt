@@ -80,5 +80,5 @@ HasDrawnWhole seed hosts p input drawn = IsDrawnWholeSo drawn.over seed hosts p 
 -- a schedule is also one from other slots that agree on those that are visible at the construct
 abbrev pub SchedulesSeeVisibleSlots : Type 0
 SchedulesSeeVisibleSlots =
-    (e : Entry) (slots : List ℤ) (place : StandsInMain e.program e.construct) (guess : ℕ → Carried) (state last : ℕ) (steps : List Step)
-    → SlotsLookAlike place.scope.visible e.slots slots → IsScheduled e guess state steps last → IsScheduled (with_slots e slots) guess state steps last
+    (e : Entry) (slots : List ℤ) (stands : StandsInMain e.program e.construct) (guess : ℕ → Carried) (state last : ℕ) (steps : List Step)
+    → SlotsLookAlike stands.scope.visible e.slots slots → IsScheduled e guess state steps last → IsScheduled (with_slots e slots) guess state steps last

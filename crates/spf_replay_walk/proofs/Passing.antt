@@ -36,27 +36,27 @@ use Rattle.spf_engine_construct.proofs.Counting.{counts-are}
 use Rattle.spf_engine_construct.specs.Guesses.{seen_guess, guesses_from, paired, counts_of}
 use Rattle.spf_speculation_entry.specs.Entry.{Entry, IsEntry, HasItsBlocks, plain_blocks}
 use Rattle.spf_replay.specs.Copying.{HasOwnSpans}
-use Rattle.spf_replay_walk.specs.declared.place.Place.{Place}
-use Rattle.spf_replay_walk.specs.Places.{entry_at, IsPlaced}
+use Rattle.spf_replay_walk.specs.declared.position.Position.{Position}
+use Rattle.spf_replay_walk.specs.Positions.{entry_at, IsAtConstruct}
 use Rattle.spf_replay_walk.specs.Visiting.{AreGuesses}
 
 -- ---- guesses
 
-guess-at : (items : List code_guess.Guess) (guess : ℕ → Guess) (place count : ℕ) → map seen_guess items ≡ guesses_from guess place count
-    → (n : ℕ) (g : code_guess.Guess) → slice_get items n ≡ Some g → seen_guess g ≡ guess (place + n)
-guess-at [] guess place count h n g at = cc
-guess-at (x ∷ items) guess place zero h n g at = cc
-guess-at (x ∷ items) guess place (suc count) h zero g at =
+guess-at : (items : List code_guess.Guess) (guess : ℕ → Guess) (first count : ℕ) → map seen_guess items ≡ guesses_from guess first count
+    → (n : ℕ) (g : code_guess.Guess) → slice_get items n ≡ Some g → seen_guess g ≡ guess (first + n)
+guess-at [] guess first count h n g at = cc
+guess-at (x ∷ items) guess first zero h n g at = cc
+guess-at (x ∷ items) guess first (suc count) h zero g at =
     let same : x ≡ g = cc in
-    let here : place ≡ place + 0 = omega arith in
+    let here : first ≡ first + 0 = omega arith in
     ap seen_guess (sym same) ∙ ap (head_or (seen_guess x)) h ∙ ap guess here
   where
     head_or : Guess → List Guess → Guess
     head_or d [] = d
     head_or d (g ∷ gs) = g
-guess-at (x ∷ items) guess place (suc count) h (suc n) g at =
-    let there : suc place + n ≡ place + suc n = omega arith in
-    guess-at items guess (suc place) count (ap (drop 1) h) n g at ∙ ap guess there
+guess-at (x ∷ items) guess first (suc count) h (suc n) g at =
+    let there : suc first + n ≡ first + suc n = omega arith in
+    guess-at items guess (suc first) count (ap (drop 1) h) n g at ∙ ap guess there
 
 pub are-guesses : (items : List code_guess.Guess) (guess : ℕ → Guess) (count : ℕ) → map seen_guess items ≡ guesses_from guess 1 count → AreGuesses items (λ n. (guess n).value)
 are-guesses items guess count h = λ n g at.
@@ -96,26 +96,26 @@ its-blocks (fold line head body) h b = tt
 its-blocks (pair line head producer consumer) h b = b
 
 -- where an accepted program stands at a construct with blocks, there is an entry
-pub is-entry : (checked : code_program.Program) (place : Place) (header : code_header.Header) (cells : List ℤ) → IsPlaced (program checked) place header cells → IsFree checked
-    → All (λ b. b < 256) place.instance.now.input → IsEntry (entry_at place header cells)
-is-entry checked place header cells there free bytes =
-    let p = program_of place.instance.now in
-    let k = seen_construct place.construct in
+pub is-entry : (checked : code_program.Program) (position : Position) (header : code_header.Header) (cells : List ℤ) → IsAtConstruct (program checked) position header cells → IsFree checked
+    → All (λ b. b < 256) position.instance.now.input → IsEntry (entry_at position header cells)
+is-entry checked position header cells there free bytes =
+    let p = program_of position.instance.now in
+    let k = seen_construct position.construct in
     record {
-      free = subst (λ (q : Program). slice_get (constructs_in q.main) place.index ≡ Some k → IsRollbackFree q k) (sym there.program) (free place.index k) there.construct;
+      free = subst (λ (q : Program). slice_get (constructs_in q.main) position.index ≡ Some k → IsRollbackFree q k) (sym there.program) (free position.index k) there.construct;
       bytes = bytes;
-      slots = length-take-le (length p.slots) place.frame.now (let size = there.frame in omega (arith, size));
+      slots = length-take-le (length p.slots) position.frame.now (let size = there.frame in omega (arith, size));
       blocks = its-blocks k (seen_header header) there.blocks;
     }
 
 -- a plan of the construct's blocks has their spans
-pub own-spans : (checked : code_program.Program) (place : Place) (header : code_header.Header) (cells : List ℤ) (l : LayoutValue) (low : ℤ) → IsPlaced (program checked) place header cells
-    → IsLayoutOf (program_of place.instance.now) (length place.instance.now.input) l → low ≡ header.low → (blocks : List (List Span))
-    → IsPlanOf (program checked) (seen_construct place.construct) l.extents l.cells low header.blocks blocks
-    → HasOwnSpans (entry_at place header cells) blocks
-own-spans checked place header cells l low there layout low-is blocks planned =
-    let p = program_of place.instance.now in
-    let k = seen_construct place.construct in
+pub own-spans : (checked : code_program.Program) (position : Position) (header : code_header.Header) (cells : List ℤ) (l : LayoutValue) (low : ℤ) → IsAtConstruct (program checked) position header cells
+    → IsLayoutOf (program_of position.instance.now) (length position.instance.now.input) l → low ≡ header.low → (blocks : List (List Span))
+    → IsPlanOf (program checked) (seen_construct position.construct) l.extents l.cells low header.blocks blocks
+    → HasOwnSpans (entry_at position header cells) blocks
+own-spans checked position header cells l low there layout low-is blocks planned =
+    let p = program_of position.instance.now in
+    let k = seen_construct position.construct in
     let mine : IsPlanOf p k l.extents l.cells header.low header.blocks blocks
     = subst (λ x. IsPlanOf p k l.extents l.cells x header.blocks blocks) low-is
     (subst (λ (q : Program). IsPlanOf q k l.extents l.cells low header.blocks blocks) (sym there.program) planned) in

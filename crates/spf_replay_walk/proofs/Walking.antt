@@ -52,7 +52,7 @@ expected-is hosts p input (c ∷ cs) (r ∷ rs) telling =
 same-run : RunsLookAlike → (one other : PassedConstruct) → PassedAlike one other → (steps : Option (List Step)) → Fits (Some (expected_of one)) steps ↔ Fits (Some (expected_of other)) steps
 same-run law one other h None = (λ fits. fits, λ fits. fits)
 same-run law one other h (Some steps) =
-    subst (λ x. IsRun one.entry one.guess steps ↔ IsRun x.entry x.guess steps) (sym h.rest) (law one.entry other.entry.slots h.place one.guess steps h.slots)
+    subst (λ x. IsRun one.entry one.guess steps ↔ IsRun x.entry x.guess steps) (sym h.rest) (law one.entry other.entry.slots h.stands one.guess steps h.slots)
 
 same-runs : RunsLookAlike → (xs ys : List PassedConstruct) → OneByOne PassedAlike xs ys → (n : ℕ) → HaveSameRuns (slice_get (expected_of_all xs) n) (slice_get (expected_of_all ys) n)
 same-runs law [] [] h n = λ steps. (λ fits. fits, λ fits. fits)

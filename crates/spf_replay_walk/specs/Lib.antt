@@ -1,4 +1,4 @@
 pub mod Judging
-pub mod Places
+pub mod Positions
 pub mod Visiting
 pub mod Walking

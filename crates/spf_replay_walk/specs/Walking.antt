@@ -8,9 +8,9 @@ use Rattle.spf_guess_statistics.specs.declared.stats.Stats.{Stats}
 use Rattle.spf_guess_statistics.specs.Guess.{Hosts}
 use Rattle.spf_guess.specs.Answers.{WereTold}
 use Rattle.spf_engine_laws.specs.Passed.{PassedConstruct}
-use Rattle.spf_engine_laws.specs.Progress.{Progress, GoesOn}
+use Rattle.spf_engine_laws.specs.Progress.{Progress, GoesOn, HasEntered}
 use Rattle.spf_engine.specs.declared.step.Step as taken
-use Rattle.spf_engine.specs.Runs.{HasEntered, IsThere}
+use Rattle.spf_engine.specs.Runs.{IsThere}
 use Rattle.spf_replay_walk.specs.Visiting.{Visits, VisitsFrom}
 
 -- A step led to a further progress of the run: a visitor that took the constructs that were passed before it took those

@@ -7,8 +7,8 @@
 #![tactic(auto)]
 
 mod judging;
-mod place;
 mod plainly;
+mod position;
 pub mod replay;
 pub mod visitor;
 pub mod walk;

@@ -5,9 +5,9 @@ ghost use Rattle.spf_ast.specs.View.{program as seen_program};
 ghost use Rattle.spf_chain.specs.Finishing.{result_as};
 ghost use Rattle.spf_speculation_entry.specs.Entry.{IsEntry, plain_blocks};
 ghost use Rattle.spf_replay.specs.Copying.{in_plan, HasOwnSpans};
-ghost use Rattle.spf_replay_walk.specs.Places.{entry_at, spans_of, IsPlaced, IsSpare};
+ghost use Rattle.spf_replay_walk.specs.Positions.{entry_at, spans_of, IsAtConstruct, IsSpare};
 
-use crate::place::{Place, Spare};
+use crate::position::{Position, Spare};
 use spf_ast::outcome::Trap;
 use spf_ast::row::Row;
 use spf_chain::block::Settled;
@@ -49,27 +49,27 @@ fn settled_as(came: Result<Row, Trap>) -> Settled
 pub(crate) fn run_plainly(
     alloc: Global,
     checked: &Checked,
-    place: Place,
+    position: Position,
     header: &Header,
     cells: Vec<i64>,
     plan: &Plan,
     spare: &mut Spare,
 ) -> Result<PlainBlocks, AllocError>
-    requires there { IsPlaced (seen_program checked.now) place header.now cells.items }
-    requires entry { IsEntry (entry_at place header.now cells.items) }
-    requires plan { HasOwnSpans (entry_at place header.now cells.items) (spans_of plan.now) }
-    requires spare { IsSpare place.instance.now spare.old }
+    requires there { IsAtConstruct (seen_program checked.now) position header.now cells.items }
+    requires entry { IsEntry (entry_at position header.now cells.items) }
+    requires plan { HasOwnSpans (entry_at position header.now cells.items) (spans_of plan.now) }
+    requires spare { IsSpare position.instance.now spare.old }
     ensures reals { IfOk result (λ b. b.reals.items
-        ≡ (plain_blocks (entry_at place.entry header.now cells.items)).values) }
+        ≡ (plain_blocks (entry_at position.entry header.now cells.items)).values) }
     ensures result { IfOk result (λ b. result_as b.settled
-        ≡ (plain_blocks (entry_at place.entry header.now cells.items)).result) }
+        ≡ (plain_blocks (entry_at position.entry header.now cells.items)).result) }
     ensures cells { IfOk result (λ b. b.cells.items ≡ cells.items) }
     ensures before { OnOk result ((cell : ℕ) → in_plan (spans_of plan.now) cell ≡ true
         → word_at spare.new.scratch.cells.items cell ≡ word_at cells.items cell) }
     ensures after { OnOk result ((cell : ℕ) → in_plan (spans_of plan.now) cell ≡ true
         → word_at spare.new.after.items cell
-        ≡ word_at (plain_blocks (entry_at place.entry header.now cells.items)).memory cell) }
-    ensures spare { IsSpare place.entry.instance.now spare.new }
+        ≡ word_at (plain_blocks (entry_at position.entry header.now cells.items)).memory cell) }
+    ensures spare { IsSpare position.entry.instance.now spare.new }
 {
     // Law: functions emit nothing, and there are fewer than 2^32 top constructs.
     spf_ast::laws::lawful_programs_are_quiet_and_small();
@@ -85,11 +85,11 @@ pub(crate) fn run_plainly(
     };
     let (reals, result) = run_blocks(
         alloc,
-        place.instance,
-        place.construct,
-        place.index,
+        position.instance,
+        position.construct,
+        position.index,
         header,
-        place.frame,
+        position.frame,
         &mut memory,
     )?;
     copy_plan(&mut spare.after, &memory.cells, plan);

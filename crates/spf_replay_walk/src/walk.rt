@@ -8,10 +8,10 @@ ghost use Rattle.spf_guess_statistics.specs.Statistics.{tally};
 ghost use Rattle.spf_guess.specs.Answers.{supplied, WereTold};
 ghost use Rattle.spf_guess.specs.Missing.{missing_host};
 ghost use Rattle.spf_engine.specs.Runs.{WereToldFirst};
-ghost use Rattle.spf_replay_walk.specs.Places.{IsSpare};
+ghost use Rattle.spf_replay_walk.specs.Positions.{IsSpare};
 ghost use Rattle.spf_replay_walk.specs.Visiting.{VisitsAll};
 
-use crate::place::Spare;
+use crate::position::Spare;
 use crate::visitor::Visitor;
 use crate::walker::Walker;
 use spf_ast::outcome::{Outcome, Trap};

@@ -15,15 +15,16 @@ ghost use Rattle.spf_guess.specs.Answers.{supplied, WereTold, WereToldNoMore};
 ghost use Rattle.spf_guess.specs.Missing.{missing_host};
 ghost use Rattle.spf_speculation_entry.specs.Entry.{IsEntry, plain_blocks};
 ghost use Rattle.spf_engine_construct.specs.Guesses.{AreAtMost, IsHandedIn};
+ghost use Rattle.spf_engine_laws.specs.Progress.{entry_guess};
 ghost use Rattle.spf_engine.specs.Runs.{AreFew, GoesFurther, IsReadyAt, BreaksOff, BreaksOffAt};
 ghost use Rattle.spf_replay.specs.Plainly.{AreRunPlainly};
 ghost use Rattle.spf_replay.specs.Copying.{HasOwnSpans};
-ghost use Rattle.spf_replay_walk.specs.Places.{entry_at, guess_at, spans_of, IsPlaced, IsSpare};
+ghost use Rattle.spf_replay_walk.specs.Positions.{entry_at, spans_of, IsAtConstruct, IsSpare};
 ghost use Rattle.spf_replay_walk.specs.Visiting.{VisitsBlocks};
 ghost use Rattle.spf_replay_walk.specs.Walking.{Walks, WalksPast};
 
-use crate::place::{Place, Spare};
 use crate::plainly::run_plainly;
+use crate::position::{Position, Spare};
 use crate::visitor::Visitor;
 use spf_ast::construct::TopConstruct;
 use spf_chain::block::Settled;
@@ -84,18 +85,28 @@ impl<'a> Walker<'a> {
     /// # Errors
     ///
     /// Fails where memory runs out.
-    fn plan_of(&self, place: Place, header: &Header, cells: &[i64]) -> Result<Plan, AllocError>
-        requires there { IsPlaced (seen_program self.now.checked.now) place header.now cells.now }
-        ensures entry { IsEntry (entry_at place.entry header.now cells.now) }
+    fn plan_of(
+        &self,
+        position: Position,
+        header: &Header,
+        cells: &[i64],
+    ) -> Result<Plan, AllocError>
+        requires there { IsAtConstruct (seen_program self.now.checked.now) position header.now cells.now }
+        ensures entry { IsEntry (entry_at position.entry header.now cells.now) }
         ensures plan { IfOk result
-            (λ plan. HasOwnSpans (entry_at place.entry header.now cells.now) (spans_of plan)) }
+            (λ plan. HasOwnSpans (entry_at position.entry header.now cells.now) (spans_of plan)) }
     {
-        are_bytes(place.instance.input());
+        are_bytes(position.instance.input());
         let _program = self.checked.program();
         let _ = cells;
-        let layout = place.instance.layout();
-        self.checked
-            .plan(self.alloc, place.index, layout, header.low, header.blocks)
+        let layout = position.instance.layout();
+        self.checked.plan(
+            self.alloc,
+            position.index,
+            layout,
+            header.low,
+            header.blocks,
+        )
     }
 
     /// Takes the guesses for the blocks of the construct at which a run stands with these cells,
@@ -106,41 +117,41 @@ impl<'a> Walker<'a> {
     /// Fails where memory runs out; nothing was told then.
     fn examine<V: Visitor>(
         &self,
-        place: Place,
+        position: Position,
         header: &Header,
         cells: Vec<i64>,
         spare: &mut Spare,
         visitor: &mut V,
         hosts: &mut Vec<Box<dyn Predictor>>,
     ) -> Result<Examined, AllocError>
-        requires there { IsPlaced (seen_program self.now.checked.now) place header.now cells.items }
-        requires spare { IsSpare place.instance.now spare.old }
-        requires host { IsHandedIn (length hosts.old.items) (seen_construct place.construct) }
-        ensures plain { IfOk result (λ r. AreRunPlainly (entry_at place.entry header.now cells.items)
-            (plain_blocks (entry_at place.entry header.now cells.items)).values
+        requires there { IsAtConstruct (seen_program self.now.checked.now) position header.now cells.items }
+        requires spare { IsSpare position.instance.now spare.old }
+        requires host { IsHandedIn (length hosts.old.items) (seen_construct position.construct) }
+        ensures plain { IfOk result (λ r. AreRunPlainly (entry_at position.entry header.now cells.items)
+            (plain_blocks (entry_at position.entry header.now cells.items)).values
             (result_as r.settled) r.cells.items) }
         ensures size { IfOk result (λ r. length r.cells.items ≡ length cells.items) }
         ensures visited { IfOk result (λ r. (before : Hosts) (telling : List Telling)
             → WereTold before telling (supplied answer hosts.old.items)
-            → VisitsBlocks V.has_visited (entry_at place.entry header.now cells.items)
-            (guess_at before telling (entry_at place.entry header.now cells.items))
+            → VisitsBlocks V.has_visited (entry_at position.entry header.now cells.items)
+            (entry_guess before telling (entry_at position.entry header.now cells.items))
             visitor.old visitor.new) }
         ensures statistics { IfOk result (λ r. (before : Hosts) (telling : List Telling)
             → WereTold before telling (supplied answer hosts.old.items)
             → r.stats ≡ statistics_with
-            (guess_at before telling (entry_at place.entry header.now cells.items))
-            (plain_blocks (entry_at place.entry header.now cells.items)).values) }
+            (entry_guess before telling (entry_at position.entry header.now cells.items))
+            (plain_blocks (entry_at position.entry header.now cells.items)).values) }
         ensures few { IfOk result (λ r. AreAtMost r.stats max_blocks) }
         ensures told { IfOk result (λ r. (before : Hosts) (telling : List Telling)
             → WereTold before telling (supplied answer hosts.old.items)
             → WereTold before (telling
-            ++ tells (seen_construct place.entry.construct) (seen_header header.now)
-            (plain_blocks (entry_at place.entry header.now cells.items)).values)
+            ++ tells (seen_construct position.entry.construct) (seen_header header.now)
+            (plain_blocks (entry_at position.entry header.now cells.items)).values)
             (supplied answer hosts.new.items)) }
         ensures nothing_told { IfErr result (λ why.
             WereToldNoMore (supplied answer hosts.old.items) (supplied answer hosts.new.items)) }
         ensures count { length hosts.new.items ≡ length hosts.old.items }
-        ensures spare { IsSpare place.entry.instance.now spare.new }
+        ensures spare { IsSpare position.entry.instance.now spare.new }
     {
         // Law: functions emit nothing, and there are fewer than 2^32 top constructs.
         spf_ast::laws::lawful_programs_are_quiet_and_small();
@@ -151,23 +162,31 @@ impl<'a> Walker<'a> {
         // Law: a block overwrites its cells, whatever they held.
         spf_check_rules::laws::blocks_overwrite();
         let _program = self.checked.program();
-        let at = Stand {
-            instance: place.instance,
-            construct: place.construct,
-            index: place.index,
-            frame: place.frame,
+        let stand = Stand {
+            instance: position.instance,
+            construct: position.construct,
+            index: position.index,
+            frame: position.frame,
             cells: &cells,
         };
-        let guesses = take_guesses_alone(self.alloc, at, header, hosts)?;
-        let plan = self.plan_of(place, header, &cells)?;
-        let blocks = run_plainly(self.alloc, self.checked, place, header, cells, &plan, spare)?;
+        let guesses = take_guesses_alone(self.alloc, stand, header, hosts)?;
+        let plan = self.plan_of(position, header, &cells)?;
+        let blocks = run_plainly(
+            self.alloc,
+            self.checked,
+            position,
+            header,
+            cells,
+            &plan,
+            spare,
+        )?;
         let mut cells = blocks.cells;
         let entered = EnteredConstruct {
-            instance: place.instance,
-            construct: place.construct,
-            index: place.index,
+            instance: position.instance,
+            construct: position.construct,
+            index: position.index,
             header: *header,
-            frame: place.frame,
+            frame: position.frame,
             cells: &cells,
             plan: &plan,
             guesses: &guesses,
@@ -175,7 +194,7 @@ impl<'a> Walker<'a> {
         };
         visitor.visit(self.alloc, &entered, &mut spare.scratch)?;
         let stats = count_blocks(&blocks.reals, &guesses);
-        tell_history(place.construct, header, &blocks.reals, hosts);
+        tell_history(position.construct, header, &blocks.reals, hosts);
         copy_plan(&mut cells, &spare.after, &plan);
         Ok(Examined {
             settled: blocks.settled,
@@ -226,13 +245,13 @@ impl<'a> Walker<'a> {
         let construct = site.construct;
         let mut cells = Vec::new(self.alloc);
         run.swap_cells(&mut cells);
-        let place = Place {
+        let position = Position {
             instance: self.instance,
             construct,
             index: site.number,
             frame: run.frame(),
         };
-        let mut examined = self.examine(place, &site.header, cells, spare, visitor, hosts)?;
+        let mut examined = self.examine(position, &site.header, cells, spare, visitor, hosts)?;
         run.swap_cells(&mut examined.cells);
         *stats = stats.plus(examined.stats);
         Ok(settle(run, self.instance, construct, examined.settled))

@@ -43,9 +43,9 @@ reads-all After Misfit s h all = elim all [ ]
 abbrev pub AttemptsGoAlike : Entry → List ℤ → Relation → Type 0
 AttemptsGoAlike e slots After = (n : ℕ) (v : Carried) (attempt : ℕ) (log : List Event) → GoAlike After (attempted e n v attempt log) (attempted (with_slots e slots) n v attempt log)
 
-pub attempts-go-alike : PartsSeeVisibleSlots → (e : Entry) (slots : List ℤ) (place : StandsInMain e.program e.construct) → SlotsLookAlike place.scope.visible e.slots slots → AttemptsGoAlike e slots (LookAlike place.scope.visible)
-attempts-go-alike see e slots place alike n v attempt log =
-    see (names_at e.program (length e.program.functions) e.program.slots) place.scope place.line place.statement e.construct place.is place.lawful
+pub attempts-go-alike : PartsSeeVisibleSlots → (e : Entry) (slots : List ℤ) (stands : StandsInMain e.program e.construct) → SlotsLookAlike stands.scope.visible e.slots slots → AttemptsGoAlike e slots (LookAlike stands.scope.visible)
+attempts-go-alike see e slots stands alike n v attempt log =
+    see (names_at e.program (length e.program.functions) e.program.slots) stands.scope stands.line stands.statement e.construct stands.is stands.lawful
     e.input (extents_of e.program (length e.input)) e.program.functions (length e.program.functions) (part_of e.construct n) (number_of e n) v
     (record { slots = e.slots; output = [] }) (record { slots = slots; output = [] }) alike (own e n) e.memory (Some attempt) log
 

@@ -19,9 +19,9 @@ SlotsLookAlike visible one other = LookAlike visible (record { slots = one; outp
 -- a speculative run is also one from other slots that agree on those that are visible at the construct
 abbrev pub RunsSeeVisibleSlots : Type 0
 RunsSeeVisibleSlots =
-    (e : Entry) (slots : List ℤ) (place : StandsInMain e.program e.construct)
+    (e : Entry) (slots : List ℤ) (stands : StandsInMain e.program e.construct)
     (guess : ℕ → Carried) (steps : List Step) (values : List Carried) (result : Result Carried Trap)
-    → SlotsLookAlike place.scope.visible e.slots slots
+    → SlotsLookAlike stands.scope.visible e.slots slots
     → IsSpeculativeRun e guess steps values result → IsSpeculativeRun (with_slots e slots) guess steps values result
 
 -- and with other guesses that are the same for the blocks after the first

@@ -37,8 +37,8 @@ fn a_wrong_signature_is_found_at_its_first_byte(rt: HostRuntime) {
         (b"huf1", 0),
         (b"HuF", 1),
     ];
-    for (file, place) in cases {
-        assert_eq!(rt; huf1_check(file), Err(place), "for {file:?}");
+    for (file, offset) in cases {
+        assert_eq!(rt; huf1_check(file), Err(offset), "for {file:?}");
     }
 }
 
@@ -176,7 +176,7 @@ fn check_changed(
 
 #[test]
 fn a_machine_is_refused_at_what_is_wrong_first(rt: HostRuntime) {
-    // Which byte is set to what, how many bytes there are, and the place of the fault.
+    // Which byte is set to what, how many bytes there are, and the offset of the fault.
     let cases: [(usize, u8, usize, u64); 18] = [
         (1, 0, 334, 1),
         (4, 0, 334, 4),
@@ -198,10 +198,10 @@ fn a_machine_is_refused_at_what_is_wrong_first(rt: HostRuntime) {
         (261, 9, 262, 262),
         (261, 9, 333, 333),
     ];
-    for (at, byte, count, place) in cases {
+    for (at, byte, count, offset) in cases {
         assert_eq!(rt;
             check_changed(rt.alloc(), at, byte, count),
-            Ok(Err(place)),
+            Ok(Err(offset)),
             "byte {at} of {count} is {byte}"
         );
     }

@@ -76,7 +76,7 @@ one_width : FoldHasOneWidth counting_head
 one_width = record { width = (omega arith, omega arith); start = refl; predict = refl; next = refl }
 
 pub counting_orderly : IsOrderly counting
-counting_orderly = record { functions = λ place. tt; main = ((one_width, refl, (tt, tt)), (tt, tt)) }
+counting_orderly = record { functions = λ index. tt; main = ((one_width, refl, (tt, tt)), (tt, tt)) }
 
 pub counting_lawful : IsLawful counting
 counting_lawful = record {
@@ -84,7 +84,7 @@ counting_lawful = record {
     taken_are_names = λ k d h. absurd (omega (arith, h));
     taken_are_different = tt;
     sizes = λ k d h. absurd (omega (arith, h));
-    functions = λ place. tt;
+    functions = λ index. tt;
     slots_are_names = names;
     main = (
       (

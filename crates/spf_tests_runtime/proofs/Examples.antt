@@ -85,21 +85,21 @@ four_blocks_disjoint = record {
   inside = λ i c e. let x = four_at i c e in omega arith;
 }
 
-mixed_place : ℕ → ℕ
-mixed_place zero = 2
-mixed_place (suc zero) = 3
-mixed_place (suc (suc zero)) = 7
-mixed_place (suc (suc (suc zero))) = 4
-mixed_place (suc (suc (suc (suc zero)))) = 5
-mixed_place (suc (suc (suc (suc (suc zero))))) = 6
-mixed_place (suc (suc (suc (suc (suc (suc zero)))))) = 0
-mixed_place (suc (suc (suc (suc (suc (suc (suc c))))))) = 1
+mixed_index : ℕ → ℕ
+mixed_index zero = 2
+mixed_index (suc zero) = 3
+mixed_index (suc (suc zero)) = 7
+mixed_index (suc (suc (suc zero))) = 4
+mixed_index (suc (suc (suc (suc zero)))) = 5
+mixed_index (suc (suc (suc (suc (suc zero))))) = 6
+mixed_index (suc (suc (suc (suc (suc (suc zero)))))) = 0
+mixed_index (suc (suc (suc (suc (suc (suc (suc c))))))) = 1
 
-mixed_from : (i c d : ℕ) → mixed_place d ≡ i → d < 8 → some d ≡ some c → (i ≡ mixed_place c) × (c < 8)
-mixed_from i c d place low e = subst (λ (x : ℕ). (i ≡ mixed_place x) × (x < 8)) (some-injective d c e) (sym place, low)
+mixed_from : (i c d : ℕ) → mixed_index d ≡ i → d < 8 → some d ≡ some c → (i ≡ mixed_index c) × (c < 8)
+mixed_from i c d index low e = subst (λ (x : ℕ). (i ≡ mixed_index x) × (x < 8)) (some-injective d c e) (sym index, low)
 
-mixed_at : (i c : ℕ) → get_elem? (6 ∷ 7 ∷ 0 ∷ 1 ∷ 3 ∷ 4 ∷ 5 ∷ 2 ∷ []) i ≡ some c → (i ≡ mixed_place c) × (c < 8)
-unfolding mixed_place
+mixed_at : (i c : ℕ) → get_elem? (6 ∷ 7 ∷ 0 ∷ 1 ∷ 3 ∷ 4 ∷ 5 ∷ 2 ∷ []) i ≡ some c → (i ≡ mixed_index c) × (c < 8)
+unfolding mixed_index
 mixed_at zero c e = mixed_from 0 c 6 refl (omega arith) e
 mixed_at (suc zero) c e = mixed_from 1 c 7 refl (omega arith) e
 mixed_at (suc (suc zero)) c e = mixed_from 2 c 0 refl (omega arith) e

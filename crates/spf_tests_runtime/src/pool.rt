@@ -102,10 +102,10 @@ fn first_wrong(
     requires capacities { All (λ c. c ≤ max_capacity) capacities.now }
 {
     let mut all = hands(alloc, capacities)?;
-    for (place, (call, wanted)) in calls.iter().enumerate() {
+    for (index, (call, wanted)) in calls.iter().enumerate() {
         let found = answer(&mut all, *call);
         if found != *wanted {
-            return Ok(Some((place, found)));
+            return Ok(Some((index, found)));
         }
     }
     Ok(None)

@@ -1,4 +1,4 @@
--- A text that is cut into pieces up to a place, and what the next piece makes of it.
+-- A text that is cut into pieces up to an offset, and what the next piece makes of it.
 use Rattle.std.proofs.Common.{◌≡◌, ℕ, ◌+◌, ◌-◌, ◌≤◌, List, [], ◌∷◌, ◌++◌, length, take, drop, refl, sym, ap, subst, ◌∙◌, arith, length-append, length-drop, take-append-drop, drop-drop, append-nil, length-take-le}
 use Rattle.std.proofs.lemmas.List.{drop_all, take_rest}
 use Rattle.spf_text.specs.declared.token.Token.{Token}
@@ -24,15 +24,15 @@ IsCut-append text [] qs middle rest front back = subst (λ t. IsCut t qs rest) (
 IsCut-append text (p ∷ ps) qs middle rest front back = (front.0, front.1, front.2, IsCut-append front.0 ps qs middle rest front.3 back)
 
 -- their tokens, one after another
-tokens_at-append : (text rest : List ℕ) (ps qs : List Piece) (place end : ℕ) → IsCut text ps rest → place + length text ≡ end + length rest → tokens_at place (ps ++ qs) ≡ tokens_at place ps ++ tokens_at end qs
-tokens_at-append text rest [] qs place end cut e =
-    let same : place ≡ end = omega (arith, ap length cut) in
+tokens_at-append : (text rest : List ℕ) (ps qs : List Piece) (offset end : ℕ) → IsCut text ps rest → offset + length text ≡ end + length rest → tokens_at offset (ps ++ qs) ≡ tokens_at offset ps ++ tokens_at end qs
+tokens_at-append text rest [] qs offset end cut e =
+    let same : offset ≡ end = omega (arith, ap length cut) in
     ap (λ at. tokens_at at qs) same
-tokens_at-append text rest (Blank b ∷ ps) qs place end cut e = tokens_at-append cut.0 rest ps qs (place + 1) end cut.3 (omega (arith, ap length cut.1))
-tokens_at-append text rest (Comment bytes ∷ ps) qs place end cut e = tokens_at-append cut.0 rest ps qs (place + length bytes) end cut.3 (omega (arith, ap length cut.1, length-append bytes cut.0))
-tokens_at-append text rest (Lexeme kind bytes ∷ ps) qs place end cut e =
-    ap (λ ts. record { kind = kind; from = place; to = place + length bytes } ∷ ts)
-    (tokens_at-append cut.0 rest ps qs (place + length bytes) end cut.3 (omega (arith, ap length cut.1, length-append bytes cut.0)))
+tokens_at-append text rest (Blank b ∷ ps) qs offset end cut e = tokens_at-append cut.0 rest ps qs (offset + 1) end cut.3 (omega (arith, ap length cut.1))
+tokens_at-append text rest (Comment bytes ∷ ps) qs offset end cut e = tokens_at-append cut.0 rest ps qs (offset + length bytes) end cut.3 (omega (arith, ap length cut.1, length-append bytes cut.0))
+tokens_at-append text rest (Lexeme kind bytes ∷ ps) qs offset end cut e =
+    ap (λ ts. record { kind = kind; from = offset; to = offset + length bytes } ∷ ts)
+    (tokens_at-append cut.0 rest ps qs (offset + length bytes) end cut.3 (omega (arith, ap length cut.1, length-append bytes cut.0)))
 
 -- the next piece follows
 pub scanned_more : (text : List ℕ) (tokens : List Token) (at : ℕ) (p : Piece) (n : ℕ) → ScannedUpTo text tokens at → IsFirst p (drop at text) n → ScannedUpTo text (tokens ++ tokens_at at (p ∷ [])) (at + n)
@@ -78,7 +78,7 @@ scanned_fault Fault text tokens at before fault =
       pieces = before.pieces;
       rest = drop at text;
       cut = before.cut;
-      place = omega (arith, length-drop at text, before.within);
+      offset = omega (arith, length-drop at text, before.within);
       fault = fault;
     }
 

@@ -88,15 +88,15 @@ fault_without_tokens F text at ts is fault tokens =
     let same = cut_unique text fault.pieces tokens.pieces fault.rest [] (is.0 fault.rest fault.fault) NoPiece-nil fault.cut tokens.cut in
     is.1 (subst F same.1 fault.fault)
 
--- two faults are at one place, before the same rest
+-- two faults are at one offset, before the same rest
 same_rest : (F G : List ℕ → Type 0) (text : List ℕ) (at to : ℕ) → IsFault F → IsFault G → (f : IsFaultyAt F text at) (g : IsFaultyAt G text to) → f.rest ≡ g.rest
 same_rest F G text at to is_f is_g f g = (cut_unique text f.pieces g.pieces f.rest g.rest (is_f.0 f.rest f.fault) (is_g.0 g.rest g.fault) f.cut g.cut).1
 
--- two faults are at one place
-same_place : (F G : List ℕ → Type 0) (text : List ℕ) (at to : ℕ) → IsFault F → IsFault G → IsFaultyAt F text at → IsFaultyAt G text to → at ≡ to
-same_place F G text at to is_f is_g f g =
+-- two faults are at one offset
+same_offset : (F G : List ℕ → Type 0) (text : List ℕ) (at to : ℕ) → IsFault F → IsFault G → IsFaultyAt F text at → IsFaultyAt G text to → at ≡ to
+same_offset F G text at to is_f is_g f g =
     let rests : length f.rest ≡ length g.rest = ap length (same_rest F G text at to is_f is_g f g) in
-    omega (arith, f.place, g.place, rests)
+    omega (arith, f.offset, g.offset, rests)
 
 -- a byte that begins nothing begins no number
 not_both : (rest : List ℕ) → BeginsNothing rest → BeginsTooLarge rest → ⊥
@@ -113,8 +113,8 @@ one_fault text at to f g = not_both g.rest (subst BeginsNothing (same_rest Begin
 
 pub one_fault_alone : (text : List ℕ) → HasOneFault text
 one_fault_alone text = record {
-  bad_byte = λ at to f g. same_place BeginsNothing BeginsNothing text at to nothing_fault nothing_fault f g;
-  too_large = λ at to f g. same_place BeginsTooLarge BeginsTooLarge text at to large_fault large_fault f g;
+  bad_byte = λ at to f g. same_offset BeginsNothing BeginsNothing text at to nothing_fault nothing_fault f g;
+  too_large = λ at to f g. same_offset BeginsTooLarge BeginsTooLarge text at to large_fault large_fault f g;
   not_both = λ at to f g. one_fault text at to f g;
   no_tokens = λ at h ts t. elim h [
     | inl f ↦ fault_without_tokens BeginsNothing text at ts nothing_fault f t
@@ -124,20 +124,20 @@ one_fault_alone text = record {
 
 -- ---- tokens stand in order
 
--- tokens that stand after a place stand after each place before it
-AreInOrder-lower : (low place end : ℕ) (ts : List Token) → low ≤ place → AreInOrder place end ts → AreInOrder low end ts
-AreInOrder-lower low place end [] h order = omega (arith, order)
-AreInOrder-lower low place end (t ∷ ts) h order = (omega (arith, order.0), order.1, order.2)
+-- tokens that stand after an offset stand after each offset before it
+AreInOrder-lower : (low offset end : ℕ) (ts : List Token) → low ≤ offset → AreInOrder offset end ts → AreInOrder low end ts
+AreInOrder-lower low offset end [] h order = omega (arith, order)
+AreInOrder-lower low offset end (t ∷ ts) h order = (omega (arith, order.0), order.1, order.2)
 
 -- the tokens of pieces stand one after another
-AreInOrder-tokens_at : (text rest : List ℕ) (ps : List Piece) (place end : ℕ) → place + length text ≡ end → IsCut text ps rest → AreInOrder place end (tokens_at place ps)
-AreInOrder-tokens_at text rest [] place end e cut = omega (arith, e)
-AreInOrder-tokens_at text rest (Blank b ∷ ps) place end e cut = AreInOrder-lower place (place + 1) end (tokens_at (place + 1) ps) (omega arith) (AreInOrder-tokens_at cut.0 rest ps (place + 1) end (omega (arith, e, ap length cut.1)) cut.3)
-AreInOrder-tokens_at text rest (Comment bytes ∷ ps) place end e cut =
-    let next = place + length bytes in
-    AreInOrder-lower place next end (tokens_at next ps) (omega arith) (AreInOrder-tokens_at cut.0 rest ps next end (omega (arith, e, ap length cut.1, length-append bytes cut.0)) cut.3)
-AreInOrder-tokens_at text rest (Lexeme kind bytes ∷ ps) place end e cut =
-    let next = place + length bytes in
+AreInOrder-tokens_at : (text rest : List ℕ) (ps : List Piece) (offset end : ℕ) → offset + length text ≡ end → IsCut text ps rest → AreInOrder offset end (tokens_at offset ps)
+AreInOrder-tokens_at text rest [] offset end e cut = omega (arith, e)
+AreInOrder-tokens_at text rest (Blank b ∷ ps) offset end e cut = AreInOrder-lower offset (offset + 1) end (tokens_at (offset + 1) ps) (omega arith) (AreInOrder-tokens_at cut.0 rest ps (offset + 1) end (omega (arith, e, ap length cut.1)) cut.3)
+AreInOrder-tokens_at text rest (Comment bytes ∷ ps) offset end e cut =
+    let next = offset + length bytes in
+    AreInOrder-lower offset next end (tokens_at next ps) (omega arith) (AreInOrder-tokens_at cut.0 rest ps next end (omega (arith, e, ap length cut.1, length-append bytes cut.0)) cut.3)
+AreInOrder-tokens_at text rest (Lexeme kind bytes ∷ ps) offset end e cut =
+    let next = offset + length bytes in
     let f = first_byte (Lexeme kind bytes) cut.0 cut.2 in
     (omega arith, omega (arith, ap length f.2), AreInOrder-tokens_at cut.0 rest ps next end (omega (arith, e, ap length cut.1, length-append bytes cut.0)) cut.3)
 
@@ -149,25 +149,25 @@ AreInOrder-tokens text ts tokens =
 -- ---- each token's slice spells it
 
 -- what comes after the first bytes
-after_is : (whole text bytes after : List ℕ) (place : ℕ) → text ≡ drop place whole → text ≡ bytes ++ after → after ≡ drop (place + length bytes) whole
-after_is whole text bytes after place is cut =
-    sym (drop_at bytes after (length bytes) refl) ∙ ap (drop (length bytes)) (sym cut ∙ is) ∙ drop-drop (length bytes) place whole
+after_is : (whole text bytes after : List ℕ) (offset : ℕ) → text ≡ drop offset whole → text ≡ bytes ++ after → after ≡ drop (offset + length bytes) whole
+after_is whole text bytes after offset is cut =
+    sym (drop_at bytes after (length bytes) refl) ∙ ap (drop (length bytes)) (sym cut ∙ is) ∙ drop-drop (length bytes) offset whole
 
 -- the first bytes, as a slice of the whole text
-slice_is : (whole text bytes after : List ℕ) (place : ℕ) → text ≡ drop place whole → text ≡ bytes ++ after → bytes ≡ slice_range whole place (place + length bytes)
-slice_is whole text bytes after place is cut =
-    let size : length bytes ≡ place + length bytes - place = omega arith in
-    sym (take_at bytes after (length bytes) refl) ∙ ap (take (length bytes)) (sym cut ∙ is) ∙ ap (λ n. take n (drop place whole)) size
+slice_is : (whole text bytes after : List ℕ) (offset : ℕ) → text ≡ drop offset whole → text ≡ bytes ++ after → bytes ≡ slice_range whole offset (offset + length bytes)
+slice_is whole text bytes after offset is cut =
+    let size : length bytes ≡ offset + length bytes - offset = omega arith in
+    sym (take_at bytes after (length bytes) refl) ∙ ap (take (length bytes)) (sym cut ∙ is) ∙ ap (λ n. take n (drop offset whole)) size
 
 -- the tokens of pieces are spelled by their slices of the whole text
-IsSpelledIn-tokens_at : (whole text rest : List ℕ) (ps : List Piece) (place : ℕ) → text ≡ drop place whole → IsCut text ps rest → AllByRecursion (IsSpelledIn whole) (tokens_at place ps)
-IsSpelledIn-tokens_at whole text rest [] place is cut = tt
-IsSpelledIn-tokens_at whole text rest (Blank b ∷ ps) place is cut = IsSpelledIn-tokens_at whole cut.0 rest ps (place + 1) (after_is whole text (b ∷ []) cut.0 place is cut.1) cut.3
-IsSpelledIn-tokens_at whole text rest (Comment bytes ∷ ps) place is cut = IsSpelledIn-tokens_at whole cut.0 rest ps (place + length bytes) (after_is whole text bytes cut.0 place is cut.1) cut.3
-IsSpelledIn-tokens_at whole text rest (Lexeme kind bytes ∷ ps) place is cut =
-    let next = after_is whole text bytes cut.0 place is cut.1 in
-    let slice = slice_is whole text bytes cut.0 place is cut.1 in
-    (subst₂ (Spells kind) slice next cut.2, IsSpelledIn-tokens_at whole cut.0 rest ps (place + length bytes) next cut.3)
+IsSpelledIn-tokens_at : (whole text rest : List ℕ) (ps : List Piece) (offset : ℕ) → text ≡ drop offset whole → IsCut text ps rest → AllByRecursion (IsSpelledIn whole) (tokens_at offset ps)
+IsSpelledIn-tokens_at whole text rest [] offset is cut = tt
+IsSpelledIn-tokens_at whole text rest (Blank b ∷ ps) offset is cut = IsSpelledIn-tokens_at whole cut.0 rest ps (offset + 1) (after_is whole text (b ∷ []) cut.0 offset is cut.1) cut.3
+IsSpelledIn-tokens_at whole text rest (Comment bytes ∷ ps) offset is cut = IsSpelledIn-tokens_at whole cut.0 rest ps (offset + length bytes) (after_is whole text bytes cut.0 offset is cut.1) cut.3
+IsSpelledIn-tokens_at whole text rest (Lexeme kind bytes ∷ ps) offset is cut =
+    let next = after_is whole text bytes cut.0 offset is cut.1 in
+    let slice = slice_is whole text bytes cut.0 offset is cut.1 in
+    (subst₂ (Spells kind) slice next cut.2, IsSpelledIn-tokens_at whole cut.0 rest ps (offset + length bytes) next cut.3)
 
 -- the tokens of a text are spelled by their slices
 pub IsSpelledIn-tokens : (text : List ℕ) (ts : List Token) → AreTokensOf text ts → All (IsSpelledIn text) ts
@@ -207,7 +207,7 @@ module _ {V : Type 0} (items : V → List Token) (text : List ℕ) where
   -- a text with a bad byte is refused for it
   pub bad_from : (r : Result V ScanError) → Gives r → (at : ℕ) → IsFaultyAt BeginsNothing text at → (r ≡ Err (error.BadByte at)) ⊎ (r ≡ Err error.OutOfMemory)
   bad_from (Ok v) given at fault = absurd (fault_without_tokens BeginsNothing text at (items v) nothing_fault fault given)
-  bad_from (Err (error.BadByte to)) given at fault = inl (ap (λ k. Err (error.BadByte k)) (same_place BeginsNothing BeginsNothing text to at nothing_fault nothing_fault given fault))
+  bad_from (Err (error.BadByte to)) given at fault = inl (ap (λ k. Err (error.BadByte k)) (same_offset BeginsNothing BeginsNothing text to at nothing_fault nothing_fault given fault))
   bad_from (Err (error.NumberTooLarge to)) given at fault = absurd (one_fault text at to fault given)
   bad_from (Err (error.TooLong to)) given at fault = absurd given
   bad_from (Err error.OutOfMemory) given at fault = inr refl
@@ -216,6 +216,6 @@ module _ {V : Type 0} (items : V → List Token) (text : List ℕ) where
   pub large_from : (r : Result V ScanError) → Gives r → (at : ℕ) → IsFaultyAt BeginsTooLarge text at → (r ≡ Err (error.NumberTooLarge at)) ⊎ (r ≡ Err error.OutOfMemory)
   large_from (Ok v) given at fault = absurd (fault_without_tokens BeginsTooLarge text at (items v) large_fault fault given)
   large_from (Err (error.BadByte to)) given at fault = absurd (one_fault text to at given fault)
-  large_from (Err (error.NumberTooLarge to)) given at fault = inl (ap (λ k. Err (error.NumberTooLarge k)) (same_place BeginsTooLarge BeginsTooLarge text to at large_fault large_fault given fault))
+  large_from (Err (error.NumberTooLarge to)) given at fault = inl (ap (λ k. Err (error.NumberTooLarge k)) (same_offset BeginsTooLarge BeginsTooLarge text to at large_fault large_fault given fault))
   large_from (Err (error.TooLong to)) given at fault = absurd given
   large_from (Err error.OutOfMemory) given at fault = inr refl

@@ -1,4 +1,4 @@
--- Each text has tokens, or a place at which none begins.
+-- Each text has tokens, or an offset at which none begins.
 use Rattle.std.proofs.Common.{◌≡◌, ◌⊎◌, inl, inr, ℕ, zero, suc, ◌-◌, ◌<◌, ◌≤◌, Bool, true, false, bytes_eq, List, [], ◌∷◌, ◌++◌, length, refl, sym, ap, subst, ◌∙◌, pos, arith, length-append}
 use Rattle.std.specs.List.{AllByRecursion}
 use Rattle.std.proofs.lemmas.List.Elements.{All-from_recursion}
@@ -250,7 +250,7 @@ rest_fits text (p ∷ ps) rest cut = omega (arith, rest_fits cut.0 ps rest cut.3
 fault_at : (F : List ℕ → Type 0) (text : List ℕ) (c : CutSomewhere text) → F c.rest → (at : ℕ) × IsFaultyAt F text at
 fault_at F text c h =
     let fits = rest_fits text c.pieces c.rest c.cut in
-    (length text - length c.rest, record { pieces = c.pieces; rest = c.rest; cut = c.cut; place = omega (arith, fits); fault = h })
+    (length text - length c.rest, record { pieces = c.pieces; rest = c.rest; cut = c.cut; offset = omega (arith, fits); fault = h })
 
 pub tokens_or_fault : (text : List ℕ) → ((tokens : List Token) × AreTokensOf text tokens) ⊎ ((at : ℕ) × IsFaultyAt BeginsNothing text at) ⊎ ((at : ℕ) × IsFaultyAt BeginsTooLarge text at)
 tokens_or_fault text = by_cut (cut_within (length text) text (omega arith))

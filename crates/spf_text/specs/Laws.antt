@@ -18,7 +18,7 @@ TextsHaveTokensOrAFault =
     (text : List ℕ) → ((tokens : List Token) × AreTokensOf text tokens)
     ⊎ ((at : ℕ) × IsFaultyAt BeginsNothing text at) ⊎ ((at : ℕ) × IsFaultyAt BeginsTooLarge text at)
 
--- a text has a fault at one place and of one kind, and none where it has tokens
+-- a text has a fault at one offset and of one kind, and none where it has tokens
 pub record HasOneFault (text : List ℕ) : Type 0 where
   pub bad_byte : (at other : ℕ) → IsFaultyAt BeginsNothing text at → IsFaultyAt BeginsNothing text other → at ≡ other
   pub too_large : (at other : ℕ) → IsFaultyAt BeginsTooLarge text at → IsFaultyAt BeginsTooLarge text other → at ≡ other

@@ -151,13 +151,13 @@ abbrev pub IsCut : List ℕ → List Piece → List ℕ → Type 0
 IsCut text [] rest = text ≡ rest
 IsCut text (p ∷ ps) rest = (after : List ℕ) × (text ≡ bytes_of p ++ after) × IsPiece p after × IsCut after ps rest
 
--- the tokens among the pieces, each with its slice of the text, where the first piece begins at this place
+-- the tokens among the pieces, each with its slice of the text, where the first piece begins at this offset
 abbrev pub tokens_at : ℕ → List Piece → List Token
-tokens_at place [] = []
-tokens_at place (Blank b ∷ ps) = tokens_at (place + 1) ps
-tokens_at place (Comment bytes ∷ ps) = tokens_at (place + length bytes) ps
-tokens_at place (Lexeme kind bytes ∷ ps) =
-    record { kind = kind; from = place; to = place + length bytes } ∷ tokens_at (place + length bytes) ps
+tokens_at offset [] = []
+tokens_at offset (Blank b ∷ ps) = tokens_at (offset + 1) ps
+tokens_at offset (Comment bytes ∷ ps) = tokens_at (offset + length bytes) ps
+tokens_at offset (Lexeme kind bytes ∷ ps) =
+    record { kind = kind; from = offset; to = offset + length bytes } ∷ tokens_at (offset + length bytes) ps
 
 -- ---- texts
 
@@ -182,18 +182,18 @@ abbrev pub BeginsTooLarge : List ℕ → Type 0
 BeginsTooLarge bytes = (digits : List ℕ) × (after : List ℕ) × (bytes ≡ digits ++ after)
     × Begins IsDigit IsDigit digits × EndsBefore IsDigit after × (max_number < number_from 0 digits)
 
--- the text is cut into pieces up to this place, at which the rest is as told
+-- the text is cut into pieces up to this offset, at which the rest is as told
 pub record IsFaultyAt (Fault : List ℕ → Type 0) (text : List ℕ) (at : ℕ) : Type 0 where
   pub pieces : List Piece
   pub rest : List ℕ
   pub cut : IsCut text pieces rest
-  pub place : at + length rest ≡ length text
+  pub offset : at + length rest ≡ length text
   pub fault : Fault rest
 
--- the tokens stand between these places, each whole before the next begins
+-- the tokens stand between these offsets, each whole before the next begins
 abbrev pub AreInOrder : ℕ → ℕ → List Token → Type 0
-AreInOrder place end [] = place ≤ end
-AreInOrder place end (t ∷ ts) = (place ≤ t.from) × (t.from < t.to) × AreInOrder t.to end ts
+AreInOrder offset end [] = offset ≤ end
+AreInOrder offset end (t ∷ ts) = (offset ≤ t.from) × (t.from < t.to) × AreInOrder t.to end ts
 
 -- the token's slice of the text spells it, and nothing of what comes after belongs to it
 abbrev pub IsSpelledIn : List ℕ → Token → Type 0

@@ -36,7 +36,7 @@ pub enum ScanError {
 ///
 /// # Errors
 ///
-/// `TooLong` comes first. Otherwise the first place decides at which a byte begins no blank, no
+/// `TooLong` comes first. Otherwise the first offset decides at which a byte begins no blank, no
 /// comment and no token, or a number is too large; there `OutOfMemory` may come instead.
 pub fn scan(alloc: Global, text: &[u8]) -> Result<Vec<Token>, ScanError>
     // What is given are the text's tokens, and a text has no others.

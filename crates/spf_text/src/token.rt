@@ -81,8 +81,8 @@ pub enum TokenKind {
 pub struct Token {
     /// What it is.
     pub kind: TokenKind,
-    /// The place of its first byte.
+    /// The offset of its first byte.
     pub from: usize,
-    /// The place after its last byte.
+    /// The offset after its last byte.
     pub to: usize,
 }

@@ -27,51 +27,51 @@ pub same_small : (s n limit : ℕ) → s ≡ capped n → limit < 2 ^ 64 - 1 →
 same_small s n limit e h = grind (arith, nat_tests)
 
 -- the first functions are measured and keep their limits
-pub record AreMeasured (raw : List code_function.Function) (sizes : List Size) (place : ℕ) : Type 0 where
-  pub counted : AreCounted raw sizes place
-  pub faults : large_functions (all_counts (map function raw)).nodes 0 (map function raw) ≡ large_functions (all_counts (map function raw)).nodes place (map function (drop place raw))
+pub record AreMeasured (raw : List code_function.Function) (sizes : List Size) (index : ℕ) : Type 0 where
+  pub counted : AreCounted raw sizes index
+  pub faults : large_functions (all_counts (map function raw)).nodes 0 (map function raw) ≡ large_functions (all_counts (map function raw)).nodes index (map function (drop index raw))
 
 pub none_measured : (raw : List code_function.Function) → AreMeasured raw [] 0
 none_measured raw = record { counted = none_counted raw; faults = refl }
 
--- what is left of the functions at a place
-pub functions_behind : (raw : List code_function.Function) (sizes : List Size) (place : ℕ) (f : code_function.Function) (size : Size) → place < length raw → f ≡ get_or raw place f → AreMeasured raw sizes place → HasSize (counts_before (map function raw) place) (λ m. function_measure m (function f)) size →
-    large_functions (all_counts (map function raw)).nodes 0 (map function raw) ≡ when (not (nat_lt place 256 && nat_le size.nodes 65536)) TooLarge f.line ++ large_functions (all_counts (map function raw)).nodes (place + 1) (map function (drop (place + 1) raw))
-functions_behind raw sizes place f size h is so has =
+-- what is left of the functions at an index
+pub functions_behind : (raw : List code_function.Function) (sizes : List Size) (index : ℕ) (f : code_function.Function) (size : Size) → index < length raw → f ≡ get_or raw index f → AreMeasured raw sizes index → HasSize (counts_before (map function raw) index) (λ m. function_measure m (function f)) size →
+    large_functions (all_counts (map function raw)).nodes 0 (map function raw) ≡ when (not (nat_lt index 256 && nat_le size.nodes 65536)) TooLarge f.line ++ large_functions (all_counts (map function raw)).nodes (index + 1) (map function (drop (index + 1) raw))
+functions_behind raw sizes index f size h is so has =
     let fs = map function raw in
     let all = (all_counts fs).nodes in
     let measure = λ (sizes : ℕ → ℕ) (g : Function). function_measure (by_size sizes) g in
-    let count : length (map function raw) ≡ (length raw - suc place) + suc place = simp length-map (omega arith) in
-    let counts : all place ≡ function_measure (by_size (counts_before fs place).nodes) (function f) = ap (λ n. counted_before fs measure n place) count ∙ counted_stays fs measure (suc place) place (length raw - suc place) (omega arith) ∙ counted_at fs measure place (function f) (function_there raw place f h is) in
-    let small : nat_le (all place) 65536 ≡ nat_le size.nodes 65536 = ap (λ n. nat_le n 65536) counts ∙ sym (same_small size.nodes (function_measure (by_size (counts_before fs place).nodes) (function f)) 65536 has.nodes_is (omega arith)) in
-    so.faults ∙ ap (λ xs. large_functions all place (map function xs)) (item_at raw place f h is)
-    ∙ ap (λ b. when (not (nat_lt place 256 && b)) TooLarge f.line ++ large_functions all (place + 1) (map function (drop (place + 1) raw))) small
+    let count : length (map function raw) ≡ (length raw - suc index) + suc index = simp length-map (omega arith) in
+    let counts : all index ≡ function_measure (by_size (counts_before fs index).nodes) (function f) = ap (λ n. counted_before fs measure n index) count ∙ counted_stays fs measure (suc index) index (length raw - suc index) (omega arith) ∙ counted_at fs measure index (function f) (function_there raw index f h is) in
+    let small : nat_le (all index) 65536 ≡ nat_le size.nodes 65536 = ap (λ n. nat_le n 65536) counts ∙ sym (same_small size.nodes (function_measure (by_size (counts_before fs index).nodes) (function f)) 65536 has.nodes_is (omega arith)) in
+    so.faults ∙ ap (λ xs. large_functions all index (map function xs)) (item_at raw index f h is)
+    ∙ ap (λ b. when (not (nat_lt index 256 && b)) TooLarge f.line ++ large_functions all (index + 1) (map function (drop (index + 1) raw))) small
 
 -- one more function
-pub one_measured : (raw : List code_function.Function) (sizes : List Size) (place : ℕ) (f : code_function.Function) (size now : Size) (later : List Size) → place < length raw → f ≡ get_or raw place f → AreMeasured raw sizes place → HasSize (counts_before (map function raw) place) (λ m. function_measure m (function f)) size →
-    (nat_lt place 256 && nat_le size.nodes 65536) ≡ true → now.nodes ≡ size.nodes → now.depth ≡ size.depth → now.slots ≡ capped (length f.slots.items + size.slots) → later ≡ sizes ++ now ∷ [] → AreMeasured raw later (place + 1)
-one_measured raw sizes place f size now later h is so has small a b c push =
+pub one_measured : (raw : List code_function.Function) (sizes : List Size) (index : ℕ) (f : code_function.Function) (size now : Size) (later : List Size) → index < length raw → f ≡ get_or raw index f → AreMeasured raw sizes index → HasSize (counts_before (map function raw) index) (λ m. function_measure m (function f)) size →
+    (nat_lt index 256 && nat_le size.nodes 65536) ≡ true → now.nodes ≡ size.nodes → now.depth ≡ size.depth → now.slots ≡ capped (length f.slots.items + size.slots) → later ≡ sizes ++ now ∷ [] → AreMeasured raw later (index + 1)
+one_measured raw sizes index f size now later h is so has small a b c push =
     let fs = map function raw in
     record {
-      counted = one_counted raw sizes place f size now later h is so.counted has a b c push;
+      counted = one_counted raw sizes index f size now later h is so.counted has a b c push;
       faults =
-          functions_behind raw sizes place f size h is so has
-          ∙ ap (λ t. when (not t) TooLarge f.line ++ large_functions (all_counts fs).nodes (place + 1) (map function (drop (place + 1) raw))) small;
+          functions_behind raw sizes index f size h is so has
+          ∙ ap (λ t. when (not t) TooLarge f.line ++ large_functions (all_counts fs).nodes (index + 1) (map function (drop (index + 1) raw))) small;
     }
 
 -- a function that passes a limit
-pub refused_function : (raw : List code_function.Function) (sizes : List Size) (place : ℕ) (f : code_function.Function) (size : Size) → place < length raw → f ≡ get_or raw place f → AreMeasured raw sizes place → HasSize (counts_before (map function raw) place) (λ m. function_measure m (function f)) size →
-    (nat_lt place 256 && nat_le size.nodes 65536) ≡ false → first (large_functions (all_counts (map function raw)).nodes 0 (map function raw)) ≡ Some (record { what = TooLarge; line = f.line })
-refused_function raw sizes place f size h is so has large =
-    ap first (functions_behind raw sizes place f size h is so has)
-    ∙ ap (λ t. first (when (not t) TooLarge f.line ++ large_functions (all_counts (map function raw)).nodes (place + 1) (map function (drop (place + 1) raw)))) large
+pub refused_function : (raw : List code_function.Function) (sizes : List Size) (index : ℕ) (f : code_function.Function) (size : Size) → index < length raw → f ≡ get_or raw index f → AreMeasured raw sizes index → HasSize (counts_before (map function raw) index) (λ m. function_measure m (function f)) size →
+    (nat_lt index 256 && nat_le size.nodes 65536) ≡ false → first (large_functions (all_counts (map function raw)).nodes 0 (map function raw)) ≡ Some (record { what = TooLarge; line = f.line })
+refused_function raw sizes index f size h is so has large =
+    ap first (functions_behind raw sizes index f size h is so has)
+    ∙ ap (λ t. first (when (not t) TooLarge f.line ++ large_functions (all_counts (map function raw)).nodes (index + 1) (map function (drop (index + 1) raw)))) large
 
 -- all functions are measured
-pub all_measured : (raw : List code_function.Function) (sizes : List Size) (place : ℕ) → length raw ≤ place → place ≤ length raw → AreMeasured raw sizes place →
+pub all_measured : (raw : List code_function.Function) (sizes : List Size) (index : ℕ) → length raw ≤ index → index ≤ length raw → AreMeasured raw sizes index →
     (large_functions (all_counts (map function raw)).nodes 0 (map function raw) ≡ []) × IsTable (all_counts (map function raw)) sizes
-all_measured raw sizes place h k so = (
-  so.faults ∙ ap (λ xs. large_functions (all_counts (map function raw)).nodes place (map function xs)) (drop_all place raw h),
-  all_counted raw sizes place h k so.counted,
+all_measured raw sizes index h k so = (
+  so.faults ∙ ap (λ xs. large_functions (all_counts (map function raw)).nodes index (map function xs)) (drop_all index raw h),
+  all_counted raw sizes index h k so.counted,
 )
 
 -- ---- arrays
@@ -150,23 +150,23 @@ arrays_kept arrays e =
     let d = length-drop 64 arrays in
     omega (arith, n, m, d)
 
-functions_kept : (sizes : ℕ → ℕ) (place : ℕ) (fs : List Function) → large_functions sizes place fs ≡ [] → (k : ℕ) → k < length fs → (place + k < 256) × (sizes (place + k) ≤ 65536)
-functions_kept sizes place [] e k h = absurd (omega (arith, h))
-functions_kept sizes place (f ∷ fs) e zero h =
-    let t = when_none (nat_lt place 256 && nat_le (sizes place) 65536) f.line (append_none (when (not (nat_lt place 256 && nat_le (sizes place) 65536)) TooLarge f.line) (large_functions sizes (place + 1) fs) e).0 in
-    let b = both (nat_lt place 256) (nat_le (sizes place) 65536) t in
-    subst (λ n. (n < 256) × (sizes n ≤ 65536)) (let z : place ≡ place + 0 = omega arith in z) (is_below place 256 b.0, is_at_most (sizes place) 65536 b.1)
-functions_kept sizes place (f ∷ fs) e (suc k) h =
-    let rest = (append_none (when (not (nat_lt place 256 && nat_le (sizes place) 65536)) TooLarge f.line) (large_functions sizes (place + 1) fs) e).1 in
-    subst (λ n. (n < 256) × (sizes n ≤ 65536)) (let z : place + 1 + k ≡ place + suc k = omega arith in z) (functions_kept sizes (place + 1) fs rest k (omega (arith, h)))
+functions_kept : (sizes : ℕ → ℕ) (index : ℕ) (fs : List Function) → large_functions sizes index fs ≡ [] → (k : ℕ) → k < length fs → (index + k < 256) × (sizes (index + k) ≤ 65536)
+functions_kept sizes index [] e k h = absurd (omega (arith, h))
+functions_kept sizes index (f ∷ fs) e zero h =
+    let t = when_none (nat_lt index 256 && nat_le (sizes index) 65536) f.line (append_none (when (not (nat_lt index 256 && nat_le (sizes index) 65536)) TooLarge f.line) (large_functions sizes (index + 1) fs) e).0 in
+    let b = both (nat_lt index 256) (nat_le (sizes index) 65536) t in
+    subst (λ n. (n < 256) × (sizes n ≤ 65536)) (let z : index ≡ index + 0 = omega arith in z) (is_below index 256 b.0, is_at_most (sizes index) 65536 b.1)
+functions_kept sizes index (f ∷ fs) e (suc k) h =
+    let rest = (append_none (when (not (nat_lt index 256 && nat_le (sizes index) 65536)) TooLarge f.line) (large_functions sizes (index + 1) fs) e).1 in
+    subst (λ n. (n < 256) × (sizes n ≤ 65536)) (let z : index + 1 + k ≡ index + suc k = omega arith in z) (functions_kept sizes (index + 1) fs rest k (omega (arith, h)))
 
-functions_none : (sizes : ℕ → ℕ) (place : ℕ) (fs : List Function) → ((k : ℕ) → k < length fs → (place + k < 256) × (sizes (place + k) ≤ 65536)) → large_functions sizes place fs ≡ []
-functions_none sizes place [] h = refl
-functions_none sizes place (f ∷ fs) h =
-    let here = subst (λ n. (n < 256) × (sizes n ≤ 65536)) (let z : place + 0 ≡ place = omega arith in z) (h 0 (omega arith)) in
-    let t = both_are (nat_lt place 256) (nat_le (sizes place) 65536) (below_is place 256 here.0) (at_most_is (sizes place) 65536 here.1) in
-    let later = λ (k : ℕ) (l : k < length fs). subst (λ n. (n < 256) × (sizes n ≤ 65536)) (let z : place + suc k ≡ place + 1 + k = omega arith in z) (h (suc k) (omega (arith, l))) in
-    ap (λ b. when (not b) TooLarge f.line ++ large_functions sizes (place + 1) fs) t ∙ functions_none sizes (place + 1) fs later
+functions_none : (sizes : ℕ → ℕ) (index : ℕ) (fs : List Function) → ((k : ℕ) → k < length fs → (index + k < 256) × (sizes (index + k) ≤ 65536)) → large_functions sizes index fs ≡ []
+functions_none sizes index [] h = refl
+functions_none sizes index (f ∷ fs) h =
+    let here = subst (λ n. (n < 256) × (sizes n ≤ 65536)) (let z : index + 0 ≡ index = omega arith in z) (h 0 (omega arith)) in
+    let t = both_are (nat_lt index 256) (nat_le (sizes index) 65536) (below_is index 256 here.0) (at_most_is (sizes index) 65536 here.1) in
+    let later = λ (k : ℕ) (l : k < length fs). subst (λ n. (n < 256) × (sizes n ≤ 65536)) (let z : index + suc k ≡ index + 1 + k = omega arith in z) (h (suc k) (omega (arith, l))) in
+    ap (λ b. when (not b) TooLarge f.line ++ large_functions sizes (index + 1) fs) t ∙ functions_none sizes (index + 1) fs later
 
 few : (n : ℕ) → (0 < n → 0 + (n - 1) < 256) → n ≤ 256
 few zero h = omega arith

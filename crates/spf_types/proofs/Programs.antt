@@ -3,7 +3,7 @@ use Rattle.std.proofs.Common.{◌≡◌, ℕ, ◌+◌, ◌<◌, ◌≤◌, zero,
 use Rattle.std.specs.Option.{option_map}
 use Rattle.std.specs.Str.{bytes_eq}
 use Rattle.std.proofs.lemmas.Bool.Decides.{nat_tests}
-use Rattle.spf_types_names.specs.Names.{has, place_in}
+use Rattle.spf_types_names.specs.Names.{has, index_in}
 use Rattle.std.proofs.lemmas.List.{length-map, map-append, get_or-map, take_more, drop_all}
 use Rattle.spf_ast.specs.declared.syntax.Name as code_name
 use Rattle.spf_ast.specs.declared.syntax.Array as code_array
@@ -24,32 +24,32 @@ use Rattle.spf_types_names.proofs.Rows.{append_nil}
 use Rattle.spf_types_forms.proofs.Blocks.{scope_each-is}
 use Rattle.spf_types_names.proofs.Tables.{bytes_are, map_twice, global_named-seen}
 
--- the first of these names that is this one stands at this place
-abbrev pub is_place : Option ℕ → ℕ → Bool
-is_place (Some n) place = nat_eq n place
-is_place None place = false
+-- the first of these names that is this one stands at this index
+abbrev pub is_index : Option ℕ → ℕ → Bool
+is_index (Some n) index = nat_eq n index
+is_index None index = false
 
-shift : (o : Option ℕ) (place : ℕ) → is_place (option_map (λ n. n + 1) o) (suc place) ≡ is_place o place
-shift (Some n) place = grind (arith, nat_tests)
-shift None place = refl
+shift : (o : Option ℕ) (index : ℕ) → is_index (option_map (λ n. n + 1) o) (suc index) ≡ is_index o index
+shift (Some n) index = grind (arith, nat_tests)
+shift None index = refl
 
-zero_shift : (o : Option ℕ) → is_place (option_map (λ n. n + 1) o) 0 ≡ false
+zero_shift : (o : Option ℕ) → is_index (option_map (λ n. n + 1) o) 0 ≡ false
 zero_shift (Some n) = grind (arith, nat_tests)
 zero_shift None = refl
 
--- a name is that of an earlier one exactly where its first place is another
-pub is_earlier : (names : List (List ℕ)) (i : ℕ) (x : List ℕ) → i < length names → x ≡ get_or names i x → has (take i names) x ≡ not (is_place (place_in names x) i)
+-- a name is that of an earlier one exactly where its first index is another
+pub is_earlier : (names : List (List ℕ)) (i : ℕ) (x : List ℕ) → i < length names → x ≡ get_or names i x → has (take i names) x ≡ not (is_index (index_in names x) i)
 is_earlier [] i x h e = absurd (omega (arith, h))
-is_earlier (y ∷ ys) zero x h e = ap (λ b. not (is_place (cond b (Some 0) (option_map (λ n. n + 1) (place_in ys x))) 0)) (sym (ap (λ z. bytes_eq z x) (sym e) ∙ bytes_are x))
+is_earlier (y ∷ ys) zero x h e = ap (λ b. not (is_index (cond b (Some 0) (option_map (λ n. n + 1) (index_in ys x))) 0)) (sym (ap (λ z. bytes_eq z x) (sym e) ∙ bytes_are x))
 is_earlier (y ∷ ys) (suc i) x h e = step (bytes_eq y x) (is_earlier ys i x (omega (arith, h)) e)
   where
-    step : (b : Bool) → has (take i ys) x ≡ not (is_place (place_in ys x) i) → (b || has (take i ys) x) ≡ not (is_place (cond b (Some 0) (option_map (λ n. n + 1) (place_in ys x))) (suc i))
+    step : (b : Bool) → has (take i ys) x ≡ not (is_index (index_in ys x) i) → (b || has (take i ys) x) ≡ not (is_index (cond b (Some 0) (option_map (λ n. n + 1) (index_in ys x))) (suc i))
     step true k = grind (arith, nat_tests)
-    step false k = k ∙ ap not (sym (shift (place_in ys x) i))
+    step false k = k ∙ ap not (sym (shift (index_in ys x) i))
 
-has_is : (names : List (List ℕ)) (x : List ℕ) → has names x ≡ is_some (place_in names x)
+has_is : (names : List (List ℕ)) (x : List ℕ) → has names x ≡ is_some (index_in names x)
 has_is [] x = refl
-has_is (y ∷ ys) x = found_in (bytes_eq y x) (place_in ys x) (has ys x) (has_is ys x)
+has_is (y ∷ ys) x = found_in (bytes_eq y x) (index_in ys x) (has ys x) (has_is ys x)
   where
     found_in : (b : Bool) (o : Option ℕ) (h : Bool) → h ≡ is_some o → (b || h) ≡ is_some (cond b (Some 0) (option_map (λ n. n + 1) o))
     found_in true o h e = refl
@@ -64,15 +64,15 @@ has-append : (xs ys : List (List ℕ)) (x : List ℕ) → has (xs ++ ys) x ≡ (
 has-append [] ys x = refl
 has-append (y ∷ xs) ys x = ap (λ b. bytes_eq y x || b) (has-append xs ys x) ∙ sym (or_assoc (bytes_eq y x) (has xs x) (has ys x))
 
-array_place : (o q : Option ℕ) (i : ℕ) → is_array_at (either (option_map outer.Array o) (option_map outer.Function q)) i ≡ is_place o i
-array_place (Some n) q i = refl
-array_place None (Some n) i = refl
-array_place None None i = refl
+array_index : (o q : Option ℕ) (i : ℕ) → is_array_at (either (option_map outer.Array o) (option_map outer.Function q)) i ≡ is_index o i
+array_index (Some n) q i = refl
+array_index None (Some n) i = refl
+array_index None None i = refl
 
-function_place : (o q : Option ℕ) (i : ℕ) (h : Bool) → h ≡ not (is_place q i) → (is_some o || h) ≡ not (is_function_at (either (option_map outer.Array o) (option_map outer.Function q)) i)
-function_place (Some n) q i h e = refl
-function_place None (Some n) i h e = e
-function_place None None i h e = e
+function_index : (o q : Option ℕ) (i : ℕ) (h : Bool) → h ≡ not (is_index q i) → (is_some o || h) ≡ not (is_function_at (either (option_map outer.Array o) (option_map outer.Function q)) i)
+function_index (Some n) q i h e = refl
+function_index None (Some n) i h e = e
+function_index None None i h e = e
 
 -- ---- arrays
 
@@ -88,7 +88,7 @@ array_twice arrays functions g i a e h is =
     let l : i < length (map array_name arrays) = simp length-map h in
     let y : array_name a ≡ get_or (map array_name arrays) i (array_name a) = ap array_name is ∙ sym (get_or-map array_name arrays i a (array_name a) h) in
     is_earlier (map array_name arrays) i (array_name a) l y
-    ∙ ap not (sym (array_place (place_in (map array_name arrays) (array_name a)) (place_in (map function_name functions) (array_name a)) i)
+    ∙ ap not (sym (array_index (index_in (map array_name arrays) (array_name a)) (index_in (map function_name functions) (array_name a)) i)
     ∙ ap (λ o. is_array_at o i) (global_named-seen arrays functions (array_name a) ∙ ap (λ z. global_named z (array_name a)) (sym e)))
 
 -- the first i arrays were passed without a fault
@@ -115,7 +115,7 @@ function_twice arrays functions g i f e h is =
     let y : x ≡ get_or (map function_name functions) i x = ap function_name is ∙ sym (get_or-map function_name functions i f x h) in
     has-append g.arrays (take i (map function_name functions)) x
     ∙ ap (λ b. b || has (take i (map function_name functions)) x) (ap (λ (z : Globals). has z.arrays x) e ∙ ap (λ ns. has ns x) (sym (map_twice seen_array (λ (k : Array). k.name) arrays)) ∙ has_is (map array_name arrays) x)
-    ∙ function_place (place_in (map array_name arrays) x) (place_in (map function_name functions) x) i (has (take i (map function_name functions)) x) (is_earlier (map function_name functions) i x l y)
+    ∙ function_index (index_in (map array_name arrays) x) (index_in (map function_name functions) x) i (has (take i (map function_name functions)) x) (is_earlier (map function_name functions) i x l y)
     ∙ ap (λ o. not (is_function_at o i)) (global_named-seen arrays functions x ∙ ap (λ z. global_named z x) (sym e))
 
 pub record FunctionsBehind (g : Globals) (raw : List code_function.RawFunction) (done : List built_function.Function) (i : ℕ) : Type 0 where
@@ -123,21 +123,21 @@ pub record FunctionsBehind (g : Globals) (raw : List code_function.RawFunction) 
   pub forms : map (resolved_function g) (map raw_function raw) ≡ map function done ++ map (resolved_function g) (map raw_function (drop i raw))
 
 pub function_behind : (g : Globals) (raw : List code_function.RawFunction) (done : List built_function.Function) (i : ℕ) (f : code_function.RawFunction) → i < length raw → f ≡ get_or raw i f → FunctionsBehind g raw done i →
-    functions_faults g g.arrays 0 (map raw_function raw) ≡ when (has (g.arrays ++ take i (map function_name raw)) (function_name f)) Twice f.line ++ (function_faults (record { globals = g; place = i; in_main = false; in_loop = false }) (raw_function f) ++ functions_faults g (g.arrays ++ take (i + 1) (map function_name raw)) (i + 1) (map raw_function (drop (i + 1) raw)))
+    functions_faults g g.arrays 0 (map raw_function raw) ≡ when (has (g.arrays ++ take i (map function_name raw)) (function_name f)) Twice f.line ++ (function_faults (record { globals = g; index = i; in_main = false; in_loop = false }) (raw_function f) ++ functions_faults g (g.arrays ++ take (i + 1) (map function_name raw)) (i + 1) (map raw_function (drop (i + 1) raw)))
 function_behind g raw done i f h is so =
     so.faults ∙ ap (λ xs. functions_faults g (g.arrays ++ take i (map function_name raw)) i (map raw_function xs)) (item_at raw i f h is)
-    ∙ ap (λ ns. when (has (g.arrays ++ take i (map function_name raw)) (function_name f)) Twice f.line ++ (function_faults (record { globals = g; place = i; in_main = false; in_loop = false }) (raw_function f) ++ functions_faults g ns (i + 1) (map raw_function (drop (i + 1) raw))))
+    ∙ ap (λ ns. when (has (g.arrays ++ take i (map function_name raw)) (function_name f)) Twice f.line ++ (function_faults (record { globals = g; index = i; in_main = false; in_loop = false }) (raw_function f) ++ functions_faults g ns (i + 1) (map raw_function (drop (i + 1) raw))))
     (append_assoc g.arrays (take i (map function_name raw)) (function_name f ∷ []) ∙ ap (λ ns. g.arrays ++ ns) (sym (names_more function_name raw i f h is)))
 
 pub one_function : (g : Globals) (raw : List code_function.RawFunction) (done now : List built_function.Function) (i : ℕ) (f : code_function.RawFunction) (b : built_function.Function) → i < length raw → f ≡ get_or raw i f → FunctionsBehind g raw done i →
-    has (g.arrays ++ take i (map function_name raw)) (function_name f) ≡ false → function_faults (record { globals = g; place = i; in_main = false; in_loop = false }) (raw_function f) ≡ [] → function b ≡ resolved_function g (raw_function f) → now ≡ done ++ b ∷ [] → FunctionsBehind g raw now (i + 1)
+    has (g.arrays ++ take i (map function_name raw)) (function_name f) ≡ false → function_faults (record { globals = g; index = i; in_main = false; in_loop = false }) (raw_function f) ≡ [] → function b ≡ resolved_function g (raw_function f) → now ≡ done ++ b ∷ [] → FunctionsBehind g raw now (i + 1)
 one_function g raw done now i f b h is so new none form push =
     let rest = map (resolved_function g) (map raw_function (drop (i + 1) raw)) in
     let more = functions_faults g (g.arrays ++ take (i + 1) (map function_name raw)) (i + 1) (map raw_function (drop (i + 1) raw)) in
     record {
       faults =
           function_behind g raw done i f h is so
-          ∙ ap (λ t. when t Twice f.line ++ (function_faults (record { globals = g; place = i; in_main = false; in_loop = false }) (raw_function f) ++ more)) new
+          ∙ ap (λ t. when t Twice f.line ++ (function_faults (record { globals = g; index = i; in_main = false; in_loop = false }) (raw_function f) ++ more)) new
           ∙ ap (λ (fs : List Fault). fs ++ more) none;
       forms =
           so.forms ∙ ap (λ xs. map function done ++ map (resolved_function g) (map raw_function xs)) (item_at raw i f h is)

@@ -14,7 +14,7 @@ use Rattle.spf_ast.specs.Lawful as lawful
 use Rattle.spf_ast.specs.Lawful.{IsName, AreDifferent, Names, IsNew, names_taken, names_at, parameters, IsLawfulFunction, IsScoped, IsLawfulBlock, IsLawfulExpression}
 use Rattle.spf_ast.specs.Spelling.{Vocabulary, name_at, vocabulary, spelled_function, spelled, IsWritableStatement, IsWritableBlock, IsWritableArray, IsWritableFunction, IsWellFormed, holds_break}
 use Rattle.spf_types_names.specs.declared.globals.Outer.TheVariants as outer
-use Rattle.spf_types_names.specs.Names.{has, place_in}
+use Rattle.spf_types_names.specs.Names.{has, index_in}
 use Rattle.spf_types_names.specs.Globals.{Globals, globals_of, either}
 use Rattle.spf_types_names.specs.Locals as l
 use Rattle.spf_types_names.specs.Locals.{binding_of}
@@ -24,7 +24,7 @@ use Rattle.spf_types_names.specs.Resolved.{scope, free, names_of, names_in, reso
 use Rattle.spf_types_names.proofs.Tables.{same_bytes, bytes_are, map_twice}
 use Rattle.spf_types_names.proofs.Rows.{append_nil, declared_is}
 use Rattle.spf_types_forms.proofs.Blocks.{scope_each-is}
-use Rattle.spf_types_forms.proofs.Sound.{left_none, right_none, contains_here, contains_there, contains_cases, all_none, all_more, at_place, Holds, Fits, slots_of, fixed_slots, lawful_scope, no_when}
+use Rattle.spf_types_forms.proofs.Sound.{left_none, right_none, contains_here, contains_there, contains_cases, all_none, all_more, at_index, Holds, Fits, slots_of, fixed_slots, lawful_scope, no_when}
 use Rattle.spf_types_forms.proofs.SoundStatements.{Stand, stand_left, stand_right, is_new, one_more, declared_in_is, block_ok, value_ok}
 use Rattle.spf_types_forms.proofs.Alike.{Alike, new_along, alike_block, alike_expression, alike_end}
 
@@ -92,27 +92,27 @@ mutual
   names_in_written end h = all_none IsName
   names_in_written (on_line line st rest) h = all_append IsName (names_of st) (names_in rest) (names_written st h.0) (names_in_written rest h.1)
 
-place_step : (o : Option ℕ) (n : ℕ) → option_map (λ k. k + 1) o ≡ Some n → (k : ℕ) × (o ≡ Some k) × (n ≡ suc k)
-place_step (Some k) n e = (k, refl, let f : k + 1 ≡ n = cc in omega (arith, f))
-place_step None n e = cc
+index_step : (o : Option ℕ) (n : ℕ) → option_map (λ k. k + 1) o ≡ Some n → (k : ℕ) × (o ≡ Some k) × (n ≡ suc k)
+index_step (Some k) n e = (k, refl, let f : k + 1 ≡ n = cc in omega (arith, f))
+index_step None n e = cc
 
-found_at : (xs : List (List ℕ)) (x : List ℕ) (n : ℕ) → place_in xs x ≡ Some n → slice_get xs n ≡ Some x
+found_at : (xs : List (List ℕ)) (x : List ℕ) (n : ℕ) → index_in xs x ≡ Some n → slice_get xs n ≡ Some x
 found_at [] x n e = cc
 found_at (y ∷ ys) x n e = step (bytes_eq y x) refl e (λ k. found_at ys x k)
   where
-    step : (b : Bool) → bytes_eq y x ≡ b → cond b (Some 0) (option_map (λ k. k + 1) (place_in ys x)) ≡ Some n → ((k : ℕ) → place_in ys x ≡ Some k → slice_get ys k ≡ Some x) → slice_get (y ∷ ys) n ≡ Some x
+    step : (b : Bool) → bytes_eq y x ≡ b → cond b (Some 0) (option_map (λ k. k + 1) (index_in ys x)) ≡ Some n → ((k : ℕ) → index_in ys x ≡ Some k → slice_get ys k ≡ Some x) → slice_get (y ∷ ys) n ≡ Some x
     step true f h rec = let z : 0 ≡ n = cc in ap (slice_get (y ∷ ys)) (sym z) ∙ ap Some (same_bytes y x f)
-    step false f h rec = let p = place_step (place_in ys x) n h in ap (slice_get (y ∷ ys)) p.2 ∙ rec p.0 p.1
+    step false f h rec = let p = index_step (index_in ys x) n h in ap (slice_get (y ∷ ys)) p.2 ∙ rec p.0 p.1
 
 none_step : (b : Bool) (o : Option ℕ) → cond b (Some 0) (option_map (λ k. k + 1) o) ≡ None → (b ≡ false) × (o ≡ None)
 none_step true o e = cc
 none_step false (Some k) e = cc
 none_step false None e = (refl, refl)
 
-not_found : (xs : List (List ℕ)) (x : List ℕ) → place_in xs x ≡ None → Contains xs x → ⊥
+not_found : (xs : List (List ℕ)) (x : List ℕ) → index_in xs x ≡ None → Contains xs x → ⊥
 not_found [] x e h = omega (arith, h.1)
 not_found (y ∷ ys) x e h =
-    let p = none_step (bytes_eq y x) (place_in ys x) e in
+    let p = none_step (bytes_eq y x) (index_in ys x) e in
     elim (contains_cases y x ys h) [ inl same ↦ (let t : bytes_eq y x ≡ true = ap (bytes_eq y) (sym same) ∙ bytes_are y in let f = p.0 in cc) | inr later ↦ not_found ys x p.1 later ]
 
 array_in : (o q : Option ℕ) (n : ℕ) → either (option_map outer.Array o) (option_map outer.Function q) ≡ Some (outer.Array n) → o ≡ Some n
@@ -146,19 +146,19 @@ array_names p = map (λ (a : Array). a.name) p.arrays
 pub taken_is : (p : RawProgram) → names_taken (resolved p) ≡ map (λ (a : Array). a.name) p.arrays ++ map (λ (f : RawFunction). f.name) p.functions
 taken_is p = ap (λ ns. map (λ (a : Array). a.name) p.arrays ++ ns) (sym (map_twice (resolved_function (globals_of p.arrays p.functions)) (λ (f : Function). f.name) p.functions))
 
-pub fits_program : (p : RawProgram) (place : ℕ) (m : Bool) (slots : List (List ℕ)) → Fits (record { globals = globals_of p.arrays p.functions; place = place; in_main = m; in_loop = false }) (names_at (resolved p) place slots) (vocabulary (resolved p) slots)
-fits_program p place m slots =
+pub fits_program : (p : RawProgram) (index : ℕ) (m : Bool) (slots : List (List ℕ)) → Fits (record { globals = globals_of p.arrays p.functions; index = index; in_main = m; in_loop = false }) (names_at (resolved p) index slots) (vocabulary (resolved p) slots)
+fits_program p index m slots =
     let g = globals_of p.arrays p.functions in
     record {
       arrays = λ x n e.
-          let f = found_at g.arrays x n (array_in (place_in g.arrays x) (place_in g.functions x) n e) in
-          (omega (arith, within g.arrays n x f, length-map p.arrays (λ (a : Array). a.name)), at_place g.arrays n x [] f);
+          let f = found_at g.arrays x n (array_in (index_in g.arrays x) (index_in g.functions x) n e) in
+          (omega (arith, within g.arrays n x f, length-map p.arrays (λ (a : Array). a.name)), at_index g.arrays n x [] f);
       functions = λ x n e.
-          let f = found_at g.functions x n (function_in (place_in g.arrays x) (place_in g.functions x) n e) in
-          (params_at g p.functions n, ap (λ ns. name_at ns n) (sym (map_twice (resolved_function g) (λ (k : Function). k.name) p.functions)) ∙ at_place g.functions n x [] f);
-      place = refl;
+          let f = found_at g.functions x n (function_in (index_in g.arrays x) (index_in g.functions x) n e) in
+          (params_at g p.functions n, ap (λ ns. name_at ns n) (sym (map_twice (resolved_function g) (λ (k : Function). k.name) p.functions)) ∙ at_index g.functions n x [] f);
+      index = refl;
       taken = λ x e h.
-          let q = none_in (place_in g.arrays x) (place_in g.functions x) e in
+          let q = none_in (index_in g.arrays x) (index_in g.functions x) e in
           elim (contains_append g.arrays g.functions x (subst (λ ns. Contains ns x) (taken_is p) h)) [ inl a ↦ not_found g.arrays x q.0 a | inr b ↦ not_found g.functions x q.1 b ];
       slots = refl;
     }
@@ -188,16 +188,16 @@ different_functions g names k [] d h = subst AreDifferent (sym (append_nil names
 different_functions g names k (f ∷ fs) d h =
     subst AreDifferent (append_assoc names (f.name ∷ []) (map (λ (q : RawFunction). q.name) fs))
     (different_functions g (names ++ f.name ∷ []) (k + 1) fs (different_push names f.name d (no_when (has names f.name) _ f.line (left_none _ _ h)))
-    (right_none (function_faults (record { globals = g; place = k; in_main = false; in_loop = false }) f) _ (right_none (when (has names f.name) _ f.line) _ h)))
+    (right_none (function_faults (record { globals = g; index = k; in_main = false; in_loop = false }) f) _ (right_none (when (has names f.name) _ f.line) _ h)))
 
-functions_none : (g : Globals) (names : List (List ℕ)) (k : ℕ) (fs : List RawFunction) → functions_faults g names k fs ≡ [] → (i : ℕ) → IfSome (slice_get fs i) (λ f. function_faults (record { globals = g; place = k + i; in_main = false; in_loop = false }) f ≡ [])
+functions_none : (g : Globals) (names : List (List ℕ)) (k : ℕ) (fs : List RawFunction) → functions_faults g names k fs ≡ [] → (i : ℕ) → IfSome (slice_get fs i) (λ f. function_faults (record { globals = g; index = k + i; in_main = false; in_loop = false }) f ≡ [])
 functions_none g names k [] h i = tt
 functions_none g names k (f ∷ fs) h zero =
-    let q = left_none (function_faults (record { globals = g; place = k; in_main = false; in_loop = false }) f) _ (right_none (when (has names f.name) _ f.line) _ h) in
-    ap (λ n. function_faults (record { globals = g; place = n; in_main = false; in_loop = false }) f) (let e : k + 0 ≡ k = omega arith in e) ∙ q
+    let q = left_none (function_faults (record { globals = g; index = k; in_main = false; in_loop = false }) f) _ (right_none (when (has names f.name) _ f.line) _ h) in
+    ap (λ n. function_faults (record { globals = g; index = n; in_main = false; in_loop = false }) f) (let e : k + 0 ≡ k = omega arith in e) ∙ q
 functions_none g names k (f ∷ fs) h (suc i) =
-    let r = functions_none g (names ++ f.name ∷ []) (k + 1) fs (right_none (function_faults (record { globals = g; place = k; in_main = false; in_loop = false }) f) _ (right_none (when (has names f.name) _ f.line) _ h)) i in
-    subst (λ n. IfSome (slice_get fs i) (λ q. function_faults (record { globals = g; place = n; in_main = false; in_loop = false }) q ≡ [])) (let e : k + 1 + i ≡ k + suc i = omega arith in e) r
+    let r = functions_none g (names ++ f.name ∷ []) (k + 1) fs (right_none (function_faults (record { globals = g; index = k; in_main = false; in_loop = false }) f) _ (right_none (when (has names f.name) _ f.line) _ h)) i in
+    subst (λ n. IfSome (slice_get fs i) (λ q. function_faults (record { globals = g; index = n; in_main = false; in_loop = false }) q ≡ [])) (let e : k + 1 + i ≡ k + suc i = omega arith in e) r
 
 -- ---- parameters
 
@@ -265,13 +265,13 @@ may_break : (version : ℕ) (b : Bool) → (version ≡ 1) ⊎ (version ≡ 2) �
 may_break version b (inl e) h t = let f = h e in cc
 may_break version b (inr e) h t = e
 
-pub function_ok : (p : RawProgram) (place : ℕ) (f : RawFunction) → function_faults (record { globals = globals_of p.arrays p.functions; place = place; in_main = false; in_loop = false }) f ≡ [] → IsWrittenIn p f → IsLawfulFunction (resolved p) place (resolved_function (globals_of p.arrays p.functions) f) × (spelled_function (resolved p) (resolved_function (globals_of p.arrays p.functions) f) ≡ f)
-function_ok p place f h w =
+pub function_ok : (p : RawProgram) (index : ℕ) (f : RawFunction) → function_faults (record { globals = globals_of p.arrays p.functions; index = index; in_main = false; in_loop = false }) f ≡ [] → IsWrittenIn p f → IsLawfulFunction (resolved p) index (resolved_function (globals_of p.arrays p.functions) f) × (spelled_function (resolved p) (resolved_function (globals_of p.arrays p.functions) f) ≡ f)
+function_ok p index f h w =
     let g = globals_of p.arrays p.functions in
-    let here : Setting = record { globals = g; place = place; in_main = false; in_loop = false } in
+    let here : Setting = record { globals = g; index = index; in_main = false; in_loop = false } in
     let slots = f.params ++ names_in f.body in
-    let fits = fits_program p place false slots in
-    let names = names_at (resolved p) place slots in
+    let fits = fits_program p index false slots in
+    let names = names_at (resolved p) index slots in
     let v = vocabulary (resolved p) slots in
     let n = length f.params in
     let ls = z.with_each false [] 0 f.params in
@@ -313,27 +313,27 @@ program_ok p h w =
     let rest = right_none (arrays_faults [] p.arrays) _ h in
     let ff = left_none (functions_faults g g.arrays 0 p.functions) _ rest in
     let mf = right_none (functions_faults g g.arrays 0 p.functions) _ rest in
-    let each : (i : ℕ) → IfSome (slice_get p.functions i) (λ f. function_faults (record { globals = g; place = i; in_main = false; in_loop = false }) f ≡ []) = λ i. subst (λ q. IfSome (slice_get p.functions i) (λ f. function_faults (record { globals = g; place = q; in_main = false; in_loop = false }) f ≡ [])) (zero-add i) (functions_none g g.arrays 0 p.functions ff i) in
+    let each : (i : ℕ) → IfSome (slice_get p.functions i) (λ f. function_faults (record { globals = g; index = i; in_main = false; in_loop = false }) f ≡ []) = λ i. subst (λ q. IfSome (slice_get p.functions i) (λ f. function_faults (record { globals = g; index = q; in_main = false; in_loop = false }) f ≡ [])) (zero-add i) (functions_none g g.arrays 0 p.functions ff i) in
     let written : (i : ℕ) → IfSome (slice_get p.functions i) (IsWrittenIn p) = λ i. all_at (IsWrittenIn p) p.functions i (λ k d l. (w.functions k d l, may_break p.version _ w.version (λ e. w.breaks.functions e k d l))) in
     let slots = names_in p.main in
-    let here : Setting = record { globals = g; place = length p.functions; in_main = true; in_loop = false } in
+    let here : Setting = record { globals = g; index = length p.functions; in_main = true; in_loop = false } in
     let fits = fits_program p (length p.functions) true slots in
     let mo = block_ok here (names_at (resolved p) (length p.functions) slots) (vocabulary (resolved p) slots) [] 0 fits (record { there = tt; apart = tt }) p.main (stand_self slots) mf w.main (may_break p.version (holds_break p.main) w.version w.breaks.main) in
-    let place : length p.functions ≡ length (resolved p).functions = sym (length-map p.functions (resolved_function g)) in (
+    let index : length p.functions ≡ length (resolved p).functions = sym (length-map p.functions (resolved_function g)) in (
       record {
         taken_are_names = subst (All IsName) (sym (taken_is p)) (all_append IsName (map (λ (a : Array). a.name) p.arrays) (map (λ (f : RawFunction). f.name) p.functions) (all_map IsWritableArray IsName (λ (a : Array). a.name) p.arrays (λ a q. q.0) w.arrays) (all_map IsWritableFunction IsName (λ (f : RawFunction). f.name) p.functions (λ f q. q.0) w.functions));
         taken_are_different = subst AreDifferent (sym (taken_is p)) (different_functions g g.arrays 0 p.functions (different_arrays [] p.arrays tt af) ff);
         sizes = λ k d q. (let a = w.arrays k d q in (a.1, a.2));
-        functions = λ i. subst (λ o. IfSome o (IsLawfulFunction (resolved p) i)) (sym (slice_get-map (resolved_function g) p.functions i)) (if_both (slice_get p.functions i) (λ f. function_faults (record { globals = g; place = i; in_main = false; in_loop = false }) f ≡ []) (IsWrittenIn p) (IsLawfulFunction (resolved p) i) (resolved_function g) (each i) (written i) (λ f a b. (function_ok p i f a b).0));
+        functions = λ i. subst (λ o. IfSome o (IsLawfulFunction (resolved p) i)) (sym (slice_get-map (resolved_function g) p.functions i)) (if_both (slice_get p.functions i) (λ f. function_faults (record { globals = g; index = i; in_main = false; in_loop = false }) f ≡ []) (IsWrittenIn p) (IsLawfulFunction (resolved p) i) (resolved_function g) (each i) (written i) (λ f a b. (function_ok p i f a b).0));
         slots_are_names = names_in_written p.main w.main;
-        main = subst (λ q. IsLawfulBlock (names_at (resolved p) q slots) true (lawful_scope [] 0 false) (resolved_block g [] 0 p.main)) place mo.0;
+        main = subst (λ q. IsLawfulBlock (names_at (resolved p) q slots) true (lawful_scope [] 0 false) (resolved_block g [] 0 p.main)) index mo.0;
         slots = sym (declared_in_is g [] 0 p.main);
         version = w.version;
       },
       λ j. record {
         version = p.version;
         arrays = p.arrays;
-        functions = (sym (map_twice (resolved_function g) (spelled_function (resolved p)) p.functions) ∙ same_all (λ f. spelled_function (resolved p) (resolved_function g f)) p.functions (λ i. if_each (slice_get p.functions i) (λ f. function_faults (record { globals = g; place = i; in_main = false; in_loop = false }) f ≡ []) (IsWrittenIn p) (λ f. spelled_function (resolved p) (resolved_function g f) ≡ f) (each i) (written i) (λ f a b. (function_ok p i f a b).1))) j;
+        functions = (sym (map_twice (resolved_function g) (spelled_function (resolved p)) p.functions) ∙ same_all (λ f. spelled_function (resolved p) (resolved_function g f)) p.functions (λ i. if_each (slice_get p.functions i) (λ f. function_faults (record { globals = g; index = i; in_main = false; in_loop = false }) f ≡ []) (IsWrittenIn p) (λ f. spelled_function (resolved p) (resolved_function g f) ≡ f) (each i) (written i) (λ f a b. (function_ok p i f a b).1))) j;
         main = mo.1 j;
         main_line = p.main_line;
       },

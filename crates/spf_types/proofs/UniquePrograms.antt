@@ -10,11 +10,11 @@ use Rattle.spf_ast.specs.RawSyntax.{RawFunction}
 use Rattle.spf_ast.specs.Lawful.{Names, Scope, behind, showing, showing_fixed, showing_each, in_turn, in_body, in_producer, in_consumer, DeclaresEach, scope_after, declared, declared_in, AreDifferent, IsNew, IsLawfulStatement, IsLawfulBlock, IsLawfulFunction, IsScoped, names_at, names_taken, parameters}
 use Rattle.spf_ast.specs.Spelling.{Vocabulary, vocabulary, name_at, spelled_names, spelled_statement, spelled_block, spelled_function, spelled}
 use Rattle.spf_types_names.specs.declared.globals.Outer.TheVariants as outer
-use Rattle.spf_types_names.specs.Names.{place_in}
+use Rattle.spf_types_names.specs.Names.{index_in}
 use Rattle.spf_types_names.specs.Globals.{Globals, globals_of, either, global_named}
 use Rattle.spf_types_names.specs.Locals as l
 use Rattle.spf_types_names.specs.Resolved as z
-use Rattle.spf_types_names.specs.Resolved.{free, place_of, names_of, names_in, resolved_function, resolved}
+use Rattle.spf_types_names.specs.Resolved.{free, index_of, names_of, names_in, resolved_function, resolved}
 use Rattle.spf_types_names.proofs.Tables.{same_bytes, bytes_are, map_twice}
 use Rattle.spf_types_forms.proofs.Sound.{contains_here, contains_there, contains_cases}
 use Rattle.spf_types_forms.proofs.SoundStatements.{Stand, stand_left}
@@ -98,16 +98,16 @@ in_list [] a h = absurd (omega (arith, h))
 in_list (y ∷ ys) zero h = contains_here y y ys refl
 in_list (y ∷ ys) (suc a) h = contains_there y (name_at ys a) ys (in_list ys a (omega (arith, h)))
 
-past_first : (x : List ℕ) (xs : List (List ℕ)) (y : List ℕ) (a : ℕ) (b : Bool) → bytes_eq x y ≡ b → (Contains xs x → ⊥) → Contains xs y → place_in xs y ≡ Some a → cond b (Some 0) (option_map (λ n. n + 1) (place_in xs y)) ≡ Some (suc a)
+past_first : (x : List ℕ) (xs : List (List ℕ)) (y : List ℕ) (a : ℕ) (b : Bool) → bytes_eq x y ≡ b → (Contains xs x → ⊥) → Contains xs y → index_in xs y ≡ Some a → cond b (Some 0) (option_map (λ n. n + 1) (index_in xs y)) ≡ Some (suc a)
 past_first x xs y a true e d c p = absurd (d (subst (λ k. Contains xs k) (sym (same_bytes x y e)) c))
 past_first x xs y a false e d c p = ap (option_map (λ n. n + 1)) p ∙ ap Some (let q : a + 1 ≡ suc a = omega arith in q)
 
-place_back : (xs : List (List ℕ)) (a : ℕ) → AreDifferent xs → a < length xs → place_in xs (name_at xs a) ≡ Some a
-place_back [] a d h = absurd (omega (arith, h))
-place_back (x ∷ xs) zero d h = ap (λ b. cond b (Some 0) (option_map (λ n. n + 1) (place_in xs x))) (bytes_are x)
-place_back (x ∷ xs) (suc a) d h =
+index_back : (xs : List (List ℕ)) (a : ℕ) → AreDifferent xs → a < length xs → index_in xs (name_at xs a) ≡ Some a
+index_back [] a d h = absurd (omega (arith, h))
+index_back (x ∷ xs) zero d h = ap (λ b. cond b (Some 0) (option_map (λ n. n + 1) (index_in xs x))) (bytes_are x)
+index_back (x ∷ xs) (suc a) d h =
     let k : a < length xs = omega (arith, h) in
-    past_first x xs (name_at xs a) a (bytes_eq x (name_at xs a)) refl d.0 (in_list xs a k) (place_back xs a d.1 k)
+    past_first x xs (name_at xs a) a (bytes_eq x (name_at xs a)) refl d.0 (in_list xs a k) (index_back xs a d.1 k)
 
 pub contains_left : (xs ys : List (List ℕ)) (x : List ℕ) → Contains xs x → Contains (xs ++ ys) x
 contains_left [] ys x h = absurd (omega (arith, h.1))
@@ -129,32 +129,32 @@ pub absent : (x : List ℕ) (y : List ℕ) (b : Bool) (o : Option ℕ) → bytes
 absent x y true o e never p = absurd (never (same_bytes x y e))
 absent x y false o e never p = ap (option_map (λ n. n + 1)) p
 
-not_in_front : (xs ys : List (List ℕ)) (y : List ℕ) → AreDifferent (xs ++ ys) → Contains ys y → place_in xs y ≡ None
+not_in_front : (xs ys : List (List ℕ)) (y : List ℕ) → AreDifferent (xs ++ ys) → Contains ys y → index_in xs y ≡ None
 not_in_front [] ys y d c = refl
 not_in_front (x ∷ xs) ys y d c =
-    absent x y (bytes_eq x y) (place_in xs y) refl (λ e. d.0 (subst (λ k. Contains (xs ++ ys) k) (sym e) (contains_right xs ys y c))) (not_in_front xs ys y d.1 c)
+    absent x y (bytes_eq x y) (index_in xs y) refl (λ e. d.0 (subst (λ k. Contains (xs ++ ys) k) (sym e) (contains_right xs ys y c))) (not_in_front xs ys y d.1 c)
 
-place_in_place : (g : Globals) (x : List ℕ) (n : ℕ) → global_named g x ≡ Some (outer.Array n) → place_of g x ≡ n
-place_in_place g x n e = rw e refl
+index_in_index : (g : Globals) (x : List ℕ) (n : ℕ) → global_named g x ≡ Some (outer.Array n) → index_of g x ≡ n
+index_in_index g x n e = rw e refl
 
-function_in_place : (g : Globals) (x : List ℕ) (n : ℕ) → global_named g x ≡ Some (outer.Function n) → place_of g x ≡ n
-function_in_place g x n e = rw e refl
+function_in_index : (g : Globals) (x : List ℕ) (n : ℕ) → global_named g x ≡ Some (outer.Function n) → index_of g x ≡ n
+function_in_index g x n e = rw e refl
 
 pub array_named : (g : Globals) (a : ℕ) → AreDifferent (g.arrays ++ g.functions) → a < length g.arrays → global_named g (name_at g.arrays a) ≡ Some (outer.Array a)
 array_named g a d h =
-    ap (λ o. either (option_map outer.Array o) (option_map outer.Function (place_in g.functions (name_at g.arrays a)))) (place_back g.arrays a (different_left g.arrays g.functions d) h)
+    ap (λ o. either (option_map outer.Array o) (option_map outer.Function (index_in g.functions (name_at g.arrays a)))) (index_back g.arrays a (different_left g.arrays g.functions d) h)
 
 pub function_named : (g : Globals) (f : ℕ) → AreDifferent (g.arrays ++ g.functions) → f < length g.functions → global_named g (name_at g.functions f) ≡ Some (outer.Function f)
 function_named g f d h =
-    let p = place_back g.functions f (different_right g.arrays g.functions d) h in
+    let p = index_back g.functions f (different_right g.arrays g.functions d) h in
     let q = not_in_front g.arrays g.functions (name_at g.functions f) d (in_list g.functions f h) in
     λ j. either (option_map outer.Array (q j)) (option_map outer.Function (p j))
 
-array_back : (g : Globals) (a : ℕ) → AreDifferent (g.arrays ++ g.functions) → a < length g.arrays → place_of g (name_at g.arrays a) ≡ a
-array_back g a d h = place_in_place g (name_at g.arrays a) a (array_named g a d h)
+array_back : (g : Globals) (a : ℕ) → AreDifferent (g.arrays ++ g.functions) → a < length g.arrays → index_of g (name_at g.arrays a) ≡ a
+array_back g a d h = index_in_index g (name_at g.arrays a) a (array_named g a d h)
 
-function_back : (g : Globals) (f : ℕ) → AreDifferent (g.arrays ++ g.functions) → f < length g.functions → place_of g (name_at g.functions f) ≡ f
-function_back g f d h = function_in_place g (name_at g.functions f) f (function_named g f d h)
+function_back : (g : Globals) (f : ℕ) → AreDifferent (g.arrays ++ g.functions) → f < length g.functions → index_of g (name_at g.functions f) ≡ f
+function_back g f d h = function_in_index g (name_at g.functions f) f (function_named g f d h)
 
 -- the arrays and functions of a program's spelling
 abbrev pub globals_back : Program → Globals
@@ -163,13 +163,13 @@ globals_back p = globals_of p.arrays (map (spelled_function p) p.functions)
 pub functions_are : (p : Program) → map (λ (f : Function). f.name) p.functions ≡ (globals_back p).functions
 functions_are p = map_twice (spelled_function p) (λ (f : RawFunction). f.name) p.functions
 
-pub back_program : (p : Program) (place : ℕ) (slots : List (List ℕ)) → AreDifferent (names_taken p) → place ≤ length p.functions → Back (globals_back p) (names_at p place slots) (vocabulary p slots)
-back_program p place slots d h =
+pub back_program : (p : Program) (index : ℕ) (slots : List (List ℕ)) → AreDifferent (names_taken p) → index ≤ length p.functions → Back (globals_back p) (names_at p index slots) (vocabulary p slots)
+back_program p index slots d h =
     let g = globals_back p in
     let e : AreDifferent (g.arrays ++ g.functions) = subst (λ ns. AreDifferent (g.arrays ++ ns)) (functions_are p) d in
     record {
       arrays = λ a k. array_back g a e (omega (arith, length-map p.arrays (λ (a : Array). a.name), k));
-      functions = λ f count k. ap (λ ns. place_of g (name_at ns f)) (functions_are p) ∙ function_back g f e (let n : length g.functions ≡ length p.functions = ap length (sym (functions_are p)) ∙ length-map p.functions (λ (f : Function). f.name) in omega (arith, n, k.0, h));
+      functions = λ f count k. ap (λ ns. index_of g (name_at ns f)) (functions_are p) ∙ function_back g f e (let n : length g.functions ≡ length p.functions = ap length (sym (functions_are p)) ∙ length-map p.functions (λ (f : Function). f.name) in omega (arith, n, k.0, h));
       slots = refl;
     }
 
@@ -187,12 +187,12 @@ finds_params names ls n finds (x ∷ xs) k new =
     subst (λ q. Finds names.slots (z.with_each false (free x n ∷ ls) (n + 1) xs) (range_with_len 0 q)) (let e : n + 1 + length xs ≡ n + length (x ∷ xs) = omega arith in e)
     (finds_params names (free x n ∷ ls) (n + 1) (λ slot c. more slot (range_step n slot c)) xs k.1 (λ slot a b. new slot (omega (arith, a)) (omega (arith, b))))
 
-pub function_same : (p : Program) (place : ℕ) (f : Function) → AreDifferent (names_taken p) → place ≤ length p.functions → IsLawfulFunction p place f → resolved_function (globals_back p) (spelled_function p f) ≡ f
-function_same p place f d h w =
+pub function_same : (p : Program) (index : ℕ) (f : Function) → AreDifferent (names_taken p) → index ≤ length p.functions → IsLawfulFunction p index f → resolved_function (globals_back p) (spelled_function p f) ≡ f
+function_same p index f d h w =
     let g = globals_back p in
-    let names = names_at p place f.slots in
+    let names = names_at p index f.slots in
     let v = vocabulary p f.slots in
-    let back = back_program p place f.slots d h in
+    let back = back_program p index f.slots d h in
     let params = take f.params f.slots in
     let sl = w.slots in
     let n : length params ≡ f.params = omega (arith, length-take f.params f.slots, sl) in
@@ -215,13 +215,13 @@ function_same p place f d h w =
 
 -- ---- programs
 
-pub place_inside : (xs : List Function) (k : ℕ) (x : Function) → slice_get xs k ≡ Some x → k < length xs
-place_inside [] k x e = cc
-place_inside (y ∷ ys) zero x e = omega arith
-place_inside (y ∷ ys) (suc k) x e = let r = place_inside ys k x e in omega (arith, r)
+pub index_inside : (xs : List Function) (k : ℕ) (x : Function) → slice_get xs k ≡ Some x → k < length xs
+index_inside [] k x e = cc
+index_inside (y ∷ ys) zero x e = omega arith
+index_inside (y ∷ ys) (suc k) x e = let r = index_inside ys k x e in omega (arith, r)
 
 each_same : (p : Program) → AreDifferent (names_taken p) → (o : Option Function) (i : ℕ) → slice_get p.functions i ≡ o → IfSome o (IsLawfulFunction p i) → IfSome o (λ f. resolved_function (globals_back p) (spelled_function p f) ≡ f)
-each_same p d (Some f) i e h = function_same p i f d (let k = place_inside p.functions i f e in omega (arith, k)) h
+each_same p d (Some f) i e h = function_same p i f d (let k = index_inside p.functions i f e in omega (arith, k)) h
 each_same p d None i e h = tt
 
 pub program_same : (main_line : ℕ) (p : Program) → IsScoped p → resolved (spelled main_line p) ≡ p

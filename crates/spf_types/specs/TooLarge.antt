@@ -13,11 +13,11 @@ large_array a = record { what = TooLarge; line = a.line }
 abbrev pub large_arrays : List Array → List Fault
 large_arrays arrays = map large_array (drop 64 arrays)
 
--- the functions from a place on that come after the 256th or have a size over 65,536
+-- the functions from an index on that come after the 256th or have a size over 65,536
 abbrev pub large_functions : (ℕ → ℕ) → ℕ → List Function → List Fault
-large_functions sizes place [] = []
-large_functions sizes place (f ∷ rest) =
-    when (not (nat_lt place 256 && nat_le (sizes place) 65536)) TooLarge f.line ++ large_functions sizes (place + 1) rest
+large_functions sizes index [] = []
+large_functions sizes index (f ∷ rest) =
+    when (not (nat_lt index 256 && nat_le (sizes index) 65536)) TooLarge f.line ++ large_functions sizes (index + 1) rest
 
 -- whether `main` keeps the limits of size, depth and slots
 abbrev pub is_main_small : Program → Bool

@@ -34,11 +34,11 @@ fn too_large(line: u32) -> TypeError
     TypeError::Refused { fault, line }
 }
 
-/// Returns whether the function at a place keeps the limits.
-fn is_function_small(place: usize, size: Size) -> bool
-    ensures { result ≡ (nat_lt place 256 && nat_le size.nodes 65536) }
+/// Returns whether the function at an index keeps the limits.
+fn is_function_small(index: usize, size: Size) -> bool
+    ensures { result ≡ (nat_lt index 256 && nat_le size.nodes 65536) }
 {
-    place < MAX_FUNCTIONS && size.nodes <= MAX_SIZE
+    index < MAX_FUNCTIONS && size.nodes <= MAX_SIZE
 }
 
 /// Returns whether `main` keeps the limits.
@@ -57,9 +57,9 @@ fn sizes_of(alloc: Global, functions: &[Function]) -> Result<Vec<Size>, TypeErro
         (λ v. IsTable (all_counts (map seen_function functions.now)) v.items) }
 {
     let mut sizes = Vec::new(alloc);
-    for (place, function) in functions.iter().enumerate() {
+    for (index, function) in functions.iter().enumerate() {
         let size = function_size(&sizes, function);
-        if !is_function_small(place, size) {
+        if !is_function_small(index, size) {
             return Err(too_large(function.line));
         }
         sizes.push(with_slots(size, function.slots.len()))?;

@@ -47,8 +47,8 @@ fn new_arrays<'a>(
     requires { globals.now ≡ globals_of (map seen_array raw.now) (map raw_function functions.now) }
     ensures { Answers (arrays_faults [] (map seen_array raw.now)) (λ _. tt {0}) (tt {0}) result }
 {
-    for (place, array) in raw.iter().enumerate() {
-        if !is_array(globals, &array.name, place) {
+    for (index, array) in raw.iter().enumerate() {
+        if !is_array(globals, &array.name, index) {
             let fault = TypeFault::Twice;
             let line = array.line;
             return Err(TypeError::Refused { fault, line });
@@ -57,22 +57,22 @@ fn new_arrays<'a>(
     Ok(())
 }
 
-/// Returns whether a name stands for the array at a place.
-fn is_array<'a>(globals: &GlobalTable<'a>, name: &'a Name, place: usize) -> bool
-    ensures { result ≡ is_array_at (global_named globals.now (seen_name name.now)) place }
+/// Returns whether a name stands for the array at an index.
+fn is_array<'a>(globals: &GlobalTable<'a>, name: &'a Name, index: usize) -> bool
+    ensures { result ≡ is_array_at (global_named globals.now (seen_name name.now)) index }
 {
     match globals.find(name) {
-        Some(Outer::Array(first)) => first as usize == place,
+        Some(Outer::Array(first)) => first as usize == index,
         _ => false,
     }
 }
 
-/// Returns whether a name stands for the function at a place.
-fn is_function<'a>(globals: &GlobalTable<'a>, name: &'a Name, place: usize) -> bool
-    ensures { result ≡ is_function_at (global_named globals.now (seen_name name.now)) place }
+/// Returns whether a name stands for the function at an index.
+fn is_function<'a>(globals: &GlobalTable<'a>, name: &'a Name, index: usize) -> bool
+    ensures { result ≡ is_function_at (global_named globals.now (seen_name name.now)) index }
 {
     match globals.find(name) {
-        Some(Outer::Function(first)) => first as usize == place,
+        Some(Outer::Function(first)) => first as usize == index,
         _ => false,
     }
 }
@@ -118,8 +118,8 @@ fn functions_of<'a>(
         (map (resolved_function globals.now) (map raw_function raw.now)) result }
 {
     let mut functions = Vec::new(alloc);
-    for (place, function) in raw.iter().enumerate() {
-        if !is_function(globals, &function.name, place) {
+    for (index, function) in raw.iter().enumerate() {
+        if !is_function(globals, &function.name, index) {
             let fault = TypeFault::Twice;
             let line = function.line;
             return Err(TypeError::Refused { fault, line });
@@ -127,7 +127,7 @@ fn functions_of<'a>(
         let here = Here {
             alloc,
             globals,
-            place,
+            index,
             in_main: false,
             in_loop: false,
         };
@@ -155,7 +155,7 @@ fn parts_of(alloc: Global, raw: &RawProgram) -> Result<Parts, TypeError>
     let here = Here {
         alloc,
         globals: &globals,
-        place: functions.len(),
+        index: functions.len(),
         in_main: true,
         in_loop: false,
     };

@@ -22,7 +22,7 @@ use Rattle.spf_ast.specs.declared.raw.RawPair as code_pair
 use Rattle.spf_types_names.specs.Globals.{Globals}
 use Rattle.spf_types_names.specs.Locals.{Local}
 use Rattle.spf_types_names.specs.Faults.{Setting, Scope, Fault, Value, arguments_faults, expression_faults, predictor_faults, predictors_faults, width_faults, fold_widths_faults, pair_widths_faults, called_faults, count_of, no_truth, a_number}
-use Rattle.spf_types_names.specs.Resolved.{scope, place_of, resolved_expression, resolved_arguments, resolved_predictor, resolved_predictors}
+use Rattle.spf_types_names.specs.Resolved.{scope, index_of, resolved_expression, resolved_arguments, resolved_predictor, resolved_predictors}
 use Rattle.spf_types_names.proofs.Rows.{item_at, append_nil}
 
 -- these expressions, and then arguments
@@ -78,10 +78,10 @@ call_faults here s line wanted raw f given n is count =
     ∙ ap (λ m. called_faults here s line (name f) m (no_truth wanted line) ++ arguments_faults here s line (raw_arguments given.items)) (count_of_raw given.items ∙ sym count)
 
 -- what a call stands for
-pub call_form : (g : Globals) (ls : List Local) (raw : RawExpr) (f : Name) (given : Vec RawExpr Global) (place : ℕ) (done : Vec Expr Global) → raw ≡ e.Call f given → place ≡ place_of g (name f) → arguments done.items ≡ resolved_arguments g ls (raw_arguments given.items) →
-    expression (x.Call place done) ≡ resolved_expression g ls (raw_expression raw)
-call_form g ls raw f given place done is at so =
-    expression-call place done ∙ ap (λ n. Call n (arguments done.items)) at ∙ ap (Call (place_of g (name f))) so
+pub call_form : (g : Globals) (ls : List Local) (raw : RawExpr) (f : Name) (given : Vec RawExpr Global) (index : ℕ) (done : Vec Expr Global) → raw ≡ e.Call f given → index ≡ index_of g (name f) → arguments done.items ≡ resolved_arguments g ls (raw_arguments given.items) →
+    expression (x.Call index done) ≡ resolved_expression g ls (raw_expression raw)
+call_form g ls raw f given index done is at so =
+    expression-call index done ∙ ap (λ n. Call n (arguments done.items)) at ∙ ap (Call (index_of g (name f))) so
     ∙ sym (ap (λ r. resolved_expression g ls (raw_expression r)) is ∙ ap (resolved_expression g ls) (raw_expression-call f given))
 
 -- ---- predictors

@@ -21,7 +21,7 @@ use Rattle.spf_types_names.specs.Faults as f
 use Rattle.spf_types_names.proofs.Tables.{same_bytes, bytes_are}
 use Rattle.spf_types_forms.proofs.Alike.{all_along, to_front, from_front, each_is_there, there_is_each}
 use Rattle.spf_types_forms.proofs.Steps.{none_in}
-use Rattle.spf_types_forms.proofs.Sound.{contains_here, contains_there, contains_cases, at_place}
+use Rattle.spf_types_forms.proofs.Sound.{contains_here, contains_there, contains_cases, at_index}
 
 -- ---- what a scope of names shows
 
@@ -107,7 +107,7 @@ shows_in slots one other fixed more sc there back wide shows = record {
 pub record Known (here : Setting) (names : Names) (v : Vocabulary) : Type 0 where
   pub arrays : (a : ℕ) → a < names.arrays → global_named here.globals (name_at v.arrays a) ≡ Some (outer.Array a)
   pub functions : (k count : ℕ) → IsCallable names k count → (global_named here.globals (name_at v.functions k) ≡ Some (outer.Function k)) × (count ≡ params_of here.globals k)
-  pub place : names.place ≡ here.place
+  pub index : names.index ≡ here.index
   pub untaken : (x : List ℕ) → (Contains names.taken x → ⊥) → global_named here.globals x ≡ None
   pub slots : v.slots ≡ names.slots
 
@@ -122,7 +122,7 @@ assigned_in here sc line x true e never = absurd (never refl)
 assigned_in here sc line x false e never = rw e refl
 
 named : (here : Setting) (names : Names) (v : Vocabulary) (fixed : List ℕ) (sc : Scope) (slot : ℕ) → Known here names v → (s : Shown names.slots fixed sc slot) → s.name ≡ name_at v.slots slot
-named here names v fixed sc slot known s = sym (ap (λ sl. name_at sl slot) known.slots ∙ at_place names.slots slot s.name [] s.there)
+named here names v fixed sc slot known s = sym (ap (λ sl. name_at sl slot) known.slots ∙ at_index names.slots slot s.name [] s.there)
 
 used_none : (here : Setting) (names : Names) (v : Vocabulary) (s : w.Scope) (sc : Scope) (line slot : ℕ) → Known here names v → Shows names.slots s.visible s.fixed sc → Contains s.visible slot → used_faults here sc line (name_at v.slots slot) ≡ []
 used_none here names v s sc line slot known shows h =
@@ -140,8 +140,8 @@ indexed_in here sc line x n e = rw e refl
 callee_in : (here : Setting) (sc : Scope) (line : ℕ) (x : List ℕ) (n count : ℕ) → global_named here.globals x ≡ Some (outer.Function n) → nat_eq count (params_of here.globals n) ≡ true → callee_faults here sc line x count ≡ []
 callee_in here sc line x n count e h = rw e (when_not (nat_eq count (params_of here.globals n)) Arity line h)
 
-later_in : (here : Setting) (line : ℕ) (x : List ℕ) (n : ℕ) → global_named here.globals x ≡ Some (outer.Function n) → nat_lt n here.place ≡ true → later_faults here line x ≡ []
-later_in here line x n e h = rw e (when_not (nat_lt n here.place) CallsLater line h)
+later_in : (here : Setting) (line : ℕ) (x : List ℕ) (n : ℕ) → global_named here.globals x ≡ Some (outer.Function n) → nat_lt n here.index ≡ true → later_faults here line x ≡ []
+later_in here line x n e h = rw e (when_not (nat_lt n here.index) CallsLater line h)
 
 same_numbers : (a b : ℕ) → a ≡ b → nat_eq a b ≡ true
 same_numbers a b e = grind (arith, nat_tests)
@@ -152,10 +152,10 @@ is_below a b e = grind (arith, nat_tests)
 called_none : (here : Setting) (names : Names) (v : Vocabulary) (sc : Scope) (line k count same : ℕ) → Known here names v → IsCallable names k same → count ≡ same → called_faults here sc line (name_at v.functions k) count [] ≡ []
 called_none here names v sc line k count same known h e =
     let x = known.functions k same h in
-    let p = known.place in
+    let p = known.index in
     none_in (callee_faults here sc line (name_at v.functions k) count) (later_faults here line (name_at v.functions k))
     (callee_in here sc line (name_at v.functions k) k count x.0 (same_numbers count (params_of here.globals k) (e ∙ x.1)))
-    (later_in here line (name_at v.functions k) k x.0 (is_below k here.place (omega (arith, h.0, p))))
+    (later_in here line (name_at v.functions k) k x.0 (is_below k here.index (omega (arith, h.0, p))))
 
 -- a slot that is declared has its name, which is a new one
 pub record IsFresh (names : Names) (visible : List ℕ) (slot : ℕ) (x : List ℕ) : Type 0 where
@@ -223,7 +223,7 @@ predictors_none here names v s sc line known shows (p ∷ ps) h = none_in _ _ (p
 
 -- in a loop or not, the same is visible in the whole program
 known_in : (here : Setting) (names : Names) (v : Vocabulary) (in_loop : Bool) → Known here names v → Known (record here { in_loop = in_loop }) names v
-known_in here names v in_loop known = record { arrays = known.arrays; functions = known.functions; place = known.place; untaken = known.untaken; slots = known.slots }
+known_in here names v in_loop known = record { arrays = known.arrays; functions = known.functions; index = known.index; untaken = known.untaken; slots = known.slots }
 
 -- what a statement or a block may rest on: the scope of names shows the slots, there is room for those that it declares, and it is in a loop or not
 pub record Ready (here : Setting) (names : Names) (s : w.Scope) (sc : Scope) (count : ℕ) : Type 0 where

@@ -18,7 +18,7 @@ use Rattle.spf_types_names.specs.Locals as l
 use Rattle.spf_types_names.specs.Locals.{binding_of}
 use Rattle.spf_types_names.specs.LocalsView.{AreApart}
 use Rattle.spf_types_names.specs.Faults.{Setting, Fault, Scope, when, local_named, used_faults, indexed_faults, callee_faults, later_faults, called_faults, expression_faults, arguments_faults, count_of, a_number, a_truth}
-use Rattle.spf_types_names.specs.Resolved.{scope, slot_of, place_of, resolved_expression, resolved_arguments, resolved_condition}
+use Rattle.spf_types_names.specs.Resolved.{scope, slot_of, index_of, resolved_expression, resolved_arguments, resolved_condition}
 use Rattle.spf_types_names.proofs.Tables.{same_bytes, bytes_are}
 use Rattle.spf_types_names.proofs.Scopes.{is_local_is}
 
@@ -49,10 +49,10 @@ pub all_more : {A : Type 0} (P : A → Type 0) (x : A) (xs : List A) → P x →
 all_more P x xs p ps zero d h = p
 all_more P x xs p ps (suc k) d h = ps k d (omega (arith, h))
 
-pub at_place : {A : Type 0} (xs : List A) (k : ℕ) (x d : A) → slice_get xs k ≡ Some x → slice_index_or xs k d ≡ x
-at_place [] k x d e = cc
-at_place (y ∷ ys) zero x d e = cc
-at_place (y ∷ ys) (suc k) x d e = at_place ys k x d e
+pub at_index : {A : Type 0} (xs : List A) (k : ℕ) (x d : A) → slice_get xs k ≡ Some x → slice_index_or xs k d ≡ x
+at_index [] k x d e = cc
+at_index (y ∷ ys) zero x d e = cc
+at_index (y ∷ ys) (suc k) x d e = at_index ys k x d e
 
 -- ---- locals
 
@@ -107,7 +107,7 @@ new_there slots (v ∷ ls) x h e = new_step slots v ls x (bytes_eq v.name x) ref
 pub record Fits (here : Setting) (names : Names) (v : Vocabulary) : Type 0 where
   pub arrays : (x : List ℕ) (n : ℕ) → global_named here.globals x ≡ Some (outer.Array n) → (n < names.arrays) × (name_at v.arrays n ≡ x)
   pub functions : (x : List ℕ) (n : ℕ) → global_named here.globals x ≡ Some (outer.Function n) → IfSome (slice_get names.functions n) (λ f. f.params ≡ params_of here.globals n) × (name_at v.functions n ≡ x)
-  pub place : names.place ≡ here.place
+  pub index : names.index ≡ here.index
   pub taken : (x : List ℕ) → global_named here.globals x ≡ None → Contains names.taken x → ⊥
   pub slots : v.slots ≡ names.slots
 
@@ -145,10 +145,10 @@ callee_in here sc line x count None e h = let k = rw e at h in cc
 pub callee_is : (here : Setting) (sc : Scope) (line : ℕ) (x : List ℕ) (count : ℕ) → callee_faults here sc line x count ≡ [] → (n : ℕ) × (global_named here.globals x ≡ Some (outer.Function n)) × (count ≡ params_of here.globals n)
 callee_is here sc line x count h = callee_in here sc line x count (global_named here.globals x) refl h
 
-pub later_is : (here : Setting) (line : ℕ) (x : List ℕ) (n : ℕ) → global_named here.globals x ≡ Some (outer.Function n) → later_faults here line x ≡ [] → n < here.place
+pub later_is : (here : Setting) (line : ℕ) (x : List ℕ) (n : ℕ) → global_named here.globals x ≡ Some (outer.Function n) → later_faults here line x ≡ [] → n < here.index
 later_is here line x n e h =
     let k = rw e at h in
-    let t = no_when (not (nat_lt n here.place)) CallsLater line k in
+    let t = no_when (not (nat_lt n here.index)) CallsLater line k in
     grind (arith, nat_tests)
 
 -- ---- expressions
@@ -156,11 +156,11 @@ later_is here line x n e h =
 slot_is : (ls : List l.Local) (x : List ℕ) (b : Binding) → binding_of ls x ≡ Some b → slot_of ls x ≡ b.slot
 slot_is ls x b e = rw e refl
 
-array_place_is : (g : Globals) (x : List ℕ) (n : ℕ) → global_named g x ≡ Some (outer.Array n) → place_of g x ≡ n
-array_place_is g x n e = rw e refl
+array_index_is : (g : Globals) (x : List ℕ) (n : ℕ) → global_named g x ≡ Some (outer.Array n) → index_of g x ≡ n
+array_index_is g x n e = rw e refl
 
-function_place_is : (g : Globals) (x : List ℕ) (n : ℕ) → global_named g x ≡ Some (outer.Function n) → place_of g x ≡ n
-function_place_is g x n e = rw e refl
+function_index_is : (g : Globals) (x : List ℕ) (n : ℕ) → global_named g x ≡ Some (outer.Function n) → index_of g x ≡ n
+function_index_is g x n e = rw e refl
 
 pub count_is : (g : Globals) (ls : List l.Local) (given : RawArguments) → m.count_of (resolved_arguments g ls given) ≡ count_of given
 count_is g ls no_more = refl
@@ -172,22 +172,22 @@ local_ok here names v ls n in_loop line x fits holds h =
     let u = used_is here ls line x h in
     let f = found_there names.slots ls x u.0 holds.there u.1 in
     let e = slot_is ls x u.0 u.1 in
-    (rw e f.1, ap (λ k. name_at v.slots k) e ∙ ap (λ sl. name_at sl u.0.slot) fits.slots ∙ at_place names.slots u.0.slot x [] f.0)
+    (rw e f.1, ap (λ k. name_at v.slots k) e ∙ ap (λ sl. name_at sl u.0.slot) fits.slots ∙ at_index names.slots u.0.slot x [] f.0)
 
-pub array_ok : (here : Setting) (names : Names) (v : Vocabulary) (sc : Scope) (line : ℕ) (x : List ℕ) → Fits here names v → indexed_faults here sc line x ≡ [] → (place_of here.globals x < names.arrays) × (name_at v.arrays (place_of here.globals x) ≡ x)
+pub array_ok : (here : Setting) (names : Names) (v : Vocabulary) (sc : Scope) (line : ℕ) (x : List ℕ) → Fits here names v → indexed_faults here sc line x ≡ [] → (index_of here.globals x < names.arrays) × (name_at v.arrays (index_of here.globals x) ≡ x)
 array_ok here names v sc line x fits h =
     let a = indexed_is here sc line x h in
-    let e = array_place_is here.globals x a.0 a.1 in
+    let e = array_index_is here.globals x a.0 a.1 in
     let f = fits.arrays x a.0 a.1 in
     (omega (arith, e, f.0), ap (λ k. name_at v.arrays k) e ∙ f.1)
 
-pub call_ok : (here : Setting) (names : Names) (v : Vocabulary) (sc : Scope) (line : ℕ) (x : List ℕ) (count same : ℕ) → Fits here names v → called_faults here sc line x count [] ≡ [] → same ≡ count → IsCallable names (place_of here.globals x) same × (name_at v.functions (place_of here.globals x) ≡ x)
+pub call_ok : (here : Setting) (names : Names) (v : Vocabulary) (sc : Scope) (line : ℕ) (x : List ℕ) (count same : ℕ) → Fits here names v → called_faults here sc line x count [] ≡ [] → same ≡ count → IsCallable names (index_of here.globals x) same × (name_at v.functions (index_of here.globals x) ≡ x)
 call_ok here names v sc line x count same fits h k =
     let c = callee_is here sc line x count (left_none _ _ h) in
     let t = later_is here line x c.0 c.1 (right_none (callee_faults here sc line x count) _ h) in
-    let e = function_place_is here.globals x c.0 c.1 in
+    let e = function_index_is here.globals x c.0 c.1 in
     let f = fits.functions x c.0 c.1 in
-    let p = fits.place in
+    let p = fits.index in
     let P : ℕ → Type 0 = λ q. IfSome (slice_get names.functions c.0) (λ z. z.params ≡ q) in
     let Q : ℕ → Type 0 = λ q. IsCallable names q same in
     (subst Q (sym e) (omega (arith, p, t), subst P (sym (k ∙ c.2)) f.0), ap (λ q. name_at v.functions q) e ∙ f.1)

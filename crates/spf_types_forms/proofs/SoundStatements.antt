@@ -22,7 +22,7 @@ use Rattle.spf_types_names.proofs.Scopes.{local_named_is}
 use Rattle.spf_types_names.proofs.Rows.{declared_is, all_new, new_along, hides_both, hidden_before, hidden_so}
 use Rattle.spf_types_forms.proofs.Blocks.{scope_each-is, scope_after-is, scope_at_end-is}
 use Rattle.spf_types_forms.proofs.Alike.{Alike, alike_itself, alike_through, alike_behind, alike_showing, alike_fixed, alike_declares, alike_expression, alike_arguments, alike_block, alike_end, to_front, from_front}
-use Rattle.spf_types_forms.proofs.Sound.{left_none, right_none, contains_here, contains_there, contains_cases, Holds, Fits, slots_of, fixed_slots, lawful_scope, found_there, new_there, no_when, at_place, array_ok, call_ok, number_ok, numbers_ok, truth_ok, count_is}
+use Rattle.spf_types_forms.proofs.Sound.{left_none, right_none, contains_here, contains_there, contains_cases, Holds, Fits, slots_of, fixed_slots, lawful_scope, found_there, new_there, no_when, at_index, array_ok, call_ok, number_ok, numbers_ok, truth_ok, count_is}
 
 -- ---- slots
 
@@ -258,13 +258,13 @@ same_width line width count h =
 
 -- in a loop or not, the same is visible in the whole program
 fits_in : (here : Setting) (names : Names) (v : Vocabulary) (in_loop : Bool) → Fits here names v → Fits (record here { in_loop = in_loop }) names v
-fits_in here names v in_loop fits = record { arrays = fits.arrays; functions = fits.functions; place = fits.place; taken = fits.taken; slots = fits.slots }
+fits_in here names v in_loop fits = record { arrays = fits.arrays; functions = fits.functions; index = fits.index; taken = fits.taken; slots = fits.slots }
 
 -- the names of a row stand in its slots
 named_row : (names : Names) (v : Vocabulary) (n : ℕ) (xs : List (List ℕ)) → v.slots ≡ names.slots → Stand names.slots n xs → spelled_names v (row_slots n xs) ≡ xs
 named_row names v n [] e k = refl
 named_row names v n (x ∷ xs) e k =
-    let one : name_at v.slots n ≡ x = ap (λ sl. name_at sl n) e ∙ at_place names.slots n x [] k.0 in
+    let one : name_at v.slots n ≡ x = ap (λ sl. name_at sl n) e ∙ at_index names.slots n x [] k.0 in
     λ j. one j ∷ named_row names v (n + 1) xs e k.1 j
 
 pub holds_each : (slots : List (List ℕ)) (b : Bool) (ls : List l.Local) (n : ℕ) (xs : List (List ℕ)) → Holds slots ls → AreNew ls xs → Stand slots n xs → Holds slots (with_each b ls n xs)
@@ -389,14 +389,14 @@ mutual
   statement_ok here names v ls n line fits holds (Let x value) k h w br =
       let d = declared_is here ls line x (left_none _ _ h) in
       let r = number_ok here names v ls n here.in_loop line fits holds value (right_none (declared_faults here (scope ls) line x) _ h) w.1 in
-      let e : name_at v.slots n ≡ x = ap (λ sl. name_at sl n) fits.slots ∙ at_place names.slots n x [] k.0 in
+      let e : name_at v.slots n ≡ x = ap (λ sl. name_at sl n) fits.slots ∙ at_index names.slots n x [] k.0 in
       ((r.0, (refl, is_new here names v ls n n here.in_loop x fits holds d.0 d.1 k.0)), λ j. Let (e j) (r.1 j))
   statement_ok here names v ls n line fits holds (Assign x value) k h w br =
       let a = assigned_is here ls line x (left_none _ _ h) in
       let u = found_there names.slots ls x a.0 holds.there a.1 in
       let r = number_ok here names v ls n here.in_loop line fits holds value (right_none (assigned_faults here (scope ls) line x) _ h) w.1 in
       let e : slot_of ls x ≡ a.0.slot = rw a.1 refl in
-      let q : name_at v.slots (slot_of ls x) ≡ x = ap (λ z. name_at v.slots z) e ∙ ap (λ sl. name_at sl a.0.slot) fits.slots ∙ at_place names.slots a.0.slot x [] u.0 in
+      let q : name_at v.slots (slot_of ls x) ≡ x = ap (λ z. name_at v.slots z) e ∙ ap (λ sl. name_at sl a.0.slot) fits.slots ∙ at_index names.slots a.0.slot x [] u.0 in
       ((rw e u.1, rw e (not_fixed names.slots ls x a.0 holds a.1 a.2), r.0), λ j. Assign (q j) (r.1 j))
   statement_ok here names v ls n line fits holds (Store a i value) k h w br =
       let x = array_ok here names v (scope ls) line a fits (left_none _ _ h) in
@@ -433,7 +433,7 @@ mutual
       let y = right_none (expression_faults here (scope ls) line a_number low) _ z in
       let q = number_ok here names v ls n here.in_loop line fits holds high (left_none _ _ y) w.2 in
       let b = block_ok (in_turn here) names v (fixed x n ∷ ls) (n + 1) (fits_in here names v true fits) (one_more names.slots ls x n true holds d.0 k.0) body k.1 (right_none (expression_faults here (scope ls) line a_number high) _ y) w.3 br in
-      let e : name_at v.slots n ≡ x = ap (λ sl. name_at sl n) fits.slots ∙ at_place names.slots n x [] k.0 in
+      let e : name_at v.slots n ≡ x = ap (λ sl. name_at sl n) fits.slots ∙ at_index names.slots n x [] k.0 in
       ((r.0, q.0, (refl, is_new here names v ls n n here.in_loop x fits holds d.0 d.1 k.0), b.0), λ j. For (e j) (r.1 j) (q.1 j) (b.1 j))
   statement_ok here names v ls n line fits holds (While test most body) k h w br =
       let t = truth_ok here names v ls n here.in_loop line fits holds test (left_none _ _ h) w.0 in
@@ -477,7 +477,7 @@ mutual
       let alike = in_body_alike ls n in_loop head in
       let nx = row_ok here names v (body_locals ls n head) (body_slot n head) head.next_line _ fits h2 alike body head.next kr.1 bf nf w.0.6 in
       let ec = named_row names v n head.carried fits.slots kc in
-      let eb : name_at v.slots (block_slot n head) ≡ head.block = ap (λ sl. name_at sl (block_slot n head)) fits.slots ∙ at_place names.slots (block_slot n head) head.block [] kr.0 in
+      let eb : name_at v.slots (block_slot n head) ≡ head.block = ap (λ sl. name_at sl (block_slot n head)) fits.slots ∙ at_index names.slots (block_slot n head) head.block [] kr.0 in
       let hf = holds_each names.slots false ls n head.carried holds new kc in
       let each = each_alike ls n (block_slot n head) in_loop (lawful_scope ls n in_loop) (alike_itself (lawful_scope ls n in_loop)) head.carried refl in (
         (

@@ -13,16 +13,16 @@ use Rattle.spf_types_names.specs.declared.locals.Binding.{Binding}
 use Rattle.spf_types_names.specs.Globals.{Globals}
 use Rattle.spf_types_names.specs.Locals as l
 use Rattle.spf_types_names.specs.Locals.{binding_of}
-use Rattle.spf_types_names.specs.Resolved.{fixed, with_each, row_slots, block_slot, body_slot, body_locals, slot_of, place_of, names_of, names_in, locals_after, locals_at_end, resolved_expression, resolved_arguments, resolved_condition, resolved_predictor, resolved_predictors, resolved_statement, resolved_block}
+use Rattle.spf_types_names.specs.Resolved.{fixed, with_each, row_slots, block_slot, body_slot, body_locals, slot_of, index_of, names_of, names_in, locals_after, locals_at_end, resolved_expression, resolved_arguments, resolved_condition, resolved_predictor, resolved_predictors, resolved_statement, resolved_block}
 use Rattle.spf_types_names.proofs.Tables.{same_bytes, bytes_are}
 use Rattle.std.proofs.lemmas.List.{length-map}
 use Rattle.spf_types_forms.proofs.Alike.{new_along, to_front, from_front, each_is_there, there_is_each}
-use Rattle.spf_types_forms.proofs.Sound.{contains_cases, contains_here, contains_there, at_place}
+use Rattle.spf_types_forms.proofs.Sound.{contains_cases, contains_here, contains_there, at_index}
 
 -- the numbers of arrays and functions come back from their names
 pub record Back (g : Globals) (names : Names) (v : Vocabulary) : Type 0 where
-  pub arrays : (a : ℕ) → a < names.arrays → place_of g (name_at v.arrays a) ≡ a
-  pub functions : (f count : ℕ) → IsCallable names f count → place_of g (name_at v.functions f) ≡ f
+  pub arrays : (a : ℕ) → a < names.arrays → index_of g (name_at v.arrays a) ≡ a
+  pub functions : (f count : ℕ) → IsCallable names f count → index_of g (name_at v.functions f) ≡ f
   pub slots : v.slots ≡ names.slots
 
 -- a slot comes back from its name
@@ -43,7 +43,7 @@ slot_is ls x b e = rw e refl
 local_back : (names : Names) (v : Vocabulary) (g : Globals) (ls : List l.Local) (visible : List ℕ) (slot : ℕ) → Back g names v → Finds names.slots ls visible → Contains visible slot → slot_of ls (name_at v.slots slot) ≡ slot
 local_back names v g ls visible slot back finds h =
     let f = finds slot h in
-    ap (slot_of ls) (ap (λ sl. name_at sl slot) back.slots ∙ at_place names.slots slot f.name [] f.there) ∙ slot_is ls f.name f.binding f.found ∙ f.same
+    ap (slot_of ls) (ap (λ sl. name_at sl slot) back.slots ∙ at_index names.slots slot f.name [] f.there) ∙ slot_is ls f.name f.binding f.found ∙ f.same
 
 mutual
   pub expression_back : (g : Globals) (names : Names) (v : Vocabulary) (ls : List l.Local) (s : Scope) → Back g names v → Finds names.slots ls s.visible → (e : Expression) → IsLawfulExpression names s e → resolved_expression g ls (spelled_expression v e) ≡ e

@@ -1,4 +1,4 @@
-//! From raw expressions and statements to resolved ones, at a place whose names are known.
+//! From raw expressions and statements to resolved ones, at a point whose names are known.
 #![tactic(auto)]
 
 mod expression;

@@ -10,7 +10,7 @@ use Rattle.std.proofs.lemmas.Map.Text.{is_eq-slice_cmp}
 use Rattle.std.proofs.lemmas.Slice.Eq.{bytes_eq-Decides}
 use denote.Ref.{Bor}
 use Rattle.std.proofs.lemmas.List.{drop-drop, length-drop, map-append, reverse-append, length-map, length-take, take_more, take_all, get_or-map}
-use Rattle.spf_types_names.specs.Names.{place_in}
+use Rattle.spf_types_names.specs.Names.{index_in}
 use Rattle.spf_types_names.specs.Locals.{Local, binding_of}
 use Rattle.spf_types_names.specs.LocalsView.{IsLocalTable, AreApart, seen_visible, seen_locals}
 use Rattle.spf_types_names.specs.declared.locals.LocalTable.TheInside.{Inside}
@@ -75,11 +75,11 @@ pushed : (b : Bool) (a w : Option ℕ) (xs : List (List ℕ)) (y q : List ℕ) �
 pushed true a w xs y q h = refl
 pushed false a w xs y q h = ap (option_map (λ n. n + 1)) h ∙ shifted a (length xs) (bytes_eq y q)
 
-pub place_in_push : (xs : List (List ℕ)) (y q : List ℕ) → place_in (xs ++ y ∷ []) q ≡ either (place_in xs q) (cond (bytes_eq y q) (Some (length xs)) None)
-place_in_push [] y q = refl
-place_in_push (x ∷ xs) y q =
-    pushed (bytes_eq x q) (place_in xs q) (place_in (xs ++ y ∷ []) q) xs y q (place_in_push xs y q)
-    ∙ ap (λ n. either (place_in (x ∷ xs) q) (cond (bytes_eq y q) (Some n) None)) (omega arith)
+pub index_in_push : (xs : List (List ℕ)) (y q : List ℕ) → index_in (xs ++ y ∷ []) q ≡ either (index_in xs q) (cond (bytes_eq y q) (Some (length xs)) None)
+index_in_push [] y q = refl
+index_in_push (x ∷ xs) y q =
+    pushed (bytes_eq x q) (index_in xs q) (index_in (xs ++ y ∷ []) q) xs y q (index_in_push xs y q)
+    ∙ ap (λ n. either (index_in (x ∷ xs) q) (cond (bytes_eq y q) (Some n) None)) (omega arith)
 
 under : {X : Type 0} (make : ℕ → X) (n : ℕ) (a : Option ℕ) (b : Bool) → option_map make (either a (cond b (Some n) None)) ≡ either (option_map make a) (cond b (Some (make n)) None)
 under make n (Some k) b = refl
@@ -87,30 +87,30 @@ under make n None true = refl
 under make n None false = refl
 
 -- the same under a form of the value
-pub place_in_more : {X : Type 0} (make : ℕ → X) (xs : List (List ℕ)) (y q : List ℕ) → option_map make (place_in (xs ++ y ∷ []) q) ≡ either (option_map make (place_in xs q)) (cond (bytes_eq y q) (Some (make (length xs))) None)
-place_in_more make xs y q = ap (option_map make) (place_in_push xs y q) ∙ under make (length xs) (place_in xs q) (bytes_eq y q)
+pub index_in_more : {X : Type 0} (make : ℕ → X) (xs : List (List ℕ)) (y q : List ℕ) → option_map make (index_in (xs ++ y ∷ []) q) ≡ either (option_map make (index_in xs q)) (cond (bytes_eq y q) (Some (make (length xs))) None)
+index_in_more make xs y q = ap (option_map make) (index_in_push xs y q) ∙ under make (length xs) (index_in xs q) (bytes_eq y q)
 
 -- one more form of a list of forms with names
-pub name_more : {A X : Type 0} (make : ℕ → X) (f : A → List ℕ) (xs : List A) (i : ℕ) (x : A) (q : List ℕ) → i < length xs → x ≡ get_or xs i x → option_map make (place_in (take (i + 1) (map f xs)) q) ≡ either (option_map make (place_in (take i (map f xs)) q)) (cond (bytes_eq (f x) q) (Some (make i)) None)
+pub name_more : {A X : Type 0} (make : ℕ → X) (f : A → List ℕ) (xs : List A) (i : ℕ) (x : A) (q : List ℕ) → i < length xs → x ≡ get_or xs i x → option_map make (index_in (take (i + 1) (map f xs)) q) ≡ either (option_map make (index_in (take i (map f xs)) q)) (cond (bytes_eq (f x) q) (Some (make i)) None)
 name_more make f xs i x q h e =
     let l : i < length (map f xs) = simp length-map h in
     let n : length (take i (map f xs)) ≡ i = omega (arith, length-take i (map f xs), l) in
     let y : get_or (map f xs) i [] ≡ f x = get_or-map f xs i x [] h ∙ ap f (sym e) in
-    ap (λ (ns : List (List ℕ)). option_map make (place_in ns q)) (take_more (map f xs) i [] l ∙ ap (λ (z : List ℕ). take i (map f xs) ++ z ∷ []) y)
-    ∙ place_in_more make (take i (map f xs)) (f x) q
-    ∙ ap (λ (k : ℕ). either (option_map make (place_in (take i (map f xs)) q)) (cond (bytes_eq (f x) q) (Some (make k)) None)) n
+    ap (λ (ns : List (List ℕ)). option_map make (index_in ns q)) (take_more (map f xs) i [] l ∙ ap (λ (z : List ℕ). take i (map f xs) ++ z ∷ []) y)
+    ∙ index_in_more make (take i (map f xs)) (f x) q
+    ∙ ap (λ (k : ℕ). either (option_map make (index_in (take i (map f xs)) q)) (cond (bytes_eq (f x) q) (Some (make k)) None)) n
 
 -- what a table has after one more form
 pub table_more : {A X : Type 0} (make : ℕ → X) (f : A → List ℕ) (xs : List A) (i n : ℕ) (x : A) (q : List ℕ) (before first now : Option X) → i < length xs → x ≡ get_or xs i x → n ≡ i →
-    before ≡ either first (option_map make (place_in (take i (map f xs)) q)) → now ≡ either before (cond (bytes_eq (f x) q) (Some (make n)) None) →
-    now ≡ either first (option_map make (place_in (take (i + 1) (map f xs)) q))
+    before ≡ either first (option_map make (index_in (take i (map f xs)) q)) → now ≡ either before (cond (bytes_eq (f x) q) (Some (make n)) None) →
+    now ≡ either first (option_map make (index_in (take (i + 1) (map f xs)) q))
 table_more make f xs i n x q before first now h e k was is =
     is ∙ ap (λ o. either o (cond (bytes_eq (f x) q) (Some (make n)) None)) was
     ∙ either_assoc first _ _
-    ∙ ap (either first) (ap (λ (m : ℕ). either (option_map make (place_in (take i (map f xs)) q)) (cond (bytes_eq (f x) q) (Some (make m)) None)) k ∙ sym (name_more make f xs i x q h e))
+    ∙ ap (either first) (ap (λ (m : ℕ). either (option_map make (index_in (take i (map f xs)) q)) (cond (bytes_eq (f x) q) (Some (make m)) None)) k ∙ sym (name_more make f xs i x q h e))
 
-pub no_more_names : {A X : Type 0} (make : ℕ → X) (f : A → List ℕ) (xs : List A) (i : ℕ) (q : List ℕ) → length xs ≤ i → option_map make (place_in (take i (map f xs)) q) ≡ option_map make (place_in (map f xs) q)
-no_more_names make f xs i q h = ap (λ (ns : List (List ℕ)). option_map make (place_in ns q)) (take_all i (map f xs) (simp length-map h))
+pub no_more_names : {A X : Type 0} (make : ℕ → X) (f : A → List ℕ) (xs : List A) (i : ℕ) (q : List ℕ) → length xs ≤ i → option_map make (index_in (take i (map f xs)) q) ≡ option_map make (index_in (map f xs) q)
+no_more_names make f xs i q h = ap (λ (ns : List (List ℕ)). option_map make (index_in ns q)) (take_all i (map f xs) (simp length-map h))
 
 -- ---- locals
 
@@ -162,13 +162,13 @@ map_twice f g (x ∷ xs) = ap (λ ys. g (f x) ∷ ys) (map_twice f g xs)
 
 -- the names that are seen are those of what is seen
 pub global_named-seen : (arrays : List code_array.Array) (functions : List code_function.RawFunction) (q : List ℕ) →
-    either (option_map outer.Array (place_in (map (λ a. (seen_array a).name) arrays) q)) (option_map outer.Function (place_in (map (λ f. (raw_function f).name) functions) q)) ≡ global_named (globals_of (map seen_array arrays) (map raw_function functions)) q
+    either (option_map outer.Array (index_in (map (λ a. (seen_array a).name) arrays) q)) (option_map outer.Function (index_in (map (λ f. (raw_function f).name) functions) q)) ≡ global_named (globals_of (map seen_array arrays) (map raw_function functions)) q
 global_named-seen arrays functions q =
     let a = map_twice seen_array (λ (k : Array). k.name) arrays in
     let f = map_twice raw_function (λ (k : RawFunction). k.name) functions in
-    λ i. either (option_map outer.Array (place_in (a i) q)) (option_map outer.Function (place_in (f i) q))
+    λ i. either (option_map outer.Array (index_in (a i) q)) (option_map outer.Function (index_in (f i) q))
 
-pub params_at : (arrays : List Array) (fs : List code_function.RawFunction) (place : ℕ) (f : code_function.RawFunction) → place < length fs → f ≡ get_or fs place f → vec_len f.params ≡ params_of (globals_of arrays (map raw_function fs)) place
-params_at arrays [] place f h e = absurd (omega (arith, h))
+pub params_at : (arrays : List Array) (fs : List code_function.RawFunction) (index : ℕ) (f : code_function.RawFunction) → index < length fs → f ≡ get_or fs index f → vec_len f.params ≡ params_of (globals_of arrays (map raw_function fs)) index
+params_at arrays [] index f h e = absurd (omega (arith, h))
 params_at arrays (g ∷ fs) zero f h e = search rules ∙ sym (length-map f.params.items name) ∙ ap (λ (k : code_function.RawFunction). length (map name k.params.items)) e
 params_at arrays (g ∷ fs) (suc n) f h e = params_at arrays fs n f (omega (arith, h)) e

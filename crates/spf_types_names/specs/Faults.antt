@@ -120,12 +120,12 @@ abbrev pub local_named : Scope → List ℕ → Option Bool
 local_named [] x = None
 local_named (v ∷ scope) x = if bytes_eq v.name x then Some v.fixed else local_named scope x
 
--- where a form stands: what is visible in the whole program, the place before which functions may be called, whether it
+-- where a form stands: what is visible in the whole program, the index before which functions may be called, whether it
 -- is in `main`, and whether it is in a loop: of the same function, of the same part of a construct, or of `main` outside
 -- of constructs
 pub record Setting : Type 0 where
   pub globals : Globals
-  pub place : ℕ
+  pub index : ℕ
   pub in_main : Bool
   pub in_loop : Bool
 
@@ -170,7 +170,7 @@ abbrev pub indexed_faults : Setting → Scope → ℕ → List ℕ → List Faul
 indexed_faults here scope line x = indexed (global_named here.globals x)
   where
     indexed : Option Outer → List Fault
-    indexed (Some (outer.Array place)) = []
+    indexed (Some (outer.Array index)) = []
     indexed _ = at (misuse here scope x) line
 
 -- a name that is called with `count` arguments
@@ -178,15 +178,15 @@ abbrev pub callee_faults : Setting → Scope → ℕ → List ℕ → ℕ → Li
 callee_faults here scope line x count = called (global_named here.globals x)
   where
     called : Option Outer → List Fault
-    called (Some (outer.Function place)) = when (not (nat_eq count (params_of here.globals place))) Arity line
+    called (Some (outer.Function index)) = when (not (nat_eq count (params_of here.globals index))) Arity line
     called _ = at (misuse here scope x) line
 
--- a call of a function that doesn't stand before the place
+-- a call of a function that doesn't stand before the index
 abbrev pub later_faults : Setting → ℕ → List ℕ → List Fault
 later_faults here line x = later (global_named here.globals x)
   where
     later : Option Outer → List Fault
-    later (Some (outer.Function place)) = when (not (nat_lt place here.place)) CallsLater line
+    later (Some (outer.Function index)) = when (not (nat_lt index here.index)) CallsLater line
     later _ = []
 
 -- a call of a name with `count` arguments, which has these faults of its kind
@@ -372,20 +372,20 @@ abbrev pub arrays_faults : List (List ℕ) → List Array → List Fault
 arrays_faults names [] = []
 arrays_faults names (a ∷ rest) = when (has names a.name) Twice a.line ++ arrays_faults (names ++ a.name ∷ []) rest
 
--- functions from a place on, after arrays and functions of these names
+-- functions from an index on, after arrays and functions of these names
 abbrev pub functions_faults : Globals → List (List ℕ) → ℕ → List RawFunction → List Fault
-functions_faults globals names place [] = []
-functions_faults globals names place (f ∷ rest) =
+functions_faults globals names index [] = []
+functions_faults globals names index (f ∷ rest) =
     when (has names f.name) Twice f.line
-    ++ (function_faults (record { globals = globals; place = place; in_main = false; in_loop = false }) f
-    ++ functions_faults globals (names ++ f.name ∷ []) (place + 1) rest)
+    ++ (function_faults (record { globals = globals; index = index; in_main = false; in_loop = false }) f
+    ++ functions_faults globals (names ++ f.name ∷ []) (index + 1) rest)
 
 -- the faults of a program, in the order of its text
 abbrev pub faults : RawProgram → List Fault
 faults p =
     arrays_faults [] p.arrays
     ++ (functions_faults (globals_of p.arrays p.functions) (map (λ (a : Array). a.name) p.arrays) 0 p.functions
-    ++ block_faults (record { globals = globals_of p.arrays p.functions; place = length p.functions; in_main = true; in_loop = false }) [] p.main)
+    ++ block_faults (record { globals = globals_of p.arrays p.functions; index = length p.functions; in_main = true; in_loop = false }) [] p.main)
 
 -- the first of a list
 abbrev pub first : {A : Type 0} → List A → Option A

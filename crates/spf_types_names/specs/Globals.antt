@@ -5,7 +5,7 @@ use Rattle.spf_ast.specs.Syntax.{Array}
 use Rattle.spf_ast.specs.RawSyntax.{RawFunction}
 use Rattle.spf_types_names.specs.declared.globals.Outer.{Outer}
 use Rattle.spf_types_names.specs.declared.globals.Outer.TheVariants as outer
-use Rattle.spf_types_names.specs.Names.{place_in}
+use Rattle.spf_types_names.specs.Names.{index_in}
 
 -- the names of the arrays, the names of the functions, and how many parameters each function has
 pub record Globals : Type 0 where
@@ -28,17 +28,17 @@ either None other = other
 
 -- what a name stands for: the first array or function that has it
 abbrev pub global_named : Globals → List ℕ → Option Outer
-global_named g x = either (option_map outer.Array (place_in g.arrays x)) (option_map outer.Function (place_in g.functions x))
+global_named g x = either (option_map outer.Array (index_in g.arrays x)) (option_map outer.Function (index_in g.functions x))
 
--- how many parameters the function at a place has
+-- how many parameters the function at an index has
 abbrev pub params_of : Globals → ℕ → ℕ
-params_of g place = slice_index_or g.params place 0
+params_of g index = slice_index_or g.params index 0
 
--- whether a name stands for the array, or the function, at a place
+-- whether a name stands for the array, or the function, at an index
 abbrev pub is_array_at : Option Outer → ℕ → Bool
-is_array_at (Some (outer.Array n)) place = nat_eq n place
-is_array_at _ place = false
+is_array_at (Some (outer.Array n)) index = nat_eq n index
+is_array_at _ index = false
 
 abbrev pub is_function_at : Option Outer → ℕ → Bool
-is_function_at (Some (outer.Function n)) place = nat_eq n place
-is_function_at _ place = false
+is_function_at (Some (outer.Function n)) index = nat_eq n index
+is_function_at _ index = false

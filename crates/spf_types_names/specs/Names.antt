@@ -8,7 +8,7 @@ abbrev pub has : List (List ℕ) → List ℕ → Bool
 has [] x = false
 has (y ∷ ys) x = bytes_eq y x || has ys x
 
--- the place of the first of these names that is this one
-abbrev pub place_in : List (List ℕ) → List ℕ → Option ℕ
-place_in [] x = None
-place_in (y ∷ ys) x = if bytes_eq y x then Some 0 else option_map (λ n. n + 1) (place_in ys x)
+-- the index of the first of these names that is this one
+abbrev pub index_in : List (List ℕ) → List ℕ → Option ℕ
+index_in [] x = None
+index_in (y ∷ ys) x = if bytes_eq y x then Some 0 else option_map (λ n. n + 1) (index_in ys x)

@@ -68,14 +68,14 @@ slot_of ls x = slot (binding_of ls x)
     slot (Some b) = b.slot
     slot None = 0
 
--- the place of a name's array or function; 0 where it has none
-abbrev pub place_of : Globals → List ℕ → ℕ
-place_of g x = place (global_named g x)
+-- the index of a name's array or function; 0 where it has none
+abbrev pub index_of : Globals → List ℕ → ℕ
+index_of g x = index (global_named g x)
   where
-    place : Option Outer → ℕ
-    place (Some (outer.Array n)) = n
-    place (Some (outer.Function n)) = n
-    place None = 0
+    index : Option Outer → ℕ
+    index (Some (outer.Array n)) = n
+    index (Some (outer.Function n)) = n
+    index None = 0
 
 -- ---- expressions
 
@@ -85,8 +85,8 @@ abbrev mutual
   resolved_expression g ls (Number n) = s.Number n
   resolved_expression g ls (Local x) = s.Local (slot_of ls x)
   resolved_expression g ls (Input index) = s.Input (resolved_expression g ls index)
-  resolved_expression g ls (Load a index) = s.Load (place_of g a) (resolved_expression g ls index)
-  resolved_expression g ls (Call f given) = s.Call (place_of g f) (resolved_arguments g ls given)
+  resolved_expression g ls (Load a index) = s.Load (index_of g a) (resolved_expression g ls index)
+  resolved_expression g ls (Call f given) = s.Call (index_of g f) (resolved_arguments g ls given)
   resolved_expression g ls (Neg inner) = s.Neg (resolved_expression g ls inner)
   resolved_expression g ls (Binary op a b) = s.Binary op (resolved_expression g ls a) (resolved_expression g ls b)
   resolved_expression g ls _ = s.Len
@@ -169,9 +169,9 @@ abbrev mutual
   pub resolved_statement : Globals → List l.Local → ℕ → RawStatement → Statement
   resolved_statement g ls n (Let x value) = s.Let n (resolved_expression g ls value)
   resolved_statement g ls n (Assign x value) = s.Assign (slot_of ls x) (resolved_expression g ls value)
-  resolved_statement g ls n (Store a index value) = s.Store (place_of g a) (resolved_expression g ls index) (resolved_expression g ls value)
+  resolved_statement g ls n (Store a index value) = s.Store (index_of g a) (resolved_expression g ls index) (resolved_expression g ls value)
   resolved_statement g ls n (Fill a low high value) =
-      s.Fill (place_of g a) (resolved_expression g ls low) (resolved_expression g ls high) (resolved_expression g ls value)
+      s.Fill (index_of g a) (resolved_expression g ls low) (resolved_expression g ls high) (resolved_expression g ls value)
   resolved_statement g ls n (Emit value) = s.Emit (resolved_expression g ls value)
   resolved_statement g ls n (Fail number) = s.Fail (natural number)
   resolved_statement g ls n (If test a b) =
@@ -179,7 +179,7 @@ abbrev mutual
   resolved_statement g ls n (For x low high body) =
       s.For n (resolved_expression g ls low) (resolved_expression g ls high) (resolved_block g (fixed x n ∷ ls) (n + 1) body)
   resolved_statement g ls n (While test most body) = s.While (resolved_condition g ls test) most (resolved_block g ls n body)
-  resolved_statement g ls n (Do f given) = s.Do (place_of g f) (resolved_arguments g ls given)
+  resolved_statement g ls n (Do f given) = s.Do (index_of g f) (resolved_arguments g ls given)
   resolved_statement g ls n (Fold head body) =
       s.Fold (record {
         carried = row_slots n head.carried;

@@ -3,7 +3,7 @@
 use std::alloc::{AllocError, AllocFailed};
 use thiserror::Error;
 
-/// What is wrong at a place of a raw program.
+/// What is wrong at a point of a raw program.
 #[derive(Clone, Copy, PartialEq, Eq, Debug, Error)]
 pub enum TypeFault {
     /// A name is used that isn't visible.

@@ -16,7 +16,7 @@ use std::alloc::Global;
 use std::collections::BTreeMap;
 use std::marker::Model;
 
-/// What a name stands for in the whole program: an array or a function, by its place.
+/// What a name stands for in the whole program: an array or a function, by its index.
 #[derive(Clone, Copy)]
 pub enum Outer {
     Array(u32),
@@ -91,14 +91,14 @@ impl<'a> GlobalTable<'a> {
         ensures memory { IfErr result (λ e. e ≡ OutOfMemory) }
     {
         let mut table = BTreeMap::new(alloc);
-        for (place, array) in arrays.iter().enumerate() {
-            enter(&mut table, &array.name.bytes, Outer::Array(short(place)?))?;
+        for (index, array) in arrays.iter().enumerate() {
+            enter(&mut table, &array.name.bytes, Outer::Array(short(index)?))?;
         }
-        for (place, function) in functions.iter().enumerate() {
+        for (index, function) in functions.iter().enumerate() {
             enter(
                 &mut table,
                 &function.name.bytes,
-                Outer::Function(short(place)?),
+                Outer::Function(short(index)?),
             )?;
         }
         Ok(GlobalTable {
@@ -116,11 +116,11 @@ impl<'a> GlobalTable<'a> {
         self.table.get(&bytes).copied()
     }
 
-    /// Returns how many parameters the function at a place has.
-    pub fn params(&self, place: u32) -> usize
-        ensures { result ≡ params_of self.now place }
+    /// Returns how many parameters the function at an index has.
+    pub fn params(&self, index: u32) -> usize
+        ensures { result ≡ params_of self.now index }
     {
-        match self.functions.get(place as usize) {
+        match self.functions.get(index as usize) {
             Some(function) => function.params.len(),
             None => 0,
         }

@@ -1,5 +1,5 @@
 //! What names stand for: the tables of arrays, functions and locals, and what is wrong with a name
-//! at a place.
+//! at a point of the program.
 #![tactic(auto)]
 
 pub mod fault;

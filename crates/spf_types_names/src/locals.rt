@@ -1,4 +1,4 @@
-//! The locals that may be used at a place, and the slots that are declared so far.
+//! The locals that may be used at a point, and the slots that are declared so far.
 
 ghost use Rattle.std.specs.Prelude.{◌≡◌, ◌<◌, ◌≤◌, ◌-◌, ◌∷◌, ◌++◌, [], IfOk, IfErr, None, length};
 ghost use Rattle.std.specs.Prelude.{map, drop};
@@ -28,7 +28,7 @@ pub(crate) struct Visible<'a> {
     pub binding: Binding,
 }
 
-/// The locals that may be used at a place, the last one that was declared at the end, and the names
+/// The locals that may be used at a point, the last one that was declared at the end, and the names
 /// of all slots so far.
 #[derive(Drop)]
 pub struct LocalTable<'a> {
@@ -131,8 +131,8 @@ impl<'a> LocalTable<'a> {
             }) }
         ensures memory { IfErr result (λ e. e ≡ OutOfMemory) }
     {
-        for (place, name) in names.iter().enumerate() {
-            let slot = later(first, place)?;
+        for (index, name) in names.iter().enumerate() {
+            let slot = later(first, index)?;
             self.show(name, slot, fixed)?;
         }
         Ok(())
@@ -174,8 +174,8 @@ pub fn row_slots(alloc: Global, first: u32, names: &[Name]) -> Result<Vec<u32>, 
     ensures memory { IfErr result (λ e. e ≡ OutOfMemory) }
 {
     let mut slots = Vec::new(alloc);
-    for (place, _) in names.iter().enumerate() {
-        let slot = later(first, place)?;
+    for (index, _) in names.iter().enumerate() {
+        let slot = later(first, index)?;
         slots.push(slot)?;
     }
     Ok(slots)

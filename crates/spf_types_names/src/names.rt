@@ -7,7 +7,7 @@ ghost use Rattle.spf_types_names.specs.Faults.{misuse as misuse_fault, declared_
 ghost use Rattle.spf_types_names.specs.Faults.{each_declared_faults, used_faults, assigned_faults};
 ghost use Rattle.spf_types_names.specs.Faults.{indexed_faults, callee_faults, called_faults};
 ghost use Rattle.spf_types_names.specs.Faults.{width_faults, when};
-ghost use Rattle.spf_types_names.specs.Resolved.{scope, slot_of, place_of, after_names};
+ghost use Rattle.spf_types_names.specs.Resolved.{scope, slot_of, index_of, after_names};
 ghost use Rattle.spf_types_names.specs.Globals.{global_named};
 ghost use Rattle.spf_types_names.specs.Locals.{binding_of, AreNew};
 ghost use Rattle.spf_types_names.specs.declared.globals.Outer.TheVariants.{Function};
@@ -20,13 +20,13 @@ use crate::locals::LocalTable;
 use spf_ast::syntax::Name;
 use std::alloc::Global;
 
-/// Where a form stands: what is visible in the whole program, before which place functions may be
+/// Where a form stands: what is visible in the whole program, before which index functions may be
 /// called, and whether it is in `main` and in a loop.
 #[derive(Clone, Copy)]
 pub struct Here<'s, 'a> {
     pub alloc: Global,
     pub globals: &'s GlobalTable<'a>,
-    pub place: usize,
+    pub index: usize,
     pub in_main: bool,
     pub in_loop: bool,
 }
@@ -39,7 +39,7 @@ impl<'s, 'a> Here<'s, 'a> {
         Here {
             alloc: self.alloc,
             globals: self.globals,
-            place: self.place,
+            index: self.index,
             in_main: self.in_main,
             in_loop: true,
         }
@@ -52,7 +52,7 @@ impl<'s, 'a> Here<'s, 'a> {
         Here {
             alloc: self.alloc,
             globals: self.globals,
-            place: self.place,
+            index: self.index,
             in_main: self.in_main,
             in_loop: false,
         }
@@ -183,7 +183,7 @@ pub fn slot_assigned<'a>(
     }
 }
 
-/// Returns the place of an array that is indexed.
+/// Returns the index of an array that is indexed.
 pub fn array_indexed<'a>(
     here: &Here<'_, 'a>,
     locals: &LocalTable<'a>,
@@ -192,10 +192,10 @@ pub fn array_indexed<'a>(
 ) -> Result<u32, TypeError>
     ensures { Answers
         (indexed_faults (setting here.now) (scope locals.now.locals) line (seen_name name.now))
-        (λ n. n) (place_of here.now.globals.now (seen_name name.now)) result }
+        (λ n. n) (index_of here.now.globals.now (seen_name name.now)) result }
 {
     match here.globals.find(name) {
-        Some(Outer::Array(place)) => Ok(place),
+        Some(Outer::Array(index)) => Ok(index),
         _ => {
             let fault = misuse(here, locals, name);
             Err(TypeError::Refused { fault, line })
@@ -203,7 +203,7 @@ pub fn array_indexed<'a>(
     }
 }
 
-/// Returns the place of a function that has `count` parameters.
+/// Returns the index of a function that has `count` parameters.
 pub fn callee<'a>(
     here: &Here<'_, 'a>,
     locals: &LocalTable<'a>,
@@ -213,17 +213,17 @@ pub fn callee<'a>(
 ) -> Result<u32, TypeError>
     ensures answers { Answers
         (callee_faults (setting here.now) (scope locals.now.locals) line (seen_name name.now) count)
-        (λ n. n) (place_of here.now.globals.now (seen_name name.now)) result }
+        (λ n. n) (index_of here.now.globals.now (seen_name name.now)) result }
     ensures known { IfOk result
         (λ n. global_named here.now.globals.now (seen_name name.now) ≡ Some (Function n)) }
 {
     match here.globals.find(name) {
-        Some(Outer::Function(place)) => {
-            if count != here.globals.params(place) {
+        Some(Outer::Function(index)) => {
+            if count != here.globals.params(index) {
                 let fault = TypeFault::Arity;
                 return Err(TypeError::Refused { fault, line });
             }
-            Ok(place)
+            Ok(index)
         }
         _ => {
             let fault = misuse(here, locals, name);
@@ -232,7 +232,7 @@ pub fn callee<'a>(
     }
 }
 
-/// Returns the place of a function that is called with `count` arguments.
+/// Returns the index of a function that is called with `count` arguments.
 pub fn function_called<'a>(
     here: &Here<'_, 'a>,
     locals: &LocalTable<'a>,
@@ -241,13 +241,13 @@ pub fn function_called<'a>(
     count: usize,
 ) -> Result<u32, TypeError>
     ensures { Answers (called_faults (setting here.now) (scope locals.now.locals) line
-        (seen_name name.now) count []) (λ n. n) (place_of here.now.globals.now (seen_name name.now))
+        (seen_name name.now) count []) (λ n. n) (index_of here.now.globals.now (seen_name name.now))
         result }
 {
-    let place = callee(here, locals, line, name, count)?;
-    if place as usize >= here.place {
+    let index = callee(here, locals, line, name, count)?;
+    if index as usize >= here.index {
         let fault = TypeFault::CallsLater;
         return Err(TypeError::Refused { fault, line });
     }
-    Ok(place)
+    Ok(index)
 }

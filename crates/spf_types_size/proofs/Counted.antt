@@ -15,7 +15,7 @@ same_number n = grind (arith, nat_tests)
 other_number : (k n : ℕ) → k ≢ n → nat_eq k n ≡ false
 other_number k n h = grind (arith, nat_tests)
 
--- the function at a place counts what it is measured to be, given those before it
+-- the function at an index counts what it is measured to be, given those before it
 pub counted_at : (fs : List Function) (measure : (ℕ → ℕ) → Function → ℕ) (n : ℕ) (f : Function) → slice_get fs n ≡ Some f → counted_before fs measure (suc n) n ≡ measure (counted_before fs measure n) f
 counted_at fs measure n f e = rw (same_number n, e) refl
 

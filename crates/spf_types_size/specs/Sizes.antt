@@ -32,12 +32,12 @@ pub record Counts : Type 0 where
   pub depth : ℕ → ℕ
   pub slots : ℕ → ℕ
 
--- what the functions before a place count
+-- what the functions before an index count
 abbrev pub counts_before : List Function → ℕ → Counts
-counts_before functions place = record {
-  nodes = counted_before functions (λ sizes f. function_measure (by_size sizes) f) place;
-  depth = counted_before functions (λ depths f. function_measure (by_depth depths) f) place;
-  slots = counted_before functions (λ slots f. length f.slots + function_measure (by_slots slots) f) place;
+counts_before functions index = record {
+  nodes = counted_before functions (λ sizes f. function_measure (by_size sizes) f) index;
+  depth = counted_before functions (λ depths f. function_measure (by_depth depths) f) index;
+  slots = counted_before functions (λ slots f. length f.slots + function_measure (by_slots slots) f) index;
 }
 
 -- what all functions count

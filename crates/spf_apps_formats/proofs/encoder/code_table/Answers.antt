@@ -6,10 +6,10 @@ use Rattle.spf_apps_formats.proofs.encoder.code_table.Goals as goal
 
 pub loop-symbol-preserved : goal.loop-symbol-preserved
 loop-symbol-preserved c =
-    let place : 0 + c.loop-symbol.symbol ≡ c.loop-symbol.symbol = omega arith in
+    let offset : 0 + c.loop-symbol.symbol ≡ c.loop-symbol.symbol = omega arith in
     c.in_ok-push.ensures.items
     ∙ (λ i. c.loop-symbol.invariant i ++ c.word_number.ensures i ∷ [])
-    ∙ sym (map-range_with_len_more (word_number c.args.lengths.now) 0 c.loop-symbol.symbol c.loop-symbol.symbol place)
+    ∙ sym (map-range_with_len_more (word_number c.args.lengths.now) 0 c.loop-symbol.symbol c.loop-symbol.symbol offset)
 
 pub returns-clause-words : goal.returns-clause-words
 returns-clause-words c =

@@ -11,8 +11,8 @@ pub loop-symbol-preserved : goal.loop-symbol-preserved
 loop-symbol-preserved c =
     let symbol = get_or c.args.symbols.now c.loop-symbol.symbol-index 0 in
     let few : symbol < 256 = omega (arith, c.type_inv.symbols c.loop-symbol.symbol-index) in
-    let place : 0 + symbol ≡ symbol = omega arith in
-    let number = c.index.ensures ∙ ap (λ l. get_or l symbol c.index.result.now) c.in_ok-words.ensures.words ∙ get_or-map-range_with_len (word_number c.args.lengths.now) 0 256 symbol symbol c.index.result.now few place in
+    let offset : 0 + symbol ≡ symbol = omega arith in
+    let number = c.index.ensures ∙ ap (λ l. get_or l symbol c.index.result.now) c.in_ok-words.ensures.words ∙ get_or-map-range_with_len (word_number c.args.lengths.now) 0 256 symbol symbol c.index.result.now few offset in
     c.in_ok-push_bits.ensures
     ∙ (λ i. c.loop-symbol.invariant i ++ bits (c.from.ensures i) (number i))
     ∙ sym (code_words_more c.args.lengths.now c.args.symbols.now c.loop-symbol.symbol-index c.loop-symbol-test.true)

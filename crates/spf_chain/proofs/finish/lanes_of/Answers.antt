@@ -8,34 +8,34 @@ use Rattle.spf_chain.specs.Finishing.{lanes_in}
 use Rattle.spf_chain.proofs.Finishing.{lanes-more, lanes-none, take-one}
 use Rattle.spf_chain.proofs.finish.lanes_of.Goals as goal
 
-pub loop-place-preserved : goal.loop-place-preserved
-loop-place-preserved c =
-    let i = c.loop-place.place in
-    let inv = c.loop-place.invariant in
-    let low : i < length c.loop-place.homes.items = omega (arith, c.loop-place-test.true, c.len-place-end.ensures, c.args.homes.ok.0, inv.size) in
+pub loop-index-preserved : goal.loop-index-preserved
+loop-index-preserved c =
+    let i = c.loop-index.index in
+    let inv = c.loop-index.invariant in
+    let low : i < length c.loop-index.homes.items = omega (arith, c.loop-index-test.true, c.len-index-end.ensures, c.args.homes.ok.0, inv.size) in
     let at : slice_get c.args.homes.items i ≡ Some None =
-    sym (inv.rest i (omega arith)) ∙ slice_get_read c.loop-place.homes.items (length c.loop-place.homes.items) i c.index_mut.result.now refl low c.index_mut.ensures.value ∙ ap (λ x. Some x) (sym c.take.ensures.value ∙ c.in-None.is) in
+    sym (inv.rest i (omega arith)) ∙ slice_get_read c.loop-index.homes.items (length c.loop-index.homes.items) i c.index_mut.result.now refl low c.index_mut.ensures.value ∙ ap (λ x. Some x) (sym c.take.ensures.value ∙ c.in-None.is) in
     record {
       lanes = inv.lanes ∙ sym (ap lanes_in (take-one c.args.homes.items i None at) ∙ lanes-none (take i c.args.homes.items));
       room = inv.room;
       few = (let f = inv.few in omega (arith, f));
-      size = length-set c.loop-place.homes.items i c.take.new.self ∙ inv.size;
-      rest = λ n above. set_other c.loop-place.homes.items i n c.take.new.self (λ e. absurd (omega (arith, e, above))) ∙ inv.rest n (omega (arith, above));
+      size = length-set c.loop-index.homes.items i c.take.new.self ∙ inv.size;
+      rest = λ n above. set_other c.loop-index.homes.items i n c.take.new.self (λ e. absurd (omega (arith, e, above))) ∙ inv.rest n (omega (arith, above));
     }
 
-pub loop-place-preserved-in-Ok : goal.loop-place-preserved-in-Ok
-loop-place-preserved-in-Ok c =
-    let i = c.loop-place.place in
-    let inv = c.loop-place.invariant in
+pub loop-index-preserved-in-Ok : goal.loop-index-preserved-in-Ok
+loop-index-preserved-in-Ok c =
+    let i = c.loop-index.index in
+    let inv = c.loop-index.invariant in
     let r = c.in-Some.report in
-    let low : i < length c.loop-place.homes.items = omega (arith, c.loop-place-test.true, c.len-place-end.ensures, c.args.homes.ok.0, inv.size) in
+    let low : i < length c.loop-index.homes.items = omega (arith, c.loop-index-test.true, c.len-index-end.ensures, c.args.homes.ok.0, inv.size) in
     let at : slice_get c.args.homes.items i ≡ Some (Some r) =
-    sym (inv.rest i (omega arith)) ∙ slice_get_read c.loop-place.homes.items (length c.loop-place.homes.items) i c.index_mut.result.now refl low c.index_mut.ensures.value ∙ ap (λ x. Some x) (sym c.take.ensures.value ∙ c.in-Some.is) in
+    sym (inv.rest i (omega arith)) ∙ slice_get_read c.loop-index.homes.items (length c.loop-index.homes.items) i c.index_mut.result.now refl low c.index_mut.ensures.value ∙ ap (λ x. Some x) (sym c.take.ensures.value ∙ c.in-Some.is) in
     record {
-      lanes = c.push.ensures.items ∙ ap (λ (x : Bool). if x then c.loop-place.lanes.items ++ c.into_lane.result ∷ [] else c.loop-place.lanes.items) (ap is_ok c.in-Ok.is) ∙ ap (λ (l : LaneValue). c.loop-place.lanes.items ++ l ∷ []) c.into_lane.ensures.lane ∙ ap (λ (l : List LaneValue). l ++ r.ticket.lane ∷ []) inv.lanes
+      lanes = c.push.ensures.items ∙ ap (λ (x : Bool). if x then c.loop-index.lanes.items ++ c.into_lane.result ∷ [] else c.loop-index.lanes.items) (ap is_ok c.in-Ok.is) ∙ ap (λ (l : LaneValue). c.loop-index.lanes.items ++ l ∷ []) c.into_lane.ensures.lane ∙ ap (λ (l : List LaneValue). l ++ r.ticket.lane ∷ []) inv.lanes
           ∙ sym (ap lanes_in (take-one c.args.homes.items i (Some r) at) ∙ lanes-more (take i c.args.homes.items) r);
       room = (let r = inv.room in let k = c.push.ensures.capacity in omega (arith, r, k));
       few = (let f = inv.few in let k = c.push.ensures.upper_bound in omega (arith, f, k));
-      size = length-set c.loop-place.homes.items i c.take.new.self ∙ inv.size;
-      rest = λ n above. set_other c.loop-place.homes.items i n c.take.new.self (λ e. absurd (omega (arith, e, above))) ∙ inv.rest n (omega (arith, above));
+      size = length-set c.loop-index.homes.items i c.take.new.self ∙ inv.size;
+      rest = λ n above. set_other c.loop-index.homes.items i n c.take.new.self (λ e. absurd (omega (arith, e, above))) ∙ inv.rest n (omega (arith, above));
     }

@@ -42,7 +42,7 @@ returns-in_err-sections g c =
     let new = g.F.Files.state c.fetch_log.new.files in
     let given : Handed = handed (map (λ h. (goal.Predictor-dyn g (h.vtable, h.value)).answer h.value) c.args.hosts.now.items) in
     let next = λ (p : Program). Fetches c.args.input.now max_input (λ x. Fetches c.args.log.now max_log (λ file. WithLog file (λ sections. Ends (Replays given p x sections)))) in
-    let laws : LogLaws = record { one = c.bytes_have_one_reading.ensures.one; none = c.bytes_have_one_reading.ensures.none; place = c.bytes_have_one_reading.ensures.place } in
+    let laws : LogLaws = record { one = c.bytes_have_one_reading.ensures.one; none = c.bytes_have_one_reading.ensures.none; offset = c.bytes_have_one_reading.ensures.offset } in
     let p = program c.in_ok-checked.checked in
     let content = c.in_ok-content.content.items in
     let left = c.in_err-sections.field-0.0 in
@@ -59,7 +59,7 @@ returns g c =
     let new = g.F.Files.state c.fetch_log.new.files in
     let given : Handed = handed (map (λ h. (goal.Predictor-dyn g (h.vtable, h.value)).answer h.value) c.args.hosts.now.items) in
     let next = λ (p : Program). Fetches c.args.input.now max_input (λ x. Fetches c.args.log.now max_log (λ file. WithLog file (λ sections. Ends (Replays given p x sections)))) in
-    let laws : LogLaws = record { one = c.bytes_have_one_reading.ensures.one; none = c.bytes_have_one_reading.ensures.none; place = c.bytes_have_one_reading.ensures.place } in
+    let laws : LogLaws = record { one = c.bytes_have_one_reading.ensures.one; none = c.bytes_have_one_reading.ensures.none; offset = c.bytes_have_one_reading.ensures.offset } in
     let p = program c.in_ok-checked.checked in
     let content = c.in_ok-content.content.items in
     let sections = sections_of c.in_ok-sections.sections.items in

@@ -136,7 +136,7 @@ enter-returns-clause-bound t c =
     let own = c.in_ok-own.ensures {u = tt} in
     let count : c.len.result ≡ length c.args.function.now.slots.items = search rules in
     let tables = rw c.deref.ensures.value at (c.in_ok-slots.ensures {u = tt}) in
-    let same = entered_is (call_before (map function c.args.functions.now) c.args.place) c.in_ok-slots.slots c.args.function.now c.args.given.now c.deref-2.result.now c.len.result tables count (c.deref-2.ensures.value ∙ own) in
+    let same = entered_is (call_before (map function c.args.functions.now) c.args.index) c.in_ok-slots.slots c.args.function.now c.args.given.now c.deref-2.result.now c.len.result tables count (c.deref-2.ensures.value ∙ own) in
     if_ok c.block_and.result (rw c.deref-3.ensures.value at c.block_and.ensures.bound) (λ b h. h ∙ ap (λ (entry : Entered). entry.bound) same)
 
 pub enter-returns-clause-finds : goal.enter-returns-clause-finds
@@ -144,7 +144,7 @@ enter-returns-clause-finds t c =
     let own = c.in_ok-own.ensures {u = tt} in
     let count : c.len.result ≡ length c.args.function.now.slots.items = search rules in
     let tables = rw c.deref.ensures.value at (c.in_ok-slots.ensures {u = tt}) in
-    let same = entered_is (call_before (map function c.args.functions.now) c.args.place) c.in_ok-slots.slots c.args.function.now c.args.given.now c.deref-2.result.now c.len.result tables count (c.deref-2.ensures.value ∙ own) in
+    let same = entered_is (call_before (map function c.args.functions.now) c.args.index) c.in_ok-slots.slots c.args.function.now c.args.given.now c.deref-2.result.now c.len.result tables count (c.deref-2.ensures.value ∙ own) in
     subst (λ (entry : Entered). OnOk c.block_and.result (Extends entry.finds c.args.found.now c.block_and.new.found)) same (rw c.deref-3.ensures.value at c.block_and.ensures.finds)
 
 pub expression-call-requires : goal.expression-call-requires

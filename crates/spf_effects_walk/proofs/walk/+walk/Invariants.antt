@@ -19,7 +19,7 @@ abbrev pub decreases-call : goal.decreases-call
 decreases-call l = weight_before (map function l.context.now.functions.now) l.context.now.below + 2 * exprs_weight l.given.now + 1
 
 abbrev pub decreases-enter : goal.decreases-enter
-decreases-enter l = weight_before (map function l.functions.now) l.place + 2 * function_weight l.function.now + 2
+decreases-enter l = weight_before (map function l.functions.now) l.index + 2 * function_weight l.function.now + 2
 
 abbrev pub decreases-condition : goal.decreases-condition
 decreases-condition l = weight_before (map function l.context.now.functions.now) l.context.now.below + 2 * cond_weight l.cond.now

@@ -34,7 +34,7 @@ run_from-requires-clause-guesses g c κs within = ap (λ (l : List code_guess.Gu
 
 pub count_blocks-stats-requires-clause-few : goal.count_blocks-stats-requires-clause-few
 count_blocks-stats-requires-clause-few g c =
-    let within = c.history-history.ensures.places.within in
+    let within = c.history-history.ensures.homes.within in
     let blocks = ap (λ (s : Site). s.blocks) c.in_ok-chain.ensures.site in
     let few = c.requires.there.few in
     let history = ap (λ (l : List ChainBlock). length l) c.history-history.ensures.history in
@@ -43,7 +43,7 @@ count_blocks-stats-requires-clause-few g c =
 
 pub count_blocks-stats-requires-clause-enough : goal.count_blocks-stats-requires-clause-enough
 count_blocks-stats-requires-clause-enough g c =
-    let within = c.history-history.ensures.places.within in
+    let within = c.history-history.ensures.homes.within in
     let blocks = ap (λ (s : Site). s.blocks) c.in_ok-chain.ensures.site in
     let size = c.in_ok-guesses.ensures.size in
     let history = ap (λ (l : List ChainBlock). length l) c.history-history.ensures.history in
@@ -53,7 +53,7 @@ count_blocks-stats-requires-clause-enough g c =
 
 pub tell_history-requires-clause-few : goal.tell_history-requires-clause-few
 tell_history-requires-clause-few g c =
-    let within = c.history-history.ensures.places.within in
+    let within = c.history-history.ensures.homes.within in
     let blocks = ap (λ (s : Site). s.blocks) c.in_ok-chain.ensures.site in
     let history = ap (λ (l : List ChainBlock). length l) c.history-history.ensures.history in
     let rows = row-count c.deref-4.result.now _ (c.deref-4.ensures.value ∙ c.in_ok-reals.ensures.rows) in
@@ -68,7 +68,7 @@ returns-clause-came g c = λ before telling were settled trace memory after fini
     let counted : c.count_blocks-stats.result ≡ counts_of (length c.in_ok-chain.chain.history) (paired (map seen_guess items) (drop 1 (real_values c.in_ok-chain.chain.history)))
     = c.count_blocks-stats.ensures.counts ∙ (λ i. counts_of (length (rows i)) (paired (map seen_guess (c.deref-3.ensures.value i)) (drop 1 (rows i))))
     ∙ ap (λ n. counts_of n (paired (map seen_guess items) (drop 1 (real_values c.in_ok-chain.chain.history)))) (length-map c.in_ok-chain.chain.history (λ (b : ChainBlock). b.row)) in
-    let within = c.history-history.ensures.places.within in
+    let within = c.history-history.ensures.homes.within in
     let blocks = ap (λ (s : Site). s.blocks) c.in_ok-chain.ensures.site in
     comes (block_guess before telling c.args.at c.args.header.now) (seen_program c.args.checked.now) c.args.at c.args.header.now items c.requires.there
     c.in_ok-chain.chain site (c.in_ok-guesses.ensures.guesses before telling were) c.speculative_runs_see_visible_slots_alone.ensures.guesses settled trace memory after finished entry

@@ -18,16 +18,16 @@ returns-in_default-clause-counts c =
     no-blocks [] e = refl
     no-blocks (x ∷ xs) e = absurd (omega (arith, e))
 
-pub loop-place-preserved : goal.loop-place-preserved
-loop-place-preserved c =
+pub loop-index-preserved : goal.loop-index-preserved
+loop-index-preserved c =
     let cases = c.in-Some.ensures.cases in
-    let inv = c.loop-place.invariant in
+    let inv = c.loop-index.invariant in
     let w = c.with_guess-stats.ensures in
-    let test = c.loop-place-test.true in
+    let test = c.loop-index-test.true in
     let enough = c.requires.enough in
     let size = cases.1 in
-    let p = pair-step c.args.guesses.now c.in-Some.others.now c.loop-place.place c.index-guesses-place.result c.index-others-place.result (omega (arith, test, enough, size)) (omega (arith, test)) c.index-guesses-place.is c.index-others-place.is in
-    rw (add-one c.loop-place.place) (record {
+    let p = pair-step c.args.guesses.now c.in-Some.others.now c.loop-index.index c.index-guesses-index.result c.index-others-index.result (omega (arith, test, enough, size)) (omega (arith, test)) c.index-guesses-index.is c.index-others-index.is in
+    rw (add-one c.loop-index.index) (record {
       blocks = w.blocks ∙ inv.blocks;
       hits = add-step _ _ _ _ _ _ w.hits (ap (how_many is_hit) p) inv.hits;
       misses = add-step _ _ _ _ _ _ w.misses (ap (how_many (λ block. not (is_hit block))) p) inv.misses;
@@ -40,12 +40,12 @@ loop-place-preserved c =
 pub returns-clause-counts : goal.returns-clause-counts
 returns-clause-counts c =
     let cases = c.in-Some.ensures.cases in
-    let inv = c.loop-place.invariant in
-    let test = c.loop-place-test.false in
-    let none = paired-none (map seen_guess c.args.guesses.now) c.in-Some.others.now c.loop-place.place (omega (arith, test)) in
+    let inv = c.loop-index.invariant in
+    let test = c.loop-index-test.false in
+    let none = paired-none (map seen_guess c.args.guesses.now) c.in-Some.others.now c.loop-index.index (omega (arith, test)) in
     let hits = add-none _ _ _ (ap (how_many is_hit) none) inv.hits in
     let misses = add-none _ _ _ (ap (how_many (λ block. not (is_hit block))) none) inv.misses in
     let blind = add-none _ _ _ (ap (how_many (λ block. block.guess.blind)) none) inv.blind in
-    let counted : c.loop-place.stats ≡ counts_of (length c.args.reals.now) (paired (map seen_guess c.args.guesses.now) c.in-Some.others.now)
+    let counted : c.loop-index.stats ≡ counts_of (length c.args.reals.now) (paired (map seen_guess c.args.guesses.now) c.in-Some.others.now)
     = λ i. record { blocks = inv.blocks i; hits = hits i; misses = misses i; blind = blind i } in
     counted ∙ ap (λ (l : List Carried). counts_of (length c.args.reals.now) (paired (map seen_guess c.args.guesses.now) (drop 1 l))) (sym cases.0)

@@ -3,16 +3,16 @@ use Rattle.spf_guess_statistics.specs.Statistics.{is_hit, how_many}
 use Rattle.spf_engine_construct.specs.Guesses.{seen_guess, paired}
 use Rattle.spf_engine_construct.proofs.counts.count_blocks.Given as goal
 
-abbrev pub invariant-loop-place : goal.invariant-loop-place
-invariant-loop-place l = record {
+abbrev pub invariant-loop-index : goal.invariant-loop-index
+invariant-loop-index l = record {
   blocks : l.stats.blocks ≡ length l.reals;
-  hits : l.stats.hits + how_many is_hit (paired (drop l.place (map seen_guess l.guesses)) (drop l.place l.others))
+  hits : l.stats.hits + how_many is_hit (paired (drop l.index (map seen_guess l.guesses)) (drop l.index l.others))
       ≡ how_many is_hit (paired (map seen_guess l.guesses) l.others);
-  misses : l.stats.misses + how_many (λ block. not (is_hit block)) (paired (drop l.place (map seen_guess l.guesses)) (drop l.place l.others))
+  misses : l.stats.misses + how_many (λ block. not (is_hit block)) (paired (drop l.index (map seen_guess l.guesses)) (drop l.index l.others))
       ≡ how_many (λ block. not (is_hit block)) (paired (map seen_guess l.guesses) l.others);
-  blind : l.stats.blind + how_many (λ block. block.guess.blind) (paired (drop l.place (map seen_guess l.guesses)) (drop l.place l.others))
+  blind : l.stats.blind + how_many (λ block. block.guess.blind) (paired (drop l.index (map seen_guess l.guesses)) (drop l.index l.others))
       ≡ how_many (λ block. block.guess.blind) (paired (map seen_guess l.guesses) l.others);
-  few_hits : l.stats.hits ≤ l.place;
-  few_misses : l.stats.misses ≤ l.place;
-  few_blind : l.stats.blind ≤ l.place;
+  few_hits : l.stats.hits ≤ l.index;
+  few_misses : l.stats.misses ≤ l.index;
+  few_blind : l.stats.blind ≤ l.index;
 }

@@ -7,11 +7,11 @@ use Rattle.spf_engine_construct.proofs.Words.{words_of}
 use Rattle.spf_engine_construct.proofs.guesses.ask_row.Given as goal
 
 -- the parts so far are guessed
-abbrev pub invariant-loop-place : goal.invariant-loop-place
-invariant-loop-place g l = record {
+abbrev pub invariant-loop-index : goal.invariant-loop-index
+invariant-loop-index g l = record {
   words : (before : Hosts) (telling : List Telling) (results : Results) → WereTold before telling (handed_in (map (λ h. (goal.Predictor-dyn g (h.vtable, h.value)).answer h.value) l.initial.hosts.items))
       → seen_guess l.fn.predicted ≡ guess_of (parts_from (answered no_hosts [] l.fn.number) results 0 (map seen_predictor l.fn.predictors))
-      → take l.place l.words ≡ take l.place (words_of (parts_from (answered before telling l.fn.number) results 0 (map seen_predictor l.fn.predictors)));
+      → take l.index l.words ≡ take l.index (words_of (parts_from (answered before telling l.fn.number) results 0 (map seen_predictor l.fn.predictors)));
   told : (before : Hosts) (telling : List Telling) → WereTold before telling (handed_in (map (λ h. (goal.Predictor-dyn g (h.vtable, h.value)).answer h.value) l.initial.hosts.items))
       → WereTold before telling (handed_in (map (λ h. (goal.Predictor-dyn g (h.vtable, h.value)).answer h.value) l.hosts.items));
   count : length l.hosts.items ≡ length l.initial.hosts.items;

@@ -5,9 +5,9 @@ use Rattle.spf_guess.specs.Answers.{handed_in, WereTold}
 use Rattle.spf_engine_construct.proofs.telling.tell_row.Given as goal
 
 -- the parts so far were told
-abbrev pub invariant-loop-place : goal.invariant-loop-place
-invariant-loop-place g l = record {
+abbrev pub invariant-loop-index : goal.invariant-loop-index
+invariant-loop-index g l = record {
   count : length l.hosts.items ≡ length l.initial.hosts.items;
   told : (before : Hosts) (telling : List Telling) → WereTold before telling (handed_in (map (λ h. (goal.Predictor-dyn g (h.vtable, h.value)).answer h.value) l.initial.hosts.items))
-      → WereTold before (telling ++ tells_row (take l.place (map seen_predictor l.fn.predictors)) l.fn.number l.fn.row) (handed_in (map (λ h. (goal.Predictor-dyn g (h.vtable, h.value)).answer h.value) l.hosts.items));
+      → WereTold before (telling ++ tells_row (take l.index (map seen_predictor l.fn.predictors)) l.fn.number l.fn.row) (handed_in (map (λ h. (goal.Predictor-dyn g (h.vtable, h.value)).answer h.value) l.hosts.items));
 }

@@ -40,7 +40,7 @@ pub unreachable-requires : goal.unreachable-requires
 unreachable-requires c =
     let p = program_of c.args.instance.now in
     let performs = rw (to_z-of_z w64 c.args.number c.ranges.number) at c.perform_guess_at.ensures.performs in
-    guess_answer (λ (m : ReadOnly). m.cells.now) p c.args.instance.now.input (construct c.args.construct) _ _ full_output.bytes c.args.number c.args.place _ _ _
+    guess_answer (λ (m : ReadOnly). m.cells.now) p c.args.instance.now.input (construct c.args.construct) _ _ full_output.bytes c.args.number c.args.part _ _ _
     (Err (h.Cancelled c.in-Err-Cancelled.field-0-0)) (c.in-Err-Cancelled.is ∙ ap Err c.in-Err-Cancelled.field-0-is) c.requires.functions_silent performs
 
 pub returns-clause-guess : goal.returns-clause-guess
@@ -49,6 +49,6 @@ returns-clause-guess c =
     let here = rw (to_z-of_z w64 c.args.number c.ranges.number) at c.perform_guess_at.ensures.performs in
     let performs = rw (c.deref_mut.ensures.value ∙ c.frame.view_is) at here in
     elim c.match-perform_guess_at.branch [
-      | in-Ok w ↦ let f : FitsSigned w64 w.in-Ok.value = search rules in w.result-is ∙ ap Ok (to_z-of_z w64 w.in-Ok.value f) ∙ guess_answer (λ (m : ReadOnly). m.cells.now) p c.args.instance.now.input (construct c.args.construct) (main_slots p c.args.frame.now) _ full_output.bytes c.args.number c.args.place _ _ _ (Ok w.in-Ok.value) w.in-Ok.is c.requires.functions_silent performs
-      | in-Err-Trapped w ↦ w.result-is ∙ guess_answer (λ (m : ReadOnly). m.cells.now) p c.args.instance.now.input (construct c.args.construct) (main_slots p c.args.frame.now) _ full_output.bytes c.args.number c.args.place _ _ _ (Err (h.Trapped w.in-Err-Trapped.trap)) (w.in-Err-Trapped.is ∙ ap Err w.in-Err-Trapped.field-0-is) c.requires.functions_silent performs
+      | in-Ok w ↦ let f : FitsSigned w64 w.in-Ok.value = search rules in w.result-is ∙ ap Ok (to_z-of_z w64 w.in-Ok.value f) ∙ guess_answer (λ (m : ReadOnly). m.cells.now) p c.args.instance.now.input (construct c.args.construct) (main_slots p c.args.frame.now) _ full_output.bytes c.args.number c.args.part _ _ _ (Ok w.in-Ok.value) w.in-Ok.is c.requires.functions_silent performs
+      | in-Err-Trapped w ↦ w.result-is ∙ guess_answer (λ (m : ReadOnly). m.cells.now) p c.args.instance.now.input (construct c.args.construct) (main_slots p c.args.frame.now) _ full_output.bytes c.args.number c.args.part _ _ _ (Err (h.Trapped w.in-Err-Trapped.trap)) (w.in-Err-Trapped.is ∙ ap Err w.in-Err-Trapped.field-0-is) c.requires.functions_silent performs
     ]

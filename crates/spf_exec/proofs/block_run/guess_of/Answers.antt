@@ -8,37 +8,37 @@ use Rattle.spf_exec.specs.Sources.{callable_of}
 use Rattle.spf_exec.proofs.Sources.{guess_code_at, guess_there, no_guess}
 use Rattle.spf_exec.proofs.block_run.guess_of.Goals as goal
 
-pub bounds-codes-place : goal.bounds-codes-place
-bounds-codes-place g c =
+pub bounds-codes-part : goal.bounds-codes-part
+bounds-codes-part g c =
     let p = program_of c.args.instance.now in
-    let found = guess_code_at (callable_of p) (rooms p) (length p.slots) c.args.line c.args.predict.now c.args.codes.now c.args.place c.requires.codes c.if-place-predict.false in
+    let found = guess_code_at (callable_of p) (rooms p) (length p.slots) c.args.line c.args.predict.now c.args.codes.now c.args.part c.requires.codes c.if-part-predict.false in
     found.0
 
 pub perform_guess-requires-clause-code : goal.perform_guess-requires-clause-code
 perform_guess-requires-clause-code g c =
     let p = program_of c.args.instance.now in
-    let found = guess_code_at (callable_of p) (rooms p) (length p.slots) c.args.line c.args.predict.now c.args.codes.now c.args.place c.requires.codes c.if-place-predict.false in
-    (found.1 c.index-predict-place.result c.index-codes-place.result c.index-predict-place.is c.index-codes-place.is).0
+    let found = guess_code_at (callable_of p) (rooms p) (length p.slots) c.args.line c.args.predict.now c.args.codes.now c.args.part c.requires.codes c.if-part-predict.false in
+    (found.1 c.index-predict-part.result c.index-codes-part.result c.index-predict-part.is c.index-codes-part.is).0
 
 pub perform_guess-requires-clause-sets : goal.perform_guess-requires-clause-sets
 perform_guess-requires-clause-sets g c =
     let p = program_of c.args.instance.now in
-    let found = guess_code_at (callable_of p) (rooms p) (length p.slots) c.args.line c.args.predict.now c.args.codes.now c.args.place c.requires.codes c.if-place-predict.false in
-    (found.1 c.index-predict-place.result c.index-codes-place.result c.index-predict-place.is c.index-codes-place.is).1
+    let found = guess_code_at (callable_of p) (rooms p) (length p.slots) c.args.line c.args.predict.now c.args.codes.now c.args.part c.requires.codes c.if-part-predict.false in
+    (found.1 c.index-predict-part.result c.index-codes-part.result c.index-predict-part.is c.index-codes-part.is).1
 
 pub perform_guess-requires-clause-room : goal.perform_guess-requires-clause-room
 perform_guess-requires-clause-room g c =
     let p = program_of c.args.instance.now in
-    let there = guess_there (rooms p) c.args.predict.now c.args.place c.index-predict-place.result c.if-place-predict.false c.index-predict-place.is in
+    let there = guess_there (rooms p) c.args.predict.now c.args.part c.index-predict-part.result c.if-part-predict.false c.index-predict-part.is in
     let less = there.1 in
     omega (arith, c.requires.room, less)
 
-pub returns-then-place-predict-clause-performs : goal.returns-then-place-predict-clause-performs
-returns-then-place-predict-clause-performs g c =
-    along (ap (guess_at (environment_of (program_of c.args.instance.now) c.args.instance.now.input) c.args.line) (no_guess c.args.predict.now c.args.place c.if-place-predict.true)) (at_once g.met.M.Memory.laws _ _ _)
+pub returns-then-part-predict-clause-performs : goal.returns-then-part-predict-clause-performs
+returns-then-part-predict-clause-performs g c =
+    along (ap (guess_at (environment_of (program_of c.args.instance.now) c.args.instance.now.input) c.args.line) (no_guess c.args.predict.now c.args.part c.if-part-predict.true)) (at_once g.met.M.Memory.laws _ _ _)
 
 pub returns-clause-performs : goal.returns-clause-performs
 returns-clause-performs g c =
     let p = program_of c.args.instance.now in
-    let there = guess_there (rooms p) c.args.predict.now c.args.place c.index-predict-place.result c.if-place-predict.false c.index-predict-place.is in
+    let there = guess_there (rooms p) c.args.predict.now c.args.part c.index-predict-part.result c.if-part-predict.false c.index-predict-part.is in
     along (ap (guess_at (environment_of p c.args.instance.now.input) c.args.line) there.0) c.perform_guess.ensures.performs

@@ -19,7 +19,7 @@ returns-in-Fold-clause-performs g c =
     let written = rw (to_z-of_z w64 c.args.number c.ranges.number) at c.write.ensures in
     let slots = ap (main_slots p) written ∙ take_set (length p.slots) c.args.registers.now head.block c.args.number in
     rw c.in-Fold.is
-    (from_slots (guess_at (environment_of p c.args.instance.now.input) c.args.construct.line (slice_get head.predict c.args.place)) slots
+    (from_slots (guess_at (environment_of p c.args.instance.now.input) c.args.construct.line (slice_get head.predict c.args.part)) slots
     (rw c.deref-in-Fold.ensures.value at c.guess_of.ensures.performs))
 
 pub returns-in-Fold-clause-kept : goal.returns-in-Fold-clause-kept

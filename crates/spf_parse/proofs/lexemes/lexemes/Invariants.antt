@@ -4,7 +4,7 @@ use Rattle.spf_text.specs.Tokens.{AreInOrder}
 use Rattle.spf_parse_grammar.specs.Lexemes.{line_at, lexeme_of, lexeme}
 use Rattle.spf_parse.proofs.lexemes.lexemes.Given as goal
 
--- the line is that of the place so far, and the tokens so far are lexemes
+-- the line is that of the offset so far, and the tokens so far are lexemes
 abbrev pub invariant-loop-token : goal.invariant-loop-token
 invariant-loop-token l = record {
   line : l.line ≡ line_at l.text l.up_to;

@@ -4,7 +4,7 @@ use Rattle.spf_ast.specs.RawView.{raw_program}
 use Rattle.spf_parse_grammar.specs.Lexemes.{lexemes, lexemes_of}
 use Rattle.spf_parse_grammar.specs.Parts.{program, give}
 use Rattle.spf_parse_grammar.specs.Rules.{all}
-use Rattle.spf_parse_grammar.specs.Texts.{IsUnexpected, IsTooDeep, place}
+use Rattle.spf_parse_grammar.specs.Texts.{IsUnexpected, IsTooDeep, offset}
 use Rattle.spf_parse.specs.declared.program.ParseError.TheVariants as parse
 use Rattle.spf_parse_parts.specs.Answers.{Leads, Faults}
 use Rattle.spf_parse_parts.proofs.Tokens.{seen_length}
@@ -41,20 +41,20 @@ returns-in-Err-Unexpected c =
     let f = subst (λ l. Faults false 14 (all program) l c.in-Err-Unexpected.left) w (rw c.in-Err-Unexpected.field-0-is at c.in-Err-Unexpected.ensures) in
     let q = ap lexemes c.deref-in-Err-Unexpected.ensures.value ∙ sym (ap lexemes c.deref-2.ensures.value) ∙ w in
     let n : length c.deref-in-Err-Unexpected.result.now ≡ length (lexemes_of c.args.text.now c.in-Ok.tokens.items) = sym (seen_length c.deref-in-Err-Unexpected.result.now) ∙ ap length q in
-    let e = c.place.ensures ∙ (λ i. place (length c.args.text.now) (drop (n i - c.in-Err-Unexpected.left) (q i))) in
-    by_verdict (wrong c.place.result c.in-Ok.tokens.items refl h (subst (IsUnexpected (lexemes_of c.args.text.now c.in-Ok.tokens.items) (length c.args.text.now)) (sym e) (unexpected_is (length c.args.text.now) f))) (λ v. record {
-      program = program_of c.args.text.now (Err (parse.Unexpected c.place.result)) v;
-      only = only_of c.args.text.now (Err (parse.Unexpected c.place.result)) v;
+    let e = c.offset.ensures ∙ (λ i. offset (length c.args.text.now) (drop (n i - c.in-Err-Unexpected.left) (q i))) in
+    by_verdict (wrong c.offset.result c.in-Ok.tokens.items refl h (subst (IsUnexpected (lexemes_of c.args.text.now c.in-Ok.tokens.items) (length c.args.text.now)) (sym e) (unexpected_is (length c.args.text.now) f))) (λ v. record {
+      program = program_of c.args.text.now (Err (parse.Unexpected c.offset.result)) v;
+      only = only_of c.args.text.now (Err (parse.Unexpected c.offset.result)) v;
       writable = tt;
       well_formed = tt;
-      accepted = accepted_of c.args.text.now (Err (parse.Unexpected c.place.result)) v;
-      scan = scan_of c.args.text.now (Err (parse.Unexpected c.place.result)) v;
-      scan_refused = scan_refused_of c.args.text.now (Err (parse.Unexpected c.place.result)) v;
-      too_long_refused = too_long_of c.args.text.now (Err (parse.Unexpected c.place.result)) v;
-      unexpected = unexpected_of c.args.text.now (Err (parse.Unexpected c.place.result)) v;
-      unexpected_refused = unexpected_refused_of c.args.text.now (Err (parse.Unexpected c.place.result)) v;
-      too_deep = too_deep_of c.args.text.now (Err (parse.Unexpected c.place.result)) v;
-      too_deep_refused = too_deep_refused_of c.args.text.now (Err (parse.Unexpected c.place.result)) v;
+      accepted = accepted_of c.args.text.now (Err (parse.Unexpected c.offset.result)) v;
+      scan = scan_of c.args.text.now (Err (parse.Unexpected c.offset.result)) v;
+      scan_refused = scan_refused_of c.args.text.now (Err (parse.Unexpected c.offset.result)) v;
+      too_long_refused = too_long_of c.args.text.now (Err (parse.Unexpected c.offset.result)) v;
+      unexpected = unexpected_of c.args.text.now (Err (parse.Unexpected c.offset.result)) v;
+      unexpected_refused = unexpected_refused_of c.args.text.now (Err (parse.Unexpected c.offset.result)) v;
+      too_deep = too_deep_of c.args.text.now (Err (parse.Unexpected c.offset.result)) v;
+      too_deep_refused = too_deep_refused_of c.args.text.now (Err (parse.Unexpected c.offset.result)) v;
     })
 
 pub returns-in-Err-TooDeep : goal.returns-in-Err-TooDeep
@@ -64,20 +64,20 @@ returns-in-Err-TooDeep c =
     let f = subst (λ l. Faults true 14 (all program) l c.in-Err-TooDeep.left) w (rw c.in-Err-TooDeep.field-0-is at c.in-Err-TooDeep.ensures) in
     let q = ap lexemes c.deref-in-Err-TooDeep.ensures.value ∙ sym (ap lexemes c.deref-2.ensures.value) ∙ w in
     let n : length c.deref-in-Err-TooDeep.result.now ≡ length (lexemes_of c.args.text.now c.in-Ok.tokens.items) = sym (seen_length c.deref-in-Err-TooDeep.result.now) ∙ ap length q in
-    let e = c.place-in-Err-TooDeep.ensures ∙ (λ i. place (length c.args.text.now) (drop (n i - c.in-Err-TooDeep.left) (q i))) in
-    by_verdict (deep c.place-in-Err-TooDeep.result c.in-Ok.tokens.items refl h (subst (IsTooDeep (lexemes_of c.args.text.now c.in-Ok.tokens.items)) (sym e) (too_deep_is (length c.args.text.now) f))) (λ v. record {
-      program = program_of c.args.text.now (Err (parse.TooDeep c.place-in-Err-TooDeep.result)) v;
-      only = only_of c.args.text.now (Err (parse.TooDeep c.place-in-Err-TooDeep.result)) v;
+    let e = c.offset-in-Err-TooDeep.ensures ∙ (λ i. offset (length c.args.text.now) (drop (n i - c.in-Err-TooDeep.left) (q i))) in
+    by_verdict (deep c.offset-in-Err-TooDeep.result c.in-Ok.tokens.items refl h (subst (IsTooDeep (lexemes_of c.args.text.now c.in-Ok.tokens.items)) (sym e) (too_deep_is (length c.args.text.now) f))) (λ v. record {
+      program = program_of c.args.text.now (Err (parse.TooDeep c.offset-in-Err-TooDeep.result)) v;
+      only = only_of c.args.text.now (Err (parse.TooDeep c.offset-in-Err-TooDeep.result)) v;
       writable = tt;
       well_formed = tt;
-      accepted = accepted_of c.args.text.now (Err (parse.TooDeep c.place-in-Err-TooDeep.result)) v;
-      scan = scan_of c.args.text.now (Err (parse.TooDeep c.place-in-Err-TooDeep.result)) v;
-      scan_refused = scan_refused_of c.args.text.now (Err (parse.TooDeep c.place-in-Err-TooDeep.result)) v;
-      too_long_refused = too_long_of c.args.text.now (Err (parse.TooDeep c.place-in-Err-TooDeep.result)) v;
-      unexpected = unexpected_of c.args.text.now (Err (parse.TooDeep c.place-in-Err-TooDeep.result)) v;
-      unexpected_refused = unexpected_refused_of c.args.text.now (Err (parse.TooDeep c.place-in-Err-TooDeep.result)) v;
-      too_deep = too_deep_of c.args.text.now (Err (parse.TooDeep c.place-in-Err-TooDeep.result)) v;
-      too_deep_refused = too_deep_refused_of c.args.text.now (Err (parse.TooDeep c.place-in-Err-TooDeep.result)) v;
+      accepted = accepted_of c.args.text.now (Err (parse.TooDeep c.offset-in-Err-TooDeep.result)) v;
+      scan = scan_of c.args.text.now (Err (parse.TooDeep c.offset-in-Err-TooDeep.result)) v;
+      scan_refused = scan_refused_of c.args.text.now (Err (parse.TooDeep c.offset-in-Err-TooDeep.result)) v;
+      too_long_refused = too_long_of c.args.text.now (Err (parse.TooDeep c.offset-in-Err-TooDeep.result)) v;
+      unexpected = unexpected_of c.args.text.now (Err (parse.TooDeep c.offset-in-Err-TooDeep.result)) v;
+      unexpected_refused = unexpected_refused_of c.args.text.now (Err (parse.TooDeep c.offset-in-Err-TooDeep.result)) v;
+      too_deep = too_deep_of c.args.text.now (Err (parse.TooDeep c.offset-in-Err-TooDeep.result)) v;
+      too_deep_refused = too_deep_refused_of c.args.text.now (Err (parse.TooDeep c.offset-in-Err-TooDeep.result)) v;
     })
 
 pub returns-in-Err : goal.returns-in-Err

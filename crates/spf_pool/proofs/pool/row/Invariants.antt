@@ -2,12 +2,12 @@ use Rattle.std.proofs.Common.{◌≡◌, ◌≤◌, ◌-◌, length, map, take}
 use Rattle.spf_pool.specs.Made.{as_guest}
 use Rattle.spf_pool.proofs.pool.row.Given as goal
 
-abbrev pub invariant-loop-place : goal.invariant-loop-place
-invariant-loop-place g l = record {
+abbrev pub invariant-loop-index : goal.invariant-loop-index
+invariant-loop-index g l = record {
   same : l.owners ≡ l.fn.owners;
-  ends : l.ends.items ≡ map as_guest (take l.place l.owners);
-  place : l.place ≤ length l.owners;
+  ends : l.ends.items ≡ map as_guest (take l.index l.owners);
+  index : l.index ≤ length l.owners;
 }
 
-abbrev pub decreases-loop-place : goal.decreases-loop-place
-decreases-loop-place g l = length l.owners - l.place
+abbrev pub decreases-loop-index : goal.decreases-loop-index
+decreases-loop-index g l = length l.owners - l.index

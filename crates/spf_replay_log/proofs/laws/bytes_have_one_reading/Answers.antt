@@ -6,10 +6,10 @@ pub returns-clause-one : goal.returns-clause-one
 returns-clause-one c bytes one other p q = one-log bytes one other p q
 
 pub returns-clause-none : goal.returns-clause-none
-returns-clause-none c bytes log place p b = none-breaks bytes log place p b
+returns-clause-none c bytes log offset p b = none-breaks bytes log offset p b
 
-pub returns-clause-place : goal.returns-clause-place
-returns-clause-place c bytes one other p q = log-once bytes one other p q
+pub returns-clause-offset : goal.returns-clause-offset
+returns-clause-offset c bytes one other p q = log-once bytes one other p q
 
 pub returns-clause-some : goal.returns-clause-some
 returns-clause-some c bytes are = log-or-break bytes are

@@ -8,7 +8,7 @@ use Rattle.spf_replay_log.proofs.reader.read_section.Goals as goal
 pub returns-then-bytes-at-lt-COUNT_SIZE-clause-refused : goal.returns-then-bytes-at-lt-COUNT_SIZE-clause-refused
 returns-then-bytes-at-lt-COUNT_SIZE-clause-refused c =
     let size = length-drop c.args.at c.args.bytes.now in
-    (length c.args.bytes.now - c.args.at, omega arith, inl (record { short = omega (arith, size); place_is = sym size }))
+    (length c.args.bytes.now - c.args.at, omega arith, inl (record { short = omega (arith, size); offset_is = sym size }))
 
 pub loop-index-init : goal.loop-index-init
 loop-index-init c = record {

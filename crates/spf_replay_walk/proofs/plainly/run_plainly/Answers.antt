@@ -8,19 +8,19 @@ use Rattle.spf_exec_instance.specs.Instance.{program_of}
 use Rattle.spf_engine_laws.proofs.Constructs.{emits-none}
 use Rattle.spf_replay.specs.Copying.{in_plan}
 use Rattle.spf_replay.proofs.Copies.{copied-in, whole-slice}
-use Rattle.spf_replay_walk.specs.Places.{entry_at, spans_of}
+use Rattle.spf_replay_walk.specs.Positions.{entry_at, spans_of}
 use Rattle.spf_replay_walk.proofs.InPlace.{restored}
 use Rattle.spf_replay_walk.proofs.plainly.run_plainly.Goals as goal
 
 pub run_blocks-requires-clause-silent : goal.run_blocks-requires-clause-silent
 run_blocks-requires-clause-silent c = λ n.
-    emits-none (program_of c.args.place.instance.now) (seen_construct c.args.place.construct)
-    (subst IsAccepted (sym c.requires.there.program) c.program-program.ensures.accepted c.args.place.index (seen_construct c.args.place.construct) c.requires.there.construct)
-    (part_of (seen_construct c.args.place.construct) n)
+    emits-none (program_of c.args.position.instance.now) (seen_construct c.args.position.construct)
+    (subst IsAccepted (sym c.requires.there.program) c.program-program.ensures.accepted c.args.position.index (seen_construct c.args.position.construct) c.requires.there.construct)
+    (part_of (seen_construct c.args.position.construct) n)
 
 pub run_blocks-requires-clause-functions_silent : goal.run_blocks-requires-clause-functions_silent
 run_blocks-requires-clause-functions_silent c =
-    c.lawful_programs_are_quiet_and_small.ensures.functions (program_of c.args.place.instance.now) (subst IsLawful (sym c.requires.there.program) c.program-program.ensures.lawful)
+    c.lawful_programs_are_quiet_and_small.ensures.functions (program_of c.args.position.instance.now) (subst IsLawful (sym c.requires.there.program) c.program-program.ensures.lawful)
 
 pub returns-clause-before : goal.returns-clause-before
 returns-clause-before c = λ cell inside.
@@ -40,7 +40,7 @@ returns-clause-after c = λ cell inside.
 
 pub returns-clause-cells : goal.returns-clause-cells
 returns-clause-cells c =
-    let e = entry_at c.args.place c.args.header.now c.args.cells.items in
+    let e = entry_at c.args.position c.args.header.now c.args.cells.items in
     let made = c.run_blocks.new.memory.cells in
     let now = c.copy_plan-3.new.to in
     let size = c.copy_plan-3.ensures.same ∙ ap length c.deref_mut-3.ensures.value in

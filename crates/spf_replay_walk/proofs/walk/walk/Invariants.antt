@@ -5,7 +5,7 @@ use Rattle.spf_exec.specs.Pieces.{IsRunOf, ahead}
 use Rattle.spf_guess.specs.Answers.{handed_in, WereTold}
 use Rattle.spf_engine_laws.specs.Progress.{Progress, GoesOn}
 use Rattle.spf_engine.specs.Runs.{AreFew}
-use Rattle.spf_replay_walk.specs.Places.{IsSpare}
+use Rattle.spf_replay_walk.specs.Positions.{IsSpare}
 use Rattle.spf_replay_walk.specs.Visiting.{VisitsFrom}
 use Rattle.spf_replay_walk.proofs.walk.walk.Given as goal
 

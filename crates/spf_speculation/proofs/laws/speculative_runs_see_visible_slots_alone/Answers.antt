@@ -6,10 +6,10 @@ use Rattle.spf_speculation.proofs.laws.speculative_runs_see_visible_slots_alone.
 
 pub returns : goal.returns
 returns c = record {
-  slots = λ e slots place guess steps values result alike run. record {
+  slots = λ e slots stands guess steps values result alike run. record {
     below = run.below;
     consistent = run.consistent;
-    logs = logs-come-too e slots (LookAlike place.scope.visible) (attempts-go-alike c.each_form_sees_visible_slots_alone.ensures.parts e slots place alike) guess (λ n. log_of n steps) run.logs;
+    logs = logs-come-too e slots (LookAlike stands.scope.visible) (attempts-go-alike c.each_form_sees_visible_slots_alone.ensures.parts e slots stands alike) guess (λ n. log_of n steps) run.logs;
   };
   guesses = λ e guess other steps values result same run. record {
     below = run.below;

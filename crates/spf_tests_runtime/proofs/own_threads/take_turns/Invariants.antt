@@ -8,6 +8,6 @@ invariant-loop g l = record {
   can : (goal.iterator-loop g).can_next l.iterator';
   ends : (goal.iterator-loop g).is_finite l.iterator';
   of : IsMateOf l.crew l.mate;
-  from : l.mate.place.from ≡ l.fn.mate.place.from;
-  to : l.mate.place.to ≡ l.fn.mate.place.to;
+  from : l.mate.seat.from ≡ l.fn.mate.seat.from;
+  to : l.mate.seat.to ≡ l.fn.mate.seat.to;
 }

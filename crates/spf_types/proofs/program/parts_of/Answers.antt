@@ -24,4 +24,4 @@ returns-in_err-main c =
     let f = rw ((c.in_ok-globals.ensures {u = tt}).value, c.deref-arrays.ensures.value, c.deref-functions.ensures.value) at c.in_ok-resolved.ensures in
     let g : c.in_ok-globals.globals ≡ globals_of (map seen_array raw.arrays.items) (map raw_function raw.functions.items) = (c.in_ok-globals.ensures {u = tt}).value ∙ (λ i. globals_of (map seen_array (c.deref-arrays.ensures.value i)) (map raw_function (c.deref-functions.ensures.value i))) in
     let n : length c.deref-functions.result.now ≡ length (map raw_function raw.functions.items) = ap length c.deref-functions.ensures.value ∙ sym (length-map raw.functions.items raw_function) in
-    rw (p.1, p.2) (behind _ _ _ a.0 (behind _ _ _ f.0 (along _ _ _ (λ i. block_faults (record { globals = sym g i; place = sym n i; in_main = true; in_loop = false }) (scope (sym c.make-locals.ensures.locals i)) (raw_block (sym c.deref.ensures.value i))) (c.in_err-main.ensures {u = tt}).answers)))
+    rw (p.1, p.2) (behind _ _ _ a.0 (behind _ _ _ f.0 (along _ _ _ (λ i. block_faults (record { globals = sym g i; index = sym n i; in_main = true; in_loop = false }) (scope (sym c.make-locals.ensures.locals i)) (raw_block (sym c.deref.ensures.value i))) (c.in_err-main.ensures {u = tt}).answers)))

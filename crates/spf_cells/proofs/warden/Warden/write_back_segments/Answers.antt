@@ -9,7 +9,7 @@ use Rattle.spf_cells.specs.declared.segment.Segment.{Segment}
 use Rattle.spf_cells.specs.Spans.{consecutive, cells_of}
 use Rattle.spf_cells.specs.Segments.{first_word}
 use Rattle.spf_cells.specs.Values.{content_at, spans_of}
-use Rattle.spf_cells.specs.Finish.{write_back, StandFrom}
+use Rattle.spf_cells.specs.Finish.{write_back, HaveWordsFrom}
 use Rattle.spf_cells.proofs.Segments.{segment_room, segment_stands, segment_inside}
 use Rattle.spf_cells.proofs.WritingBack.{length-write_back, write_back_more}
 use Rattle.spf_cells.proofs.Finished.{spans_of_segments, span_at, write_back_segments_same}
@@ -25,7 +25,7 @@ pub write_back_span-requires-clause-words : goal.write_back_span-requires-clause
 write_back_span-requires-clause-words c =
     let s : Segment = get_or c.args.segments.now c.loop-segment.segment-index no_segment in
     let there : Contains c.args.segments.now s = Contains-get_or c.args.segments.now c.loop-segment.segment-index no_segment c.loop-segment-test.true in
-    subst (λ (z : Setting). StandFrom z c.args.lane.now.value.block s.word (consecutive s.span.from (s.span.to - s.span.from))) c.requires.setting
+    subst (λ (z : Setting). HaveWordsFrom z c.args.lane.now.value.block s.word (consecutive s.span.from (s.span.to - s.span.from))) c.requires.setting
     (segment_stands c.args.lane.now.value.setting c.args.lane.now.value.block c.args.segments.now c.requires.segments s there c.requires.block)
 
 pub write_back_span-requires-clause-inside : goal.write_back_span-requires-clause-inside

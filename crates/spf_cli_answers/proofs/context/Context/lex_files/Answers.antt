@@ -35,7 +35,7 @@ returns g c given =
     let new = g.F.Files.state c.fetch.new.files in
     let o = seen_decode_options c.args.options in
     let table = c.in_ok-table.table.items in
-    let none : IsNoLex1At table c.in-Err.place = subst (λ x. IsNoLex1At x c.in-Err.place) c.deref.ensures.value c.in-Err.ensures in
+    let none : IsNoLex1At table c.in-Err.offset = subst (λ x. IsNoLex1At x c.in-Err.offset) c.deref.ensures.value c.in-Err.ensures in
     let a = c.in_ok-not_lex1-in-Err.field-0 in
     answers_fetch c.args.machine.now max_machine (λ x. WithLex1 x (λ s k. Fetches c.args.input.now max_input (λ content. Ends (Lexing o x s k content)))) table old new new (Ok a) c.in_ok-table.ensures.content
-    (lex1_left c.files_have_one_verdict.ensures.lex1 table (λ s k. Fetches c.args.input.now max_input (λ content. Ends (Lexing o table s k content))) c.in-Err.place new (seen_answer a) none c.in_ok-not_lex1-in-Err.ensures)
+    (lex1_left c.files_have_one_verdict.ensures.lex1 table (λ s k. Fetches c.args.input.now max_input (λ content. Ends (Lexing o table s k content))) c.in-Err.offset new (seen_answer a) none c.in_ok-not_lex1-in-Err.ensures)

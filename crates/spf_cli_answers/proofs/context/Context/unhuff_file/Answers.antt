@@ -25,10 +25,10 @@ returns-in-Err g c given =
     let new = g.F.Files.state c.fetch.new.files in
     let o = seen_decode_options c.args.options in
     let content = c.in_ok-content.content.items in
-    let none : IsNoHuf1At content c.in-Err.place = subst (λ x. IsNoHuf1At x c.in-Err.place) c.deref.ensures.value c.in-Err.ensures in
+    let none : IsNoHuf1At content c.in-Err.offset = subst (λ x. IsNoHuf1At x c.in-Err.offset) c.deref.ensures.value c.in-Err.ensures in
     let a = c.in_ok-not_huf1.field-0 in
     answers_fetch c.args.input.now max_input (λ x. WithHuf1 x (Ends (Unhuffing o x))) content old new new (Ok a) c.in_ok-content.ensures.content
-    (huf1_left c.files_have_one_verdict.ensures.huf1 content (Ends (Unhuffing o content)) c.in-Err.place new (seen_answer a) none c.in_ok-not_huf1.ensures)
+    (huf1_left c.files_have_one_verdict.ensures.huf1 content (Ends (Unhuffing o content)) c.in-Err.offset new (seen_answer a) none c.in_ok-not_huf1.ensures)
 
 pub returns : goal.returns
 returns g c given =

@@ -1,5 +1,5 @@
 use Rattle.std.proofs.Common.{◌≡◌, [], ◌∷◌, ◌++◌, sym, ap, ◌∙◌, option_to_list}
-use Rattle.spf_crew.specs.Values.{PlaceValue}
+use Rattle.spf_crew.specs.Values.{ChainSeatValue}
 use Rattle.spf_crew.specs.Mates.{MateValue}
 use Rattle.spf_crew.proofs.Crews.{fewer, fewer_read, last_one}
 use Rattle.spf_crew.proofs.Endings.{ended-of}
@@ -10,12 +10,12 @@ dismiss_all-all-requires-clause-last c =
     let m : MateValue = c.unwrap.result in
     let is : c.args.mates.items ≡ c.pop.new.self.items ++ m ∷ [] = c.pop.ensures.items ∙ ap (λ o. c.pop.new.self.items ++ option_to_list o) c.unwrap.ensures in
     let l = last_one c.args.self c.args.mates.items c.pop.new.self.items m is c.requires.all.each c.requires.ended in
-    let p = c.into_place-last.ensures in
+    let p = c.into_seat-last.ensures in
     let count = c.requires.all.count in (
-      (ap (λ (x : PlaceValue). x.table) p ∙ l.0.of.0, ap (λ (x : PlaceValue). x.setting) p ∙ l.0.of.1),
-      ap (λ (x : PlaceValue). x.read) p ∙ l.1,
-      ap (λ (x : PlaceValue). x.from) p ∙ l.0.from,
-      ap (λ (x : PlaceValue). x.to) p ∙ (l.0.to ∙ (sym l.2 ∙ count)),
+      (ap (λ (x : ChainSeatValue). x.table) p ∙ l.0.of.0, ap (λ (x : ChainSeatValue). x.setting) p ∙ l.0.of.1),
+      ap (λ (x : ChainSeatValue). x.read) p ∙ l.1,
+      ap (λ (x : ChainSeatValue). x.from) p ∙ l.0.from,
+      ap (λ (x : ChainSeatValue). x.to) p ∙ (l.0.to ∙ (sym l.2 ∙ count)),
     )
 
 pub dismiss_all-all-requires-clause-mates : goal.dismiss_all-all-requires-clause-mates

@@ -59,7 +59,7 @@ enlist_all-requires c =
     let deal : IsDealtTo k c.len-count.result c.give_all.new.hand = subst (λ n. IsDealtTo k n c.give_all.new.hand) count (subst (λ x. IsDealtTo x (length c.args.tickets.items) c.give_all.new.hand) h.key c.give_all.ensures) in
     let dealt = all-dealt k c.len-count.result c.args.workers c.len-count.result c.in_ok-hands.hands.items c.give_all.new.hand c.in_ok-hands.ensures deal in
     record {
-      new = c.in_ok-crew.ensures.place;
+      new = c.in_ok-crew.ensures.seat;
       hands = subst (λ x. AreDealt x c.len-count.result 0 (set c.in_ok-hands.hands.items 0 c.give_all.new.hand)) (sym c.in_ok-crew.ensures.setting) dealt;
       count = sized c.args.workers c.in_ok-crew.crew.setting.mates c.in_ok-hands.hands.items (set c.in_ok-hands.hands.items 0 c.give_all.new.hand) c.requires.workers.0 (hands-count k c.len-count.result c.args.workers c.in_ok-hands.hands.items c.in_ok-hands.ensures)
           (ap (λ (x : CrewSetting). x.mates) c.in_ok-crew.ensures.setting) (length-set c.in_ok-hands.hands.items 0 c.give_all.new.hand);

@@ -1,12 +1,12 @@
 use Rattle.std.proofs.Common.{◌∙◌, sym, ap, subst, inr}
-use Rattle.spf_crew.specs.Values.{PlaceValue}
+use Rattle.spf_crew.specs.Values.{ChainSeatValue}
 use Rattle.spf_crew.specs.Mates.{MateValue, IsTurn}
 use Rattle.spf_crew.proofs.Turns.{fresh-at, has-run}
 use Rattle.spf_crew.proofs.mate.Mate.look.Goals as goal
 
 pub run-requires-clause-fresh : goal.run-requires-clause-fresh
 run-requires-clause-fresh g c =
-    fresh-at c.self.inside.hand.key c.reads_end.new.self.setting c.in-Got.ticket c.in-Got.ensures.next (c.self.invariant.key ∙ sym (ap (λ (p : PlaceValue). p.setting) c.reads_end.ensures.read))
+    fresh-at c.self.inside.hand.key c.reads_end.new.self.setting c.in-Got.ticket c.in-Got.ensures.next (c.self.invariant.key ∙ sym (ap (λ (p : ChainSeatValue). p.setting) c.reads_end.ensures.read))
 
 pub returns-in-Got-clause-turn : goal.returns-in-Got-clause-turn
 returns-in-Got-clause-turn g c =

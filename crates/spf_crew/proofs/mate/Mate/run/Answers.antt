@@ -7,12 +7,12 @@ use Rattle.spf_crew.proofs.Turns.{fresh-at, lawful-at}
 use Rattle.spf_crew.proofs.mate.Mate.run.Goals as goal
 
 pub attempt-requires : goal.attempt-requires
-attempt-requires g c = record { serves = c.requires.serves; fresh = fresh-at c.args.self.now.place.setting c.args.crew.now.setting c.args.ticket c.requires.fresh c.requires.own.1 }
+attempt-requires g c = record { serves = c.requires.serves; fresh = fresh-at c.args.self.now.seat.setting c.args.crew.now.setting c.args.ticket c.requires.fresh c.requires.own.1 }
 
 pub invariant_of-self : goal.invariant_of-self
 invariant_of-self g c = record {
   key = c.self.invariant.key;
-  held = lawful-at c.args.crew.now.setting c.self.inside.place.setting c.attempt.result c.attempt.ensures.lawful (sym (ap (λ (m : MateValue). m.place.setting) c.self.view_is ∙ c.requires.own.1));
+  held = lawful-at c.args.crew.now.setting c.self.inside.seat.setting c.attempt.result c.attempt.ensures.lawful (sym (ap (λ (m : MateValue). m.seat.setting) c.self.view_is ∙ c.requires.own.1));
 }
 
 pub returns-clause-report : goal.returns-clause-report

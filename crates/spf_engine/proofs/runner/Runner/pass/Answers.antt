@@ -10,7 +10,7 @@ use Rattle.spf_guess_statistics.specs.declared.stats.Stats.{Stats}
 use Rattle.spf_guess_statistics.specs.Statistics.{plus}
 use Rattle.spf_guess.specs.Answers.{handed_in}
 use Rattle.spf_engine_laws.specs.Passed.{passed_from, OneByOne, IsItsTrace}
-use Rattle.spf_engine_laws.specs.Progress.{entry_there, guess_there, with_construct}
+use Rattle.spf_engine_laws.specs.Progress.{entry_there, entry_guess, with_construct, past_construct}
 use Rattle.spf_engine_laws.proofs.Passed.{one-by-one-append}
 use Rattle.spf_engine.specs.Runs.{GoesFurther}
 use Rattle.spf_engine.proofs.Ending.{few-within}
@@ -50,14 +50,14 @@ returns-in_err-add-clause-told_first g c =
     if-err _ (told-there p i construct header c.args.run.now c.settle-step.new.run c.settle-step.result
     (handed_in (map (λ h. (goal.Predictor-dyn g (h.vtable, h.value)).answer h.value) c.args.hosts.now.items))
     (handed_in (map (λ h. (goal.Predictor-dyn g (h.vtable, h.value)).answer h.value) c.run_at.new.hosts.items))
-    (λ before progress. with_construct e (guess_there before progress.telling p i construct header c.args.run.now) progress)
+    (λ before progress. past_construct before e progress)
     (λ before progress were entered. (
       goes-past-blocks c.runs_in_pieces_go_on.ensures.settle c.runs_in_pieces_go_on.ensures.blocks before p i c.args.run.now c.run_at.new.run c.settle-step.new.run progress construct header
           c.in_ok-report.report.settled c.settle-step.result entered
           (c.lawful_programs_are_quiet_and_small.ensures.functions p (subst IsLawful (sym c.requires.program) c.program-program.ensures.lawful))
           (subst IsAccepted (sym c.requires.program) c.program-program.ensures.accepted c.args.number construct c.requires.ready.construct)
           (record { frame = ap (λ (s : Stand). s.frame) left; output = ap (λ (s : Stand). s.output) left; place = ap (λ (s : Stand). s.place) left })
-          (blocks-come e (guess_there before progress.telling p i construct header c.args.run.now) c.in_ok-report.report c.run_at.new.run.cells (c.in_ok-report.ensures.came before progress.telling were)) c.settle-step.ensures.settled,
+          (blocks-come e (entry_guess before progress.telling e) c.in_ok-report.report c.run_at.new.run.cells (c.in_ok-report.ensures.came before progress.telling were)) c.settle-step.ensures.settled,
       c.in_ok-report.ensures.told before progress.telling were,
     )))
 
@@ -70,7 +70,7 @@ returns-clause-steps g c = λ before progress agrees were entered.
     let came = c.in_ok-report.ensures.came before progress.telling were in
     let left = c.run_at.ensures.others in
     let e = entry_there p i construct header c.args.run.now in
-    let guess = guess_there before progress.telling p i construct header c.args.run.now in
+    let guess = entry_guess before progress.telling e in
     let report = c.in_ok-report.report in
     record {
       later = with_construct e guess progress;

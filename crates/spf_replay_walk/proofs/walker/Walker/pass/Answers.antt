@@ -11,7 +11,7 @@ use Rattle.spf_guess_statistics.specs.Guess.{tells}
 use Rattle.spf_chain.specs.Finishing.{result_as}
 use Rattle.spf_speculation_entry.specs.Entry.{Entry, plain_blocks}
 use Rattle.spf_engine_laws.specs.Passed.{PassedConstruct, passed_from}
-use Rattle.spf_engine_laws.specs.Progress.{entry_there, guess_there, with_construct}
+use Rattle.spf_engine_laws.specs.Progress.{entry_there, entry_guess, past_construct}
 use Rattle.spf_replay.specs.Plainly.{AreRunPlainly}
 use Rattle.spf_engine.specs.Runs.{GoesFurther}
 use Rattle.spf_replay_walk.specs.Visiting.{VisitsFrom}
@@ -45,7 +45,6 @@ returns-clause-steps g c = λ before progress counted were entered.
     let construct = seen_construct c.args.site.now.construct in
     let header = seen_header c.args.site.now.header in
     let e = entry_there p i construct header c.args.run.now in
-    let guess = guess_there before progress.telling p i construct header c.args.run.now in
     let blocks = c.in_ok-examined.examined in
     let put : c.swap_cells-2.new.self ≡ record c.args.run.now { cells = blocks.cells.items } =
     c.swap_cells-2.ensures.run ∙ ap (λ (s : Stand). let t : Stand = record s { cells = blocks.cells.items } in t) c.swap_cells.ensures.run in
@@ -53,7 +52,7 @@ returns-clause-steps g c = λ before progress counted were entered.
     let cells = c.swap_cells.ensures.cells in
     let came = subst (λ (x : Entry). AreRunPlainly x (plain_blocks x).values (result_as blocks.settled) blocks.cells.items) (λ k. entry_with p i construct header (frame k) (cells k)) c.in_ok-examined.ensures.plain in
     record {
-      later = with_construct e guess progress;
+      later = past_construct before e progress;
       visited = subst (λ (l : List PassedConstruct). VisitsFrom g.V.Visitor.has_visited progress.passed c.args.visitor.now (progress.passed ++ l) c.examine.new.visitor)
           (λ k. passed_from (entry_with p i construct header (frame k) (cells k)) (guess_with before progress.telling p i construct header (frame k) (cells k)))
           (c.in_ok-examined.ensures.visited before progress.telling were progress.passed);

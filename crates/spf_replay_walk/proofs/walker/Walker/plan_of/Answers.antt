@@ -11,7 +11,7 @@ use Rattle.spf_replay_walk.proofs.walker.Walker.plan_of.Goals as goal
 
 pub returns-clause-entry : goal.returns-clause-entry
 returns-clause-entry c =
-    is-entry c.args.self.now.checked.now c.args.place c.args.header.now c.args.cells.now c.requires.there c.program-program.ensures.free
+    is-entry c.args.self.now.checked.now c.args.position c.args.header.now c.args.cells.now c.requires.there c.program-program.ensures.free
     (subst (All (λ b. b < 256)) c.input.ensures.same c.are_bytes.ensures)
 
 pub returns-clause-plan : goal.returns-clause-plan
@@ -19,7 +19,7 @@ returns-clause-plan c =
     let there = c.requires.there in
     let low : to_z w64 (of_z w64 c.args.header.now.low) ≡ c.args.header.now.low = grind (arith, to_z-of_z) in
     over-ok _ _
-    (λ plan. own-spans c.args.self.now.checked.now c.args.place c.args.header.now c.args.cells.now c.layout-layout.result.now (to_z w64 (of_z w64 c.args.header.now.low)) there c.layout-layout.ensures low _)
+    (λ plan. own-spans c.args.self.now.checked.now c.args.position c.args.header.now c.args.cells.now c.layout-layout.result.now (to_z w64 (of_z w64 c.args.header.now.low)) there c.layout-layout.ensures low _)
     c.plan.result
-    (c.plan.ensures (seen_construct c.args.place.construct)
-    (subst (λ (p : Program). slice_get (constructs_in p.main) c.args.place.index ≡ Some (seen_construct c.args.place.construct)) there.program there.construct))
+    (c.plan.ensures (seen_construct c.args.position.construct)
+    (subst (λ (p : Program). slice_get (constructs_in p.main) c.args.position.index ≡ Some (seen_construct c.args.position.construct)) there.program there.construct))

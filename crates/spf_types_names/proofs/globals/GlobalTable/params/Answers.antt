@@ -7,4 +7,4 @@ use Rattle.spf_types_names.proofs.globals.GlobalTable.params.Goals as goal
 
 pub returns-in-Some : goal.returns-in-Some
 returns-in-Some c =
-    c.len.ensures ∙ params_at (map array c.self.inside.arrays.now) c.self.inside.functions.now c.args.place _ (c.in-Some.ensures {u = tt}).lookup.3.0 (c.in-Some.ensures {u = tt}).lookup.1 ∙ ap (λ g. params_of g c.args.place) c.self.view_is
+    c.len.ensures ∙ params_at (map array c.self.inside.arrays.now) c.self.inside.functions.now c.args.index _ (c.in-Some.ensures {u = tt}).lookup.3.0 (c.in-Some.ensures {u = tt}).lookup.1 ∙ ap (λ g. params_of g c.args.index) c.self.view_is
