@@ -1,9 +1,9 @@
 //! Code that goes on in one of two ways.
 
-ghost use Rattle.std.specs.Prelude.{◌≡◌, ◌++◌, false, IfOk};
+ghost use Rattle.std.specs.Prelude.{◌≡◌, ◌+◌, ◌++◌, length, false, IfOk};
 ghost use Rattle.spf_code.specs.Code.{Code, only};
-ghost use Rattle.spf_code.specs.NodeView.{choose};
-ghost use Rattle.spf_code_lowering.specs.Flat.{Flattens, nodes_set};
+ghost use Rattle.spf_code.specs.NodeView.{Loop, Around, choose, loop, way_of};
+ghost use Rattle.spf_code_lowering.specs.Flat.{Flattens, HasTest, way_sets, nodes_set};
 ghost use Rattle.spf_code_lowering.specs.Lowering.{Wrote, SetsNone};
 
 use crate::expression::{add, after, count_of};
@@ -41,6 +41,28 @@ pub(crate) fn add_choice(
     let left_out = count_of(&other)?;
     add(out, unless(choice, behind))?;
     append(one, out)?;
-    add(out, Node::Jump(left_out))?;
+    add(out, Node::Jump { skip: left_out })?;
     append(other, out)
+}
+
+/// Appends a loop: the instruction that says what it is, its test and its body.
+pub(crate) fn add_loop(
+    node: Node,
+    asked: Vec<Node>,
+    body: Vec<Node>,
+    out: &mut Vec<Node>,
+) -> Result<(), AllocError>
+    ensures wrote { (turns : Loop) (test inner : Code)
+        → way_of node
+        ≡ Around (length asked.items) (length asked.items + length body.items) turns
+        → HasTest turns test → Flattens asked.items test → Flattens body.items inner
+        → IfOk result (λ _. Wrote out.old.items out.new.items
+        (λ made. made ≡ only (loop turns test inner))) }
+    ensures spares { IfOk result (λ _. SetsNone (λ r. (way_sets r (way_of node) ≡ false)
+        × (nodes_set r asked.items ≡ false) × (nodes_set r body.items ≡ false)) out.old.items
+        out.new.items) }
+{
+    add(out, node)?;
+    append(asked, out)?;
+    append(body, out)
 }

@@ -1,3 +1,4 @@
+use Rattle.std.specs.Prelude.{length}
 use Rattle.spf_ast.specs.View.{block}
 use Rattle.spf_code_lowering.proofs.Flat.{code-sets}
 use Rattle.spf_code_lowering.specs.Lowering.{callable_in, BlockIn}
@@ -11,4 +12,4 @@ returns-clause-code c = λ calls.
     whole c.in_ok-nodes.nodes.items (BlockIn s calls form) (block-too (callable_in s) calls s.own form) (c.in_ok-nodes.ensures.runs calls)
 
 pub returns-clause-sets : goal.returns-clause-sets
-returns-clause-sets c = λ r p. code-sets r c.in_ok-nodes.nodes.items (c.in_ok-nodes.ensures.spares r p) 0
+returns-clause-sets c = λ r p. code-sets r c.in_ok-nodes.nodes.items (c.in_ok-nodes.ensures.spares r p) 0 (length c.in_ok-nodes.nodes.items)

@@ -1,3 +1,4 @@
+use Rattle.std.specs.Prelude.{length}
 use Rattle.spf_ast.specs.View.{expression}
 use Rattle.spf_code_lowering.proofs.Flat.{code-sets}
 use Rattle.spf_code_lowering.specs.Lowering.{callable_in, HeldIn}
@@ -14,4 +15,4 @@ returns-clause-code c = λ calls.
     (next, whole c.hold.new.out.items (HeldIn s calls c.args.line s.own next r e) (held-too (callable_in s) calls c.args.line s.own s.own next r e) (rw c.new-nodes.ensures.items at c.in_ok-held.ensures.wrote calls))
 
 pub returns-clause-sets : goal.returns-clause-sets
-returns-clause-sets c = λ r p. code-sets r c.hold.new.out.items (none-set (rw c.new-nodes.ensures.items at c.in_ok-held.ensures.spares) r p) 0
+returns-clause-sets c = λ r p. code-sets r c.hold.new.out.items (none-set (rw c.new-nodes.ensures.items at c.in_ok-held.ensures.spares) r p) 0 (length c.hold.new.out.items)

@@ -1,3 +1,4 @@
+use Rattle.std.specs.Prelude.{length}
 use Rattle.std.proofs.Common.{◌≡◌, sym, ap, ◌∙◌, refl}
 use Rattle.spf_code_lowering.proofs.Flat.{code-sets}
 use Rattle.spf_code_lowering.proofs.Lowering.{count_is}
@@ -19,4 +20,4 @@ returns-clause-code c = λ calls.
     }
 
 pub returns-clause-sets : goal.returns-clause-sets
-returns-clause-sets c = λ r p. code-sets r c.pass.new.out.items (c.in_ok-pass.ensures.spares.each r p.0 (c.in_ok-nodes.ensures.spares r p)) 0
+returns-clause-sets c = λ r p. code-sets r c.pass.new.out.items (c.in_ok-pass.ensures.spares.each r p.0 (c.in_ok-nodes.ensures.spares r p)) 0 (length c.pass.new.out.items)

@@ -7,7 +7,7 @@ use Rattle.spf_code.specs.declared.node.Node.TheVariants as v
 use Rattle.spf_code.specs.Code.{Code, Copy, stop, only, ◌then◌}
 use Rattle.spf_code_lowering.specs.Computes.{copies}
 use Rattle.spf_code_lowering.specs.Lowering.{Wrote, SetsNone}
-use Rattle.spf_code_lowering.proofs.Lowering.{mapped, nothing, one, more}
+use Rattle.spf_code_lowering.proofs.Lowering.{mapped, none_left, nothing, one, more}
 use Rattle.spf_code_lowering.proofs.Spared.{fewer, both-spared, one-more, same-spared}
 use Rattle.spf_code_lowering.proofs.statement.+copy_row.Goals.{then-slot-scope+in_ok-add-in-Some, else-slot-scope}
 use Rattle.spf_code_lowering.proofs.statement.+copy_row.Goals as goal
@@ -53,3 +53,6 @@ returns-in_ok-next-in-Some-clause-spares t c =
       | else-slot-scope w ↦ rw w.out-is same-spared
     ] in
     mapped c.copy_row.result c.copy_row.ensures.spares (λ u w. both-spared first (fewer left w (λ r p. (p.0, (split r p).1))))
+
+pub returns-in-None-clause-wrote : goal.returns-in-None-clause-wrote
+returns-in-None-clause-wrote t c = nothing _ _ (ap (λ l. copies c.args.scope.now.own l c.args.from) (sym (none_left c.args.slots.now c.in-None.ensures.cases)))
