@@ -1,5 +1,4 @@
 pub mod Trees
-pub mod Flat
 pub mod Registers
 pub mod Expressions
 pub mod Conditions
@@ -10,7 +9,6 @@ pub mod Weight
 pub mod Fitting
 pub mod Lowering
 pub mod Telling
-pub mod Same
 pub mod Spared
 pub mod Running
 pub mod Choices

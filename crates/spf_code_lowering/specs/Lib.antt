@@ -1,4 +1,3 @@
 pub mod Computes
-pub mod Flat
 pub mod Lowering
 pub mod Tables

@@ -1,15 +1,17 @@
 //! Lowering of conditions.
 
-ghost use Rattle.std.specs.Prelude.{◌≡◌, ◌≤◌, ◌<◌, [], false, ℕ, IfOk};
+ghost use Rattle.std.specs.Prelude.{◌≡◌, ◌≤◌, ◌<◌, false, ℕ, map, IfOk};
 ghost use Rattle.spf_ast.specs.View.{expression as seen_expression, condition as seen_condition};
+ghost use Rattle.spf_ast.specs.View.{function as seen_function};
 ghost use Rattle.spf_ast.specs.Syntax.{Compare};
-ghost use Rattle.spf_code_lowering.specs.Flat.{nodes_set};
-ghost use Rattle.spf_code_lowering.specs.Lowering.{Wrote, SetsNone, ToldIn};
+ghost use Rattle.spf_ast.specs.Meaning.{callable_before};
+ghost use Rattle.spf_code.specs.Code.{code_sets};
+ghost use Rattle.spf_code.specs.NodeView.{code};
+ghost use Rattle.spf_code_lowering.specs.Lowering.{Wrote, SetsNone, IsTold};
 
 use crate::expression::{Scope, add, hold};
-use crate::jump::add_choice;
 use spf_ast::syntax::{Cond, Expr, Test};
-use spf_code::node::{Choice, Node};
+use spf_code::node::Node;
 use std::alloc::AllocError;
 
 /// Appends the code that compares two expressions.
@@ -23,32 +25,20 @@ fn compare(
     out: &mut Vec<Node>,
 ) -> Result<(), AllocError>
     requires own { scope.now.own ≤ free }
-    ensures wrote { (calls : ℕ → ℕ) → IfOk result
-        (λ _. Wrote out.old.items out.new.items (ToldIn scope.now calls line free
-        (Compare test (seen_expression left.now) (seen_expression right.now)))) }
+    ensures wrote { (calls : ℕ → ℕ)
+        → IfOk result (λ _. Wrote out.old.items out.new.items (IsTold
+        (callable_before (map seen_function scope.now.functions.now) scope.now.below) calls line
+        scope.now.own free (Compare test (seen_expression left.now) (seen_expression right.now)))) }
     ensures spares { IfOk result (λ _. SetsNone (λ r. r < free) out.old.items out.new.items) }
 {
     let first = hold(scope, line, free, left, out)?;
     if let Expr::Number(n) = right {
-        return add(
-            out,
-            Node::CheckWith {
-                test,
-                to: free,
-                left: first.register,
-                number: *n,
-            },
-        );
+        return add(out, Node::CheckWith(test, free, first.register, *n));
     }
     let second = hold(scope, line, first.next, right, out)?;
     add(
         out,
-        Node::Check {
-            test,
-            to: free,
-            left: first.register,
-            right: second.register,
-        },
+        Node::Check(test, free, first.register, second.register),
     )
 }
 
@@ -63,9 +53,9 @@ pub(crate) fn tell(
     out: &mut Vec<Node>,
 ) -> Result<(), AllocError>
     requires own { scope.now.own ≤ free }
-    ensures wrote { (calls : ℕ → ℕ) → IfOk result
-        (λ _. Wrote out.old.items out.new.items (ToldIn scope.now calls line free
-        (seen_condition cond.now))) }
+    ensures wrote { (calls : ℕ → ℕ) → IfOk result (λ _. Wrote out.old.items out.new.items
+        (IsTold (callable_before (map seen_function scope.now.functions.now) scope.now.below)
+        calls line scope.now.own free (seen_condition cond.now))) }
     ensures spares { IfOk result (λ _. SetsNone (λ r. r < free) out.old.items out.new.items) }
 {
     match cond {
@@ -73,22 +63,16 @@ pub(crate) fn tell(
         Cond::Both(first, second) => {
             tell(scope, line, free, first, out)?;
             let then = code_telling(scope, line, free, second)?;
-            add_choice(Choice::IsOn(free), then, Vec::new(scope.alloc), out)
+            add(out, Node::Branch(free, then, Vec::new(scope.alloc)))
         }
         Cond::Either(first, second) => {
             tell(scope, line, free, first, out)?;
             let otherwise = code_telling(scope, line, free, second)?;
-            add_choice(Choice::IsOn(free), Vec::new(scope.alloc), otherwise, out)
+            add(out, Node::Branch(free, Vec::new(scope.alloc), otherwise))
         }
         Cond::Not(inner) => {
             tell(scope, line, free, inner, out)?;
-            add(
-                out,
-                Node::Flip {
-                    to: free,
-                    from: free,
-                },
-            )
+            add(out, Node::Flip(free, free))
         }
     }
 }
@@ -102,9 +86,10 @@ pub(crate) fn code_telling(
     cond: &Cond,
 ) -> Result<Vec<Node>, AllocError>
     requires own { scope.now.own ≤ free }
-    ensures told { (calls : ℕ → ℕ) → IfOk result
-        (λ v. Wrote [] v.items (ToldIn scope.now calls line free (seen_condition cond.now))) }
-    ensures spares { IfOk result (λ v. (r : ℕ) → r < free → nodes_set r v.items ≡ false) }
+    ensures told { (calls : ℕ → ℕ) → IfOk result (λ v.
+        IsTold (callable_before (map seen_function scope.now.functions.now) scope.now.below)
+        calls line scope.now.own free (seen_condition cond.now) (code v.items)) }
+    ensures spares { IfOk result (λ v. (r : ℕ) → r < free → code_sets r (code v.items) ≡ false) }
 {
     let mut made = Vec::new(scope.alloc);
     tell(scope, line, free, cond, &mut made)?;

@@ -10,6 +10,5 @@ mod choice;
 mod condition;
 mod expression;
 pub mod function;
-mod jump;
 pub mod program;
 mod statement;
