@@ -10,7 +10,8 @@ use Rattle.spf_code_lowering.specs.declared.expression.Scope as code_scope
 use Rattle.spf_code_lowering.specs.Computes.{EndsShowing, Runs}
 use Rattle.spf_code_lowering.proofs.Trees.{bind-same, then-assoc}
 use Rattle.spf_code_lowering.proofs.Conditions.{nothing-more}
-use Rattle.spf_code_lowering.proofs.Running.{RunIn, BlockIn, then-stop, no_block, block_run}
+use Rattle.spf_code_lowering.specs.Lowering.{RunIn, BlockIn}
+use Rattle.spf_code_lowering.proofs.Running.{then-stop, no_block, block_run}
 
 -- code that does what a form does also does what another form does that is the same from each state
 runs-same : (c : Setting) (own room : ℕ) (code : Code) (first second : Meaning Flow) → ((s : State) → first s ≡ second s) → Runs c own room code first → Runs c own room code second

@@ -1,4 +1,5 @@
 pub mod Trees
+pub mod Flat
 pub mod Registers
 pub mod Expressions
 pub mod Conditions
@@ -9,6 +10,7 @@ pub mod Weight
 pub mod Fitting
 pub mod Lowering
 pub mod Telling
+pub mod Same
 pub mod Spared
 pub mod Running
 pub mod Choices

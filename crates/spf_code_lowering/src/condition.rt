@@ -1,17 +1,15 @@
 //! Lowering of conditions.
 
-ghost use Rattle.std.specs.Prelude.{◌≡◌, ◌≤◌, ◌<◌, false, ℕ, map, IfOk};
+ghost use Rattle.std.specs.Prelude.{◌≡◌, ◌≤◌, ◌<◌, [], false, ℕ, IfOk};
 ghost use Rattle.spf_ast.specs.View.{expression as seen_expression, condition as seen_condition};
-ghost use Rattle.spf_ast.specs.View.{function as seen_function};
 ghost use Rattle.spf_ast.specs.Syntax.{Compare};
-ghost use Rattle.spf_ast.specs.Meaning.{callable_before};
-ghost use Rattle.spf_code.specs.Code.{code_sets};
-ghost use Rattle.spf_code.specs.NodeView.{code};
-ghost use Rattle.spf_code_lowering.specs.Lowering.{Wrote, SetsNone, IsTold};
+ghost use Rattle.spf_code_lowering.specs.Flat.{nodes_set};
+ghost use Rattle.spf_code_lowering.specs.Lowering.{Wrote, SetsNone, ToldIn};
 
 use crate::expression::{Scope, add, hold};
+use crate::jump::add_choice;
 use spf_ast::syntax::{Cond, Expr, Test};
-use spf_code::node::Node;
+use spf_code::node::{Choice, Node};
 use std::alloc::AllocError;
 
 /// Appends the code that compares two expressions.
@@ -25,10 +23,9 @@ fn compare(
     out: &mut Vec<Node>,
 ) -> Result<(), AllocError>
     requires own { scope.now.own ≤ free }
-    ensures wrote { (calls : ℕ → ℕ)
-        → IfOk result (λ _. Wrote out.old.items out.new.items (IsTold
-        (callable_before (map seen_function scope.now.functions.now) scope.now.below) calls line
-        scope.now.own free (Compare test (seen_expression left.now) (seen_expression right.now)))) }
+    ensures wrote { (calls : ℕ → ℕ) → IfOk result
+        (λ _. Wrote out.old.items out.new.items (ToldIn scope.now calls line free
+        (Compare test (seen_expression left.now) (seen_expression right.now)))) }
     ensures spares { IfOk result (λ _. SetsNone (λ r. r < free) out.old.items out.new.items) }
 {
     let first = hold(scope, line, free, left, out)?;
@@ -53,9 +50,9 @@ pub(crate) fn tell(
     out: &mut Vec<Node>,
 ) -> Result<(), AllocError>
     requires own { scope.now.own ≤ free }
-    ensures wrote { (calls : ℕ → ℕ) → IfOk result (λ _. Wrote out.old.items out.new.items
-        (IsTold (callable_before (map seen_function scope.now.functions.now) scope.now.below)
-        calls line scope.now.own free (seen_condition cond.now))) }
+    ensures wrote { (calls : ℕ → ℕ) → IfOk result
+        (λ _. Wrote out.old.items out.new.items (ToldIn scope.now calls line free
+        (seen_condition cond.now))) }
     ensures spares { IfOk result (λ _. SetsNone (λ r. r < free) out.old.items out.new.items) }
 {
     match cond {
@@ -63,12 +60,12 @@ pub(crate) fn tell(
         Cond::Both(first, second) => {
             tell(scope, line, free, first, out)?;
             let then = code_telling(scope, line, free, second)?;
-            add(out, Node::Branch(free, then, Vec::new(scope.alloc)))
+            add_choice(Choice::IsOn(free), then, Vec::new(scope.alloc), out)
         }
         Cond::Either(first, second) => {
             tell(scope, line, free, first, out)?;
             let otherwise = code_telling(scope, line, free, second)?;
-            add(out, Node::Branch(free, Vec::new(scope.alloc), otherwise))
+            add_choice(Choice::IsOn(free), Vec::new(scope.alloc), otherwise, out)
         }
         Cond::Not(inner) => {
             tell(scope, line, free, inner, out)?;
@@ -86,10 +83,9 @@ pub(crate) fn code_telling(
     cond: &Cond,
 ) -> Result<Vec<Node>, AllocError>
     requires own { scope.now.own ≤ free }
-    ensures told { (calls : ℕ → ℕ) → IfOk result (λ v.
-        IsTold (callable_before (map seen_function scope.now.functions.now) scope.now.below)
-        calls line scope.now.own free (seen_condition cond.now) (code v.items)) }
-    ensures spares { IfOk result (λ v. (r : ℕ) → r < free → code_sets r (code v.items) ≡ false) }
+    ensures told { (calls : ℕ → ℕ) → IfOk result
+        (λ v. Wrote [] v.items (ToldIn scope.now calls line free (seen_condition cond.now))) }
+    ensures spares { IfOk result (λ v. (r : ℕ) → r < free → nodes_set r v.items ≡ false) }
 {
     let mut made = Vec::new(scope.alloc);
     tell(scope, line, free, cond, &mut made)?;

@@ -31,8 +31,8 @@ pub fn function(
     source: &Function,
 ) -> Result<FunctionCode, AllocError>
     ensures slots { IfOk result (λ f. f.slots ≡ length (seen_function source.now).slots) }
-    ensures code { (calls : ℕ → ℕ) → IfOk result (λ f.
-        IsCodeOf (callable_before (map seen_function functions.now) index) calls
+    ensures code { (calls : ℕ → ℕ) → IfOk result
+        (λ f. IsCodeOf (callable_before (map seen_function functions.now) index) calls
         (seen_function source.now) (code f.code.items) f.register) }
     ensures tables { IfOk result (λ f. AreEmpty f.tables) }
 {
@@ -63,8 +63,8 @@ pub fn function(
 /// `AllocError` where there is no memory for it.
 pub fn functions(alloc: Global, sources: &[Function]) -> Result<Vec<FunctionCode>, AllocError>
     ensures count { IfOk result (λ codes. length codes.items ≡ length sources.now) }
-    ensures codes { (calls : ℕ → ℕ)
-        → IfOk result (λ codes. AreCodesOf (map seen_function sources.now) calls codes.items) }
+    ensures codes { (calls : ℕ → ℕ) → IfOk result
+        (λ codes. AreCodesOf (map seen_function sources.now) calls codes.items) }
     ensures tables { IfOk result (λ codes. HaveNoTables codes.items) }
 {
     let mut codes = Vec::new(alloc);

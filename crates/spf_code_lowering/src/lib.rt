@@ -10,5 +10,6 @@ mod choice;
 mod condition;
 mod expression;
 pub mod function;
+mod jump;
 pub mod program;
 mod statement;

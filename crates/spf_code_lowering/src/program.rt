@@ -7,17 +7,16 @@ ghost use Rattle.spf_ast.specs.Construct.{constructs_in};
 ghost use Rattle.spf_ast.specs.ConstructView.{construct as seen_construct};
 ghost use Rattle.spf_ast.specs.View.{expression as seen_expression, arguments as seen_arguments};
 ghost use Rattle.spf_ast.specs.View.{predictor as seen_predictor, statement as seen_statement};
-ghost use Rattle.spf_ast.specs.View.{block as seen_block, function as seen_function};
+ghost use Rattle.spf_ast.specs.View.{block as seen_block};
 ghost use Rattle.spf_ast.specs.View.{program as seen_program, fold_head, pair_head};
-ghost use Rattle.spf_ast.specs.Meaning.{callable_before};
 ghost use Rattle.spf_code.specs.Code.{code_sets};
 ghost use Rattle.spf_code.specs.NodeView.{code};
 ghost use Rattle.spf_code_lowering.specs.Tables.{HaveNoTables};
-ghost use Rattle.spf_code_lowering.specs.Lowering.{IsRowCode, IsExpressionCode, IsGuessCode};
-ghost use Rattle.spf_code_lowering.specs.Lowering.{AreGuessCodes, IsFoldCode, IsPairCode};
-ghost use Rattle.spf_code_lowering.specs.Lowering.{IsConstructCode, AreConstructCodes};
-ghost use Rattle.spf_code_lowering.specs.Lowering.{AreStatementCodes, IsRun, IsCodeOfProgram};
-ghost use Rattle.spf_code_lowering.specs.Lowering.{SetsWhatIsChanged, SetsNoSlot};
+ghost use Rattle.spf_code_lowering.specs.Lowering.{callable_in, IsRowCode, IsExpressionCode};
+ghost use Rattle.spf_code_lowering.specs.Lowering.{IsGuessCode, AreGuessCodes, IsFoldCode};
+ghost use Rattle.spf_code_lowering.specs.Lowering.{IsPairCode, IsConstructCode, AreConstructCodes};
+ghost use Rattle.spf_code_lowering.specs.Lowering.{AreStatementCodes, IsCodeOfProgram};
+ghost use Rattle.spf_code_lowering.specs.Lowering.{SetsWhatIsChanged, SetsNoSlot, RunIn, BlockIn};
 
 use crate::expression::{Scope, count_of, hold, pass};
 use crate::function::functions;
@@ -45,12 +44,11 @@ fn row_code(
     line: u32,
     row: &[Expr],
 ) -> Result<RowCode, AllocError>
-    ensures code { (calls : ℕ → ℕ)
-        → IfOk result (λ v. IsRowCode
-        (callable_before (map seen_function scope.now.functions.now) scope.now.below) calls
-        scope.now.own (seen_block statements.now) line (seen_arguments row.now) v) }
-    ensures sets { IfOk result
-        (λ v. SetsWhatIsChanged scope.now.own (seen_block statements.now) (code v.nodes.items)) }
+    ensures code { (calls : ℕ → ℕ) → IfOk result
+        (λ v. IsRowCode (callable_in scope.now) calls scope.now.own (seen_block statements.now) line
+        (seen_arguments row.now) v) }
+    ensures sets { IfOk result (λ v. SetsWhatIsChanged scope.now.own (seen_block statements.now)
+        (code v.nodes.items)) }
 {
     let mut nodes = block(scope, statements)?;
     pass(scope, line, scope.own, row, &mut nodes)?;
@@ -63,10 +61,9 @@ fn row_code(
 
 /// Returns the code of an expression.
 fn expression_code(scope: &Scope, line: u32, value: &Expr) -> Result<ValueCode, AllocError>
-    ensures code { (calls : ℕ → ℕ)
-        → IfOk result (λ v. IsExpressionCode
-        (callable_before (map seen_function scope.now.functions.now) scope.now.below) calls
-        scope.now.own line (seen_expression value.now) v) }
+    ensures code { (calls : ℕ → ℕ) → IfOk result
+        (λ v. IsExpressionCode (callable_in scope.now) calls scope.now.own line
+        (seen_expression value.now) v) }
     ensures sets { IfOk result (λ v. SetsNoSlot scope.now.own (code v.nodes.items)) }
 {
     let mut nodes = Vec::new(scope.alloc);
@@ -100,10 +97,9 @@ fn no_row(alloc: Global) -> RowCode
 
 /// Returns the code of a guess. One that is supplied needs none.
 fn guess_code(scope: &Scope, line: u32, predict: &Predict) -> Result<ValueCode, AllocError>
-    ensures code { (calls : ℕ → ℕ)
-        → IfOk result (λ v. IsGuessCode
-        (callable_before (map seen_function scope.now.functions.now) scope.now.below) calls
-        scope.now.own line (seen_predictor predict.now) v) }
+    ensures code { (calls : ℕ → ℕ) → IfOk result
+        (λ v. IsGuessCode (callable_in scope.now) calls scope.now.own line
+        (seen_predictor predict.now) v) }
     ensures sets { IfOk result (λ v. SetsNoSlot scope.now.own (code v.nodes.items)) }
 {
     match predict {
@@ -114,10 +110,9 @@ fn guess_code(scope: &Scope, line: u32, predict: &Predict) -> Result<ValueCode, 
 
 /// Returns the code of the guesses of a row's parts.
 fn guess_codes(scope: &Scope, line: u32, predict: &[Predict]) -> Result<Vec<ValueCode>, AllocError>
-    ensures codes { (calls : ℕ → ℕ)
-        → IfOk result (λ v. AreGuessCodes
-        (callable_before (map seen_function scope.now.functions.now) scope.now.below) calls
-        scope.now.own line (map seen_predictor predict.now) v.items) }
+    ensures codes { (calls : ℕ → ℕ) → IfOk result
+        (λ v. AreGuessCodes (callable_in scope.now) calls scope.now.own line
+        (map seen_predictor predict.now) v.items) }
 {
     let mut codes = Vec::new(scope.alloc);
     for part in predict {
@@ -128,10 +123,9 @@ fn guess_codes(scope: &Scope, line: u32, predict: &[Predict]) -> Result<Vec<Valu
 
 /// Returns the code of a fold's parts.
 fn fold_code(scope: &Scope, line: u32, fold: &Fold) -> Result<ConstructCode, AllocError>
-    ensures code { (calls : ℕ → ℕ)
-        → IfOk result (λ k. IsFoldCode
-        (callable_before (map seen_function scope.now.functions.now) scope.now.below) calls
-        scope.now.own line (fold_head fold.now) (seen_block (out-Fold fold.now).body.items) k) }
+    ensures code { (calls : ℕ → ℕ) → IfOk result
+        (λ k. IsFoldCode (callable_in scope.now) calls scope.now.own line (fold_head fold.now)
+        (seen_block (out-Fold fold.now).body.items) k) }
 {
     let header = HeaderCode {
         start: row_code(scope, &[], line, &fold.start)?,
@@ -148,12 +142,22 @@ fn fold_code(scope: &Scope, line: u32, fold: &Fold) -> Result<ConstructCode, All
     })
 }
 
+/// Returns the code of statements.
+fn block_code(scope: &Scope, statements: &[Stmt]) -> Result<Vec<Node>, AllocError>
+    ensures code { (calls : ℕ → ℕ) → IfOk result
+        (λ k. BlockIn scope.now calls (seen_block statements.now) (code k.items)) }
+    ensures sets { IfOk result (λ k. SetsWhatIsChanged scope.now.own (seen_block statements.now)
+        (code k.items)) }
+{
+    let nodes = block(scope, statements)?;
+    Ok(nodes)
+}
+
 /// Returns the code of a pair's parts.
 fn pair_code(scope: &Scope, line: u32, pair: &Pair) -> Result<ConstructCode, AllocError>
-    ensures code { (calls : ℕ → ℕ)
-        → IfOk result (λ k. IsPairCode
-        (callable_before (map seen_function scope.now.functions.now) scope.now.below) calls
-        scope.now.own line (pair_head pair.now) (seen_block (out-Pair pair.now).producer.items)
+    ensures code { (calls : ℕ → ℕ) → IfOk result
+        (λ k. IsPairCode (callable_in scope.now) calls scope.now.own line (pair_head pair.now)
+        (seen_block (out-Pair pair.now).producer.items)
         (seen_block (out-Pair pair.now).consumer.items) k) }
 {
     let header = HeaderCode {
@@ -162,7 +166,7 @@ fn pair_code(scope: &Scope, line: u32, pair: &Pair) -> Result<ConstructCode, All
         high: no_value(scope.alloc),
     };
     let first = row_code(scope, &pair.producer, pair.give_line, &pair.give)?;
-    let consumer = block(scope, &pair.consumer)?;
+    let consumer = block_code(scope, &pair.consumer)?;
     let guesses = guess_codes(scope, line, &pair.predict)?;
     Ok(ConstructCode {
         header,
@@ -174,10 +178,9 @@ fn pair_code(scope: &Scope, line: u32, pair: &Pair) -> Result<ConstructCode, All
 
 /// Returns the code of a top construct's parts.
 fn construct_code(scope: &Scope, construct: TopConstruct) -> Result<ConstructCode, AllocError>
-    ensures code { (calls : ℕ → ℕ)
-        → IfOk result (λ k. IsConstructCode
-        (callable_before (map seen_function scope.now.functions.now) scope.now.below) calls
-        scope.now.own (seen_construct construct.entry) k) }
+    ensures code { (calls : ℕ → ℕ) → IfOk result
+        (λ k. IsConstructCode (callable_in scope.now) calls scope.now.own
+        (seen_construct construct.entry) k) }
 {
     match construct.kind {
         ConstructKind::Fold(fold) => fold_code(scope, construct.line, fold),
@@ -187,10 +190,9 @@ fn construct_code(scope: &Scope, construct: TopConstruct) -> Result<ConstructCod
 
 /// Returns the code of each top construct among these statements.
 fn construct_codes(scope: &Scope, main: &[Stmt]) -> Result<Vec<ConstructCode>, AllocError>
-    ensures codes { (calls : ℕ → ℕ)
-        → IfOk result (λ codes. AreConstructCodes
-        (callable_before (map seen_function scope.now.functions.now) scope.now.below) calls
-        scope.now.own (constructs_in (seen_block main.now)) codes.items) }
+    ensures codes { (calls : ℕ → ℕ) → IfOk result
+        (λ codes. AreConstructCodes (callable_in scope.now) calls scope.now.own
+        (constructs_in (seen_block main.now)) codes.items) }
 {
     let mut codes = Vec::new(scope.alloc);
     for stmt in main {
@@ -204,10 +206,8 @@ fn construct_codes(scope: &Scope, main: &[Stmt]) -> Result<Vec<ConstructCode>, A
 
 /// Returns the code of one statement.
 fn statement_code(scope: &Scope, stmt: &Stmt) -> Result<Vec<Node>, AllocError>
-    ensures code { (calls : ℕ → ℕ)
-        → IfOk result (λ k. IsRun
-        (callable_before (map seen_function scope.now.functions.now) scope.now.below) calls
-        stmt.now.line scope.now.own (seen_statement stmt.now.kind) (code k.items)) }
+    ensures code { (calls : ℕ → ℕ) → IfOk result
+        (λ k. RunIn scope.now calls stmt.now.line (seen_statement stmt.now.kind) (code k.items)) }
 {
     let mut nodes = Vec::new(scope.alloc);
     statement(scope, stmt.line, &stmt.kind, &mut nodes)?;
@@ -216,10 +216,9 @@ fn statement_code(scope: &Scope, stmt: &Stmt) -> Result<Vec<Node>, AllocError>
 
 /// Returns the code of each of these statements.
 fn statement_codes(scope: &Scope, main: &[Stmt]) -> Result<Vec<Vec<Node>>, AllocError>
-    ensures codes { (calls : ℕ → ℕ)
-        → IfOk result (λ codes. AreStatementCodes
-        (callable_before (map seen_function scope.now.functions.now) scope.now.below) calls
-        scope.now.own (seen_block main.now) codes.items) }
+    ensures codes { (calls : ℕ → ℕ) → IfOk result
+        (λ codes. AreStatementCodes (callable_in scope.now) calls scope.now.own
+        (seen_block main.now) codes.items) }
 {
     let mut codes = Vec::new(scope.alloc);
     for stmt in main {

@@ -1,12 +1,13 @@
-use Rattle.std.proofs.Common.{◌≡◌, ◌<◌, arith, rules, sym, subst, [], ◌∷◌}
+use Rattle.std.proofs.Common.{◌≡◌, ◌<◌, arith, rules, sym, subst, [], ◌∷◌, refl}
 use Rattle.std.specs.Prelude.{IfOk, ◌++◌}
 use Rattle.spf_ast.specs.View.{expression}
 use Rattle.spf_ast.specs.Syntax.{Compare, Number}
 use Rattle.spf_code.specs.declared.node.Node.TheVariants as v
 use Rattle.spf_code.specs.Code.{only, ◌then◌}
 use Rattle.spf_code.specs.NodeView.{node}
-use Rattle.spf_code_lowering.proofs.Lowering.{then-then, more, finish, callable_in, HeldIn}
-use Rattle.spf_code_lowering.proofs.Telling.{ToldIn, comparison_told, number_comparison_told}
+use Rattle.spf_code_lowering.proofs.Lowering.{then-then, more, finish}
+use Rattle.spf_code_lowering.specs.Lowering.{callable_in, HeldIn, ToldIn}
+use Rattle.spf_code_lowering.proofs.Telling.{comparison_told, number_comparison_told}
 use Rattle.spf_code_lowering.proofs.Spared.{fewer, both-spared, finished, less-differs}
 use Rattle.spf_code_lowering.proofs.condition.compare.Goals as goal
 
@@ -19,7 +20,7 @@ returns-in-Number-clause-wrote c = λ calls.
     let Q = ToldIn s calls c.args.line c.args.free (Compare c.args.test a (Number c.in-Number.n)) in
     let e : IfOk c.add.result (λ u. c.add.new.out.items ≡ c.hold.new.out.items ++ v.CheckWith c.args.test c.args.free r c.in-Number.n ∷ []) = search rules in
     rw c.in-Number.is
-    (finish c.add.result _ _ _ (v.CheckWith c.args.test c.args.free r c.in-Number.n) (HeldIn s calls c.args.line c.args.free next r a) Q (c.in_ok-first.ensures.wrote calls) e
+    (finish c.add.result _ _ _ (v.CheckWith c.args.test c.args.free r c.in-Number.n) (HeldIn s calls c.args.line c.args.free next r a) Q refl (c.in_ok-first.ensures.wrote calls) e
     (λ made p. number_comparison_told (callable_in s) calls c.args.line s.own c.args.free next r c.args.test a c.in-Number.n made p))
 
 pub returns-clause-wrote : goal.returns-clause-wrote
@@ -36,7 +37,7 @@ returns-clause-wrote c = λ calls.
     (c.in_ok-first.ensures.wrote calls) (c.in_ok-second.ensures.wrote calls)
     (λ m k p w. subst (ToldIn s calls c.args.line c.args.free (Compare c.args.test a b)) (sym (then-then m k (only (node x))))
     (comparison_told (callable_in s) calls c.args.line s.own c.args.free between next r q c.args.test a b m k c.in_ok-first.ensures.next.1 p w)) in
-    finish c.add-2.result _ _ _ x (λ made. ToldIn s calls c.args.line c.args.free (Compare c.args.test a b) (made then only (node x))) (ToldIn s calls c.args.line c.args.free (Compare c.args.test a b)) made_so_far c.add-2.ensures.appended (λ made p. p)
+    finish c.add-2.result _ _ _ x (λ made. ToldIn s calls c.args.line c.args.free (Compare c.args.test a b) (made then only (node x))) (ToldIn s calls c.args.line c.args.free (Compare c.args.test a b)) refl made_so_far c.add-2.ensures.appended (λ made p. p)
 
 pub returns-in-Number-clause-spares : goal.returns-in-Number-clause-spares
 returns-in-Number-clause-spares c =

@@ -1,9 +1,8 @@
-use Rattle.std.proofs.Common.{◌≡◌, length, map, ap, ◌∙◌, subst}
+use Rattle.std.proofs.Common.{◌≡◌, length, map, subst}
 use Rattle.spf_ast.specs.Meaning.{callable_before}
 use Rattle.spf_ast.specs.View.{expression, block, function}
-use Rattle.spf_code.specs.NodeView.{code}
 use Rattle.spf_code_lowering.specs.Lowering.{IsHeldIn, AreRun}
-use Rattle.spf_code_lowering.proofs.Lowering.{code-append}
+use Rattle.spf_code_lowering.proofs.Same.{both-same}
 use Rattle.spf_code_lowering.proofs.function.function.Goals as goal
 
 pub returns-clause-code : goal.returns-clause-code
@@ -14,10 +13,10 @@ returns-clause-code c = λ calls.
     let value = c.in_ok-held.ensures.wrote calls in
     let body = rw c.deref.ensures.value at c.in_ok-made.ensures.runs calls in
     record {
-      body = code c.in_ok-made.made.items;
-      answer = code value.made;
+      body = body.made;
+      answer = value.made;
       next = c.in_ok-held.held.next;
-      split = ap code value.appended ∙ code-append c.in_ok-made.made.items value.made;
-      runs = subst (λ n. AreRun callable calls n (block f.body.items) (code c.in_ok-made.made.items)) own body;
-      holds = subst (λ n. IsHeldIn callable calls f.answer_line n n c.in_ok-held.held.next c.in_ok-held.held.register (expression f.answer) (code value.made)) own value.asked;
+      same = both-same c.in_ok-made.made.items c.hold.new.out.items _ _ body value;
+      runs = subst (λ n. AreRun callable calls n (block f.body.items) body.made) own body.asked;
+      holds = subst (λ n. IsHeldIn callable calls f.answer_line n n c.in_ok-held.held.next c.in_ok-held.held.register (expression f.answer) value.made) own value.asked;
     }

@@ -1,8 +1,7 @@
 use Rattle.std.proofs.Common.{sym, subst}
 use Rattle.std.specs.Prelude.{IfOk}
 use Rattle.spf_ast.specs.ConstructView.{construct_on}
-use Rattle.spf_code_lowering.specs.Lowering.{IsConstructCode}
-use Rattle.spf_code_lowering.proofs.Lowering.{callable_in}
+use Rattle.spf_code_lowering.specs.Lowering.{IsConstructCode, callable_in}
 use Rattle.spf_code_lowering.proofs.program.construct_code.Goals as goal
 
 pub returns-in-Fold : goal.returns-in-Fold

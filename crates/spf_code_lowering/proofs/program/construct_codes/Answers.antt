@@ -5,7 +5,7 @@ use Rattle.spf_code.specs.declared.program.ConstructCode.{ConstructCode}
 use Rattle.spf_ast.specs.Construct.{constructs_in}
 use Rattle.spf_ast.specs.ConstructView.{construct}
 use Rattle.spf_ast.specs.View.{statement, block}
-use Rattle.spf_code_lowering.proofs.Lowering.{callable_in}
+use Rattle.spf_code_lowering.specs.Lowering.{callable_in}
 use Rattle.spf_code_lowering.proofs.Parts.{ConstructsSoFar, next_statement, one_construct, no_construct, all_constructs}
 use Rattle.spf_code_lowering.proofs.program.construct_codes.Goals.{in-Some+in_ok-code+in_ok-push, in_default}
 use Rattle.spf_code_lowering.proofs.program.construct_codes.Goals as goal

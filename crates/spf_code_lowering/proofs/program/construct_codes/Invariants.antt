@@ -1,7 +1,7 @@
 use Rattle.std.proofs.Common.{drop, ℕ}
 use Rattle.spf_ast.specs.Construct.{constructs_in}
 use Rattle.spf_ast.specs.View.{block}
-use Rattle.spf_code_lowering.proofs.Lowering.{callable_in}
+use Rattle.spf_code_lowering.specs.Lowering.{callable_in}
 use Rattle.spf_code_lowering.proofs.Parts.{ConstructsSoFar}
 use Rattle.spf_code_lowering.proofs.program.construct_codes.Given as goal
 

@@ -1,13 +1,17 @@
 use Rattle.spf_ast.specs.View.{expression}
-use Rattle.spf_code_lowering.proofs.Lowering.{HeldIn}
+use Rattle.spf_code_lowering.proofs.Flat.{code-sets}
+use Rattle.spf_code_lowering.specs.Lowering.{callable_in, HeldIn}
+use Rattle.spf_code_lowering.proofs.Same.{held-too, whole}
 use Rattle.spf_code_lowering.proofs.Spared.{none-set}
-use Rattle.spf_code_lowering.proofs.Telling.{whole}
 use Rattle.spf_code_lowering.proofs.program.expression_code.Goals as goal
 
 pub returns-clause-code : goal.returns-clause-code
 returns-clause-code c = λ calls.
     let s = c.args.scope.now in
-    (c.in_ok-held.held.next, whole c.hold.new.out.items (HeldIn s calls c.args.line s.own c.in_ok-held.held.next c.in_ok-held.held.register (expression c.args.value.now)) (rw c.new-nodes.ensures.items at c.in_ok-held.ensures.wrote calls))
+    let e = expression c.args.value.now in
+    let next = c.in_ok-held.held.next in
+    let r = c.in_ok-held.held.register in
+    (next, whole c.hold.new.out.items (HeldIn s calls c.args.line s.own next r e) (held-too (callable_in s) calls c.args.line s.own s.own next r e) (rw c.new-nodes.ensures.items at c.in_ok-held.ensures.wrote calls))
 
 pub returns-clause-sets : goal.returns-clause-sets
-returns-clause-sets c = λ r p. none-set (rw c.new-nodes.ensures.items at c.in_ok-held.ensures.spares) r p
+returns-clause-sets c = λ r p. code-sets r c.hold.new.out.items (none-set (rw c.new-nodes.ensures.items at c.in_ok-held.ensures.spares) r p) 0

@@ -1,11 +1,13 @@
 use Rattle.spf_ast.specs.View.{statement}
-use Rattle.spf_code_lowering.proofs.Running.{RunIn}
-use Rattle.spf_code_lowering.proofs.Telling.{whole}
+use Rattle.spf_code_lowering.specs.Lowering.{callable_in, RunIn}
+use Rattle.spf_code_lowering.proofs.Same.{run-too, whole}
 use Rattle.spf_code_lowering.proofs.program.statement_code.Goals as goal
 
 pub returns : goal.returns
 returns c = record {
   code = λ calls.
-      whole c.statement.new.out.items (RunIn c.args.scope.now calls c.args.stmt.now.line (statement c.args.stmt.now.kind))
-      (rw c.new-nodes.ensures.items at c.in_ok-statement.ensures.wrote calls);
+      let s = c.args.scope.now in
+      let line = c.args.stmt.now.line in
+      let form = statement c.args.stmt.now.kind in
+      whole c.statement.new.out.items (RunIn s calls line form) (run-too (callable_in s) calls line s.own form) (rw c.new-nodes.ensures.items at c.in_ok-statement.ensures.wrote calls);
 }

@@ -1,4 +1,4 @@
-use Rattle.spf_code_lowering.proofs.Lowering.{callable_in}
+use Rattle.spf_code_lowering.specs.Lowering.{callable_in}
 use Rattle.spf_code_lowering.proofs.Parts.{all_statements}
 use Rattle.spf_code_lowering.proofs.program.statement_codes.Goals as goal
 

@@ -1,6 +1,6 @@
 use Rattle.std.proofs.Common.{drop, ℕ}
 use Rattle.spf_ast.specs.View.{block}
-use Rattle.spf_code_lowering.proofs.Lowering.{callable_in}
+use Rattle.spf_code_lowering.specs.Lowering.{callable_in}
 use Rattle.spf_code_lowering.proofs.Parts.{StatementsSoFar}
 use Rattle.spf_code_lowering.proofs.program.statement_codes.Given as goal
 

@@ -1,12 +1,13 @@
-use Rattle.std.proofs.Common.{◌≡◌, ◌<◌, ◌+◌, false, ℕ, length, List, [], ◌∷◌, refl, sym, ap, subst, arith}
-use Rattle.std.specs.Prelude.{◌==◌}
+use Rattle.std.proofs.Common.{◌≡◌, ◌<◌, ◌≤◌, ◌+◌, Bool, true, false, ℕ, suc, length, List, [], ◌∷◌, refl, sym, ap, ◌∙◌, subst, arith}
+use Rattle.std.specs.Prelude.{◌==◌, nat_lt, if◌then◌else◌}
+use Rattle.std.proofs.lemmas.Bool.Decides.{nat_tests}
 use Rattle.spf_ast_lemmas.proofs.Bools.{neither}
 use Rattle.spf_ast.specs.Slots.{is_among}
 use Rattle.spf_code.specs.declared.node.Node.TheVariants as v
-use Rattle.spf_code.specs.Code.{code_sets}
-use Rattle.spf_code.specs.NodeView.{code}
-use Rattle.spf_code_lowering.specs.Lowering.{SetsNone}
-use Rattle.spf_code_lowering.proofs.Lowering.{mapped}
+use Rattle.spf_code.specs.Code.{Code, Copy, stop, only, ◌then◌}
+use Rattle.spf_code_lowering.specs.Computes.{copies}
+use Rattle.spf_code_lowering.specs.Lowering.{Wrote, SetsNone}
+use Rattle.spf_code_lowering.proofs.Lowering.{mapped, nothing, one, more}
 use Rattle.spf_code_lowering.proofs.Spared.{fewer, both-spared, one-more, same-spared}
 use Rattle.spf_code_lowering.proofs.statement.+copy_row.Goals.{then-slot-scope+in_ok-add-in-Some, else-slot-scope}
 use Rattle.spf_code_lowering.proofs.statement.+copy_row.Goals as goal
@@ -17,6 +18,27 @@ copy_row-requires t c =
     let e = ap length c.in-Some.ensures.cases.0 in
     let k : length c.in-Some.others.now < t = omega (arith, m, e) in
     (k, tt)
+
+is-less : (a b : ℕ) → a < b → nat_lt a b ≡ true
+is-less a b h = grind (arith, nat_tests)
+
+is-not-less : (a b : ℕ) → b ≤ a → nat_lt a b ≡ false
+is-not-less a b h = grind (arith, nat_tests)
+
+pub returns-in_ok-next-in-Some-clause-wrote : goal.returns-in_ok-next-in-Some-clause-wrote
+returns-in_ok-next-in-Some-clause-wrote t c =
+    let own = c.args.scope.now.own in
+    let from = c.args.from in
+    let slot = c.in-Some.slot.now in
+    let others = c.in-Some.others.now in
+    let copied : Bool → Code = λ b. if b then only (Copy slot from) else stop in
+    let first : Wrote c.args.out.now.items c.if-slot-scope.out.items (λ made. made ≡ copied (nat_lt slot own)) = elim c.if-slot-scope.branch [
+      | then-slot-scope+in_ok-add-in-Some w ↦ rw w.out-is (one _ _ (v.Copy slot from) _ refl (w.in_ok-add-in-Some.ensures {u = tt}).appended (ap copied (sym (is-less slot own w.if-slot-scope.true))))
+      | else-slot-scope w ↦ rw w.out-is (nothing _ _ (ap copied (sym (is-not-less slot own w.if-slot-scope.false))))
+    ] in
+    let next : suc from ≡ c.in_ok-next-in-Some.next = (let e = c.in_ok-next-in-Some.ensures {u = tt} in omega (arith, e)) in
+    mapped c.copy_row.result c.copy_row.ensures.wrote (λ u w. more (λ made. made ≡ copies own c.args.slots.now from) first w
+    (λ a b p q. (λ i. p i then q i) ∙ ap (λ n. copied (nat_lt slot own) then copies own others n) (sym next) ∙ ap (λ l. copies own l from) (sym c.in-Some.ensures.cases.0)))
 
 pub returns-in_ok-next-in-Some-clause-spares : goal.returns-in_ok-next-in-Some-clause-spares
 returns-in_ok-next-in-Some-clause-spares t c =

@@ -11,14 +11,19 @@ use Rattle.spf_code.specs.declared.node.Node.TheVariants as v
 use Rattle.spf_code.specs.Code.{Code, stop, only, ◌then◌, Blocks, node_sets, code_sets}
 use Rattle.spf_code.specs.NodeView.{node, code}
 use Rattle.spf_code_lowering.specs.Computes.{copies}
-use Rattle.spf_code_lowering.specs.Lowering.{SetsNone, IsLeft, AreLeft}
-use Rattle.spf_code_lowering.proofs.Lowering.{code-append, then-then, one, more, mapped, as_well, finish, alone, HeldIn, PassedIn}
+use Rattle.spf_code_lowering.specs.Lowering.{SetsNone, IsLeft, AreLeft, callable_in, HeldIn, PassedIn, ToldIn, RunIn, BlockIn}
+use Rattle.spf_code_lowering.proofs.Lowering.{nothing, then-then, one_as, more, mapped, as_well, finish, alone}
 use Rattle.spf_code.proofs.NodeViews.{node-repeat, node-turning, node-blocks}
-use Rattle.spf_code_lowering.proofs.Telling.{whole}
-use Rattle.spf_code_lowering.proofs.Running.{RunIn, BlockIn, then-stop, no_block, block_run, assign_run, loop_run, while_run, fold_run, pair_run, break_run}
+use Rattle.spf_code_lowering.specs.Flat.{DoesSame}
+use Rattle.spf_code_lowering.proofs.Flat.{code-sets}
+use Rattle.spf_code_lowering.proofs.Same.{block-too, told-too, does-same, whole, blocks-same}
+use Rattle.spf_code_lowering.proofs.Running.{then-stop, no_block, block_run, assign_run, loop_run, while_run, fold_run, pair_run, fail_run, break_run}
 use Rattle.spf_code_lowering.proofs.Weight.{statement_weight, stmts_weight, weight_at}
-use Rattle.spf_code_lowering.proofs.Spared.{fewer, both-spared, one-more, finished, alone-spared, none-set, either, let-changes, assign-changes, if-changes, written-elsewhere, for-changes, fold-changes, pair-changes, in-statement}
+use Rattle.spf_code_lowering.proofs.Spared.{same-spared, fewer, both-spared, one-more, finished, alone-spared, none-set, either, let-changes, assign-changes, if-changes, written-elsewhere, for-changes, fold-changes, pair-changes, in-statement}
 use Rattle.spf_code_lowering.proofs.statement.+statement.Goals as goal
+
+pub append-loop-stmt-init : goal.append-loop-stmt-init
+append-loop-stmt-init t c = record { wrote = λ calls. nothing _ _ (λ rest r. r); spares = same-spared }
 
 pub append-loop-stmt-preserved : goal.append-loop-stmt-preserved
 append-loop-stmt-preserved t c = record {
@@ -47,7 +52,7 @@ append-returns-clause-wrote t c = λ calls.
 
 pub block-returns-clause-runs : goal.block-returns-clause-runs
 block-returns-clause-runs t c = λ calls.
-    whole c.append.new.out.items (BlockIn c.args.scope.now calls (block c.args.statements.now)) (rw c.new-made.ensures.items at c.in_ok-append.ensures.wrote calls)
+    rw c.new-made.ensures.items at c.in_ok-append.ensures.wrote calls
 
 pub choose-returns-clause-wrote : goal.choose-returns-clause-wrote
 choose-returns-clause-wrote t c = λ calls.
@@ -72,20 +77,23 @@ fold-returns-clause-wrote t c = λ calls.
     let bodies = more (λ made. (body : Code) × (made ≡ (row then body)) × BlockIn s calls all body)
     (rw (c.new-one_block.ensures.items, c.deref-2.ensures.value) at c.in_ok-copy_row.ensures.wrote) (rw c.deref-3.ensures.value at c.in_ok-append.ensures.wrote calls)
     (λ m k e b. (k, ap (λ m. m then k) e, b)) in
-    let blocks = whole whole_block.items (λ made. (body : Code) × (value : Code) × (made ≡ (row then (body then value))) × BlockIn s calls all body × PassedIn s calls head.next_line s.own head.next value)
-    (more (λ made. (body : Code) × (value : Code) × (made ≡ (row then (body then value))) × BlockIn s calls all body × PassedIn s calls head.next_line s.own head.next value)
+    let blocks = (more (λ made. (body : Code) × (value : Code) × (made ≡ (row then (body then value))) × BlockIn s calls all body × PassedIn s calls head.next_line s.own head.next value)
     bodies (rw c.deref-4.ensures.value at c.in_ok-pass.ensures.wrote calls)
     (λ m k p w. (p.0, k, ap (λ m. m then k) p.1 ∙ then-then row p.0 k, p.2, w))) in
-    let seen = node-blocks counter r q whole_block line ∙ ap (λ k. Blocks counter r q k line) blocks.2 in
+    let is = blocks.asked in
+    let whole_code = row then (is.0 then is.1) in
+    let y = Blocks counter r q whole_code line in
+    let same = subst (λ z. DoesSame (only y) (only z)) (sym (node-blocks counter r q whole_block line))
+    (blocks-same counter r q line whole_code (code whole_block.items) (subst (λ k. DoesSame k (code whole_block.items)) is.2 (does-same whole_block.items _ blocks))) in
     let R = RunIn s calls line (Fold head all) in
-    let two = more (λ made. (k : Code) → HeldIn s calls line between next q head.high k → R (made then (k then (only (node x) then row))))
+    let two = more (λ made. (k : Code) → HeldIn s calls line between next q head.high k → R (made then (k then (only y then row))))
     (rw c.deref-5.ensures.value at c.in_ok-pass-2.ensures.wrote calls) (c.in_ok-low.ensures.wrote calls)
-    (λ m k p w. λ l z. subst R (sym (then-then m k (l then (only (node x) then row)))) (subst (λ y. R (m then (k then (l then (only y then row))))) (sym seen)
-    (fold_run s calls line between next r q counter head all m k l blocks.0 blocks.1 (omega (arith, few, wide)) c.counter_of-counter.ensures.written
-    (subst (λ n. (counter < s.own) ⊎ (n ≤ counter)) wide c.counter_of-counter.ensures.apart) (subst (λ n. counter ≤ n) wide c.counter_of-counter.ensures.there) p (subst (λ n. HeldIn s calls line n between r head.low k) wide w) z blocks.3 blocks.4))) in
-    let three = more (λ made. R (made then (only (node x) then row))) two (c.in_ok-high.ensures.wrote calls) (λ m k p w. subst R (sym (then-then m k (only (node x) then row))) (p k w)) in
-    let four = more (λ made. R (made then row)) three (one _ _ x (λ made. made ≡ only (node x)) (c.in_ok-add.ensures {u = tt}).appended refl)
-    (λ m k p e. subst (λ z. R ((m then z) then row)) (sym e) (subst R (sym (then-then m (only (node x)) row)) p)) in
+    (λ m k p w. λ l z. subst R (sym (then-then m k (l then (only y then row))))
+    (fold_run s calls line between next r q counter head all m k l is.0 is.1 (omega (arith, few, wide)) c.counter_of-counter.ensures.written
+    (subst (λ n. (counter < s.own) ⊎ (n ≤ counter)) wide c.counter_of-counter.ensures.apart) (subst (λ n. counter ≤ n) wide c.counter_of-counter.ensures.there) p (subst (λ n. HeldIn s calls line n between r head.low k) wide w) z is.3 is.4)) in
+    let three = more (λ made. R (made then (only y then row))) two (c.in_ok-high.ensures.wrote calls) (λ m k p w. subst R (sym (then-then m k (only y then row))) (p k w)) in
+    let four = more (λ made. R (made then row)) three (one_as _ _ x y (λ made. made ≡ only y) refl same (c.in_ok-add.ensures {u = tt}).appended refl)
+    (λ m k p e. subst (λ z. R ((m then z) then row)) (sym e) (subst R (sym (then-then m (only y) row)) p)) in
     mapped c.copy_row-2.result (rw c.deref-6.ensures.value at c.copy_row-2.ensures.wrote) (λ u w. more R four w (λ m k p e. subst (λ z. R (m then z)) (sym e) p))
 
 pub pair-returns-clause-wrote : goal.pair-returns-clause-wrote
@@ -118,8 +126,8 @@ repeat-returns-clause-wrote t c = λ calls.
     let R = RunIn s calls c.args.line (For c.args.slot a b body) in
     let made_so_far = more (λ made. R (made then only (node x))) (c.in_ok-first.ensures.wrote calls) (c.in_ok-last.ensures.wrote calls)
     (λ m k p w. subst R (sym (then-then m k (only (node x)))) (subst (λ y. R (m then (k then only y))) (sym (node-repeat counter r q turns))
-    (loop_run s calls c.args.line between next r q c.args.slot counter a b body m k (code turns.items) c.in_ok-first.ensures.next.1 c.register_of-counter.ensures.written c.register_of-counter.ensures.there p w (c.in_ok-turns.ensures.runs calls)))) in
-    finish c.add.result _ _ _ x (λ made. R (made then only (node x))) R made_so_far c.add.ensures.appended (λ made p. p)
+    (loop_run s calls c.args.line between next r q c.args.slot counter a b body m k (code turns.items) c.in_ok-first.ensures.next.1 c.register_of-counter.ensures.written c.register_of-counter.ensures.there p w (whole turns.items (BlockIn s calls body) (block-too (callable_in s) calls s.own body) (c.in_ok-turns.ensures.runs calls))))) in
+    finish c.add.result _ _ _ x (λ made. R (made then only (node x))) R refl made_so_far c.add.ensures.appended (λ made p. p)
 
 pub turn-returns-clause-wrote : goal.turn-returns-clause-wrote
 turn-returns-clause-wrote t c = λ calls.
@@ -129,9 +137,9 @@ turn-returns-clause-wrote t c = λ calls.
     let turns = c.in_ok-turns.turns in
     let asked = c.in_ok-asked.asked in
     let R = RunIn s calls c.args.line (While test c.args.most body) in
-    alone c.add.result _ _ (v.Turning s.own c.args.most asked turns c.args.line) R c.add.ensures.appended
+    alone c.add.result _ _ (v.Turning s.own c.args.most asked turns c.args.line) R refl c.add.ensures.appended
     (subst (λ y. R (only y)) (sym (node-turning s.own c.args.most asked turns c.args.line))
-    (while_run s calls c.args.line c.args.most test body (code asked.items) (code turns.items) (c.in_ok-asked.ensures.told calls) (c.in_ok-turns.ensures.runs calls)))
+    (while_run s calls c.args.line c.args.most test body (code asked.items) (code turns.items) (whole asked.items (ToldIn s calls c.args.line s.own test) (told-too (callable_in s) calls c.args.line s.own s.own test) (c.in_ok-asked.ensures.told calls)) (whole turns.items (BlockIn s calls body) (block-too (callable_in s) calls s.own body) (c.in_ok-turns.ensures.runs calls))))
 
 pub statement-returns-in-Assign-clause-wrote : goal.statement-returns-in-Assign-clause-wrote
 statement-returns-in-Assign-clause-wrote t c = λ calls.
@@ -140,6 +148,16 @@ statement-returns-in-Assign-clause-wrote t c = λ calls.
     rw c.in-Assign.is
     (mapped c.assign-in-Assign.result (c.assign-in-Assign.ensures.wrote calls)
     (λ u w. as_well (RunIn s calls c.args.line (Assign c.in-Assign.slot e)) w (λ made p. assign_run s calls c.args.line c.in-Assign.slot e made p)))
+
+pub statement-returns-in-Fail-clause-wrote : goal.statement-returns-in-Fail-clause-wrote
+statement-returns-in-Fail-clause-wrote t c = λ calls.
+    let s = c.args.scope.now in
+    rw c.in-Fail.is (alone c.add.result _ _ (v.Fail c.in-Fail.number c.args.line) (RunIn s calls c.args.line (Fail c.in-Fail.number)) refl c.add.ensures.appended (fail_run s calls c.args.line c.in-Fail.number))
+
+pub statement-returns-in-Break-clause-wrote : goal.statement-returns-in-Break-clause-wrote
+statement-returns-in-Break-clause-wrote t c = λ calls.
+    let s = c.args.scope.now in
+    rw c.in-Break.is (alone c.add-in-Break.result _ _ v.Break (RunIn s calls c.args.line Break) refl c.add-in-Break.ensures.appended (break_run s calls c.args.line))
 
 pub statement-returns-in-If-clause-wrote : goal.statement-returns-in-If-clause-wrote
 statement-returns-in-If-clause-wrote t c = λ calls.
@@ -239,7 +257,7 @@ repeat-returns-clause-spares t c =
     let counter = c.register_of-counter.result in
     let x = v.Repeat counter c.in_ok-first.first.register c.in_ok-last.last.register turns in
     finished c.add.result _ _ _ x (both-spared (fewer left c.in_ok-first.ensures.spares (λ r p. p.0)) (fewer left c.in_ok-last.ensures.spares (λ r p. let l = p.0 in omega (arith, l, wider)))) c.add.ensures.appended
-    (λ r p. let parts = for-changes c.args.slot a b body r p.1 in ap (node_sets r) (node-repeat counter c.in_ok-first.first.register c.in_ok-last.last.register turns) ∙ either (r == counter) _ (written-elsewhere s.own c.args.slot counter r c.register_of-counter.ensures.written p.0 parts.0) (c.in_ok-turns.ensures.spares r (p.0, parts.1)))
+    (λ r p. let parts = for-changes c.args.slot a b body r p.1 in ap (node_sets r) (node-repeat counter c.in_ok-first.first.register c.in_ok-last.last.register turns) ∙ either (r == counter) _ (written-elsewhere s.own c.args.slot counter r c.register_of-counter.ensures.written p.0 parts.0) (code-sets r turns.items (c.in_ok-turns.ensures.spares r (p.0, parts.1)) 0))
 
 pub turn-returns-clause-spares : goal.turn-returns-clause-spares
 turn-returns-clause-spares t c =
@@ -249,7 +267,7 @@ turn-returns-clause-spares t c =
     let turns = c.in_ok-turns.turns in
     let asked = c.in_ok-asked.asked in
     alone-spared c.add.result _ _ (v.Turning s.own c.args.most asked turns c.args.line) (IsLeft s.own (While test c.args.most body)) c.add.ensures.appended
-    (λ r p. ap (node_sets r) (node-turning s.own c.args.most asked turns c.args.line) ∙ either (code_sets r (code asked.items)) _ (c.in_ok-asked.ensures.spares r p.0) (c.in_ok-turns.ensures.spares r p))
+    (λ r p. ap (node_sets r) (node-turning s.own c.args.most asked turns c.args.line) ∙ either (code_sets r (code asked.items)) _ (code-sets r asked.items (c.in_ok-asked.ensures.spares r p.0) 0) (code-sets r turns.items (c.in_ok-turns.ensures.spares r p) 0))
 
 pub fold-returns-clause-spares : goal.fold-returns-clause-spares
 fold-returns-clause-spares t c =
@@ -271,7 +289,7 @@ fold-returns-clause-spares t c =
     (fewer left c.in_ok-pass.ensures.spares (λ k p. p.0))) in
     let set : (k : ℕ) → left k → node_sets k (node x) ≡ false
     = λ k p. ap (node_sets k) (node-blocks counter r q whole_block c.args.line)
-    ∙ either (k == counter) _ (written-elsewhere s.own head.block counter k c.counter_of-counter.ensures.written p.0 (fold-changes head all k p.1).1) (none-set inner k p) in
+    ∙ either (k == counter) _ (written-elsewhere s.own head.block counter k c.counter_of-counter.ensures.written p.0 (fold-changes head all k p.1).1) (code-sets k whole_block.items (none-set inner k p) 0) in
     let so_far = both-spared (fewer left c.in_ok-pass-2.ensures.spares (λ k p. p.0))
     (both-spared (fewer left c.in_ok-low.ensures.spares (λ k p. let l = p.0 in omega (arith, l, wide)))
     (fewer left c.in_ok-high.ensures.spares (λ k p. let l = p.0 in omega (arith, l, wide, wider)))) in

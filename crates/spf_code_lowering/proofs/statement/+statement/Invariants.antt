@@ -3,9 +3,8 @@ use Rattle.spf_ast.specs.View.{block, statement}
 use Rattle.spf_ast.specs.declared.syntax.Fold.{out-Fold}
 use Rattle.spf_ast.specs.declared.syntax.Pair.{out-Pair}
 use Rattle.spf_code.specs.Code.{Code, ◌then◌}
-use Rattle.spf_code_lowering.specs.Lowering.{Wrote, SetsNone, AreLeft}
+use Rattle.spf_code_lowering.specs.Lowering.{Wrote, SetsNone, AreLeft, BlockIn}
 use Rattle.spf_code_lowering.proofs.Weight.{statement_weight, stmts_weight}
-use Rattle.spf_code_lowering.proofs.Running.{BlockIn}
 use Rattle.spf_code_lowering.proofs.statement.+statement.Given as goal
 
 abbrev pub decreases-append : goal.decreases-append

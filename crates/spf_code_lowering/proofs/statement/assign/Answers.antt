@@ -3,8 +3,9 @@ use Rattle.std.proofs.Common.{false, ◌<◌, ◌≡◌}
 use Rattle.spf_ast.specs.View.{expression}
 use Rattle.spf_ast.specs.Syntax.{Let}
 use Rattle.spf_code_lowering.proofs.Lowering.{mapped, as_well}
-use Rattle.spf_code_lowering.proofs.Running.{RunIn, set_run, vain_run}
+use Rattle.spf_code_lowering.proofs.Running.{set_run, vain_run}
 use Rattle.spf_code_lowering.proofs.Spared.{fewer}
+use Rattle.spf_code_lowering.specs.Lowering.{RunIn}
 use Rattle.spf_code_lowering.proofs.statement.assign.Goals as goal
 
 pub returns-then-slot-scope-clause-wrote : goal.returns-then-slot-scope-clause-wrote

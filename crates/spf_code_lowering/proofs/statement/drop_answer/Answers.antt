@@ -1,9 +1,9 @@
-use Rattle.spf_code_lowering.specs.Lowering.{IsLeft}
+use Rattle.spf_code_lowering.specs.Lowering.{IsLeft, callable_in, ComputedIn, RunIn}
 use Rattle.std.proofs.Common.{◌≡◌, ◌+◌, subst, arith}
 use Rattle.spf_ast.specs.View.{arguments}
 use Rattle.spf_ast.specs.Syntax.{Call, Do}
-use Rattle.spf_code_lowering.proofs.Lowering.{mapped, as_well, callable_in, ComputedIn, value_held}
-use Rattle.spf_code_lowering.proofs.Running.{RunIn, call_run}
+use Rattle.spf_code_lowering.proofs.Lowering.{mapped, as_well, value_held}
+use Rattle.spf_code_lowering.proofs.Running.{call_run}
 use Rattle.spf_code_lowering.proofs.Spared.{fewer, less-differs}
 use Rattle.spf_code_lowering.proofs.statement.drop_answer.Goals as goal
 
