@@ -94,7 +94,7 @@ class Run:
             size = max(0, array.factor * len(data) + array.offset)
             self.extents[array.name] = (self.cells, size)
             self.cells += size
-        self.output = 0
+        self.output = bytearray()
 
 
 class Frame:
@@ -206,9 +206,9 @@ class Frame:
                 yield from self.statements(form.consumer)
 
     def emit(self, value):
-        if not 0 <= value < 256 or self.run.output >= MAX_OUTPUT:
+        if not 0 <= value < 256 or len(self.run.output) >= MAX_OUTPUT:
             self.trap("emit")
-        self.run.output += 1
+        self.run.output.append(value)
 
     def loop(self, iterations):
         try:
