@@ -1,5 +1,5 @@
 -- Runs of a program with the hosts that are handed in as boxes.
-use Rattle.std.specs.Prelude.{◌≡◌, ◌<◌, ◌≤◌, ℕ, List, [], length}
+use Rattle.std.specs.Prelude.{◌<◌, ◌≤◌, ℕ, List, [], length}
 use Rattle.std.specs.Global.{Vec}
 use Rattle.spf_ast.specs.declared.construct.TopConstruct.{TopConstruct}
 use Rattle.spf_ast.specs.Construct.{constructs_in, reals}
