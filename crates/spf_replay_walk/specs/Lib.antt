@@ -2,5 +2,3 @@ pub mod Judging
 pub mod Positions
 pub mod Visiting
 pub mod Walking
-pub mod Handed
-pub mod Examining
