@@ -30,12 +30,25 @@ fn compare(
 {
     let first = hold(scope, line, free, left, out)?;
     if let Expr::Number(n) = right {
-        return add(out, Node::CheckWith(test, free, first.register, *n));
+        return add(
+            out,
+            Node::CheckWith {
+                test,
+                to: free,
+                left: first.register,
+                number: *n,
+            },
+        );
     }
     let second = hold(scope, line, first.next, right, out)?;
     add(
         out,
-        Node::Check(test, free, first.register, second.register),
+        Node::Check {
+            test,
+            to: free,
+            left: first.register,
+            right: second.register,
+        },
     )
 }
 
@@ -69,7 +82,13 @@ pub(crate) fn tell(
         }
         Cond::Not(inner) => {
             tell(scope, line, free, inner, out)?;
-            add(out, Node::Flip(free, free))
+            add(
+                out,
+                Node::Flip {
+                    to: free,
+                    from: free,
+                },
+            )
         }
     }
 }

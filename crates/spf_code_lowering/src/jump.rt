@@ -41,6 +41,6 @@ pub(crate) fn add_choice(
     let left_out = count_of(&other)?;
     add(out, unless(choice, behind))?;
     append(one, out)?;
-    add(out, Node::Jump(left_out))?;
+    add(out, Node::Jump { count: left_out })?;
     append(other, out)
 }

@@ -1,6 +1,10 @@
 -- Blocks that are run plainly, one after another.
 use Rattle.std.specs.Prelude.{◌≡◌, ℕ, List, Result, Ok, Err, ℤ}
 use Rattle.spf_ast.specs.declared.outcome.Trap.{Trap}
+use Rattle.std.specs.Global.{Vec}
+use Rattle.spf_ast.specs.BlockRun.{block_setup, part_asks}
+use Rattle.spf_exec.specs.declared.block_run.Block.{Block}
+use Rattle.spf_exec_memory.specs.declared.plain.Plain.{Plain}
 use Rattle.spf_ast.specs.Carried.{Carried}
 use Rattle.spf_ast.specs.ConstructView.{construct as seen_construct}
 use Rattle.spf_ast.specs.Interaction.{Interaction, State, Ending, Value, Trapped}
@@ -11,6 +15,11 @@ use Rattle.spf_ast.specs.declared.construct.TopConstruct.{TopConstruct}
 use Rattle.spf_exec.specs.declared.pieces.Header.{Header}
 use Rattle.spf_exec.specs.Pieces.{seen_header}
 use Rattle.spf_speculation_entry.specs.Entry.{Entry, plain_blocks}
+
+-- what a block asks, as a part of its construct, with the slots of a frame
+abbrev pub block_asks : InstanceValue → (frame : List ℤ) → Block → Interaction (Ending Carried)
+block_asks instance frame block =
+    part_asks (program_of instance) (seen_construct block.construct) block.part (block_setup instance.input (main_slots (program_of instance) frame) block.number block.value)
 
 -- a block came to this, and left this memory
 abbrev pub BlockGives : Interaction (Ending Carried) → List ℤ → Result Carried Trap → List ℤ → Type 0
@@ -33,3 +42,7 @@ pub record AreRunPlainly (e : Entry) (reals : List Carried) (result : Result Car
   pub reals_are : reals ≡ (plain_blocks e).values
   pub result_is : result ≡ (plain_blocks e).result
   pub memory_is : memory ≡ (plain_blocks e).memory
+
+-- the blocks of a construct were run plainly: what is given has the rows at which they began and what they came to, and the memory is as they left it
+abbrev pub BlocksGive : InstanceValue → TopConstruct → Header → (frame : List ℤ) → (before : Plain) → Vec Carried × Result Carried Trap → (after : Plain) → Type 0
+BlocksGive i construct header frame before given after = AreRunPlainly (entry_from i construct header frame before.cells.items) given.0.items given.1 after.cells.items

@@ -2,3 +2,5 @@ pub mod Judging
 pub mod Positions
 pub mod Visiting
 pub mod Walking
+pub mod Handed
+pub mod Examining
