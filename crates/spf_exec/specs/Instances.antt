@@ -20,7 +20,7 @@ use Rattle.spf_ast.specs.Pieces.{rest_from, from_construct, construct_first}
 use Rattle.spf_ast.specs.Plain.{plain_memory}
 use Rattle.spf_ast.specs.Program.{environment_of, cell_count_of, max_cells}
 use Rattle.spf_ast.specs.Slots.{LeavesOtherSlots}
-use Rattle.spf_ast.specs.Syntax.{Statement, Block, end, Fold, Pair, Expression, Arguments, Predictor}
+use Rattle.spf_ast.specs.Syntax.{Statement, Block, end, Expression, Arguments, Predictor}
 use Rattle.spf_ast.specs.View.{block as seen_block, program as seen_program, fold_head, pair_head}
 use Rattle.spf_code.specs.declared.program.ConstructCode.{ConstructCode}
 use Rattle.spf_code.specs.declared.program.RowCode.{RowCode}
@@ -79,14 +79,6 @@ HasPassed i place passed =
     passed + length (constructs_in (rest_from place (program_of i).main)) ≡ length (constructs_in (program_of i).main)
 
 -- ---- constructs
-
--- a fold as a statement
-abbrev pub fold_statement : code_fold.Fold → Statement
-fold_statement f = Fold (fold_head f) (seen_block (out-Fold f).body.items)
-
--- a pair as a statement
-abbrev pub pair_statement : code_pair.Pair → Statement
-pair_statement f = Pair (pair_head f) (seen_block (out-Pair f).producer.items) (seen_block (out-Pair f).consumer.items)
 
 -- a fold on this line as a construct
 abbrev pub fold_at : ℕ → code_fold.Fold → Construct

@@ -2,8 +2,6 @@
 use Rattle.std.specs.Prelude.{◌≡◌, ℕ, List, Result, Ok, Err, ℤ}
 use Rattle.spf_ast.specs.declared.outcome.Trap.{Trap}
 use Rattle.std.specs.Global.{Vec}
-use Rattle.spf_ast.specs.BlockRun.{block_setup, part_asks}
-use Rattle.spf_exec.specs.declared.block_run.Block.{Block}
 use Rattle.spf_exec_memory.specs.declared.plain.Plain.{Plain}
 use Rattle.spf_ast.specs.Carried.{Carried}
 use Rattle.spf_ast.specs.ConstructView.{construct as seen_construct}
@@ -15,11 +13,6 @@ use Rattle.spf_ast.specs.declared.construct.TopConstruct.{TopConstruct}
 use Rattle.spf_exec.specs.declared.pieces.Header.{Header}
 use Rattle.spf_exec.specs.Pieces.{seen_header}
 use Rattle.spf_speculation_entry.specs.Entry.{Entry, plain_blocks}
-
--- what a block asks, as a part of its construct, with the slots of a frame
-abbrev pub block_asks : InstanceValue → (frame : List ℤ) → Block → Interaction (Ending Carried)
-block_asks instance frame block =
-    part_asks (program_of instance) (seen_construct block.construct) block.part (block_setup instance.input (main_slots (program_of instance) frame) block.number block.value)
 
 -- a block came to this, and left this memory
 abbrev pub BlockGives : Interaction (Ending Carried) → List ℤ → Result Carried Trap → List ℤ → Type 0

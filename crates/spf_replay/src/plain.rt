@@ -9,7 +9,8 @@ ghost use Rattle.spf_ast.specs.Program.{cell_count_of};
 ghost use Rattle.spf_ast.specs.Silence.{FunctionsAreSilent, PartIsSilent};
 ghost use Rattle.spf_exec_instance.specs.Frame.{frame_size};
 ghost use Rattle.spf_exec_instance.specs.Instance.{program_of};
-ghost use Rattle.spf_replay.specs.Plainly.{block_asks, BlockGives, BlocksGive};
+ghost use Rattle.spf_exec.specs.Instances.{block_asks};
+ghost use Rattle.spf_replay.specs.Plainly.{BlockGives, BlocksGive};
 
 use crate::entered::number_at;
 use spf_ast::construct::TopConstruct;
@@ -41,7 +42,7 @@ fn run_block(
     requires silent { PartIsSilent (seen_construct block.now.construct) block.now.part }
     requires functions_silent { FunctionsAreSilent (program_of instance.now).functions }
     requires run { block.now.part ≢ Predictor }
-    ensures gives { BlockGives (block_asks instance.now frame.now block.now)
+    ensures gives { BlockGives (block_asks instance.now block.now frame.now)
         memory.old.cells.items result memory.new.cells.items }
     ensures cells { length memory.new.cells.items ≡ length memory.old.cells.items }
     ensures work { length work.new ≡ length work.old }

@@ -6,8 +6,8 @@ ghost use Rattle.spf_exec_instance.specs.Instance.{program_of};
 ghost use Rattle.spf_guess.specs.Answers.{supplied};
 ghost use Rattle.spf_guess.specs.Missing.{missing_host};
 ghost use Rattle.spf_engine.specs.Errors.{WereToldNothing};
-ghost use Rattle.spf_replay_walk.specs.Handed.{WereToldAll, WereToldSome, HasTooManyCells};
-ghost use Rattle.spf_replay_walk.specs.Handed.{HasFewCells, SaysCells, SaysHost, SaysWhy};
+ghost use Rattle.spf_engine.specs.Handed.{WereToldAll, WereToldSome, HasTooManyCells};
+ghost use Rattle.spf_engine.specs.Handed.{HasFewCells, SaysCells, SaysHost, SaysWhy};
 ghost use Rattle.spf_replay_walk.specs.Judging.{IsVerdictOn};
 
 use crate::judging::Judge;

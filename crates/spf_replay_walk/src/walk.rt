@@ -6,8 +6,8 @@ ghost use Rattle.spf_ast.specs.Program.{outcome as outcome_of, seen_outcome, Don
 ghost use Rattle.spf_exec_instance.specs.Instance.{program_of};
 ghost use Rattle.spf_guess.specs.Answers.{supplied};
 ghost use Rattle.spf_guess.specs.Missing.{missing_host};
+ghost use Rattle.spf_engine.specs.Handed.{run_counts, WereToldAll, WereToldSome};
 ghost use Rattle.spf_replay_walk.specs.Positions.{IsSpare};
-ghost use Rattle.spf_replay_walk.specs.Handed.{run_counts, WereToldAll, WereToldSome};
 ghost use Rattle.spf_replay_walk.specs.Visiting.{VisitsRun};
 
 use crate::position::Spare;

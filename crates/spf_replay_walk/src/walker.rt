@@ -12,11 +12,12 @@ ghost use Rattle.spf_guess.specs.Answers.{supplied, WereToldNoMore};
 ghost use Rattle.spf_guess.specs.Missing.{missing_host};
 ghost use Rattle.spf_speculation_entry.specs.Entry.{IsEntry};
 ghost use Rattle.spf_engine_construct.specs.Guesses.{AreAtMost, IsHandedIn};
+ghost use Rattle.spf_engine.specs.Handed.{Stops, StopsAt};
 ghost use Rattle.spf_engine.specs.Runs.{AreFew, GoesFurther, IsReadyAt};
 ghost use Rattle.spf_replay.specs.Copying.{HasOwnSpans};
 ghost use Rattle.spf_replay_walk.specs.Positions.{entry_at, spans_of, IsAtConstruct, IsSpare};
 ghost use Rattle.spf_replay_walk.specs.Examining.{ComePlainlyTo, VisitsAt, CountsAt, TellsAt};
-ghost use Rattle.spf_replay_walk.specs.Handed.{TakesStep, TakesStepAt, Stops, StopsAt};
+ghost use Rattle.spf_replay_walk.specs.Steps.{TakesStep, TakesStepAt};
 
 use crate::plainly::run_plainly;
 use crate::position::{Position, Spare};
@@ -213,7 +214,7 @@ impl<'a> Walker<'a> {
             self.now.instance.now site.now run.old visitor.old stats.old hosts.old.items
             s run.new visitor.new stats.new hosts.new.items) }
         ensures told_first { IfErr result (λ why. StopsAt answer self.now.instance.now
-            site.now run.old hosts.old.items hosts.new.items) }
+            site.now.construct site.now.header run.old hosts.old hosts.new) }
         ensures count { length hosts.new.items ≡ length hosts.old.items }
         ensures run { OnOk result (IsRunOf (program_of self.now.instance.now)
             (length self.now.instance.now.input) run.new) }
@@ -261,7 +262,7 @@ impl<'a> Walker<'a> {
             self.now.instance.now run.old visitor.old stats.old hosts.old.items
             s run.new visitor.new stats.new hosts.new.items) }
         ensures told_first { IfErr result (λ why. Stops answer self.now.instance.now run.old
-            hosts.old.items hosts.new.items) }
+            hosts.old hosts.new) }
         ensures count { length hosts.new.items ≡ length hosts.old.items }
         ensures run { OnOk result (IsRunOf (program_of self.now.instance.now)
             (length self.now.instance.now.input) run.new) }
