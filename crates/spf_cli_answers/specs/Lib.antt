@@ -11,5 +11,4 @@ pub mod Answering
 pub mod Replying
 pub mod Logs
 pub mod Ending
-pub mod Following
 pub mod Laws

@@ -1,4 +1,3 @@
-pub mod Adding
 pub mod Computes
 pub mod Flat
 pub mod Lowering
