@@ -1,9 +1,10 @@
 #!/usr/bin/env python3
 """Counts the instructions of block runs in the decoders of examples/: in order, and as attempts over lanes; prints a table.
 
-Counts are those of valgrind's callgrind. They don't vary from run to run, and say nothing of what an instruction costs: a store of a lane
-takes longer than a plain one. The first word may name the program that is measured in the place of crates/spf/out/spf. Needs valgrind
-and the built program (`./spf --build`).
+All attempts of a run are counted, and shared out among its blocks: on one worker, an attempt from a wrong guess stops at its first poll,
+since the block before it has been validated by then, and counts next to nothing. Counts are those of valgrind's callgrind. They don't vary
+from run to run, and say nothing of what an instruction costs: a store of a lane takes longer than a plain one. The first word may name the
+program that is measured in the place of crates/spf/out/spf. Needs valgrind and the built program (`./spf --build`).
 """
 
 import os
@@ -40,7 +41,7 @@ def counted(folder, words, function):
 
 
 def main():
-    print("| Decoder | Blocks | Runs as attempts, and once more | In order, a block | Over lanes, a run | Ratio |\n|---|---|---|---|---|---|")
+    print("| Decoder | Blocks | Mispredicted | In order, a block | Over lanes, a block | Ratio |\n|---|---|---|---|---|---|")
     with tempfile.TemporaryDirectory() as folder:
         data = os.path.join(folder, "data")
         for name, source in DECODERS:
@@ -50,8 +51,7 @@ def main():
             plain, _ = counted(folder, ["run", path, data, "--plain"], IN_ORDER)
             lanes, told = counted(folder, ["run", path, data, "--workers", "1", "--stats"], ATTEMPTS)
             blocks, hits, misses, blind = map(int, re.search(r"blocks (\d+) hits (\d+) misses (\d+) blind (\d+)", told).groups())
-            runs = blocks + misses
-            print(f"| {name} | {blocks} | {runs} | {plain / blocks:,.0f} | {lanes / runs:,.0f} | {lanes / runs / (plain / blocks):.2f} |", flush=True)
+            print(f"| {name} | {blocks} | {misses + blind} | {plain / blocks:,.0f} | {lanes / blocks:,.0f} | {lanes / plain:.2f} |", flush=True)
 
 
 main()
