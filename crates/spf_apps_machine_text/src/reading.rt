@@ -1,6 +1,7 @@
 //! Reads the file of a machine from its text. Nothing is checked here: any text gives some file,
 //! and it is up to the caller to check whether the text is that file's.
-ghost use Rattle.std.specs.Prelude.{◌≡◌, ◌≤◌, ◌<◌, ◌+◌, ◌-◌, ◌++◌, length, drop, true, false, IfOk, MatchOption};
+ghost use Rattle.std.specs.Prelude.{◌≡◌, ◌≤◌, ◌<◌, ◌+◌, ◌-◌, ◌++◌};
+ghost use Rattle.std.specs.Prelude.{length, drop, true, false, IfOk, MatchOption};
 ghost use Rattle.spf_apps_machine_text.specs.MachineText.{byte_text as byte_text_of};
 ghost use Rattle.spf_apps_machine_text.specs.Reading.{
   is_digit as is_digit_test,

@@ -4,7 +4,8 @@ ghost use mathlib.Core.Option.{some};
 ghost use lib.ListN.{get_elem?};
 ghost use Rattle.spf_cells.specs.Spans.{consecutive, cells_of, cells_with_blocks};
 ghost use Rattle.spf_cells.specs.Values.{IsLaneOf, IsWardenOf, with_lane, content_at, spans_of};
-ghost use Rattle.spf_cells.specs.Finish.{write_back, HasTaken, HaveWordsFrom, AreAllLanes, IsFinish};
+ghost use Rattle.spf_cells.specs.Finish.{write_back, HasTaken, HaveWordsFrom};
+ghost use Rattle.spf_cells.specs.Finish.{AreAllLanes, IsFinish};
 ghost use Rattle.spf_cells.specs.Log.{IsLogOf};
 ghost use Rattle.spf_cells.specs.Segments.{AreSegmentsOf, IsSearchable, first_word};
 

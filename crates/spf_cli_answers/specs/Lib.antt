@@ -11,4 +11,5 @@ pub mod Answering
 pub mod Replying
 pub mod Logs
 pub mod Ending
+pub mod Following
 pub mod Laws

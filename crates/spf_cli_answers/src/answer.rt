@@ -1,18 +1,13 @@
 //! What the program answers, before any of it is put on a sink.
 
-ghost use Rattle.std.specs.Prelude.{◌≡◌, ◌≤◌, ◌<◌, ◌^◌, ◌++◌, ◌∷◌, [], Ok, IfOk, IfErr, map};
-ghost use Rattle.std.specs.Prelude.{length, string_bytes, true, false};
+ghost use Rattle.std.specs.Prelude.{◌≡◌, ◌≤◌, ◌<◌, ◌++◌, ◌∷◌, [], IfOk, IfErr, map};
+ghost use Rattle.std.specs.Prelude.{string_bytes, true, false};
 ghost use Rattle.spf_ast_lemmas.specs.Limits.{max_workers};
 ghost use Rattle.spf_ast.specs.View.{program as seen_program, array as seen_array};
 ghost use Rattle.spf_ast.specs.Program.{extents_from, seen_outcome};
 ghost use Rattle.spf_ast.specs.Lawful.{IsLawful};
-ghost use Rattle.spf_exec_instance.specs.Instance.{program_of as instance_program};
-ghost use Rattle.spf_guess_statistics.specs.Statistics.{tally};
-ghost use Rattle.spf_guess.specs.Answers.{WereTold, supplied};
-ghost use Rattle.spf_engine.specs.Runs.{WereToldFirst};
-ghost use Rattle.spf_edge.specs.Fetches.{AreMade};
 ghost use Rattle.spf_cli_answers.specs.Message.{array_lines};
-ghost use Rattle.spf_cli_words.specs.Command.{Run as run_command, Check as check_command};
+ghost use Rattle.spf_cli_words.specs.Command.{Check as check_command};
 ghost use Rattle.spf_cli_words.specs.Command.{Explain as explain_command, Print as print_command};
 ghost use Rattle.spf_cli_words.specs.Command.{IsUpTo, HasNumbers};
 ghost use Rattle.spf_cli_answers.specs.Reading.{IsVerdict, Says};
@@ -20,18 +15,20 @@ ghost use Rattle.spf_check.specs.Accepting.{IsAccepted};
 ghost use Rattle.spf_cli_answers.specs.Answer.{refused as refused_answer};
 ghost use Rattle.spf_cli_answers.specs.Answer.{not_understood as not_understood_answer};
 ghost use Rattle.spf_cli_answers.specs.Answer.{accepted as accepted_answer};
-ghost use Rattle.spf_cli_answers.specs.Answer.{rule_refused as rule_refused_answer, file_failed};
-ghost use Rattle.spf_cli_answers.specs.Answer.{too_many_cells, host_missing, printed, stats_lines};
-ghost use Rattle.spf_cli_answers.specs.Answer.{ran as ran_answer};
+ghost use Rattle.spf_cli_answers.specs.Answer.{rule_refused as refused_by_rule, file_failed};
+ghost use Rattle.spf_cli_answers.specs.Answer.{too_many_cells, host_missing, stats_lines};
 ghost use Rattle.spf_cli_words.specs.Asked.{seen_command, seen_options};
 ghost use Rattle.spf_cli_answers.specs.Status.{status_number};
 ghost use Rattle.spf_cli_words.specs.Only.{IsOnly};
-ghost use Rattle.spf_cli_answers.specs.Whole.{Handed, handed, Runs, RunsOn, Whole, WholeOf};
+ghost use Rattle.spf_cli_answers.specs.Whole.{Handed};
 ghost use Rattle.spf_cli_answers.specs.Answering.{lines_of, seen_answer, IsFetchExit, IsReadExit};
 ghost use Rattle.spf_cli_answers.specs.Answering.{SaysWhy, IsRuleExit, IsNotAccepted, IsNotRun};
-ghost use Rattle.spf_cli_answers.specs.Answering.{IsFollowed};
-ghost use Rattle.spf_cli_answers.specs.Replying.{IsReply, RepliesWith, IsBatch};
-ghost use Rattle.spf_cli_answers.specs.Answering.{AnswersWith, IsRunToItsEnd, IsLeftUnrun};
+ghost use Rattle.spf_cli_answers.specs.Replying.{IsBatch};
+ghost use Rattle.spf_cli_answers.specs.Answering.{AnswersWith, IsLeftUnrun};
+ghost use Rattle.spf_cli_answers.specs.Following.{Adds, AnswersRun, Follows, FollowsPlainRun};
+ghost use Rattle.spf_cli_answers.specs.Following.{FollowsRun, FollowsWith, IsFetched, IsReplyTo};
+ghost use Rattle.spf_cli_answers.specs.Following.{RepliesTo, ToldAll, ToldFirst, Untold};
+ghost use Rattle.spf_cli_answers.specs.Following.{given_by, ran_there, run_of};
 
 use crate::context::Context;
 use crate::message::{
@@ -155,8 +152,8 @@ pub(crate) fn fetch<F: Files>(
     name: &str,
     limit: u64,
 ) -> Result<Vec<u8>, Exit>
-    ensures content { IfOk result (λ content. AreMade (F.state files.old) (F.state files.new)
-        (record { name = name.now; limit = limit; gave = Ok content.items } ∷ [])) }
+    ensures content { IfOk result (λ content.
+        IsFetched (F.state files.old) (F.state files.new) name.now limit content.items) }
     ensures left { IfErr result
         (IsFetchExit (F.state files.old) (F.state files.new) name.now limit) }
 {
@@ -199,7 +196,7 @@ fn answer_accepted(alloc: Global) -> Result<Answer, AllocError>
 /// The answer where a top construct of a program breaks a rule.
 fn rule_refused(alloc: Global, program: &Program, refusal: Refusal) -> Result<Answer, AllocError>
     ensures { IfOk result (λ a. seen_answer a
-        ≡ rule_refused_answer (seen_program program.now) refusal.rule refusal.line refusal.range) }
+        ≡ refused_by_rule (seen_program program.now) refusal.rule refusal.line refusal.range) }
 {
     let line = rule_line(alloc, &program.arrays, refusal)?;
     answer_with_line(alloc, Status::Refused, line)
@@ -258,8 +255,8 @@ fn push_arrays(
     cells: &[i64],
 ) -> Result<(), AllocError>
     requires { extents.now ≡ extents_from len 0 (map seen_array arrays.now) }
-    ensures { IfOk result (λ _. lines_of messages.new.items
-        ≡ lines_of messages.old.items ++ array_lines len (map seen_array arrays.now) cells.now) }
+    ensures { IfOk result (λ _. Adds messages.old.items messages.new.items
+        (array_lines len (map seen_array arrays.now) cells.now)) }
 {
     let mut rest = cells;
     for (index, array) in arrays.iter().enumerate() {
@@ -280,8 +277,7 @@ fn answer_of_run(
     stats: Stats,
 ) -> Result<Answer, AllocError>
     ensures { IfOk result (λ a. seen_answer a
-        ≡ ran_answer (seen_options options) (instance_program instance.now)
-        (length instance.now.input) (seen_outcome outcome) stats) }
+        ≡ ran_there options instance.now (seen_outcome outcome) stats) }
 {
     let mut messages = Vec::new(alloc);
     match outcome {
@@ -372,9 +368,8 @@ fn run_plainly(
 ) -> Result<Answer, Exit>
     requires lawful { IsLawful (seen_program program.now) }
     requires plain { options.plain ≡ true }
-    ensures { (handed : Handed)
-        → AnswersWith
-        (IsOnly (Runs (seen_options options) handed (seen_program program.now) input.now)) result }
+    ensures { (given : Handed)
+        → AnswersRun (seen_options options) given (seen_program program.now) input.now result }
 {
     // Laws: no `break` of a lawful program leaves `main` or a part, and no function of it emits.
     spf_ast::laws::breaks_stay_in_their_loops();
@@ -406,9 +401,8 @@ fn run_plainly_on<F: Files>(
 ) -> Result<Answer, Exit>
     requires lawful { IsLawful (seen_program program.now) }
     requires plain { options.plain ≡ true }
-    ensures { (handed : Handed) → AnswersWith (IsFollowed
-        (RunsOn (seen_options options) handed input.now (seen_program program.now))
-        (F.state files.old) (F.state files.new)) result }
+    ensures { FollowsPlainRun options input.now (seen_program program.now)
+        (F.state files.old) (F.state files.new) result }
 {
     let content = fetch(alloc, files, input, MAX_INPUT)?;
     run_plainly(alloc, options, program, &content)
@@ -416,9 +410,7 @@ fn run_plainly_on<F: Files>(
 
 /// The answer of `check` over a file.
 fn check_file<F: Files>(alloc: Global, program: &str, files: &mut F) -> Result<Answer, Exit>
-    ensures { (handed : Handed)
-        → AnswersWith (IsFollowed (WholeOf handed (check_command program.now)) (F.state files.old)
-        (F.state files.new)) result }
+    ensures { Follows (check_command program.now) (F.state files.old) (F.state files.new) result }
 {
     // Law: a program has one verdict and one explanation.
     crate::laws::rules_say_one_thing();
@@ -430,9 +422,7 @@ fn check_file<F: Files>(alloc: Global, program: &str, files: &mut F) -> Result<A
 
 /// The answer of `explain` over a file.
 fn explain_file<F: Files>(alloc: Global, program: &str, files: &mut F) -> Result<Answer, Exit>
-    ensures { (handed : Handed)
-        → AnswersWith (IsFollowed (WholeOf handed (explain_command program.now)) (F.state files.old)
-        (F.state files.new)) result }
+    ensures { Follows (explain_command program.now) (F.state files.old) (F.state files.new) result }
 {
     // Law: a program has one verdict and one explanation.
     crate::laws::rules_say_one_thing();
@@ -448,9 +438,7 @@ fn explain_file<F: Files>(alloc: Global, program: &str, files: &mut F) -> Result
 
 /// The answer of `print` over a file.
 fn print_file<F: Files>(alloc: Global, program: &str, files: &mut F) -> Result<Answer, Exit>
-    ensures { (handed : Handed)
-        → AnswersWith (IsFollowed (WholeOf handed (print_command program.now)) (F.state files.old)
-        (F.state files.new)) result }
+    ensures { Follows (print_command program.now) (F.state files.old) (F.state files.new) result }
 {
     let text = fetch(alloc, files, program, MAX_PROGRAM)?;
     let parsed = read(alloc, &text)?;
@@ -472,18 +460,15 @@ impl<'a, R: Threads + Wait + Sync, G: Gate + Sync> Context<'a, R, G> {
     ) -> Result<Answer, Exit>
         requires blocks { options.plain ≡ false }
         requires workers { IsUpTo max_workers options.workers }
-        ensures answer { AnswersWith (IsOnly (Runs (seen_options options)
-            (handed (map (λ h. answer h) hosts.old.items)) (seen_program checked.now) input.now))
+        ensures answer { AnswersRun (seen_options options) (given_by answer hosts.old.items)
+            (seen_program checked.now) input.now result }
+        ensures told_first { ToldFirst answer hosts.old.items hosts.new.items
+            (seen_program checked.now) input.now }
+        ensures told { AnswersWith
+            (ToldAll answer hosts.old.items hosts.new.items (seen_program checked.now) input.now)
             result }
-        ensures told_first { WereToldFirst (supplied answer hosts.old.items)
-            (seen_program checked.now) input.now (supplied answer hosts.new.items) }
-        ensures told { AnswersWith (λ a. IsRunToItsEnd a
-            → WereTold (supplied answer hosts.old.items) (tally
-            (supplied answer hosts.old.items) (seen_program checked.now)
-            input.now).telling (supplied answer hosts.new.items)) result }
         ensures unrun { AnswersWith (λ a. IsLeftUnrun a
-            → WereTold (supplied answer hosts.old.items) []
-            (supplied answer hosts.new.items)) result }
+            → Untold answer hosts.old.items hosts.new.items) result }
     {
         let workers = worker_count(options.workers);
         let (instance, report) = match run_whole(
@@ -506,9 +491,8 @@ impl<'a, R: Threads + Wait + Sync, G: Gate + Sync> Context<'a, R, G> {
     ) -> Result<Answer, Exit>
         requires blocks { options.plain ≡ false }
         requires workers { IsUpTo max_workers options.workers }
-        ensures { AnswersWith (IsFollowed
-            (RunsOn (seen_options options) (handed (map (λ h. answer h) hosts.old.items)) input.now
-            (seen_program checked.now)) (F.state files.old) (F.state files.new)) result }
+        ensures { FollowsRun answer hosts.old.items options input.now checked.now
+            (F.state files.old) (F.state files.new) result }
     {
         let content = fetch(self.alloc, files, input, MAX_INPUT)?;
         self.run_by_blocks(options, checked, &content, hosts)
@@ -524,9 +508,8 @@ impl<'a, R: Threads + Wait + Sync, G: Gate + Sync> Context<'a, R, G> {
         hosts: &mut Vec<Box<dyn Predictor>>,
     ) -> Result<Answer, Exit>
         requires workers { IsUpTo max_workers options.workers }
-        ensures { AnswersWith (IsFollowed (WholeOf (handed (map (λ h. answer h) hosts.old.items))
-            (run_command program.now input.now (seen_options options)))
-            (F.state files.old) (F.state files.new)) result }
+        ensures { FollowsWith answer hosts.old.items (run_of program.now input.now options)
+            (F.state files.old) (F.state files.new) result }
     {
         // Law: a program has one verdict and one explanation.
         crate::laws::rules_say_one_thing();
@@ -547,8 +530,7 @@ impl<'a, R: Threads + Wait + Sync, G: Gate + Sync> Context<'a, R, G> {
         hosts: &mut Vec<Box<dyn Predictor>>,
     ) -> Result<Reply, Exit>
         requires numbers { HasNumbers (seen_command command) }
-        ensures reply { RepliesWith (handed (map (λ h. answer h) hosts.old.items))
-            (WholeOf (handed (map (λ h. answer h) hosts.old.items)) (seen_command command.entry))
+        ensures reply { RepliesTo (given_by answer hosts.old.items) (seen_command command.entry)
             (F.state files.old) (F.state files.new) result }
         ensures idle { IfOk result (λ reply. IsBatch reply → hosts.new ≡ hosts.old) }
     {
@@ -619,8 +601,7 @@ pub fn answer_words<R: Threads + Wait + Sync, F: Files, G: Gate + Sync>(
 ) -> Result<Reply, AllocError>
     // The files that the command needs are fetched, each once and in order, and what they give
     // decides the answer. Of a batch those before its first file are fetched.
-    ensures reply { IfOk result (IsReply (handed (map (λ h. answer h) hosts.old.items))
-        (Whole (handed (map (λ h. answer h) hosts.old.items)) (map string_bytes words.now))
+    ensures reply { IfOk result (IsReplyTo (given_by answer hosts.old.items) words.now
         (F.state files.old) (F.state files.new)) }
     ensures idle { IfOk result (λ reply. IsBatch reply → hosts.new ≡ hosts.old) }
 {

@@ -1,16 +1,14 @@
 //! The answer of a run over bytes at hand.
 
-ghost use Rattle.std.specs.Prelude.{◌≤◌, ◌<◌, [], map, IfOk};
+ghost use Rattle.std.specs.Prelude.{◌≤◌, ◌<◌, IfOk};
 ghost use Rattle.spf_ast_lemmas.specs.Limits.{max_workers};
 ghost use Rattle.spf_ast.specs.Syntax.{Program};
-ghost use Rattle.spf_guess_statistics.specs.Statistics.{tally};
-ghost use Rattle.spf_guess.specs.Answers.{WereTold, supplied};
-ghost use Rattle.spf_engine.specs.Runs.{WereToldFirst};
 ghost use Rattle.spf_cli_answers.specs.Reading.{IsVerdict, Refusal, Refuses, Says};
 ghost use Rattle.spf_cli_words.specs.Only.{IsOnly};
-ghost use Rattle.spf_cli_answers.specs.Whole.{handed, RunsText};
-ghost use Rattle.spf_cli_answers.specs.Answering.{AnswersWith, IsRunToItsEnd, IsLeftUnrun};
+ghost use Rattle.spf_cli_answers.specs.Whole.{RunsText};
+ghost use Rattle.spf_cli_answers.specs.Answering.{AnswersWith, IsLeftUnrun};
 ghost use Rattle.spf_cli_answers.specs.Answering.{seen_answer};
+ghost use Rattle.spf_cli_answers.specs.Following.{ToldAllOf, ToldFirst, Untold, given_by};
 
 use crate::answer::{Answer, Exit, accept, read};
 use crate::context::Context;
@@ -32,22 +30,16 @@ impl<'a, R: Threads + Wait + Sync, G: Gate + Sync> Context<'a, R, G> {
     ) -> Result<Answer, Exit>
         requires workers { (0 < workers) × (workers ≤ max_workers) }
         ensures answer { AnswersWith (IsOnly
-            (RunsText (handed (map (λ h. answer h) hosts.old.items)) workers text.now input.now))
+            (RunsText (given_by answer hosts.old.items) workers text.now input.now))
             result }
         ensures told_first { (p : Program) → IsVerdict text.now (Says p)
-            → WereToldFirst (supplied answer hosts.old.items) p input.now
-            (supplied answer hosts.new.items) }
-        ensures told { AnswersWith (λ a. (p : Program) → IsVerdict text.now (Says p)
-            → IsRunToItsEnd a
-            → WereTold (supplied answer hosts.old.items)
-            (tally (supplied answer hosts.old.items) p input.now).telling
-            (supplied answer hosts.new.items)) result }
+            → ToldFirst answer hosts.old.items hosts.new.items p input.now }
+        ensures told { AnswersWith
+            (ToldAllOf answer hosts.old.items hosts.new.items text.now input.now) result }
         ensures untold { (refusal : Refusal) → IsVerdict text.now (Refuses refusal)
-            → WereTold (supplied answer hosts.old.items) []
-            (supplied answer hosts.new.items) }
+            → Untold answer hosts.old.items hosts.new.items }
         ensures unrun { AnswersWith (λ a. IsLeftUnrun a
-            → WereTold (supplied answer hosts.old.items) []
-            (supplied answer hosts.new.items)) result }
+            → Untold answer hosts.old.items hosts.new.items) result }
     {
         // Law: a program has one verdict and one explanation.
         crate::laws::rules_say_one_thing();
@@ -79,22 +71,16 @@ pub fn answer_text<R: Threads + Wait + Sync, G: Gate + Sync>(
 ) -> Result<Answer, AllocError>
     requires workers { (0 < workers) × (workers ≤ max_workers) }
     ensures answer { IfOk result (λ a. IsOnly
-        (RunsText (handed (map (λ h. answer h) hosts.old.items)) workers text.now input.now)
+        (RunsText (given_by answer hosts.old.items) workers text.now input.now)
         (seen_answer a)) }
     ensures told_first { (p : Program) → IsVerdict text.now (Says p)
-        → WereToldFirst (supplied answer hosts.old.items) p input.now
-        (supplied answer hosts.new.items) }
-    ensures told { IfOk result (λ a. (p : Program) → IsVerdict text.now (Says p)
-        → IsRunToItsEnd (seen_answer a)
-        → WereTold (supplied answer hosts.old.items)
-        (tally (supplied answer hosts.old.items) p input.now).telling
-        (supplied answer hosts.new.items)) }
+        → ToldFirst answer hosts.old.items hosts.new.items p input.now }
+    ensures told { IfOk result
+        (λ a. ToldAllOf answer hosts.old.items hosts.new.items text.now input.now (seen_answer a)) }
     ensures untold { (refusal : Refusal) → IsVerdict text.now (Refuses refusal)
-        → WereTold (supplied answer hosts.old.items) []
-        (supplied answer hosts.new.items) }
+        → Untold answer hosts.old.items hosts.new.items }
     ensures unrun { IfOk result (λ a. IsLeftUnrun (seen_answer a)
-        → WereTold (supplied answer hosts.old.items) []
-        (supplied answer hosts.new.items)) }
+        → Untold answer hosts.old.items hosts.new.items) }
 {
     let context = Context { rt, alloc, gate };
     match context.run_text(text, input, workers, hosts) {

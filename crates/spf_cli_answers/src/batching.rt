@@ -1,17 +1,16 @@
 //! The command `batch`: what comes before its first file, and how it ends.
 
 ghost use Rattle.std.specs.Prelude.{◌≡◌, ◌∷◌, [], map, string_bytes, IfOk, IfErr};
-ghost use Rattle.std.specs.Prelude.{Err, MatchResult};
+ghost use Rattle.std.specs.Prelude.{MatchResult};
 ghost use Rattle.spf_ast_lemmas.specs.Limits.{max_workers};
-ghost use Rattle.spf_ast.specs.View.{program as seen_program};
 ghost use Rattle.spf_batch_lists.specs.Lists.{AreNames};
 ghost use Rattle.spf_cli_words.specs.Command.{Batch as batch_command, IsUpTo};
 ghost use Rattle.spf_cli_answers.specs.Answer.{not_a_name as not_a_name_answer};
-ghost use Rattle.spf_cli_answers.specs.Answering.{lines_of, seen_answer, AnswersWith, IsFollowed};
-ghost use Rattle.spf_cli_answers.specs.Ending.{EndsWith, BreaksWith, NamesOneOf};
-ghost use Rattle.spf_cli_answers.specs.Replying.{CanBegin, IsList, IsListExit, IsNoList};
+ghost use Rattle.spf_cli_answers.specs.Answering.{lines_of, seen_answer};
+ghost use Rattle.spf_cli_answers.specs.Ending.{BreaksWith, NamesOneOf};
+ghost use Rattle.spf_cli_answers.specs.Replying.{IsList, IsListExit, IsNoList};
 ghost use Rattle.spf_cli_answers.specs.Status.{status_number};
-ghost use Rattle.spf_cli_answers.specs.Whole.{Handed, WholeOf};
+ghost use Rattle.spf_cli_answers.specs.Following.{BatchAnswers, BatchBegins, IsEndingOf};
 
 use crate::answer::{
     Answer, Exit, MAX_INPUT, MAX_PROGRAM, accept, fetch, read, refuse, without_host, worker_count,
@@ -91,12 +90,10 @@ impl<'a, R: Threads + Wait + Sync, G: Gate + Sync> Context<'a, R, G> {
         files: &mut F,
     ) -> Result<Batch, Exit>
         requires workers { IsUpTo max_workers workers }
-        ensures ready { (given : Handed) → given.count ≡ hosts → IfOk result (CanBegin given
-            (WholeOf given (batch_command program.now list.now workers)) (F.state files.old)
-            (F.state files.new)) }
-        ensures left { (given : Handed) → given.count ≡ hosts → IfErr result (λ left.
-            AnswersWith (IsFollowed (WholeOf given (batch_command program.now list.now workers))
-            (F.state files.old) (F.state files.new)) (Err left)) }
+        ensures ready { BatchBegins hosts (batch_command program.now list.now workers)
+            (F.state files.old) (F.state files.new) result }
+        ensures left { BatchAnswers hosts (batch_command program.now list.now workers)
+            (F.state files.old) (F.state files.new) result }
     {
         // Laws: a program has one verdict, and a list is names or has a first bad line.
         crate::laws::rules_say_one_thing();
@@ -125,8 +122,7 @@ impl Batch {
     pub fn ending(&self, alloc: Global, came: Result<Totals, BatchError>) -> Result<Ending, Status>
         requires named { IfErr came (NamesOneOf (map string_bytes self.now.names.items)) }
         ensures { MatchResult result
-            (λ e. EndsWith (seen_program self.now.checked) (map string_bytes self.now.names.items)
-            came (status_number e.status) (lines_of e.messages.items))
+            (IsEndingOf self.now came)
             (λ status. BreaksWith came (status_number status)) }
     {
         let (status, line) = match came {

@@ -1,7 +1,7 @@
 //! The answers of the decoders: PackBits, HUF1, lexers' machines, and each of them on a generated
 //! input.
 
-ghost use Rattle.std.specs.Prelude.{◌≡◌, ◌≤◌, ◌∷◌, [], IfOk, unwrap_or};
+ghost use Rattle.std.specs.Prelude.{◌≡◌, ◌≤◌, [], IfOk};
 ghost use Rattle.spf_ast_lemmas.specs.Limits.{max_workers};
 ghost use Rattle.std.specs.List.{sum_by};
 ghost use Rattle.spf_ast.specs.View.{program as seen_program};
@@ -18,12 +18,11 @@ ghost use Rattle.spf_apps_formats.specs.Lex1.{IsLex1};
 ghost use Rattle.spf_apps_programs.specs.Laws.{IsBlockSize};
 ghost use Rattle.spf_cli_answers.specs.Answer.{not_huf1 as not_huf1_answer};
 ghost use Rattle.spf_cli_answers.specs.Answer.{not_lex1 as not_lex1_answer, shown as shown_answer};
-ghost use Rattle.spf_cli_answers.specs.Status.{status_number};
-ghost use Rattle.spf_cli_answers.specs.Course.{Fetches, Ends};
-ghost use Rattle.spf_cli_answers.specs.Whole.{Handed, Decodes, Demonstrates, RunsTo, demo_program};
-ghost use Rattle.spf_cli_answers.specs.Whole.{demo_input, by_blocks, handed, block_of, max_input};
-ghost use Rattle.spf_cli_answers.specs.Whole.{run_options as run_options_of, Lexing, WholeOf};
-ghost use Rattle.spf_cli_answers.specs.Answering.{seen_answer, IsFollowed, AnswersWith};
+ghost use Rattle.spf_cli_answers.specs.Whole.{Decodes, Demonstrates, RunsTo, demo_program};
+ghost use Rattle.spf_cli_answers.specs.Whole.{demo_input, by_blocks, handed, block_of};
+ghost use Rattle.spf_cli_answers.specs.Whole.{run_options as run_options_of};
+ghost use Rattle.spf_cli_answers.specs.Answering.{seen_answer, AnswersWith};
+ghost use Rattle.spf_cli_answers.specs.Following.{Follows, FollowsLexing};
 
 use crate::answer::{Answer, Exit, MAX_INPUT, answer_of_error, fetch, refuse};
 use crate::context::Context;
@@ -180,9 +179,8 @@ impl<'a, R: Threads + Wait + Sync, G: Gate + Sync> Context<'a, R, G> {
         files: &mut F,
     ) -> Result<Answer, Exit>
         requires numbers { HasDecodeNumbers (seen_decode_options options) }
-        ensures { (given : Handed) → AnswersWith (IsFollowed
-            (WholeOf given (unpack_command input.now (seen_decode_options options)))
-            (F.state files.old) (F.state files.new)) result }
+        ensures { Follows (unpack_command input.now (seen_decode_options options))
+            (F.state files.old) (F.state files.new) result }
     {
         // Law: a decoder's run answers what its format says.
         crate::laws::decoders_keep_their_formats();
@@ -199,9 +197,8 @@ impl<'a, R: Threads + Wait + Sync, G: Gate + Sync> Context<'a, R, G> {
         files: &mut F,
     ) -> Result<Answer, Exit>
         requires numbers { HasDecodeNumbers (seen_decode_options options) }
-        ensures { (given : Handed) → AnswersWith (IsFollowed
-            (WholeOf given (unhuff_command input.now (seen_decode_options options)))
-            (F.state files.old) (F.state files.new)) result }
+        ensures { Follows (unhuff_command input.now (seen_decode_options options))
+            (F.state files.old) (F.state files.new) result }
     {
         // Law: a file is of its format, or refused at one offset.
         spf_apps_formats::laws::files_have_one_verdict();
@@ -227,9 +224,8 @@ impl<'a, R: Threads + Wait + Sync, G: Gate + Sync> Context<'a, R, G> {
     ) -> Result<Answer, Exit>
         requires numbers { HasDecodeNumbers (seen_decode_options options) }
         requires lex1 { IsLex1 machine.now states classes }
-        ensures { AnswersWith (IsFollowed (Fetches input.now max_input (λ content.
-            Ends (Lexing (seen_decode_options options) machine.now states classes content)))
-            (F.state files.old) (F.state files.new)) result }
+        ensures { FollowsLexing options input.now machine.now states classes
+            (F.state files.old) (F.state files.new) result }
     {
         // Law: a decoder's run answers what its format says.
         crate::laws::decoders_keep_their_formats();
@@ -248,9 +244,8 @@ impl<'a, R: Threads + Wait + Sync, G: Gate + Sync> Context<'a, R, G> {
         files: &mut F,
     ) -> Result<Answer, Exit>
         requires numbers { HasDecodeNumbers (seen_decode_options options) }
-        ensures { (given : Handed) → AnswersWith (IsFollowed
-            (WholeOf given (lex_command machine.now input.now (seen_decode_options options)))
-            (F.state files.old) (F.state files.new)) result }
+        ensures { Follows (lex_command machine.now input.now (seen_decode_options options))
+            (F.state files.old) (F.state files.new) result }
     {
         // Law: a file is of its format, or refused at one offset.
         spf_apps_formats::laws::files_have_one_verdict();

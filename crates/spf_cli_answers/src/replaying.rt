@@ -1,24 +1,23 @@
 //! The answers of `sim` and `replay`: logs of runs.
 
-ghost use Rattle.std.specs.Prelude.{◌≡◌, ◌<◌, ◌≤◌, ◌++◌, map, None, IfOk, IfErr};
+ghost use Rattle.std.specs.Prelude.{◌≡◌, ◌++◌, IfOk, IfErr};
 ghost use Rattle.spf_ast.specs.View.{program as seen_program};
 ghost use Rattle.spf_ast.specs.Program.{seen_outcome};
 ghost use Rattle.spf_replay_log.specs.Log.{IsLog, sections_of};
-ghost use Rattle.spf_replay_sim.specs.Bytes.{bytes_of};
 ghost use Rattle.spf_replay_sim.specs.Drawing.{AreOfFewBlocks};
-ghost use Rattle.spf_replay_walk.specs.Judging.{seen_log};
-ghost use Rattle.spf_cli_words.specs.Command.{Sim as sim_command, Replay as replay_command};
+ghost use Rattle.spf_cli_words.specs.Command.{Sim as sim, Replay as replay};
 ghost use Rattle.spf_cli_words.specs.Only.{IsOnly};
 ghost use Rattle.spf_cli_answers.specs.Answer.{not_a_log as not_a_log_answer};
 ghost use Rattle.spf_cli_answers.specs.Answer.{too_many_steps as too_many_steps_answer};
-ghost use Rattle.spf_cli_answers.specs.Answer.{simulated as simulated_answer};
 ghost use Rattle.spf_cli_answers.specs.Answer.{end_status, trap_lines};
 ghost use Rattle.spf_cli_answers.specs.Answer.{judged as judged_answer};
-ghost use Rattle.spf_cli_answers.specs.Answering.{lines_of, seen_answer, AnswersWith, IsFollowed};
+ghost use Rattle.spf_cli_answers.specs.Answering.{lines_of, seen_answer, AnswersWith};
 ghost use Rattle.spf_cli_answers.specs.Logs.{IsFetchedAccepted, IsNoneAccepted};
 ghost use Rattle.spf_cli_answers.specs.Logs.{IsLogExit, IsReadLog, IsNoLog};
 ghost use Rattle.spf_cli_answers.specs.Status.{status_number};
-ghost use Rattle.spf_cli_answers.specs.Whole.{handed, Replays, Simulates, WholeOf};
+ghost use Rattle.spf_cli_answers.specs.Whole.{Simulates};
+ghost use Rattle.spf_cli_answers.specs.Following.{AnswersReplay, FollowsWith, given_by};
+ghost use Rattle.spf_cli_answers.specs.Following.{simulated_so};
 
 use crate::answer::{
     Answer, Exit, MAX_INPUT, MAX_PROGRAM, accept, answer_of_error, fetch, push_line, read, refuse,
@@ -61,8 +60,7 @@ fn push_trap(
 /// The answer where a run was simulated.
 fn answer_of_simulation(alloc: Global, made: &Simulated) -> Result<Answer, AllocError>
     requires { AreOfFewBlocks (sections_of made.now.log.items) }
-    ensures { IfOk result (λ a. seen_answer a ≡ simulated_answer (seen_outcome made.now.outcome)
-        made.now.stats (bytes_of (seen_log made.now.log.items))) }
+    ensures { IfOk result (λ a. seen_answer a ≡ simulated_so made.now) }
 {
     let mut messages = Vec::new(alloc);
     let status = push_trap(alloc, &mut messages, &made.outcome)?;
@@ -91,7 +89,7 @@ fn simulate(
     seed: u64,
     hosts: &mut Vec<Box<dyn Predictor>>,
 ) -> Result<Answer, Exit>
-    ensures { AnswersWith (IsOnly (Simulates (handed (map (λ h. answer h) hosts.old.items)) seed
+    ensures { AnswersWith (IsOnly (Simulates (given_by answer hosts.old.items) seed
         (seen_program checked.now) input.now)) result }
 {
     // Law: a run has exactly one schedule from each seed.
@@ -158,8 +156,8 @@ fn judge(
     log: &[Vec<Step>],
     hosts: &mut Vec<Box<dyn Predictor>>,
 ) -> Result<Answer, Exit>
-    ensures { AnswersWith (IsOnly (Replays (handed (map (λ h. answer h) hosts.old.items))
-        (seen_program checked.now) input.now (sections_of log.now))) result }
+    ensures { AnswersReplay (given_by answer hosts.old.items) (seen_program checked.now) input.now
+        (sections_of log.now) result }
 {
     // Law: a log has one verdict.
     spf_replay::verdict::verdicts_are_exact();
@@ -191,9 +189,8 @@ pub(crate) fn sim_files<F: Files>(
     files: &mut F,
     hosts: &mut Vec<Box<dyn Predictor>>,
 ) -> Result<Answer, Exit>
-    ensures { AnswersWith (IsFollowed (WholeOf (handed (map (λ h. answer h) hosts.old.items))
-        (sim_command program.now input.now seed)) (F.state files.old) (F.state files.new))
-        result }
+    ensures { FollowsWith answer hosts.old.items (sim program.now input.now seed)
+        (F.state files.old) (F.state files.new) result }
 {
     // Law: a program has one verdict and one explanation.
     crate::laws::rules_say_one_thing();
@@ -211,9 +208,8 @@ pub(crate) fn replay_files<F: Files>(
     files: &mut F,
     hosts: &mut Vec<Box<dyn Predictor>>,
 ) -> Result<Answer, Exit>
-    ensures { AnswersWith (IsFollowed (WholeOf (handed (map (λ h. answer h) hosts.old.items))
-        (replay_command program.now input.now log.now)) (F.state files.old)
-        (F.state files.new)) result }
+    ensures { FollowsWith answer hosts.old.items (replay program.now input.now log.now)
+        (F.state files.old) (F.state files.new) result }
 {
     // Law: a program has one verdict and one explanation.
     crate::laws::rules_say_one_thing();

@@ -4,8 +4,8 @@ ghost use Rattle.std.specs.Prelude.{◌≡◌, IfOk};
 ghost use Rattle.spf_cli_words.specs.Command.{Show as show_command, Build as build_command};
 ghost use Rattle.spf_cli_answers.specs.Answer.{not_a_machine as not_a_machine_answer};
 ghost use Rattle.spf_cli_answers.specs.Answer.{written as written_answer};
-ghost use Rattle.spf_cli_answers.specs.Whole.{Handed, WholeOf};
-ghost use Rattle.spf_cli_answers.specs.Answering.{seen_answer, IsFollowed, AnswersWith};
+ghost use Rattle.spf_cli_answers.specs.Answering.{seen_answer};
+ghost use Rattle.spf_cli_answers.specs.Following.{Follows};
 
 use crate::answer::{Answer, Exit, fetch, refuse};
 use crate::decoding::{MAX_MACHINE, not_lex1};
@@ -43,9 +43,7 @@ pub(crate) fn show_file<F: Files>(
     machine: &str,
     files: &mut F,
 ) -> Result<Answer, Exit>
-    ensures { (given : Handed) → AnswersWith (IsFollowed
-        (WholeOf given (show_command machine.now)) (F.state files.old) (F.state files.new))
-        result }
+    ensures { Follows (show_command machine.now) (F.state files.old) (F.state files.new) result }
 {
     // Law: a file is of its format, or refused at one offset.
     spf_apps_formats::laws::files_have_one_verdict();
@@ -58,9 +56,7 @@ pub(crate) fn show_file<F: Files>(
 
 /// The answer of `build` over a file.
 pub(crate) fn build_file<F: Files>(alloc: Global, text: &str, files: &mut F) -> Result<Answer, Exit>
-    ensures { (given : Handed) → AnswersWith (IsFollowed
-        (WholeOf given (build_command text.now)) (F.state files.old) (F.state files.new))
-        result }
+    ensures { Follows (build_command text.now) (F.state files.old) (F.state files.new) result }
 {
     // Law: a text belongs to one machine.
     spf_apps_machine_text::laws::machines_have_one_text();

@@ -7,8 +7,9 @@ ghost use Rattle.spf_cli_words.specs.Line.{with_run_options as with_run_rules};
 ghost use Rattle.spf_cli_words.specs.Line.{with_decode_options as with_decode_rules, run_app};
 ghost use Rattle.spf_cli_words.specs.Line.{program_app, decoder_app, lex_app, demo_app};
 ghost use Rattle.spf_cli_words.specs.Line.{bare_line as bare_app, programs as programs_app};
-ghost use Rattle.spf_cli_words.specs.Line.{file_app, batch_app, input_app, decoders as decoders_app};
-ghost use Rattle.spf_cli_words.specs.Line.{texts as texts_app, line as whole_line};
+ghost use Rattle.spf_cli_words.specs.Line.{file_app, batch_app, input_app};
+ghost use Rattle.spf_cli_words.specs.Line.{decoders as decoders_app, texts as texts_app};
+ghost use Rattle.spf_cli_words.specs.Line.{line as whole_line};
 
 use clap::{Arg, ArgAction, Command};
 use std::alloc::{AllocError, Global};

@@ -2,7 +2,8 @@
 ghost use Rattle.std.specs.Prelude.{◌≡◌, ◌++◌, ◌∷◌, [], codes, map, string_bytes, IfOk, OnOk};
 ghost use Rattle.std.specs.Fmt.{decimal};
 ghost use Rattle.spf_cli_words.specs.Command.{option, number_words, option_words, decode_words};
-ghost use Rattle.spf_cli_words.specs.Command.{kind_word, words_of, Run, Lex, Batch, Sim, Replay, Demo};
+ghost use Rattle.spf_cli_words.specs.Command.{kind_word, words_of, Run, Lex, Batch, Sim};
+ghost use Rattle.spf_cli_words.specs.Command.{Replay, Demo};
 ghost use Rattle.spf_cli_words.specs.Asked.{seen_command, seen_options, seen_decode_options};
 
 use crate::command::{Command, DecodeOptions, Options};
@@ -118,7 +119,8 @@ fn write_batch(
     list: &str,
     workers: Option<u64>,
 ) -> Result<Vec<String>, AllocError>
-    ensures { IfOk result (λ words. map string_bytes words.items ≡ words_of (Batch program.now list.now workers)) }
+    ensures { IfOk result (λ words. map string_bytes words.items
+        ≡ words_of (Batch program.now list.now workers)) }
 {
     let mut words = write_program(alloc, "batch", program)?;
     push_word(alloc, &mut words, list)?;

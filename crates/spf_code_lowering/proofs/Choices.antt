@@ -8,7 +8,7 @@ use Rattle.spf_ast_laws.proofs.Alike.{AskAlike}
 use Rattle.spf_code.specs.Code.{Code, stop, Setting, code_means}
 use Rattle.spf_code_lowering.specs.declared.expression.Scope as code_scope
 use Rattle.spf_code_lowering.specs.Computes.{EndsShowing, Runs}
-use Rattle.spf_code_lowering.proofs.Trees.{bind-same, then-assoc}
+use Rattle.spf_code.proofs.Trees.{bind-same, then-assoc}
 use Rattle.spf_code_lowering.proofs.Conditions.{nothing-more}
 use Rattle.spf_code_lowering.specs.Lowering.{RunIn, BlockIn}
 use Rattle.spf_code_lowering.proofs.Running.{then-stop, no_block, block_run}

@@ -1,3 +1,4 @@
+pub mod Adding
 pub mod Computes
 pub mod Flat
 pub mod Lowering

@@ -1,10 +1,10 @@
 //! Lowering of conditions.
 
 ghost use Rattle.std.specs.Prelude.{◌≡◌, ◌≤◌, ◌<◌, [], false, ℕ, IfOk};
-ghost use Rattle.spf_ast.specs.View.{expression as seen_expression, condition as seen_condition};
-ghost use Rattle.spf_ast.specs.Syntax.{Compare};
+ghost use Rattle.spf_ast.specs.View.{condition as seen_condition};
+ghost use Rattle.spf_code_lowering.specs.Adding.{AddsCondition, Spares, comparison};
 ghost use Rattle.spf_code_lowering.specs.Flat.{nodes_set};
-ghost use Rattle.spf_code_lowering.specs.Lowering.{Wrote, SetsNone, ToldIn};
+ghost use Rattle.spf_code_lowering.specs.Lowering.{Wrote, ToldIn};
 
 use crate::expression::{Scope, add, hold};
 use crate::jump::add_choice;
@@ -23,19 +23,31 @@ fn compare(
     out: &mut Vec<Node>,
 ) -> Result<(), AllocError>
     requires own { scope.now.own ≤ free }
-    ensures wrote { (calls : ℕ → ℕ) → IfOk result
-        (λ _. Wrote out.old.items out.new.items (ToldIn scope.now calls line free
-        (Compare test (seen_expression left.now) (seen_expression right.now)))) }
-    ensures spares { IfOk result (λ _. SetsNone (λ r. r < free) out.old.items out.new.items) }
+    ensures wrote { AddsCondition scope.now line free (comparison test left.now right.now)
+        out.old out.new result }
+    ensures spares { Spares (λ r. r < free) out.old out.new result }
 {
     let first = hold(scope, line, free, left, out)?;
     if let Expr::Number(n) = right {
-        return add(out, Node::CheckWith(test, free, first.register, *n));
+        return add(
+            out,
+            Node::CheckWith {
+                test,
+                to: free,
+                left: first.register,
+                number: *n,
+            },
+        );
     }
     let second = hold(scope, line, first.next, right, out)?;
     add(
         out,
-        Node::Check(test, free, first.register, second.register),
+        Node::Check {
+            test,
+            to: free,
+            left: first.register,
+            right: second.register,
+        },
     )
 }
 
@@ -50,10 +62,9 @@ pub(crate) fn tell(
     out: &mut Vec<Node>,
 ) -> Result<(), AllocError>
     requires own { scope.now.own ≤ free }
-    ensures wrote { (calls : ℕ → ℕ) → IfOk result
-        (λ _. Wrote out.old.items out.new.items (ToldIn scope.now calls line free
-        (seen_condition cond.now))) }
-    ensures spares { IfOk result (λ _. SetsNone (λ r. r < free) out.old.items out.new.items) }
+    ensures wrote { AddsCondition scope.now line free (seen_condition cond.now)
+        out.old out.new result }
+    ensures spares { Spares (λ r. r < free) out.old out.new result }
 {
     match cond {
         Cond::Compare(test, left, right) => compare(scope, line, free, *test, left, right, out),
@@ -69,7 +80,13 @@ pub(crate) fn tell(
         }
         Cond::Not(inner) => {
             tell(scope, line, free, inner, out)?;
-            add(out, Node::Flip(free, free))
+            add(
+                out,
+                Node::Flip {
+                    to: free,
+                    from: free,
+                },
+            )
         }
     }
 }

@@ -2,9 +2,8 @@
 
 ghost use Rattle.std.specs.Prelude.{◌≡◌, ℕ, length, map, IfOk};
 ghost use Rattle.spf_ast.specs.View.{function as seen_function};
-ghost use Rattle.spf_ast.specs.Meaning.{callable_before};
-ghost use Rattle.spf_code.specs.NodeView.{code};
-ghost use Rattle.spf_code_lowering.specs.Lowering.{IsCodeOf, AreCodesOf};
+ghost use Rattle.spf_code_lowering.specs.Adding.{LowersFunction};
+ghost use Rattle.spf_code_lowering.specs.Lowering.{AreCodesOf};
 ghost use Rattle.spf_code_lowering.specs.Tables.{AreEmpty, HaveNoTables};
 
 use crate::expression::{Scope, hold};
@@ -31,9 +30,8 @@ pub fn function(
     source: &Function,
 ) -> Result<FunctionCode, AllocError>
     ensures slots { IfOk result (λ f. f.slots ≡ length (seen_function source.now).slots) }
-    ensures code { (calls : ℕ → ℕ) → IfOk result
-        (λ f. IsCodeOf (callable_before (map seen_function functions.now) index) calls
-        (seen_function source.now) (code f.code.items) f.register) }
+    ensures code { (calls : ℕ → ℕ) → IfOk result (LowersFunction functions.now index source.now
+        calls) }
     ensures tables { IfOk result (λ f. AreEmpty f.tables) }
 {
     let own = slot_count(source)?;

@@ -1,10 +1,7 @@
 //! Code that goes on in one of two ways.
 
-ghost use Rattle.std.specs.Prelude.{◌≡◌, ◌++◌, false, IfOk};
-ghost use Rattle.spf_code.specs.Code.{Code, only};
-ghost use Rattle.spf_code.specs.NodeView.{choose};
-ghost use Rattle.spf_code_lowering.specs.Flat.{Flattens, nodes_set};
-ghost use Rattle.spf_code_lowering.specs.Lowering.{Wrote, SetsNone};
+ghost use Rattle.std.specs.Prelude.{◌≡◌, ◌++◌, IfOk};
+ghost use Rattle.spf_code_lowering.specs.Adding.{AddsJumps, Spares, NeitherSets};
 
 use crate::expression::{add, after, count_of};
 use spf_code::node::{Choice, Node, unless};
@@ -26,11 +23,8 @@ pub(crate) fn add_choice(
     other: Vec<Node>,
     out: &mut Vec<Node>,
 ) -> Result<(), AllocError>
-    ensures wrote { (first second : Code) → Flattens one.items first → Flattens other.items second
-        → IfOk result (λ _. Wrote out.old.items out.new.items
-        (λ made. made ≡ only (choose choice first second))) }
-    ensures spares { IfOk result (λ _. SetsNone (λ r. (nodes_set r one.items ≡ false)
-        × (nodes_set r other.items ≡ false)) out.old.items out.new.items) }
+    ensures wrote { AddsJumps choice one other out.old out.new result }
+    ensures spares { Spares (NeitherSets one other) out.old out.new result }
 {
     let past = count_of(&one)?;
     if other.is_empty() {
@@ -41,6 +35,6 @@ pub(crate) fn add_choice(
     let left_out = count_of(&other)?;
     add(out, unless(choice, behind))?;
     append(one, out)?;
-    add(out, Node::Jump(left_out))?;
+    add(out, Node::Jump { count: left_out })?;
     append(other, out)
 }

@@ -1,22 +1,17 @@
 //! Lowering of programs.
 
-ghost use Rattle.std.specs.Prelude.{◌≡◌, [], ℕ, map, IfOk};
-ghost use Rattle.spf_ast.specs.declared.syntax.Fold.{out-Fold};
-ghost use Rattle.spf_ast.specs.declared.syntax.Pair.{out-Pair};
-ghost use Rattle.spf_ast.specs.Construct.{constructs_in};
+ghost use Rattle.std.specs.Prelude.{◌≡◌, [], ℕ, IfOk};
 ghost use Rattle.spf_ast.specs.ConstructView.{construct as seen_construct};
-ghost use Rattle.spf_ast.specs.View.{expression as seen_expression, arguments as seen_arguments};
-ghost use Rattle.spf_ast.specs.View.{predictor as seen_predictor, statement as seen_statement};
-ghost use Rattle.spf_ast.specs.View.{block as seen_block};
-ghost use Rattle.spf_ast.specs.View.{program as seen_program, fold_head, pair_head};
-ghost use Rattle.spf_code.specs.Code.{code_sets};
+ghost use Rattle.spf_ast.specs.View.{statement as seen_statement, block as seen_block};
+ghost use Rattle.spf_ast.specs.View.{program as seen_program};
 ghost use Rattle.spf_code.specs.NodeView.{code};
 ghost use Rattle.spf_code_lowering.specs.Tables.{HaveNoTables};
-ghost use Rattle.spf_code_lowering.specs.Lowering.{callable_in, IsRowCode, IsExpressionCode};
-ghost use Rattle.spf_code_lowering.specs.Lowering.{IsGuessCode, AreGuessCodes, IsFoldCode};
-ghost use Rattle.spf_code_lowering.specs.Lowering.{IsPairCode, IsConstructCode, AreConstructCodes};
-ghost use Rattle.spf_code_lowering.specs.Lowering.{AreStatementCodes, IsCodeOfProgram};
-ghost use Rattle.spf_code_lowering.specs.Lowering.{SetsWhatIsChanged, SetsNoSlot, RunIn, BlockIn};
+ghost use Rattle.spf_code_lowering.specs.Adding.{LowersRow, LowersExpression, LowersGuess};
+ghost use Rattle.spf_code_lowering.specs.Adding.{LowersGuesses, LowersFold, LowersPair};
+ghost use Rattle.spf_code_lowering.specs.Adding.{LowersConstruct, LowersConstructs};
+ghost use Rattle.spf_code_lowering.specs.Adding.{LowersStatements};
+ghost use Rattle.spf_code_lowering.specs.Lowering.{IsCodeOfProgram, SetsWhatIsChanged, SetsNoSlot};
+ghost use Rattle.spf_code_lowering.specs.Lowering.{RunIn, BlockIn};
 
 use crate::expression::{Scope, count_of, hold, pass};
 use crate::function::functions;
@@ -44,9 +39,8 @@ fn row_code(
     line: u32,
     row: &[Expr],
 ) -> Result<RowCode, AllocError>
-    ensures code { (calls : ℕ → ℕ) → IfOk result
-        (λ v. IsRowCode (callable_in scope.now) calls scope.now.own (seen_block statements.now) line
-        (seen_arguments row.now) v) }
+    ensures code { (calls : ℕ → ℕ) → IfOk result (LowersRow scope.now calls statements.now line
+        row.now) }
     ensures sets { IfOk result (λ v. SetsWhatIsChanged scope.now.own (seen_block statements.now)
         (code v.nodes.items)) }
 {
@@ -61,9 +55,7 @@ fn row_code(
 
 /// Returns the code of an expression.
 fn expression_code(scope: &Scope, line: u32, value: &Expr) -> Result<ValueCode, AllocError>
-    ensures code { (calls : ℕ → ℕ) → IfOk result
-        (λ v. IsExpressionCode (callable_in scope.now) calls scope.now.own line
-        (seen_expression value.now) v) }
+    ensures code { (calls : ℕ → ℕ) → IfOk result (LowersExpression scope.now calls line value.now) }
     ensures sets { IfOk result (λ v. SetsNoSlot scope.now.own (code v.nodes.items)) }
 {
     let mut nodes = Vec::new(scope.alloc);
@@ -97,9 +89,7 @@ fn no_row(alloc: Global) -> RowCode
 
 /// Returns the code of a guess. One that is supplied needs none.
 fn guess_code(scope: &Scope, line: u32, predict: &Predict) -> Result<ValueCode, AllocError>
-    ensures code { (calls : ℕ → ℕ) → IfOk result
-        (λ v. IsGuessCode (callable_in scope.now) calls scope.now.own line
-        (seen_predictor predict.now) v) }
+    ensures code { (calls : ℕ → ℕ) → IfOk result (LowersGuess scope.now calls line predict.now) }
     ensures sets { IfOk result (λ v. SetsNoSlot scope.now.own (code v.nodes.items)) }
 {
     match predict {
@@ -110,9 +100,8 @@ fn guess_code(scope: &Scope, line: u32, predict: &Predict) -> Result<ValueCode, 
 
 /// Returns the code of the guesses of a row's parts.
 fn guess_codes(scope: &Scope, line: u32, predict: &[Predict]) -> Result<Vec<ValueCode>, AllocError>
-    ensures codes { (calls : ℕ → ℕ) → IfOk result
-        (λ v. AreGuessCodes (callable_in scope.now) calls scope.now.own line
-        (map seen_predictor predict.now) v.items) }
+    ensures codes { (calls : ℕ → ℕ) → IfOk result (λ v. LowersGuesses scope.now calls line
+        predict.now v.items) }
 {
     let mut codes = Vec::new(scope.alloc);
     for part in predict {
@@ -123,9 +112,7 @@ fn guess_codes(scope: &Scope, line: u32, predict: &[Predict]) -> Result<Vec<Valu
 
 /// Returns the code of a fold's parts.
 fn fold_code(scope: &Scope, line: u32, fold: &Fold) -> Result<ConstructCode, AllocError>
-    ensures code { (calls : ℕ → ℕ) → IfOk result
-        (λ k. IsFoldCode (callable_in scope.now) calls scope.now.own line (fold_head fold.now)
-        (seen_block (out-Fold fold.now).body.items) k) }
+    ensures code { (calls : ℕ → ℕ) → IfOk result (LowersFold scope.now calls line fold.now) }
 {
     let header = HeaderCode {
         start: row_code(scope, &[], line, &fold.start)?,
@@ -155,10 +142,7 @@ fn block_code(scope: &Scope, statements: &[Stmt]) -> Result<Vec<Node>, AllocErro
 
 /// Returns the code of a pair's parts.
 fn pair_code(scope: &Scope, line: u32, pair: &Pair) -> Result<ConstructCode, AllocError>
-    ensures code { (calls : ℕ → ℕ) → IfOk result
-        (λ k. IsPairCode (callable_in scope.now) calls scope.now.own line (pair_head pair.now)
-        (seen_block (out-Pair pair.now).producer.items)
-        (seen_block (out-Pair pair.now).consumer.items) k) }
+    ensures code { (calls : ℕ → ℕ) → IfOk result (LowersPair scope.now calls line pair.now) }
 {
     let header = HeaderCode {
         start: no_row(scope.alloc),
@@ -178,9 +162,8 @@ fn pair_code(scope: &Scope, line: u32, pair: &Pair) -> Result<ConstructCode, All
 
 /// Returns the code of a top construct's parts.
 fn construct_code(scope: &Scope, construct: TopConstruct) -> Result<ConstructCode, AllocError>
-    ensures code { (calls : ℕ → ℕ) → IfOk result
-        (λ k. IsConstructCode (callable_in scope.now) calls scope.now.own
-        (seen_construct construct.entry) k) }
+    ensures code { (calls : ℕ → ℕ) → IfOk result (LowersConstruct scope.now calls (seen_construct
+        construct.entry)) }
 {
     match construct.kind {
         ConstructKind::Fold(fold) => fold_code(scope, construct.line, fold),
@@ -190,9 +173,8 @@ fn construct_code(scope: &Scope, construct: TopConstruct) -> Result<ConstructCod
 
 /// Returns the code of each top construct among these statements.
 fn construct_codes(scope: &Scope, main: &[Stmt]) -> Result<Vec<ConstructCode>, AllocError>
-    ensures codes { (calls : ℕ → ℕ) → IfOk result
-        (λ codes. AreConstructCodes (callable_in scope.now) calls scope.now.own
-        (constructs_in (seen_block main.now)) codes.items) }
+    ensures codes { (calls : ℕ → ℕ) → IfOk result (λ codes. LowersConstructs scope.now calls
+        main.now codes.items) }
 {
     let mut codes = Vec::new(scope.alloc);
     for stmt in main {
@@ -216,9 +198,8 @@ fn statement_code(scope: &Scope, stmt: &Stmt) -> Result<Vec<Node>, AllocError>
 
 /// Returns the code of each of these statements.
 fn statement_codes(scope: &Scope, main: &[Stmt]) -> Result<Vec<Vec<Node>>, AllocError>
-    ensures codes { (calls : ℕ → ℕ) → IfOk result
-        (λ codes. AreStatementCodes (callable_in scope.now) calls scope.now.own
-        (seen_block main.now) codes.items) }
+    ensures codes { (calls : ℕ → ℕ) → IfOk result (λ codes. LowersStatements scope.now calls
+        main.now codes.items) }
 {
     let mut codes = Vec::new(scope.alloc);
     for stmt in main {

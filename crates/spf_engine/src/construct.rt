@@ -1,19 +1,18 @@
 //! The construct that stands next in a run.
-ghost use Rattle.std.specs.Prelude.{◌≡◌, ◌<◌, ◌≤◌, ◌+ℤ◌, ◌≤ℤ◌, ◌++◌, List, length, map, pos};
+ghost use Rattle.std.specs.Prelude.{◌≡◌, ◌<◌, ◌≤◌, ◌+ℤ◌, ◌≤ℤ◌, length, pos};
 ghost use Rattle.std.specs.Prelude.{slice_get, Some, None, IfOk, IfErr};
 ghost use Rattle.spf_ast.specs.Meaning.{max_blocks};
 ghost use Rattle.spf_ast.specs.View.{program as seen_program};
 ghost use Rattle.spf_ast.specs.ConstructView.{construct as seen_construct};
 ghost use Rattle.spf_ast.specs.Construct.{constructs_in};
 ghost use Rattle.spf_check.specs.Plans.{AreBlocksOf};
-ghost use Rattle.spf_exec.specs.Pieces.{IsRunOf, seen_header};
+ghost use Rattle.spf_exec.specs.Pieces.{IsRunOf};
 ghost use Rattle.spf_exec_instance.specs.Instance.{program_of};
 ghost use Rattle.spf_guess.specs.Answers.{supplied, WereToldNoMore};
 ghost use Rattle.spf_guess.specs.Missing.{missing_host};
 ghost use Rattle.spf_engine_construct.specs.Guesses.{AreAtMost, IsHandedIn};
-ghost use Rattle.spf_engine.specs.Runs.{AreFew, GoesFurther, IsReadyAt, BreaksOffAt};
-ghost use Rattle.spf_engine.specs.Runs.{RowsWereTold};
-ghost use Rattle.spf_engine.specs.Accounts.{BlocksCome, Passes};
+ghost use Rattle.spf_engine.specs.Runs.{AreFew, GoesFurther, IsReadyAt};
+ghost use Rattle.spf_engine.specs.Handed.{BlocksGive, RowsTold, TakesStepAt, StopsAt};
 
 use crate::account::Account;
 use crate::runner::Runner;
@@ -41,19 +40,17 @@ impl<'a, R: Threads + Wait + Sync, G: Gate + Sync> Runner<'a, R, G> {
         requires program { program_of self.now.instance.now ≡ seen_program self.now.checked.now }
         requires run { IsRunOf (program_of self.now.instance.now)
             (length self.now.instance.now.input) run.old }
-        requires construct { slice_get (constructs_in (program_of self.now.instance.now).main) number
-            ≡ Some (seen_construct construct) }
+        requires construct { slice_get (constructs_in (program_of self.now.instance.now).main)
+            number ≡ Some (seen_construct construct) }
         requires blocks { AreBlocksOf (seen_construct construct) header.now.blocks }
         requires some { 1 ≤ header.now.blocks }
         requires few { header.now.blocks ≤ max_blocks }
         requires fits { (header.now.low +ℤ pos header.now.blocks) ≤ℤ i64.MAX }
         requires host { IsHandedIn (length hosts.old.items) (seen_construct construct) }
-        ensures came { IfOk result (λ r. BlocksCome self.now.instance.now run.old
-            (supplied answer hosts.old.items) (seen_construct construct.entry)
-            (seen_header header.now) r run.new.cells) }
-        ensures told { IfOk result (λ r. RowsWereTold self.now.instance.now run.old
-            (supplied answer hosts.old.items) (seen_construct construct.entry)
-            (seen_header header.now) (supplied answer hosts.new.items)) }
+        ensures came { IfOk result (λ r. BlocksGive answer self.now.instance.now
+            construct.entry header.now run.old hosts.old r run.new) }
+        ensures told { IfOk result (λ r. RowsTold answer self.now.instance.now
+            construct.entry header.now run.old hosts.old hosts.new) }
         ensures nothing_told { IfErr result (λ why.
             WereToldNoMore (supplied answer hosts.old.items) (supplied answer hosts.new.items)) }
         ensures count { length hosts.new.items ≡ length hosts.old.items }
@@ -92,12 +89,11 @@ impl<'a, R: Threads + Wait + Sync, G: Gate + Sync> Runner<'a, R, G> {
         requires ready { IsReadyAt (program_of self.now.instance.now) number
             (seen_construct construct) header.now run.old }
         requires few { AreFew (program_of self.now.instance.now) run.old account.old.stats }
-        ensures steps { IfOk result (λ s. Passes self.now.instance.now run.old account.old
-            (supplied answer hosts.old.items) (seen_construct construct.entry)
-            (seen_header header.now) s run.new account.new (supplied answer hosts.new.items)) }
-        ensures told_first { IfErr result (λ why. BreaksOffAt self.now.instance.now run.old
-            (supplied answer hosts.old.items) (seen_construct construct.entry)
-            (seen_header header.now) (supplied answer hosts.new.items)) }
+        ensures steps { IfOk result (λ s. TakesStepAt answer self.now.instance.now
+            construct.entry header.now run.old account.old hosts.old
+            s run.new account.new hosts.new) }
+        ensures told_first { IfErr result (λ why. StopsAt answer self.now.instance.now
+            construct.entry header.now run.old hosts.old hosts.new) }
         ensures count { length hosts.new.items ≡ length hosts.old.items }
         ensures run { IsRunOf (program_of self.now.instance.now)
             (length self.now.instance.now.input) run.new }

@@ -1,20 +1,19 @@
 //! Whole runs.
-ghost use Rattle.std.specs.Prelude.{◌≡◌, ◌<◌, ◌≤◌, ◌^◌, [], length, map, None, IfOk, IfErr};
+ghost use Rattle.std.specs.Prelude.{◌≡◌, ◌<◌, ◌≤◌, length, None, IfOk, IfErr};
 ghost use Rattle.std.specs.Prelude.{IsErrAnd};
 ghost use Rattle.spf_ast_lemmas.specs.Limits.{max_workers};
 ghost use Rattle.spf_ast.specs.View.{program as seen_program};
-ghost use Rattle.spf_ast.specs.Construct.{constructs_in, reals};
+ghost use Rattle.spf_ast.specs.Construct.{constructs_in};
 ghost use Rattle.spf_ast.specs.Program.{outcome as outcome_of, seen_outcome, Done, Stopped};
-ghost use Rattle.spf_ast.specs.Program.{cell_count_of, max_cells};
 ghost use Rattle.spf_exec_instance.specs.Instance.{program_of};
-ghost use Rattle.spf_guess_statistics.specs.Statistics.{tally};
-ghost use Rattle.spf_guess.specs.Answers.{supplied, WereTold};
+ghost use Rattle.spf_guess.specs.Answers.{supplied};
 ghost use Rattle.spf_guess.specs.Missing.{missing_host};
-ghost use Rattle.spf_engine_laws.specs.Traces.{AreTraces};
 ghost use Rattle.spf_engine_construct.specs.Guesses.{AreAtMost};
 ghost use Rattle.spf_engine.specs.Counts.{most_counted};
-ghost use Rattle.spf_engine.specs.Runs.{WereToldFirst};
-ghost use Rattle.spf_engine.specs.Errors.{AreTooMany, IsMissing, WereToldNothing, IsNotRun};
+ghost use Rattle.spf_engine.specs.Errors.{IsMissing, WereToldNothing};
+ghost use Rattle.spf_engine.specs.Handed.{run_counts, AreTracesOf, WereToldAll, WereToldSome};
+ghost use Rattle.spf_engine.specs.Handed.{HasTooManyCells, HasFewCells, SaysCells, SaysHost};
+ghost use Rattle.spf_engine.specs.Handed.{SaysHostBeyond, SaysWhy};
 
 use crate::account::Account;
 use crate::error::EngineError;
@@ -95,22 +94,19 @@ pub fn run_instance<R: Threads + Wait + Sync, G: Gate + Sync>(
 ) -> Result<RunReport, AllocError>
     requires workers { (0 < workers) × (workers ≤ max_workers) }
     requires program { program_of instance.now ≡ seen_program checked.now }
-    requires hosts { missing_host (length hosts.old.items) (constructs_in (program_of instance.now).main)
-        ≡ None }
+    requires hosts { missing_host (length hosts.old.items)
+        (constructs_in (program_of instance.now).main) ≡ None }
     ensures outcome { IfOk result
         (λ r. seen_outcome r.outcome ≡ outcome_of (program_of instance.now) instance.now.input) }
     ensures statistics { IfOk result (λ r. r.stats
-        ≡ (tally (supplied answer hosts.old.items) (program_of instance.now)
-        instance.now.input).stats) }
-    ensures traces { IfOk result (λ r. AreTraces (supplied answer hosts.old.items)
-        (program_of instance.now) instance.now.input (constructs_in (program_of instance.now).main)
-        (reals (program_of instance.now) instance.now.input) [] r.traces.items) }
-    ensures told { IfOk result (λ r. WereTold (supplied answer hosts.old.items)
-        (tally (supplied answer hosts.old.items) (program_of instance.now)
-        instance.now.input).telling (supplied answer hosts.new.items)) }
-    ensures told_first { IfErr result (λ why. WereToldFirst
-        (supplied answer hosts.old.items) (program_of instance.now)
-        instance.now.input (supplied answer hosts.new.items)) }
+        ≡ run_counts (supplied answer hosts.old.items) (program_of instance.now)
+        instance.now.input) }
+    ensures traces { IfOk result (λ r. AreTracesOf answer (program_of instance.now)
+        instance.now.input hosts.old.items r.traces.items) }
+    ensures told { IfOk result (λ r. WereToldAll answer (program_of instance.now) instance.now.input
+        hosts.old.items hosts.new.items) }
+    ensures told_first { IfErr result (λ why. WereToldSome answer (program_of instance.now)
+        instance.now.input hosts.old.items hosts.new.items) }
     ensures bounded { IfOk result (λ r. AreAtMost r.stats most_counted) }
     ensures count { length hosts.new.items ≡ length hosts.old.items }
 {
@@ -146,14 +142,10 @@ fn lay_out<'a>(
 ) -> Result<Instance<'a>, EngineError>
     ensures program { IfOk result (λ i. program_of i ≡ seen_program checked.now) }
     ensures input { IfOk result (λ i. i.input ≡ input.now) }
-    ensures few { IfOk result (λ i. cell_count_of (seen_program checked.now) (length input.now)
-        ≤ max_cells (seen_program checked.now)) }
-    ensures too_many { max_cells (seen_program checked.now)
-        < cell_count_of (seen_program checked.now) (length input.now)
-        → IsErrAnd result
-        (AreTooMany (cell_count_of (seen_program checked.now) (length input.now))) }
-    ensures error { cell_count_of (seen_program checked.now) (length input.now)
-        ≤ max_cells (seen_program checked.now)
+    ensures few { IfOk result (λ i. HasFewCells (seen_program checked.now) input.now) }
+    ensures too_many { HasTooManyCells (seen_program checked.now) input.now
+        → IsErrAnd result (SaysCells (seen_program checked.now) input.now) }
+    ensures error { HasFewCells (seen_program checked.now) input.now
         → IfErr result (IsMissing None) }
 {
     // Law: no `break` of a lawful program leaves `main` or a part.
@@ -180,17 +172,13 @@ pub fn set_up<'a>(
 ) -> Result<Instance<'a>, EngineError>
     ensures program { IfOk result (λ i. program_of i ≡ seen_program checked.now) }
     ensures input { IfOk result (λ i. i.input ≡ input.now) }
-    ensures few { IfOk result (λ i. cell_count_of (seen_program checked.now) (length input.now)
-        ≤ max_cells (seen_program checked.now)) }
+    ensures few { IfOk result (λ i. HasFewCells (seen_program checked.now) input.now) }
     ensures complete { IfOk result
         (λ i. missing_host hosts (constructs_in (seen_program checked.now).main) ≡ None) }
-    ensures too_many { max_cells (seen_program checked.now)
-        < cell_count_of (seen_program checked.now) (length input.now)
-        → IsErrAnd result
-        (AreTooMany (cell_count_of (seen_program checked.now) (length input.now))) }
-    ensures missing { cell_count_of (seen_program checked.now) (length input.now)
-        ≤ max_cells (seen_program checked.now) → IfErr result
-        (IsMissing (missing_host hosts (constructs_in (seen_program checked.now).main))) }
+    ensures too_many { HasTooManyCells (seen_program checked.now) input.now
+        → IsErrAnd result (SaysCells (seen_program checked.now) input.now) }
+    ensures missing { HasFewCells (seen_program checked.now) input.now
+        → IfErr result (SaysHostBeyond (seen_program checked.now) hosts) }
 {
     let mut instance = lay_out(alloc, checked, input)?;
     if let Some(number) = first_missing(checked.program(), hosts) {
@@ -233,36 +221,25 @@ pub fn run_whole<'a, R: Threads + Wait + Sync, G: Gate + Sync>(
     ensures outcome { IfOk result
         (λ r. seen_outcome r.1.outcome ≡ outcome_of (seen_program checked.now) input.now) }
     ensures statistics { IfOk result (λ r. r.1.stats
-        ≡ (tally (supplied answer hosts.old.items) (seen_program checked.now)
-        input.now).stats) }
-    ensures traces { IfOk result (λ r. AreTraces (supplied answer hosts.old.items)
-        (seen_program checked.now) input.now (constructs_in (seen_program checked.now).main)
-        (reals (seen_program checked.now) input.now) [] r.1.traces.items) }
-    ensures told { IfOk result (λ r. WereTold (supplied answer hosts.old.items)
-        (tally (supplied answer hosts.old.items) (seen_program checked.now)
-        input.now).telling (supplied answer hosts.new.items)) }
-    ensures told_first { IfErr result (λ why. WereToldFirst
-        (supplied answer hosts.old.items) (seen_program checked.now) input.now
-        (supplied answer hosts.new.items)) }
-    ensures too_many { max_cells (seen_program checked.now)
-        < cell_count_of (seen_program checked.now) (length input.now)
-        → IsErrAnd result
-        (AreTooMany (cell_count_of (seen_program checked.now) (length input.now))) }
-    ensures few { cell_count_of (seen_program checked.now) (length input.now)
-        ≤ max_cells (seen_program checked.now)
-        → IfErr result (IsMissing
-        (missing_host (length hosts.old.items) (constructs_in (seen_program checked.now).main))) }
+        ≡ run_counts (supplied answer hosts.old.items) (seen_program checked.now) input.now) }
+    ensures traces { IfOk result (λ r. AreTracesOf answer (seen_program checked.now) input.now
+        hosts.old.items r.1.traces.items) }
+    ensures told { IfOk result (λ r. WereToldAll answer (seen_program checked.now) input.now
+        hosts.old.items hosts.new.items) }
+    ensures told_first { IfErr result (λ why. WereToldSome answer (seen_program checked.now)
+        input.now hosts.old.items hosts.new.items) }
+    ensures too_many { HasTooManyCells (seen_program checked.now) input.now
+        → IsErrAnd result (SaysCells (seen_program checked.now) input.now) }
+    ensures few { HasFewCells (seen_program checked.now) input.now
+        → IfErr result (SaysHost (seen_program checked.now) hosts.old.items) }
     ensures complete { IfOk result (λ r.
         missing_host (length hosts.old.items) (constructs_in (seen_program checked.now).main)
         ≡ None) }
     ensures untold { IfErr result (λ why. WereToldNothing why
         (supplied answer hosts.old.items)
         (supplied answer hosts.new.items)) }
-    ensures not_run { IfErr result (IsNotRun
-        (cell_count_of (seen_program checked.now) (length input.now))
-        (max_cells (seen_program checked.now))
-        (missing_host (length hosts.old.items) (constructs_in (seen_program checked.now).main))
-        (supplied answer hosts.old.items) (supplied answer hosts.new.items)) }
+    ensures not_run { IfErr result (SaysWhy answer (seen_program checked.now) input.now
+        hosts.old.items hosts.new.items) }
     ensures bounded { IfOk result (λ r. AreAtMost r.1.stats most_counted) }
     ensures count { length hosts.new.items ≡ length hosts.old.items }
 {
@@ -290,36 +267,25 @@ pub fn run_program<R: Threads + Wait + Sync, G: Gate + Sync>(
     ensures outcome { IfOk result
         (λ r. seen_outcome r.outcome ≡ outcome_of (seen_program checked.now) input.now) }
     ensures statistics { IfOk result (λ r. r.stats
-        ≡ (tally (supplied answer hosts.old.items) (seen_program checked.now)
-        input.now).stats) }
-    ensures traces { IfOk result (λ r. AreTraces (supplied answer hosts.old.items)
-        (seen_program checked.now) input.now (constructs_in (seen_program checked.now).main)
-        (reals (seen_program checked.now) input.now) [] r.traces.items) }
-    ensures told { IfOk result (λ r. WereTold (supplied answer hosts.old.items)
-        (tally (supplied answer hosts.old.items) (seen_program checked.now)
-        input.now).telling (supplied answer hosts.new.items)) }
-    ensures told_first { IfErr result (λ why. WereToldFirst
-        (supplied answer hosts.old.items) (seen_program checked.now) input.now
-        (supplied answer hosts.new.items)) }
-    ensures too_many { max_cells (seen_program checked.now)
-        < cell_count_of (seen_program checked.now) (length input.now)
-        → IsErrAnd result
-        (AreTooMany (cell_count_of (seen_program checked.now) (length input.now))) }
-    ensures few { cell_count_of (seen_program checked.now) (length input.now)
-        ≤ max_cells (seen_program checked.now)
-        → IfErr result (IsMissing
-        (missing_host (length hosts.old.items) (constructs_in (seen_program checked.now).main))) }
+        ≡ run_counts (supplied answer hosts.old.items) (seen_program checked.now) input.now) }
+    ensures traces { IfOk result (λ r. AreTracesOf answer (seen_program checked.now) input.now
+        hosts.old.items r.traces.items) }
+    ensures told { IfOk result (λ r. WereToldAll answer (seen_program checked.now) input.now
+        hosts.old.items hosts.new.items) }
+    ensures told_first { IfErr result (λ why. WereToldSome answer (seen_program checked.now)
+        input.now hosts.old.items hosts.new.items) }
+    ensures too_many { HasTooManyCells (seen_program checked.now) input.now
+        → IsErrAnd result (SaysCells (seen_program checked.now) input.now) }
+    ensures few { HasFewCells (seen_program checked.now) input.now
+        → IfErr result (SaysHost (seen_program checked.now) hosts.old.items) }
     ensures complete { IfOk result (λ r.
         missing_host (length hosts.old.items) (constructs_in (seen_program checked.now).main)
         ≡ None) }
     ensures untold { IfErr result (λ why. WereToldNothing why
         (supplied answer hosts.old.items)
         (supplied answer hosts.new.items)) }
-    ensures not_run { IfErr result (IsNotRun
-        (cell_count_of (seen_program checked.now) (length input.now))
-        (max_cells (seen_program checked.now))
-        (missing_host (length hosts.old.items) (constructs_in (seen_program checked.now).main))
-        (supplied answer hosts.old.items) (supplied answer hosts.new.items)) }
+    ensures not_run { IfErr result (SaysWhy answer (seen_program checked.now) input.now
+        hosts.old.items hosts.new.items) }
     ensures bounded { IfOk result (λ r. AreAtMost r.stats most_counted) }
     ensures count { length hosts.new.items ≡ length hosts.old.items }
 {

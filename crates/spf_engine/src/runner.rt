@@ -1,13 +1,12 @@
 //! Runs whose blocks are run by workers.
-ghost use Rattle.std.specs.Prelude.{◌≡◌, ◌<◌, ◌≤◌, List, length, map, None, IfOk, IfErr};
+ghost use Rattle.std.specs.Prelude.{◌≡◌, ◌<◌, length, None, IfOk, IfErr};
 ghost use Rattle.spf_ast.specs.View.{program as seen_program};
 ghost use Rattle.spf_ast.specs.Construct.{constructs_in};
 ghost use Rattle.spf_exec.specs.Pieces.{IsRunOf};
 ghost use Rattle.spf_exec_instance.specs.Instance.{program_of};
-ghost use Rattle.spf_guess.specs.Answers.{supplied};
 ghost use Rattle.spf_guess.specs.Missing.{missing_host};
-ghost use Rattle.spf_engine.specs.Runs.{AreFew, GoesFurther, BreaksOff};
-ghost use Rattle.spf_engine.specs.Accounts.{Steps};
+ghost use Rattle.spf_engine.specs.Runs.{AreFew, GoesFurther};
+ghost use Rattle.spf_engine.specs.Handed.{TakesStep, Stops};
 
 use crate::account::Account;
 use crate::step::{Arrival, Step, arrive};
@@ -43,11 +42,10 @@ impl<'a, R: Threads + Wait + Sync, G: Gate + Sync> Runner<'a, R, G> {
         requires run { IsRunOf (program_of self.now.instance.now)
             (length self.now.instance.now.input) run.old }
         requires few { AreFew (program_of self.now.instance.now) run.old account.old.stats }
-        ensures steps { IfOk result (λ s. Steps self.now.instance.now run.old account.old
-            (supplied answer hosts.old.items) s run.new account.new
-            (supplied answer hosts.new.items)) }
-        ensures told_first { IfErr result (λ why. BreaksOff self.now.instance.now run.old
-            (supplied answer hosts.old.items) (supplied answer hosts.new.items)) }
+        ensures steps { IfOk result (λ s. TakesStep answer self.now.instance.now
+            run.old account.old hosts.old s run.new account.new hosts.new) }
+        ensures told_first { IfErr result (λ why. Stops answer self.now.instance.now run.old
+            hosts.old hosts.new) }
         ensures count { length hosts.new.items ≡ length hosts.old.items }
         ensures run { IsRunOf (program_of self.now.instance.now)
             (length self.now.instance.now.input) run.new }

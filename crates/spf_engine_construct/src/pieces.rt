@@ -101,8 +101,8 @@ fn predict_pieces<R: Threads + Sync>(
         alloc,
         piece_count(count, size) as usize,
         &|i: usize| -> Result<Vec<Guess>, AllocError>
-            requires construct { slice_get (constructs_in (program_of at.instance.now).main) at.index
-                ≡ Some (seen_construct at.construct) }
+            requires construct { slice_get (constructs_in (program_of at.instance.now).main)
+                at.index ≡ Some (seen_construct at.construct) }
             requires width { IsWidth (length (predictors_of (seen_construct at.construct))) }
             requires functions { FunctionsAreSilent (program_of at.instance.now).functions }
             requires own_frame { length at.frame.now ≡ frame_size (program_of at.instance.now) }

@@ -1,5 +1,5 @@
 -- What it means that code ran one block of a construct.
-use Rattle.std.specs.Prelude.{ℕ, List, Option, Result, Ok, Err, ℤ}
+use Rattle.std.specs.Prelude.{ℕ, List, [], Option, Result, Ok, Err, ℤ}
 use Rattle.spf_ast.specs.Carried.{Carried}
 use Rattle.spf_ast.specs.Event.{Event}
 use Rattle.spf_ast.specs.Interaction.{Interaction, Ending}
@@ -20,3 +20,7 @@ pub record PerformsOver {M A : Type 0} (leads : List Event → M → M → Type 
     (tree : Interaction (Ending A)) (from : M) (to : M) (result : Result A Halt) (output : List ℕ) : Type 0 where
   pub slots : List ℤ
   pub performs : Performs leads stop may_lack tree from to result (record { slots = slots; output = output })
+
+-- a performance that never lacks memory, and after which the output is empty
+abbrev pub IsQuietRun : {M A : Type 0} → (List Event → M → M → Type 0) → (M → Option ℕ) → Interaction (Ending A) → M → M → Result A Halt → Type 0
+IsQuietRun leads stop tree from to result = PerformsOver leads stop ⊥ tree from to result []

@@ -1,31 +1,28 @@
 //! Runs of single blocks of a program's top constructs.
 
-ghost use Rattle.std.specs.Prelude.{◌≡◌, ◌≢◌, ◌≤◌, ◌+◌, ℤ, [], length, map, slice_get, Some};
-ghost use Rattle.spf_ast.specs.declared.syntax.Fold.{out-Fold};
-ghost use Rattle.spf_ast.specs.declared.syntax.Pair.{out-Pair};
+ghost use Rattle.std.specs.Prelude.{◌≡◌, ◌≢◌, ◌≤◌, ◌+◌, ℤ, length, map, slice_get, Some};
 ghost use Rattle.spf_ast.specs.declared.syntax.Part.TheVariants.{Predictor};
-ghost use Rattle.spf_ast.specs.View.{block as seen_block, fold_head, pair_head, predictor};
-ghost use Rattle.spf_ast.specs.Syntax.{Fold as fold_form, Pair as pair_form};
+ghost use Rattle.spf_ast.specs.View.{predictor};
 ghost use Rattle.spf_ast.specs.ConstructView.{construct as seen_construct};
-ghost use Rattle.spf_ast.specs.Construct.{constructs_in, part_means, guess_means, guess_at};
-ghost use Rattle.spf_ast.specs.Construct.{guess_part_means, fold as fold_construct};
-ghost use Rattle.spf_ast.specs.Construct.{pair as pair_construct};
+ghost use Rattle.spf_ast.specs.Construct.{constructs_in, guess_means, guess_at};
+ghost use Rattle.spf_ast.specs.Construct.{guess_part_means};
 ghost use Rattle.spf_ast.specs.Carried.{IsWidth, no_row};
-ghost use Rattle.spf_ast.specs.BlockRun.{block_setup, part_asks, predicts};
 ghost use Rattle.spf_ast.specs.GoingOn.{StatementIsOrderly};
-ghost use Rattle.spf_ast.specs.Program.{cell_count_of, environment_of};
+ghost use Rattle.spf_ast.specs.Program.{cell_count_of};
 ghost use Rattle.spf_ast.specs.Silence.{FunctionsAreSilent, PartIsSilent};
-ghost use Rattle.spf_ast.specs.Slots.{LeavesOtherSlots};
-ghost use Rattle.spf_code_registers.specs.Registers.{rooms, predictor_needs, predictors_need};
-ghost use Rattle.spf_code_registers.specs.Registers.{statement_needs};
+ghost use Rattle.spf_code_registers.specs.Registers.{predictor_needs, predictors_need};
 ghost use Rattle.spf_code.specs.NodeView.{code as seen_code};
-ghost use Rattle.spf_code_lowering.specs.Lowering.{IsGuessCode, AreGuessCodes, SetsNoSlot};
-ghost use Rattle.spf_code_lowering.specs.Lowering.{IsFoldCode, IsPairCode, IsConstructCode};
+ghost use Rattle.spf_code_lowering.specs.Lowering.{SetsNoSlot};
 ghost use Rattle.spf_exec_instance.specs.Frame.{frame_size, main_slots};
 ghost use Rattle.spf_exec_instance.specs.Instance.{program_of};
-ghost use Rattle.spf_exec_memory.specs.Performs.{Performs, state};
-ghost use Rattle.spf_exec.specs.Sources.{callable_of, construct_needs, ConstructIsOrderly};
-ghost use Rattle.spf_exec.specs.BlockRuns.{PerformsOver, stop_result};
+ghost use Rattle.spf_exec.specs.Sources.{ConstructIsOrderly};
+ghost use Rattle.spf_exec.specs.BlockRuns.{IsQuietRun, stop_result};
+ghost use Rattle.spf_code_lowering.specs.Adding.{fold_statement, pair_statement};
+ghost use Rattle.spf_exec.specs.Instances.{slot_count, rooms_in};
+ghost use Rattle.spf_exec.specs.Instances.{fold_of, pair_of, statement_room, construct_room};
+ghost use Rattle.spf_exec.specs.Instances.{GuessCodeIn, GuessCodesIn, ConstructCodeIn, FoldCodeIn};
+ghost use Rattle.spf_exec.specs.Instances.{PairCodeIn, KeepsOtherSlots, PerformsIn, block_part};
+ghost use Rattle.spf_exec.specs.Instances.{fold_part, pair_part, block_asks, guess_in};
 
 use crate::entry;
 use crate::frame::Frame;
@@ -63,19 +60,13 @@ fn perform_guess<M: Memory>(
 ) -> Result<i64, Halt>
     requires cells { M.cell_count memory.old
         ≡ cell_count_of (program_of instance.now) (length instance.now.input) }
-    requires code { IsGuessCode (callable_of (program_of instance.now))
-        (rooms (program_of instance.now)) (length (program_of instance.now).slots) line
-        (predictor predict.now) code.now }
-    requires sets { SetsNoSlot (length (program_of instance.now).slots)
-        (seen_code code.now.nodes.items) }
-    requires room { length (program_of instance.now).slots
-        + predictor_needs (rooms (program_of instance.now)) (predictor predict.now)
-        ≤ length registers.old }
-    ensures performs { Performs M.leads M.stop M.may_lack_memory (guess_means
-        (environment_of (program_of instance.now) instance.now.input) line (predictor predict.now)
-        (state (main_slots (program_of instance.now) registers.old) (M.output memory.old)))
-        memory.old memory.new result
-        (state (main_slots (program_of instance.now) registers.new) (M.output memory.new)) }
+    requires code { GuessCodeIn instance.now line (predictor predict.now) code.now }
+    requires sets { SetsNoSlot (slot_count instance.now) (seen_code code.now.nodes.items) }
+    requires room { slot_count instance.now + predictor_needs (rooms_in instance.now)
+        (predictor predict.now) ≤ length registers.old }
+    ensures performs { PerformsIn instance.now M.leads M.stop M.may_lack_memory M.output
+        (λ g. guess_means g line (predictor predict.now)) registers.old registers.new memory.old
+        memory.new result }
     ensures kept { main_slots (program_of instance.now) registers.new
         ≡ main_slots (program_of instance.now) registers.old }
 {
@@ -106,29 +97,14 @@ fn perform_fold<M: Memory>(
 ) -> Result<Row, Halt>
     requires cells { M.cell_count memory.old
         ≡ cell_count_of (program_of instance.now) (length instance.now.input) }
-    requires code { IsFoldCode (callable_of (program_of instance.now))
-        (rooms (program_of instance.now)) (length (program_of instance.now).slots)
-        block.now.construct.line (fold_head fold.now)
-        (seen_block (out-Fold fold.now).body.items) code.now }
-    requires room { length (program_of instance.now).slots
-        + statement_needs (rooms (program_of instance.now))
-        (fold_form (fold_head fold.now) (seen_block (out-Fold fold.now).body.items))
-        ≤ length registers.old }
-    requires orderly { StatementIsOrderly
-        (fold_form (fold_head fold.now) (seen_block (out-Fold fold.now).body.items)) }
+    requires code { FoldCodeIn instance.now block.now.construct.line fold.now code.now }
+    requires room { statement_room instance.now (fold_statement fold.now) ≤ length registers.old }
+    requires orderly { StatementIsOrderly (fold_statement fold.now) }
     requires run { block.now.part ≢ Predictor }
-    ensures performs { Performs M.leads M.stop M.may_lack_memory (part_means
-        (environment_of (program_of instance.now) instance.now.input)
-        (fold_construct block.now.construct.line (fold_head fold.now)
-        (seen_block (out-Fold fold.now).body.items)) block.now.part block.now.number block.now.value
-        (state (main_slots (program_of instance.now) registers.old) (M.output memory.old)))
-        memory.old memory.new result
-        (state (main_slots (program_of instance.now) registers.new) (M.output memory.new)) }
-    ensures kept { LeavesOtherSlots
-        (fold_construct block.now.construct.line (fold_head fold.now)
-        (seen_block (out-Fold fold.now).body.items)) block.now.part
-        (main_slots (program_of instance.now) registers.old)
-        (main_slots (program_of instance.now) registers.new) }
+    ensures performs { PerformsIn instance.now M.leads M.stop M.may_lack_memory M.output
+        (fold_part block.now fold.now) registers.old registers.new memory.old memory.new result }
+    ensures kept { KeepsOtherSlots instance.now (fold_of block.now fold.now) block.now.part
+        registers.old registers.new }
 {
     match block.part {
         Part::Body => {
@@ -153,32 +129,16 @@ fn perform_pair<M: Memory>(
 ) -> Result<Row, Halt>
     requires cells { M.cell_count memory.old
         ≡ cell_count_of (program_of instance.now) (length instance.now.input) }
-    requires code { IsPairCode (callable_of (program_of instance.now))
-        (rooms (program_of instance.now)) (length (program_of instance.now).slots)
-        block.now.construct.line (pair_head pair.now) (seen_block (out-Pair pair.now).producer.items)
-        (seen_block (out-Pair pair.now).consumer.items) code.now }
-    requires room { length (program_of instance.now).slots
-        + statement_needs (rooms (program_of instance.now)) (pair_form (pair_head pair.now)
-        (seen_block (out-Pair pair.now).producer.items)
-        (seen_block (out-Pair pair.now).consumer.items)) ≤ length registers.old }
-    requires orderly { StatementIsOrderly (pair_form (pair_head pair.now)
-        (seen_block (out-Pair pair.now).producer.items)
-        (seen_block (out-Pair pair.now).consumer.items)) }
+    requires code { PairCodeIn instance.now block.now.construct.line pair.now code.now }
+    requires room { statement_room instance.now (pair_statement pair.now) ≤ length registers.old }
+    requires orderly { StatementIsOrderly (pair_statement pair.now) }
     requires run { block.now.part ≢ Predictor }
     ensures performs { (number : ℤ)
-        → Performs M.leads M.stop M.may_lack_memory (part_means
-        (environment_of (program_of instance.now) instance.now.input)
-        (pair_construct block.now.construct.line (pair_head pair.now)
-        (seen_block (out-Pair pair.now).producer.items)
-        (seen_block (out-Pair pair.now).consumer.items)) block.now.part number block.now.value
-        (state (main_slots (program_of instance.now) registers.old) (M.output memory.old)))
-        memory.old memory.new result
-        (state (main_slots (program_of instance.now) registers.new) (M.output memory.new)) }
-    ensures kept { LeavesOtherSlots (pair_construct block.now.construct.line (pair_head pair.now)
-        (seen_block (out-Pair pair.now).producer.items)
-        (seen_block (out-Pair pair.now).consumer.items)) block.now.part
-        (main_slots (program_of instance.now) registers.old)
-        (main_slots (program_of instance.now) registers.new) }
+        → PerformsIn instance.now M.leads M.stop M.may_lack_memory M.output
+        (pair_part block.now pair.now number) registers.old registers.new memory.old memory.new
+        result }
+    ensures kept { KeepsOtherSlots instance.now (pair_of block.now pair.now) block.now.part
+        registers.old registers.new }
 {
     match block.part {
         Part::Producer => entry::row_of(instance, &code.first, registers, memory),
@@ -202,23 +162,15 @@ fn perform_part<M: Memory>(
 ) -> Result<Row, Halt>
     requires cells { M.cell_count memory.old
         ≡ cell_count_of (program_of instance.now) (length instance.now.input) }
-    requires code { IsConstructCode (callable_of (program_of instance.now))
-        (rooms (program_of instance.now)) (length (program_of instance.now).slots)
-        (seen_construct block.now.construct) code.now }
-    requires room { length (program_of instance.now).slots
-        + construct_needs (rooms (program_of instance.now)) (seen_construct block.now.construct)
+    requires code { ConstructCodeIn instance.now (seen_construct block.now.construct) code.now }
+    requires room { construct_room instance.now (seen_construct block.now.construct)
         ≤ length registers.old }
     requires orderly { ConstructIsOrderly (seen_construct block.now.construct) }
     requires run { block.now.part ≢ Predictor }
-    ensures performs { Performs M.leads M.stop M.may_lack_memory (part_means
-        (environment_of (program_of instance.now) instance.now.input)
-        (seen_construct block.now.construct) block.now.part block.now.number block.now.value
-        (state (main_slots (program_of instance.now) registers.old) (M.output memory.old)))
-        memory.old memory.new result
-        (state (main_slots (program_of instance.now) registers.new) (M.output memory.new)) }
-    ensures kept { LeavesOtherSlots (seen_construct block.now.construct) block.now.part
-        (main_slots (program_of instance.now) registers.old)
-        (main_slots (program_of instance.now) registers.new) }
+    ensures performs { PerformsIn instance.now M.leads M.stop M.may_lack_memory M.output
+        (block_part block.now) registers.old registers.new memory.old memory.new result }
+    ensures kept { KeepsOtherSlots instance.now (seen_construct block.now.construct) block.now.part
+        registers.old registers.new }
 {
     match block.construct.kind {
         ConstructKind::Fold(fold) => perform_fold(instance, code, block, fold, registers, memory),
@@ -239,15 +191,10 @@ fn run_part<M: Memory>(
         ≡ cell_count_of (program_of instance.now) (length instance.now.input) }
     requires frame { length frame.old ≡ frame_size (program_of instance.now) }
     requires run { block.now.part ≢ Predictor }
-    ensures performs { Performs M.leads M.stop M.may_lack_memory (part_means
-        (environment_of (program_of instance.now) instance.now.input)
-        (seen_construct block.now.construct) block.now.part block.now.number block.now.value
-        (state (main_slots (program_of instance.now) frame.old) (M.output memory.old))) memory.old
-        memory.new result
-        (state (main_slots (program_of instance.now) frame.new) (M.output memory.new)) }
-    ensures kept { LeavesOtherSlots (seen_construct block.now.construct) block.now.part
-        (main_slots (program_of instance.now) frame.old)
-        (main_slots (program_of instance.now) frame.new) }
+    ensures performs { PerformsIn instance.now M.leads M.stop M.may_lack_memory M.output
+        (block_part block.now) frame.old frame.new memory.old memory.new result }
+    ensures kept { KeepsOtherSlots instance.now (seen_construct block.now.construct) block.now.part
+        frame.old frame.new }
     ensures size { length frame.new ≡ length frame.old }
 {
     let code = &instance.code().constructs[block.index as usize];
@@ -269,15 +216,12 @@ fn run_quietly<M: Memory>(
     requires silent { PartIsSilent (seen_construct block.now.construct) block.now.part }
     requires functions_silent { FunctionsAreSilent (program_of instance.now).functions }
     requires run { block.now.part ≢ Predictor }
-    ensures performs { PerformsOver M.leads M.stop ⊥ (part_asks (program_of instance.now)
-        (seen_construct block.now.construct) block.now.part (block_setup instance.now.input
-        (main_slots (program_of instance.now) frame.old) block.now.number block.now.value))
-        quiet.old.memory.now quiet.new.memory.now result [] }
+    ensures performs { IsQuietRun M.leads M.stop (block_asks instance.now block.now frame.old)
+        quiet.old.memory.now quiet.new.memory.now result }
     ensures same_reference { quiet.new.memory.ghost_name ≡ quiet.old.memory.ghost_name }
     ensures output { M.output quiet.new.memory.now ≡ M.output quiet.old.memory.now }
-    ensures kept { LeavesOtherSlots (seen_construct block.now.construct) block.now.part
-        (main_slots (program_of instance.now) frame.old)
-        (main_slots (program_of instance.now) frame.new) }
+    ensures kept { KeepsOtherSlots instance.now (seen_construct block.now.construct) block.now.part
+        frame.old frame.new }
     ensures size { length frame.new ≡ length frame.old }
 {
     run_part(instance, block, frame, quiet)
@@ -302,15 +246,12 @@ pub fn exec_block<M: Memory>(
     requires silent { PartIsSilent (seen_construct block.now.construct) block.now.part }
     requires functions_silent { FunctionsAreSilent (program_of instance.now).functions }
     requires run { block.now.part ≢ Predictor }
-    ensures performs { PerformsOver M.leads M.stop ⊥ (part_asks (program_of instance.now)
-        (seen_construct block.now.construct) block.now.part (block_setup instance.now.input
-        (main_slots (program_of instance.now) frame.old) block.now.number block.now.value))
-        memory.old memory.new (stop_result result) [] }
+    ensures performs { IsQuietRun M.leads M.stop (block_asks instance.now block.now frame.old)
+        memory.old memory.new (stop_result result) }
     ensures output { M.output memory.new ≡ M.output memory.old }
     ensures cells { M.cell_count memory.new ≡ M.cell_count memory.old }
-    ensures kept { LeavesOtherSlots (seen_construct block.now.construct) block.now.part
-        (main_slots (program_of instance.now) frame.old)
-        (main_slots (program_of instance.now) frame.new) }
+    ensures kept { KeepsOtherSlots instance.now (seen_construct block.now.construct) block.now.part
+        frame.old frame.new }
     ensures size { length frame.new ≡ length frame.old }
 {
     let mut quiet = Quiet { memory };
@@ -335,18 +276,12 @@ fn guess_of<M: Memory>(
 ) -> Result<i64, Halt>
     requires cells { M.cell_count memory.old
         ≡ cell_count_of (program_of instance.now) (length instance.now.input) }
-    requires codes { AreGuessCodes (callable_of (program_of instance.now))
-        (rooms (program_of instance.now)) (length (program_of instance.now).slots) line
-        (map predictor predict.now) codes.now }
-    requires room { length (program_of instance.now).slots
-        + predictors_need (rooms (program_of instance.now)) (map predictor predict.now)
-        ≤ length registers.old }
-    ensures performs { Performs M.leads M.stop M.may_lack_memory (guess_at
-        (environment_of (program_of instance.now) instance.now.input) line
-        (slice_get (map predictor predict.now) part)
-        (state (main_slots (program_of instance.now) registers.old) (M.output memory.old)))
-        memory.old memory.new result
-        (state (main_slots (program_of instance.now) registers.new) (M.output memory.new)) }
+    requires codes { GuessCodesIn instance.now line (map predictor predict.now) codes.now }
+    requires room { slot_count instance.now + predictors_need (rooms_in instance.now)
+        (map predictor predict.now) ≤ length registers.old }
+    ensures performs { PerformsIn instance.now M.leads M.stop M.may_lack_memory M.output
+        (λ g. guess_at g line (slice_get (map predictor predict.now) part)) registers.old
+        registers.new memory.old memory.new result }
     ensures kept { main_slots (program_of instance.now) registers.new
         ≡ main_slots (program_of instance.now) registers.old }
 {
@@ -376,21 +311,13 @@ fn perform_guess_at<M: Memory>(
 ) -> Result<i64, Halt>
     requires cells { M.cell_count memory.old
         ≡ cell_count_of (program_of instance.now) (length instance.now.input) }
-    requires code { IsConstructCode (callable_of (program_of instance.now))
-        (rooms (program_of instance.now)) (length (program_of instance.now).slots)
-        (seen_construct construct) code.now }
-    requires room { length (program_of instance.now).slots
-        + construct_needs (rooms (program_of instance.now)) (seen_construct construct)
-        ≤ length registers.old }
-    ensures performs { Performs M.leads M.stop M.may_lack_memory (guess_part_means
-        (environment_of (program_of instance.now) instance.now.input)
-        (seen_construct construct.entry) part number
-        (state (main_slots (program_of instance.now) registers.old) (M.output memory.old)))
-        memory.old memory.new result
-        (state (main_slots (program_of instance.now) registers.new) (M.output memory.new)) }
-    ensures kept { LeavesOtherSlots (seen_construct construct.entry) Predictor
-        (main_slots (program_of instance.now) registers.old)
-        (main_slots (program_of instance.now) registers.new) }
+    requires code { ConstructCodeIn instance.now (seen_construct construct) code.now }
+    requires room { construct_room instance.now (seen_construct construct) ≤ length registers.old }
+    ensures performs { PerformsIn instance.now M.leads M.stop M.may_lack_memory M.output
+        (λ g. guess_part_means g (seen_construct construct.entry) part number) registers.old
+        registers.new memory.old memory.new result }
+    ensures kept { KeepsOtherSlots instance.now (seen_construct construct.entry) Predictor
+        registers.old registers.new }
 {
     let line = construct.line;
     let codes = &code.guesses;
@@ -445,11 +372,9 @@ pub fn exec_predictor(
     requires frame { length frame.old ≡ frame_size (program_of instance.now) }
     requires functions_silent { FunctionsAreSilent (program_of instance.now).functions }
     ensures guess { result
-        ≡ predicts (program_of instance.now) instance.now.input (seen_construct construct.entry)
-        (main_slots (program_of instance.now) frame.old) cells.now number part }
-    ensures kept { LeavesOtherSlots (seen_construct construct.entry) Predictor
-        (main_slots (program_of instance.now) frame.old)
-        (main_slots (program_of instance.now) frame.new) }
+        ≡ guess_in instance.now (seen_construct construct.entry) frame.old cells.now number part }
+    ensures kept { KeepsOtherSlots instance.now (seen_construct construct.entry) Predictor frame.old
+        frame.new }
     ensures size { length frame.new ≡ length frame.old }
 {
     let code = &instance.code().constructs[index as usize];

@@ -1,22 +1,20 @@
 //! Performances of a program's code, in terms of the source.
 
-ghost use Rattle.std.specs.Prelude.{◌≡◌, ◌≤◌, ◌+◌, ℕ, ℤ, length};
-ghost use Rattle.spf_ast.specs.Carried.{Carried, IsWidth};
-ghost use Rattle.spf_ast.specs.Interaction.{Flow, Meaning};
-ghost use Rattle.spf_ast.specs.Meaning.{reads, count_of, arguments_mean, expression_means};
-ghost use Rattle.spf_ast.specs.Program.{cell_count_of, environment_of};
-ghost use Rattle.spf_ast.specs.Syntax.{end};
+ghost use Rattle.std.specs.Prelude.{◌≡◌, ◌≤◌, ◌+◌, length};
+ghost use Rattle.spf_ast.specs.Carried.{IsWidth};
+ghost use Rattle.spf_ast.specs.Meaning.{count_of, arguments_mean, expression_means};
+ghost use Rattle.spf_ast.specs.Program.{cell_count_of};
 ghost use Rattle.spf_ast.specs.View.{expression as seen_expression, arguments as seen_arguments};
-ghost use Rattle.spf_code_registers.specs.Registers.{needs, arguments_need, rooms};
+ghost use Rattle.spf_code_registers.specs.Registers.{needs, arguments_need};
 ghost use Rattle.spf_exec_instance.specs.Frame.{main_slots};
 ghost use Rattle.spf_exec_instance.specs.Instance.{program_of};
 ghost use Rattle.spf_code.specs.Code.{code_sets};
 ghost use Rattle.spf_code.specs.Fits.{CodeFits};
 ghost use Rattle.spf_code.specs.NodeView.{code as seen_code};
-ghost use Rattle.spf_code_lowering.specs.Lowering.{IsRowCode, IsExpressionCode, SetsNoSlot};
+ghost use Rattle.spf_code_lowering.specs.Lowering.{SetsNoSlot};
 ghost use Rattle.spf_exec_memory.specs.Leaves.{Leaves};
-ghost use Rattle.spf_exec_memory.specs.Performs.{Performs, state};
-ghost use Rattle.spf_exec.specs.Sources.{callable_of, RunsAs, wholly, GivesAs, reads_row};
+ghost use Rattle.spf_exec.specs.Instances.{slot_count, rooms_in, RowCodeIn, ExpressionCodeIn};
+ghost use Rattle.spf_exec.specs.Instances.{PerformsIn, RunPerforms, ValuePerforms, RowPerforms};
 
 use crate::context::context_of;
 use spf_ast::row::Row;
@@ -37,15 +35,9 @@ pub(crate) fn run<M: Memory>(
 ) -> Result<(), Halt>
     requires cells { M.cell_count memory.old
         ≡ cell_count_of (program_of instance.now) (length instance.now.input) }
-    requires fits { CodeFits (rooms (program_of instance.now)) (length registers.old)
-        (seen_code code.now) }
-    ensures performs { (room : ℕ) (form : Meaning Flow)
-        → RunsAs (program_of instance.now) instance.now.input room (seen_code code.now) form
-        → room ≤ length registers.old
-        → Performs M.leads M.stop M.may_lack_memory (wholly form
-        (state (main_slots (program_of instance.now) registers.old) (M.output memory.old)))
-        memory.old memory.new result
-        (state (main_slots (program_of instance.now) registers.new) (M.output memory.new)) }
+    requires fits { CodeFits (rooms_in instance.now) (length registers.old) (seen_code code.now) }
+    ensures performs { RunPerforms instance.now M.leads M.stop M.may_lack_memory M.output code.now
+        registers.old registers.new memory.old memory.new result }
     ensures cells { M.cell_count memory.new ≡ M.cell_count memory.old }
     ensures others { Leaves (λ r. code_sets r (seen_code code.now)) registers.old registers.new }
 {
@@ -62,15 +54,10 @@ pub(crate) fn value_of<M: Memory>(
 ) -> Result<i64, Halt>
     requires cells { M.cell_count memory.old
         ≡ cell_count_of (program_of instance.now) (length instance.now.input) }
-    requires fits { CodeFits (rooms (program_of instance.now)) (length registers.old)
+    requires fits { CodeFits (rooms_in instance.now) (length registers.old)
         (seen_code code.now.nodes.items) }
-    ensures performs { (room : ℕ) (form : Meaning ℤ)
-        → GivesAs (program_of instance.now) instance.now.input room (seen_code code.now.nodes.items)
-        (reads code.now.register) form → room ≤ length registers.old
-        → Performs M.leads M.stop M.may_lack_memory
-        (form (state (main_slots (program_of instance.now) registers.old) (M.output memory.old)))
-        memory.old memory.new result
-        (state (main_slots (program_of instance.now) registers.new) (M.output memory.new)) }
+    ensures performs { ValuePerforms instance.now M.leads M.stop M.may_lack_memory M.output code.now
+        registers.old registers.new memory.old memory.new result }
     ensures cells { M.cell_count memory.new ≡ M.cell_count memory.old }
     ensures others { Leaves (λ r. code_sets r (seen_code code.now.nodes.items)) registers.old
         registers.new }
@@ -95,17 +82,12 @@ pub(crate) fn row_of<M: Memory>(
 ) -> Result<Row, Halt>
     requires cells { M.cell_count memory.old
         ≡ cell_count_of (program_of instance.now) (length instance.now.input) }
-    requires fits { CodeFits (rooms (program_of instance.now)) (length registers.old)
+    requires fits { CodeFits (rooms_in instance.now) (length registers.old)
         (seen_code code.now.nodes.items) }
     requires width { IsWidth code.now.width }
     requires room { code.now.register + code.now.width ≤ length registers.old }
-    ensures performs { (room : ℕ) (form : Meaning Carried)
-        → GivesAs (program_of instance.now) instance.now.input room (seen_code code.now.nodes.items)
-        (reads_row code.now.register code.now.width) form → room ≤ length registers.old
-        → Performs M.leads M.stop M.may_lack_memory
-        (form (state (main_slots (program_of instance.now) registers.old) (M.output memory.old)))
-        memory.old memory.new result
-        (state (main_slots (program_of instance.now) registers.new) (M.output memory.new)) }
+    ensures performs { RowPerforms instance.now M.leads M.stop M.may_lack_memory M.output code.now
+        registers.old registers.new memory.old memory.new result }
     ensures cells { M.cell_count memory.new ≡ M.cell_count memory.old }
     ensures others { Leaves (λ r. code_sets r (seen_code code.now.nodes.items)) registers.old
         registers.new }
@@ -133,21 +115,14 @@ pub(crate) fn row<M: Memory>(
 ) -> Result<Row, Halt>
     requires cells { M.cell_count memory.old
         ≡ cell_count_of (program_of instance.now) (length instance.now.input) }
-    requires code { IsRowCode (callable_of (program_of instance.now))
-        (rooms (program_of instance.now)) (length (program_of instance.now).slots) end line
-        (seen_arguments words.now) code.now }
-    requires sets { SetsNoSlot (length (program_of instance.now).slots)
-        (seen_code code.now.nodes.items) }
+    requires code { RowCodeIn instance.now line (seen_arguments words.now) code.now }
+    requires sets { SetsNoSlot (slot_count instance.now) (seen_code code.now.nodes.items) }
     requires width { IsWidth (count_of (seen_arguments words.now)) }
-    requires room { length (program_of instance.now).slots
-        + arguments_need (rooms (program_of instance.now)) (seen_arguments words.now)
-        ≤ length registers.old }
-    ensures performs { Performs M.leads M.stop M.may_lack_memory (arguments_mean
-        (environment_of (program_of instance.now) instance.now.input) line
-        (seen_arguments words.now)
-        (state (main_slots (program_of instance.now) registers.old) (M.output memory.old)))
-        memory.old memory.new result
-        (state (main_slots (program_of instance.now) registers.old) (M.output memory.new)) }
+    requires room { slot_count instance.now + arguments_need (rooms_in instance.now)
+        (seen_arguments words.now) ≤ length registers.old }
+    ensures performs { PerformsIn instance.now M.leads M.stop M.may_lack_memory M.output
+        (λ g. arguments_mean g line (seen_arguments words.now)) registers.old registers.old
+        memory.old memory.new result }
     ensures cells { M.cell_count memory.new ≡ M.cell_count memory.old }
     ensures kept { main_slots (program_of instance.now) registers.new
         ≡ main_slots (program_of instance.now) registers.old }
@@ -166,20 +141,13 @@ pub(crate) fn expression<M: Memory>(
 ) -> Result<i64, Halt>
     requires cells { M.cell_count memory.old
         ≡ cell_count_of (program_of instance.now) (length instance.now.input) }
-    requires code { IsExpressionCode (callable_of (program_of instance.now))
-        (rooms (program_of instance.now)) (length (program_of instance.now).slots) line
-        (seen_expression value.now) code.now }
-    requires sets { SetsNoSlot (length (program_of instance.now).slots)
-        (seen_code code.now.nodes.items) }
-    requires room { length (program_of instance.now).slots
-        + (1 + needs (rooms (program_of instance.now)) (seen_expression value.now))
-        ≤ length registers.old }
-    ensures performs { Performs M.leads M.stop M.may_lack_memory (expression_means
-        (environment_of (program_of instance.now) instance.now.input) line
-        (seen_expression value.now)
-        (state (main_slots (program_of instance.now) registers.old) (M.output memory.old)))
-        memory.old memory.new result
-        (state (main_slots (program_of instance.now) registers.old) (M.output memory.new)) }
+    requires code { ExpressionCodeIn instance.now line (seen_expression value.now) code.now }
+    requires sets { SetsNoSlot (slot_count instance.now) (seen_code code.now.nodes.items) }
+    requires room { slot_count instance.now
+        + (1 + needs (rooms_in instance.now) (seen_expression value.now)) ≤ length registers.old }
+    ensures performs { PerformsIn instance.now M.leads M.stop M.may_lack_memory M.output
+        (λ g. expression_means g line (seen_expression value.now)) registers.old registers.old
+        memory.old memory.new result }
     ensures cells { M.cell_count memory.new ≡ M.cell_count memory.old }
     ensures kept { main_slots (program_of instance.now) registers.new
         ≡ main_slots (program_of instance.now) registers.old }

@@ -1,33 +1,31 @@
 //! Plain runs in pieces: `main` is run from one top construct to the next, and each construct is
 //! settled by whoever runs it.
 
-ghost use Rattle.std.specs.Prelude.{◌≡◌, ◌+◌, ◌-◌, ◌<◌, ◌≤◌, ◌^◌, ◌+ℤ◌, ◌≤ℤ◌, ℕ, length, pos, drop};
+ghost use Rattle.std.specs.Prelude.{◌≡◌, ◌+◌, ◌<◌, ◌≤◌, ◌^◌, ◌+ℤ◌, ◌≤ℤ◌, length, pos, drop};
 ghost use Rattle.std.specs.Prelude.{take, slice_get, Some, IfOk, MatchOption};
-ghost use Rattle.spf_ast.specs.declared.syntax.Fold.{out-Fold};
 ghost use Rattle.std.specs.Borrow.{Lends, Array, sem, i64 as word};
 ghost use Rattle.spf_exec.specs.contracts.pieces.Run.{the_row};
 ghost use Rattle.spf_exec.specs.declared.pieces.Pause.TheVariants.{AtConstruct, Finished};
 ghost use Rattle.spf_ast.specs.View.{block as seen_block, fold_head};
 ghost use Rattle.spf_ast.specs.Carried.{IsWidth};
-ghost use Rattle.spf_ast.specs.Meaning.{count_of, main_means, max_blocks};
-ghost use Rattle.spf_ast.specs.Syntax.{end, Fold as fold_form};
-ghost use Rattle.spf_ast.specs.Construct.{constructs_in, header_means, fold as fold_construct};
+ghost use Rattle.spf_ast.specs.Meaning.{count_of, max_blocks};
+ghost use Rattle.spf_ast.specs.Syntax.{end};
+ghost use Rattle.spf_ast.specs.Construct.{constructs_in, header_means};
 ghost use Rattle.spf_ast.specs.ConstructView.{construct as seen_construct};
-ghost use Rattle.spf_ast.specs.Plain.{plain_memory};
 ghost use Rattle.spf_ast.specs.Pieces.{before_construct, from_construct, construct_first};
-ghost use Rattle.spf_ast.specs.Pieces.{rest_from};
-ghost use Rattle.spf_ast.specs.Program.{cell_count_of, environment_of};
+ghost use Rattle.spf_ast.specs.Program.{cell_count_of};
 ghost use Rattle.spf_ast.specs.Silence.{FunctionsAreSilent};
-ghost use Rattle.spf_code_registers.specs.Registers.{rooms, statement_needs};
-ghost use Rattle.spf_code_lowering.specs.Lowering.{IsFoldCode};
 ghost use Rattle.spf_exec_instance.specs.Frame.{frame_size, main_slots};
 ghost use Rattle.spf_exec_instance.specs.Instance.{program_of};
-ghost use Rattle.spf_exec.specs.Sources.{callable_of};
-ghost use Rattle.spf_exec_memory.specs.Performs.{Performs, IsDecided, state};
-ghost use Rattle.spf_exec_memory.specs.PlainMemory.{IsPlainOutcome};
+ghost use Rattle.spf_exec_memory.specs.Performs.{IsDecided};
 ghost use Rattle.spf_exec.specs.Pieces.{Stand, IsRunOf, refilled, HasBegun, Advanced};
-ghost use Rattle.spf_exec.specs.Pieces.{IsHeaderAnswer, header_result, stand, HeaderDone};
-ghost use Rattle.spf_exec.specs.Pieces.{IsSettled, ahead, moment_of};
+ghost use Rattle.spf_exec.specs.Pieces.{header_result, stand, HeaderDone};
+ghost use Rattle.spf_exec.specs.Pieces.{IsSettled, ahead};
+ghost use Rattle.spf_code_lowering.specs.Adding.{fold_statement};
+ghost use Rattle.spf_exec.specs.Instances.{HasPassed, fold_at, from_first};
+ghost use Rattle.spf_exec.specs.Instances.{StandsFirst, statement_room, FoldCodeIn, PerformsIn};
+ghost use Rattle.spf_exec.specs.Instances.{RunsBetween, AdvancedTo, header_cells, HeaderEnds};
+ghost use Rattle.spf_exec.specs.Instances.{HeaderAnswers, HeaderDoneAnywhere};
 
 use crate::entry;
 use crate::frame::Frame;
@@ -111,9 +109,8 @@ fn plain_prefix<'a>(statements: &'a [Stmt]) -> Prefix<'a>
         ≡ before_construct (seen_block statements.now) }
     ensures rest { seen_block (drop result.count statements.now)
         ≡ from_construct (seen_block statements.now) }
-    ensures construct { MatchOption result.construct
-        (from_construct (seen_block statements.now) ≡ end) (λ c.
-        construct_first (from_construct (seen_block statements.now)) ≡ Some (seen_construct c)) }
+    ensures construct { MatchOption result.construct (from_first statements.now ≡ end)
+        (StandsFirst (from_first statements.now)) }
 {
     let mut count = 0;
     for statement in statements {
@@ -158,12 +155,8 @@ fn perform_between(
     requires frame { length frame.old ≡ frame_size (program_of instance.now) }
     requires order { from ≤ to }
     requires within { to ≤ length instance.now.code.main.items }
-    ensures outcome { IsPlainOutcome result
-        (main_means (environment_of (program_of instance.now) instance.now.input)
-        (seen_block (take (to - from) (drop from instance.now.code.main.items)))
-        (state (main_slots (program_of instance.now) frame.old) memory.old.output.items))
-        memory.old.cells.items memory.new.cells.items
-        (state (main_slots (program_of instance.now) frame.new) memory.new.output.items) }
+    ensures outcome { RunsBetween instance.now from to frame.old frame.new memory.old memory.new
+        result }
     ensures cells { length memory.new.cells.items ≡ length memory.old.cells.items }
     ensures size { length frame.new ≡ length frame.old }
 {
@@ -183,15 +176,12 @@ fn advance_from<'a>(
         ≡ cell_count_of (program_of instance.now) (length instance.now.input) }
     requires frame { length frame.old ≡ frame_size (program_of instance.now) }
     requires within { place ≤ length instance.now.code.main.items }
-    requires passed { passed + length (constructs_in (rest_from place (program_of instance.now).main))
-        ≡ length (constructs_in (program_of instance.now).main) }
+    requires passed { HasPassed instance.now place passed }
     requires few_constructs { length (constructs_in (program_of instance.now).main) < 2 ^ 32 }
-    ensures advanced { IfOk result (λ r. Advanced (program_of instance.now) instance.now.input
-        (stand frame.old memory.old place passed) (stand frame.new memory.new r.0 passed) r.1) }
+    ensures advanced { IfOk result
+        (AdvancedTo instance.now (stand frame.old memory.old place passed) frame.new memory.new) }
     ensures place { IfOk result (λ r. r.0 ≤ length instance.now.code.main.items) }
-    ensures passed { IfOk result (λ r.
-        passed + length (constructs_in (rest_from r.0 (program_of instance.now).main))
-        ≡ length (constructs_in (program_of instance.now).main)) }
+    ensures passed { IfOk result (λ r. HasPassed instance.now r.0 passed) }
     ensures cells { length memory.new.cells.items ≡ length memory.old.cells.items }
     ensures size { length frame.new ≡ length frame.old }
 {
@@ -217,20 +207,12 @@ fn perform_header<M: Memory>(
 ) -> Result<Header, Halt>
     requires cells { M.cell_count memory.old
         ≡ cell_count_of (program_of instance.now) (length instance.now.input) }
-    requires code { IsFoldCode (callable_of (program_of instance.now))
-        (rooms (program_of instance.now)) (length (program_of instance.now).slots) line
-        (fold_head fold.now) (seen_block (out-Fold fold.now).body.items) code.now }
-    requires room { length (program_of instance.now).slots
-        + statement_needs (rooms (program_of instance.now))
-        (fold_form (fold_head fold.now) (seen_block (out-Fold fold.now).body.items))
-        ≤ length registers.old }
+    requires code { FoldCodeIn instance.now line fold.now code.now }
+    requires room { statement_room instance.now (fold_statement fold.now) ≤ length registers.old }
     requires width { IsWidth (count_of (fold_head fold.now).start) }
-    ensures performs { Performs M.leads M.stop M.may_lack_memory (header_means
-        (environment_of (program_of instance.now) instance.now.input)
-        (fold_construct line (fold_head fold.now) (seen_block (out-Fold fold.now).body.items))
-        (state (main_slots (program_of instance.now) registers.old) (M.output memory.old)))
-        memory.old memory.new (header_result result)
-        (state (main_slots (program_of instance.now) registers.old) (M.output memory.new)) }
+    ensures performs { PerformsIn instance.now M.leads M.stop M.may_lack_memory M.output
+        (λ g. header_means g (fold_at line fold.now)) registers.old registers.old memory.old
+        memory.new (header_result result) }
     ensures cells { M.cell_count memory.new ≡ M.cell_count memory.old }
     ensures kept { main_slots (program_of instance.now) registers.new
         ≡ main_slots (program_of instance.now) registers.old }
@@ -273,27 +255,16 @@ fn header_quietly(
     requires cells { length quiet.old.memory.now.cells.items
         ≡ cell_count_of (program_of instance.now) (length instance.now.input) }
     requires frame { length frame.old ≡ frame_size (program_of instance.now) }
-    requires code { IsFoldCode (callable_of (program_of instance.now))
-        (rooms (program_of instance.now)) (length (program_of instance.now).slots) line
-        (fold_head fold.now) (seen_block (out-Fold fold.now).body.items) code.now }
-    requires room { length (program_of instance.now).slots
-        + statement_needs (rooms (program_of instance.now))
-        (fold_form (fold_head fold.now) (seen_block (out-Fold fold.now).body.items))
+    requires code { FoldCodeIn instance.now line fold.now code.now }
+    requires room { statement_room instance.now (fold_statement fold.now)
         ≤ frame_size (program_of instance.now) }
     requires width { IsWidth (count_of (fold_head fold.now).start) }
     requires silent { FunctionsAreSilent (program_of instance.now).functions }
-    ensures outcome { IsPlainOutcome (header_result result)
-        (header_means (environment_of (program_of instance.now) instance.now.input)
-        (fold_construct line (fold_head fold.now) (seen_block (out-Fold fold.now).body.items))
-        (state (main_slots (program_of instance.now) frame.old) quiet.old.memory.now.output.items))
-        quiet.old.memory.now.cells.items quiet.new.memory.now.cells.items
-        (state (main_slots (program_of instance.now) frame.old) quiet.old.memory.now.output.items) }
+    ensures outcome { HeaderEnds instance.now line fold.now frame.old quiet.old.memory.now
+        quiet.new.memory.now result }
     ensures decided { IsDecided result }
     ensures memory { quiet.new.memory.now.cells.items
-        ≡ plain_memory (header_means (environment_of (program_of instance.now) instance.now.input)
-        (fold_construct line (fold_head fold.now) (seen_block (out-Fold fold.now).body.items))
-        (state (main_slots (program_of instance.now) frame.old) quiet.old.memory.now.output.items))
-        quiet.old.memory.now.cells.items }
+        ≡ header_cells instance.now line fold.now frame.old quiet.old.memory.now }
     ensures same_reference { quiet.new.memory.ghost_name ≡ quiet.old.memory.ghost_name }
     ensures output { quiet.new.memory.now.output.items ≡ quiet.old.memory.now.output.items }
     ensures cells { length quiet.new.memory.now.cells.items
@@ -319,26 +290,14 @@ fn fold_header(
     requires cells { length memory.old.cells.items
         ≡ cell_count_of (program_of instance.now) (length instance.now.input) }
     requires frame { length frame.old ≡ frame_size (program_of instance.now) }
-    requires code { IsFoldCode (callable_of (program_of instance.now))
-        (rooms (program_of instance.now)) (length (program_of instance.now).slots) line
-        (fold_head fold.now) (seen_block (out-Fold fold.now).body.items) code.now }
-    requires room { length (program_of instance.now).slots
-        + statement_needs (rooms (program_of instance.now))
-        (fold_form (fold_head fold.now) (seen_block (out-Fold fold.now).body.items))
+    requires code { FoldCodeIn instance.now line fold.now code.now }
+    requires room { statement_room instance.now (fold_statement fold.now)
         ≤ frame_size (program_of instance.now) }
     requires width { IsWidth (count_of (fold_head fold.now).start) }
     requires silent { FunctionsAreSilent (program_of instance.now).functions }
-    ensures answer { IsHeaderAnswer (header_means
-        (environment_of (program_of instance.now) instance.now.input)
-        (fold_construct line (fold_head fold.now) (seen_block (out-Fold fold.now).body.items))
-        (state (main_slots (program_of instance.now) frame.old) memory.old.output.items))
-        memory.old.cells.items
-        (state (main_slots (program_of instance.now) frame.old) memory.old.output.items) result }
+    ensures answer { HeaderAnswers instance.now line fold.now frame.old memory.old result }
     ensures memory { memory.new.cells.items
-        ≡ plain_memory (header_means (environment_of (program_of instance.now) instance.now.input)
-        (fold_construct line (fold_head fold.now) (seen_block (out-Fold fold.now).body.items))
-        (state (main_slots (program_of instance.now) frame.old) memory.old.output.items))
-        memory.old.cells.items }
+        ≡ header_cells instance.now line fold.now frame.old memory.old }
     ensures output { memory.new.output.items ≡ memory.old.output.items }
     ensures cells { length memory.new.cells.items ≡ length memory.old.cells.items }
     ensures kept { main_slots (program_of instance.now) frame.new
@@ -371,9 +330,8 @@ fn header_of(
     requires construct { slice_get (constructs_in (program_of instance.now).main) index
         ≡ Some (seen_construct construct) }
     requires silent { FunctionsAreSilent (program_of instance.now).functions }
-    ensures header { (place passed : ℕ)
-        → HeaderDone (program_of instance.now) instance.now.input (seen_construct construct.entry)
-        (stand frame.old memory.old place passed) (stand frame.new memory.new place passed) result }
+    ensures header { HeaderDoneAnywhere instance.now (seen_construct construct.entry) frame.old
+        memory.old frame.new memory.new result }
     ensures output { memory.new.output.items ≡ memory.old.output.items }
     ensures cells { length memory.new.cells.items ≡ length memory.old.cells.items }
     ensures kept { main_slots (program_of instance.now) frame.new

@@ -1,18 +1,18 @@
 //! Whole programs on a memory of their own.
 
-ghost use Rattle.std.specs.Prelude.{◌≡◌, ◌<◌, ◌≤◌, ◌-◌, ◌^◌, length, take, drop, IfOk, IfErr};
+ghost use Rattle.std.specs.Prelude.{◌≡◌, ◌<◌, ◌≤◌, ◌^◌, length, IfOk, IfErr};
 ghost use Rattle.std.specs.Prelude.{IsErrAnd};
-ghost use Rattle.spf_ast.specs.View.{block as seen_block, program as seen_program};
+ghost use Rattle.spf_ast.specs.View.{program as seen_program};
 ghost use Rattle.spf_ast.specs.GoingOn.{IsOrderly};
 ghost use Rattle.spf_ast.specs.Meaning.{main_means};
-ghost use Rattle.spf_ast.specs.Program.{cell_count_of, environment_of, max_cells, outcome};
+ghost use Rattle.spf_ast.specs.Program.{cell_count_of, outcome};
 ghost use Rattle.spf_ast.specs.Program.{seen_outcome};
 ghost use Rattle.spf_exec_instance.specs.declared.layout.RunError.TheVariants.{OutOfMemory};
-ghost use Rattle.spf_exec_instance.specs.Frame.{frame_size, main_slots};
+ghost use Rattle.spf_exec_instance.specs.Frame.{frame_size};
 ghost use Rattle.spf_exec_instance.specs.Instance.{program_of};
 ghost use Rattle.spf_exec_instance.specs.RunErrors.{IsTooMany};
-ghost use Rattle.spf_exec_memory.specs.Performs.{Performs, state};
-ghost use Rattle.spf_exec_memory.specs.PlainMemory.{IsPlainOutcome};
+ghost use Rattle.spf_exec.specs.Instances.{cells_for, cell_limit, statements_between, PerformsIn};
+ghost use Rattle.spf_exec.specs.Instances.{RunsBetween};
 
 use crate::entry;
 use crate::frame::Frame;
@@ -37,12 +37,9 @@ fn perform_statements<M: Memory>(
     requires frame { length registers.old ≡ frame_size (program_of instance.now) }
     requires order { from ≤ to }
     requires within { to ≤ length instance.now.code.main.items }
-    ensures performs { Performs M.leads M.stop M.may_lack_memory
-        (main_means (environment_of (program_of instance.now) instance.now.input)
-        (seen_block (take (to - from) (drop from instance.now.code.main.items)))
-        (state (main_slots (program_of instance.now) registers.old) (M.output memory.old)))
-        memory.old memory.new result
-        (state (main_slots (program_of instance.now) registers.new) (M.output memory.new)) }
+    ensures performs { PerformsIn instance.now M.leads M.stop M.may_lack_memory M.output
+        (λ g. main_means g (statements_between instance.now from to)) registers.old registers.new
+        memory.old memory.new result }
     ensures cells { M.cell_count memory.new ≡ M.cell_count memory.old }
 {
     let code = instance.code();
@@ -65,12 +62,8 @@ pub(crate) fn run_main(
     requires frame { length registers.old ≡ frame_size (program_of instance.now) }
     requires order { from ≤ to }
     requires within { to ≤ length instance.now.code.main.items }
-    ensures outcome { IsPlainOutcome result
-        (main_means (environment_of (program_of instance.now) instance.now.input)
-        (seen_block (take (to - from) (drop from instance.now.code.main.items)))
-        (state (main_slots (program_of instance.now) registers.old) memory.old.output.items))
-        memory.old.cells.items memory.new.cells.items
-        (state (main_slots (program_of instance.now) registers.new) memory.new.output.items) }
+    ensures outcome { RunsBetween instance.now from to registers.old registers.new memory.old
+        memory.new result }
     ensures cells { length memory.new.cells.items ≡ length memory.old.cells.items }
 {
     perform_statements(instance, from, to, registers, memory)
@@ -119,12 +112,10 @@ pub fn run_plain(alloc: Global, program: &Program, input: &[u8]) -> Result<Outco
     requires orderly { IsOrderly (seen_program program.now) }
     ensures outcome { IfOk result
         (λ o. seen_outcome o ≡ outcome (seen_program program.now) input.now) }
-    ensures too_many { max_cells (seen_program program.now)
-        < cell_count_of (seen_program program.now) (length input.now)
-        → IsErrAnd result
-        (IsTooMany (cell_count_of (seen_program program.now) (length input.now))) }
-    ensures few { cell_count_of (seen_program program.now) (length input.now)
-        ≤ max_cells (seen_program program.now) → IfErr result (λ why. why ≡ OutOfMemory) }
+    ensures too_many { cell_limit program.now < cells_for program.now input.now
+        → IsErrAnd result (IsTooMany (cells_for program.now input.now)) }
+    ensures few { cells_for program.now input.now ≤ cell_limit program.now
+        → IfErr result (λ why. why ≡ OutOfMemory) }
 {
     let instance = Instance::make(alloc, program, input)?;
     let outcome = run_instance(alloc, &instance)?;

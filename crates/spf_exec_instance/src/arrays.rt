@@ -66,10 +66,11 @@ fn extents(alloc: Global, arrays: &[Array], len: u64) -> Result<Vec<(u64, u64)>,
 /// and `OutOfMemory`.
 pub fn layout(alloc: Global, program: &Program, len: u64) -> Result<Layout, RunError>
     ensures layout { IfOk result (IsLayoutOf (seen_program program.now) len) }
-    ensures too_many { max_cells (seen_program program.now) < cell_count_of (seen_program program.now) len
+    ensures too_many { max_cells (seen_program program.now)
+        < cell_count_of (seen_program program.now) len
         → IsErrAnd result (IsTooMany (cell_count_of (seen_program program.now) len)) }
-    ensures few { cell_count_of (seen_program program.now) len ≤ max_cells (seen_program program.now)
-        → IfErr result (λ why. why ≡ OutOfMemory) }
+    ensures few { cell_count_of (seen_program program.now) len
+        ≤ max_cells (seen_program program.now) → IfErr result (λ why. why ≡ OutOfMemory) }
 {
     let count = cell_count(&program.arrays, len);
     if count > max_cells_of(program) as u128 {

@@ -46,7 +46,8 @@ impl<'a> Model for Instance<'a> {
 
     ghost view = { λ i. record { code = i.program.now; input = i.input.now } };
 
-    ghost invariant = { λ i. IsInstance (seen_program i.program.now) i.input.now i.layout i.code i.frame_size };
+    ghost invariant = { λ i.
+        IsInstance (seen_program i.program.now) i.input.now i.layout i.code i.frame_size };
 }
 
 impl<'a> Instance<'a> {

@@ -77,7 +77,8 @@ pub trait Memory {
     /// Adds a byte to the output, which may have 67,108,864 bytes.
     fn emit(&mut self, byte: u8) -> Emitted
         ensures leads { leads [] self.old self.new }
-        ensures output { IsEmitted may_lack_memory result byte (output self.old) (output self.new) };
+        ensures output { IsEmitted may_lack_memory result byte (output self.old)
+            (output self.new) };
 
     ghost laws: { Laws leads stop };
 

@@ -23,7 +23,8 @@ impl Last {
 }
 
 impl Predictor for Last {
-    ghost answer = { λ last pairs _. unwrap_or (last_or (Some last.real) (reals_told pairs)) (pos 0) };
+    ghost answer = { λ last pairs _.
+        unwrap_or (last_or (Some last.real) (reals_told pairs)) (pos 0) };
 
     fn guess(&mut self, _block: i64) -> i64 {
         self.real

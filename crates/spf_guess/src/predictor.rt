@@ -19,5 +19,6 @@ pub trait Predictor: Drop {
 
     /// Tells the predictor that the part was this word when the block of this number began.
     fn tell(&mut self, block: i64, real: i64)
-        ensures told { WasTold (answer self.old) (record { block = block; real = real }) (answer self.new) };
+        ensures told { WasTold (answer self.old) (record { block = block; real = real })
+            (answer self.new) };
 }

@@ -15,3 +15,6 @@ pub mod Expecting
 pub mod Limits
 pub mod Runners
 pub mod Copying
+pub mod Sections
+pub mod Records
+pub mod Going

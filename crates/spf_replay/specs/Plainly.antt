@@ -1,6 +1,8 @@
 -- Blocks that are run plainly, one after another.
 use Rattle.std.specs.Prelude.{◌≡◌, ℕ, List, Result, Ok, Err, ℤ}
 use Rattle.spf_ast.specs.declared.outcome.Trap.{Trap}
+use Rattle.std.specs.Global.{Vec}
+use Rattle.spf_exec_memory.specs.declared.plain.Plain.{Plain}
 use Rattle.spf_ast.specs.Carried.{Carried}
 use Rattle.spf_ast.specs.ConstructView.{construct as seen_construct}
 use Rattle.spf_ast.specs.Interaction.{Interaction, State, Ending, Value, Trapped}
@@ -33,3 +35,7 @@ pub record AreRunPlainly (e : Entry) (reals : List Carried) (result : Result Car
   pub reals_are : reals ≡ (plain_blocks e).values
   pub result_is : result ≡ (plain_blocks e).result
   pub memory_is : memory ≡ (plain_blocks e).memory
+
+-- the blocks of a construct were run plainly: what is given has the rows at which they began and what they came to, and the memory is as they left it
+abbrev pub BlocksGive : InstanceValue → TopConstruct → Header → (frame : List ℤ) → (before : Plain) → Vec Carried × Result Carried Trap → (after : Plain) → Type 0
+BlocksGive i construct header frame before given after = AreRunPlainly (entry_from i construct header frame before.cells.items) given.0.items given.1 after.cells.items

@@ -1,14 +1,8 @@
 //! Attempts that are read from a log.
-ghost use Rattle.std.specs.Prelude.{◌≡◌, ◌≤◌, Some, map, drop, length};
-ghost use Rattle.spf_ast.specs.BlockRun.{block_setup, part_asks};
-ghost use Rattle.spf_ast.specs.ConstructView.{construct as seen_construct};
-ghost use Rattle.spf_ast.specs.Interaction.{perform};
-ghost use Rattle.spf_exec_instance.specs.Frame.{main_slots};
-ghost use Rattle.spf_exec_instance.specs.Instance.{program_of};
-ghost use Rattle.spf_region.specs.Cells.{in_spans};
-ghost use Rattle.spf_replay.specs.Reading.{event_of};
+ghost use Rattle.std.specs.Prelude.{◌≡◌, ◌≤◌, Some, length};
 ghost use Rattle.spf_replay.specs.Attempts.{ComesTo};
 ghost use Rattle.spf_replay.specs.Contexts.{CanRun};
+ghost use Rattle.spf_replay.specs.Sections.{attempt_read};
 
 use crate::context::BlockContext;
 use crate::memory::LogMemory;
@@ -31,12 +25,8 @@ pub(crate) fn read_attempt(
     requires can { CanRun context block.now }
     requires work { length work.old ≡ length context.frame.now }
     requires at { at ≤ length log.now }
-    ensures came { ComesTo
-        (perform (in_spans context.entry.spans.now) context.entry.entry.now (Some attempt)
-        (part_asks (program_of context.entry.instance.now) (seen_construct block.now.construct)
-        block.now.part (block_setup context.entry.instance.now.input
-        (main_slots (program_of context.entry.instance.now) context.entry.frame.now)
-        block.now.number block.now.value)) (map event_of (drop at log.now))) log.now result }
+    ensures came { ComesTo (attempt_read context.entry block.now attempt log.now at) log.now
+        result }
     ensures work { length work.new ≡ length work.old }
 {
     work.restore(context.frame);

@@ -1,12 +1,8 @@
 //! Logs of single blocks.
-ghost use Rattle.std.specs.Prelude.{◌≡◌, ◌≤◌, ◌↔◌, ℕ, IsTrue, map, length};
-ghost use Rattle.spf_ast.specs.Carried.{Carried};
-ghost use Rattle.spf_ast.specs.Interaction.{Ending};
-ghost use Rattle.spf_speculation_entry.specs.Entry.{Entry, begins_at};
-ghost use Rattle.spf_speculation.specs.Runs.{IsRealLog, IsGuessedLog};
-ghost use Rattle.spf_replay.specs.Reading.{event_of};
+ghost use Rattle.std.specs.Prelude.{◌≡◌, ◌↔◌, IsTrue, length};
 ghost use Rattle.spf_replay.specs.Deciding.{IsWholeEnd, IsReadEnd};
-ghost use Rattle.spf_replay.specs.Contexts.{CanRun, IsContextOf};
+ghost use Rattle.spf_replay.specs.Contexts.{CanRun};
+ghost use Rattle.spf_replay.specs.Sections.{TellsLog};
 
 use crate::attempt::read_attempt;
 use crate::context::BlockContext;
@@ -48,9 +44,7 @@ pub(crate) fn is_guessed_log(
 ) -> bool
     requires can { CanRun context block.now }
     requires work { length work.old ≡ length context.frame.now }
-    ensures guessed { (e : Entry) (guess : ℕ → Carried) (n : ℕ)
-        → IsContextOf e n context.entry block.now → block.now.value ≡ begins_at e guess n
-        → IsTrue result ↔ IsGuessedLog e guess n (map event_of log.now) }
+    ensures guessed { TellsLog context.entry block.now None log.now result }
     ensures work { length work.new ≡ length work.old }
 {
     let end = read_attempt(context, block, 1, log, 0, work);
@@ -68,10 +62,7 @@ pub(crate) fn is_real_log(
 ) -> bool
     requires can { CanRun context block.now }
     requires work { length work.old ≡ length context.frame.now }
-    ensures real { (e : Entry) (guess : ℕ → Carried) (n : ℕ)
-        → IsContextOf e n context.entry block.now → block.now.value ≡ begins_at e guess n
-        → IsTrue result
-        ↔ ((answer : Ending Carried) × IsRealLog e guess n real.now (map event_of log.now) answer) }
+    ensures real { TellsLog context.entry block.now (Some real.now) log.now result }
     ensures work { length work.new ≡ length work.old }
 {
     let end = read_attempt(context, block, 1, log, 0, work);

@@ -32,7 +32,8 @@ pub(crate) fn copy_spans(to: &mut [i64], from: &[i64], spans: &[Span])
 /// Copies the words of the cells of all blocks of a plan.
 pub fn copy_plan(to: &mut [i64], from: &[i64], plan: &Plan)
     requires same { length to.old ≡ length from.now }
-    ensures copied { IsCopied (in_plan (map (λ v. v.items) plan.now.blocks.items)) from.now to.old to.new }
+    ensures copied { IsCopied (in_plan (map (λ v. v.items) plan.now.blocks.items)) from.now to.old
+        to.new }
     ensures same { length to.new ≡ length to.old }
 {
     for spans in &plan.blocks {

@@ -1,12 +1,13 @@
 //! What follows when an attempt is filed.
-ghost use Rattle.std.specs.Prelude.{◌≡◌, ◌<◌, ◌==◌, ◌&&◌, ℕ, IsTrue, Bool, [], true, length, slice_get};
-ghost use Rattle.std.specs.Prelude.{if◌then◌else◌, IfOk, OnOk};
-ghost use Rattle.spf_speculation_entry.specs.Entry.{Entry, plain_blocks};
+ghost use Rattle.std.specs.Prelude.{◌≡◌, ◌<◌, ◌==◌, ◌&&◌, ℕ, [], true, length};
+ghost use Rattle.std.specs.Prelude.{IfOk, OnOk};
+ghost use Rattle.spf_speculation_entry.specs.Entry.{Entry};
 ghost use Rattle.spf_replay.specs.Entered.{entry_of, IsEntered};
 ghost use Rattle.spf_replay.specs.Runners.{status_of, after_going_on, IsRunner, AreBlocksOf};
-ghost use Rattle.spf_replay.specs.Runners.{RunsAgainOnEntry};
-ghost use Rattle.spf_replay.specs.Schedule.{Situation, is_valid, is_running, is_to_raise as is_raised};
-ghost use Rattle.spf_replay.specs.Schedule.{front, rerun, after_filing, running_blocks};
+ghost use Rattle.spf_replay.specs.Schedule.{Situation, is_valid, is_to_raise as is_raised};
+ghost use Rattle.spf_replay.specs.Schedule.{front, rerun, after_filing};
+ghost use Rattle.spf_replay.specs.Going.{status_settled, flag_settled, Become};
+ghost use Rattle.spf_replay.specs.Going.{AreRunningIn, RunningBecome};
 
 use crate::entered::{EnteredConstruct, real_row};
 use crate::runner::Runner;
@@ -63,9 +64,7 @@ fn is_to_raise(runner: &Runner, n: u64, front: &Front) -> bool
 
 /// What the turns of block n poll from now on.
 fn flag_after(runner: &Runner, n: u64, front: &Front) -> u64
-    ensures { (e : Entry) → result
-        ≡ if is_raised front.now.block n front.now.real (status_of e n runner.now) then 1
-        else runner.now.flag }
+    ensures { (e : Entry) → result ≡ flag_settled e n front.now runner.now }
 {
     if is_to_raise(runner, n, front) {
         return 1;
@@ -97,11 +96,8 @@ fn run_again(alloc: Global, runner: &mut Runner, front: &Front)
 /// What becomes of block n where an attempt was filed.
 fn settle(alloc: Global, runner: &mut Runner, n: u64, front: &Front)
     ensures status { (e : Entry) → status_of e n runner.new
-        ≡ if n == front.now.block then rerun e [] n front.now.real (status_of e n runner.old)
-        else status_of e n runner.old }
-    ensures flag { (e : Entry) → runner.new.flag
-        ≡ if is_raised front.now.block n front.now.real (status_of e n runner.old) then 1
-        else runner.old.flag }
+        ≡ status_settled e n front.now runner.old }
+    ensures flag { (e : Entry) → runner.new.flag ≡ flag_settled e n front.now runner.old }
     ensures runner { (e : Entry) → IsRunner e n runner.old → IsRunner e n runner.new }
 {
     runner.flag = flag_after(runner, n, front);
@@ -113,9 +109,7 @@ fn settle(alloc: Global, runner: &mut Runner, n: u64, front: &Front)
 /// What follows when an attempt is filed: flags are raised, and the front block may run again.
 fn file(alloc: Global, entered: &EnteredConstruct, runners: &mut [Runner])
     requires is { IsEntered entered.now }
-    ensures { (s : Situation) → AreBlocksOf (entry_of entered.now) s runners.old
-        → RunsAgainOnEntry (entry_of entered.now) s
-        → AreBlocksOf (entry_of entered.now) (after_filing (entry_of entered.now) s) runners.new }
+    ensures { Become entered.now (after_filing (entry_of entered.now)) runners.old runners.new }
 {
     let block = front_of(entered, runners);
     let front = Front {
@@ -130,7 +124,7 @@ fn file(alloc: Global, entered: &EnteredConstruct, runners: &mut [Runner])
 /// The blocks that run, in ascending order.
 pub(crate) fn running_of(alloc: Global, runners: &[Runner]) -> Result<Vec<u64>, AllocError>
     ensures { (e : Entry) (s : Situation) → AreBlocksOf e s runners.now
-        → IfOk result (λ running. running.items ≡ running_blocks s.status e.header.blocks) }
+        → IfOk result (λ running. AreRunningIn e s running.items) }
 {
     let mut running = Vec::new(alloc);
     for n in 0..runners.len() {
@@ -151,17 +145,10 @@ pub(crate) fn follow(
 ) -> Result<(), AllocError>
     requires is { IsEntered entered.now }
     requires block { n < length runners.old }
-    ensures runners { (s : Situation) → AreBlocksOf (entry_of entered.now) s runners.old
-        → RunsAgainOnEntry (entry_of entered.now) s
-        → OnOk result (AreBlocksOf (entry_of entered.now)
-        (after_going_on (entry_of entered.now) n s) runners.new) }
-    ensures running { (s : Situation) → AreBlocksOf (entry_of entered.now) s runners.old
-        → RunsAgainOnEntry (entry_of entered.now) s
-        → (is_running (s.status n) ≡ true
-        → running.old.items ≡ running_blocks s.status entered.now.header.blocks)
-        → OnOk result (running.new.items
-        ≡ running_blocks (after_going_on (entry_of entered.now) n s).status
-        entered.now.header.blocks) }
+    ensures runners { OnOk result
+        (Become entered.now (after_going_on (entry_of entered.now) n) runners.old runners.new) }
+    ensures running { OnOk result
+        (RunningBecome entered.now n runners.old running.old.items running.new.items) }
 {
     if runners[n as usize].running {
         return Ok(());

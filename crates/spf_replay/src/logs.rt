@@ -1,9 +1,10 @@
 //! The logs of all blocks of a section, in one pass over its steps.
-ghost use Rattle.std.specs.Prelude.{◌≡◌, ◌<◌, ◌==◌, if◌then◌else◌, ℕ, [], ◌∷◌, ◌++◌, length, map};
+ghost use Rattle.std.specs.Prelude.{◌≡◌, ◌<◌, ℕ, [], ◌∷◌, ◌++◌, length, map};
 ghost use Rattle.std.specs.Prelude.{IfOk, OnOk};
 ghost use Rattle.spf_speculation.specs.Steps.{log_of, AreBelow};
 ghost use Rattle.spf_replay.specs.Reading.{event_of};
 ghost use Rattle.spf_replay.specs.SeenSteps.{seen_steps, log_at};
+ghost use Rattle.spf_replay.specs.Sections.{HasOneMore};
 
 use spf_replay_log::log::{Event, Step};
 use std::alloc::{AllocError, Global};
@@ -11,10 +12,7 @@ use std::alloc::{AllocError, Global};
 /// Appends an event to one of the logs.
 fn push_event(logs: &mut Vec<Vec<Event>>, block: u64, event: Event) -> Result<(), AllocError>
     requires { block < length logs.old.items }
-    ensures { OnOk result ((length logs.new.items ≡ length logs.old.items)
-        × ((n : ℕ) → log_at logs.new.items n
-        ≡ if block == n then log_at logs.old.items n ++ event_of event ∷ []
-        else log_at logs.old.items n)) }
+    ensures { OnOk result (HasOneMore block (event_of event) logs.old.items logs.new.items) }
 {
     logs[block as usize].push(event)?;
     Ok(())

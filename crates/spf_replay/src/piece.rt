@@ -1,11 +1,11 @@
 //! Pieces of an attempt's record: up to a turn.
-ghost use Rattle.std.specs.Prelude.{◌≡◌, ◌≤◌, ◌<◌, ◌++◌, List, [], ◌∷◌, length, map, drop};
-ghost use Rattle.std.specs.Prelude.{Some, None, OnOk, MatchOption, if◌then◌else◌};
+ghost use Rattle.std.specs.Prelude.{◌≡◌, ◌≤◌, ◌<◌, ◌++◌, List, [], ◌∷◌, length, map};
+ghost use Rattle.std.specs.Prelude.{Some, None, OnOk, if◌then◌else◌};
 ghost use Rattle.spf_ast.specs.Event.{Event as AskedEvent};
 ghost use Rattle.spf_replay.specs.Reading.{event_of};
 ghost use Rattle.spf_replay.specs.Schedule.{piece, after_piece, is_turn as is_turn_event};
-ghost use Rattle.spf_replay.specs.SeenSteps.{seen_step, seen_steps};
-ghost use Rattle.spf_speculation.specs.Steps.{steps_of};
+ghost use Rattle.spf_replay.specs.SeenSteps.{seen_step};
+ghost use Rattle.spf_replay.specs.Going.{IsPieceEnd, BeginsPiece, Appends};
 
 use spf_replay_log::log::{Event, Step};
 use std::alloc::AllocError;
@@ -25,10 +25,7 @@ fn is_turn(event: Event) -> bool
 /// The index after the next turn from an index on, where there is one.
 pub(crate) fn piece_end(events: &[Event], from: usize) -> Option<usize>
     requires { from ≤ length events.now }
-    ensures { MatchOption result (after_piece (map event_of (drop from events.now)) ≡ None)
-        (λ end. (from < end) × (end ≤ length events.now)
-        × (after_piece (map event_of (drop from events.now))
-        ≡ Some (map event_of (drop end events.now)))) }
+    ensures { IsPieceEnd events.now from result }
 {
     for i in from..events.len() {
         if is_turn(events[i]) {
@@ -40,9 +37,7 @@ pub(crate) fn piece_end(events: &[Event], from: usize) -> Option<usize>
 
 /// The step of a block that an event is, with this number where it is a turn.
 fn step_of(block: u64, event: Event, number: u64) -> Step
-    ensures { (rest : List AskedEvent) → steps_of block (piece number (event_of event ∷ rest))
-        ≡ if is_turn_event (event_of event) then seen_step result ∷ []
-        else seen_step result ∷ steps_of block (piece number rest) }
+    ensures { BeginsPiece block number (event_of event) (seen_step result) }
 {
     match event {
         Event::Turn { .. } => Step {
@@ -69,8 +64,8 @@ pub(crate) fn push_piece(
     events: &[Event],
     number: u64,
 ) -> Result<(), AllocError>
-    ensures { OnOk result (seen_steps steps.new.items ≡ seen_steps steps.old.items
-        ++ steps_of block (piece number (map event_of events.now))) }
+    ensures { OnOk result
+        (Appends steps.old block (piece number (map event_of events.now)) steps.new) }
 {
     for event in events {
         push_step(steps, step_of(block, *event, number))?;

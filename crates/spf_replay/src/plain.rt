@@ -2,15 +2,15 @@
 ghost use Rattle.std.specs.Prelude.{◌≡◌, ◌≢◌, ◌≤◌, ◌+ℤ◌, ◌≤ℤ◌, ℕ, pos, Some, length};
 ghost use Rattle.std.specs.Prelude.{slice_get, IfOk};
 ghost use Rattle.spf_ast.specs.declared.syntax.Part.TheVariants.{Predictor};
-ghost use Rattle.spf_ast.specs.BlockRun.{block_setup, part_asks};
 ghost use Rattle.spf_ast.specs.Construct.{constructs_in, part_of};
 ghost use Rattle.spf_ast.specs.ConstructView.{construct as seen_construct};
 ghost use Rattle.spf_ast.specs.Meaning.{max_blocks};
 ghost use Rattle.spf_ast.specs.Program.{cell_count_of};
 ghost use Rattle.spf_ast.specs.Silence.{FunctionsAreSilent, PartIsSilent};
-ghost use Rattle.spf_exec_instance.specs.Frame.{frame_size, main_slots};
+ghost use Rattle.spf_exec_instance.specs.Frame.{frame_size};
 ghost use Rattle.spf_exec_instance.specs.Instance.{program_of};
-ghost use Rattle.spf_replay.specs.Plainly.{BlockGives, AreRunPlainly, entry_from};
+ghost use Rattle.spf_exec.specs.Instances.{block_asks};
+ghost use Rattle.spf_replay.specs.Plainly.{BlockGives, BlocksGive};
 
 use crate::entered::number_at;
 use spf_ast::construct::TopConstruct;
@@ -42,9 +42,7 @@ fn run_block(
     requires silent { PartIsSilent (seen_construct block.now.construct) block.now.part }
     requires functions_silent { FunctionsAreSilent (program_of instance.now).functions }
     requires run { block.now.part ≢ Predictor }
-    ensures gives { BlockGives (part_asks (program_of instance.now)
-        (seen_construct block.now.construct) block.now.part (block_setup instance.now.input
-        (main_slots (program_of instance.now) frame.now) block.now.number block.now.value))
+    ensures gives { BlockGives (block_asks instance.now block.now frame.now)
         memory.old.cells.items result memory.new.cells.items }
     ensures cells { length memory.new.cells.items ≡ length memory.old.cells.items }
     ensures work { length work.new ≡ length work.old }
@@ -108,8 +106,7 @@ pub fn run_blocks(
     requires few { header.now.blocks ≤ max_blocks }
     requires fits { (header.now.low +ℤ pos header.now.blocks) ≤ℤ i64.MAX }
     ensures plain { IfOk result (λ r.
-        AreRunPlainly (entry_from instance.now construct.entry header.now frame.now
-        memory.old.cells.items) r.0.items r.1 memory.new.cells.items) }
+        BlocksGive instance.now construct.entry header.now frame.now memory.old r memory.new) }
     ensures cells { length memory.new.cells.items ≡ length memory.old.cells.items }
 {
     let mut work = frame.copy(alloc)?;

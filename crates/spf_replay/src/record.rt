@@ -1,8 +1,8 @@
 //! The memory of an attempt that is recorded.
 
-ghost use Rattle.std.specs.Prelude.{◌≡◌, ◌≤◌, length, map, take};
+ghost use Rattle.std.specs.Prelude.{◌≡◌, ◌≤◌, length};
 ghost use Rattle.spf_replay.specs.Reading.{event_of};
-ghost use Rattle.spf_replay.specs.Recording.{Adds};
+ghost use Rattle.spf_replay.specs.Records.{AddsTo};
 
 use crate::reader::is_in;
 use crate::steps::word_of;
@@ -35,9 +35,8 @@ impl<'a> RecordMemory<'a> {
         ensures entry { self.new.entry ≡ self.old.entry }
         ensures cells { self.new.cells ≡ self.old.cells }
         ensures room { length self.new.room.items ≡ length self.old.room.items }
-        ensures record { Adds (event_of event) (length self.old.room.items)
-            self.old.full (map event_of (take self.old.count self.old.room.items))
-            self.new.full (map event_of (take self.new.count self.new.room.items)) }
+        ensures record { AddsTo self.old.room self.old.count self.old.full (event_of event)
+            self.new.room self.new.count self.new.full }
     {
         if self.full {
             return;

@@ -1,12 +1,9 @@
 //! Attempts that are recorded.
-ghost use Rattle.std.specs.Prelude.{◌≡◌, ◌≤◌, ℕ, [], true, false, map, take, length};
+ghost use Rattle.std.specs.Prelude.{◌≡◌, ◌≤◌, ℕ, true, false, length};
 ghost use Rattle.spf_ast.specs.Event.{word_at};
-ghost use Rattle.spf_speculation_entry.specs.Entry.{Entry, IsEntry};
 ghost use Rattle.spf_region.specs.Cells.{in_spans};
-ghost use Rattle.spf_replay.specs.Contexts.{CanRun, IsContextOf};
-ghost use Rattle.spf_replay.specs.Reading.{event_of};
-ghost use Rattle.spf_replay.specs.Recording.{IsRecordOf};
-ghost use Rattle.spf_replay.specs.Schedule.{attempt_events};
+ghost use Rattle.spf_replay.specs.Contexts.{CanRun};
+ghost use Rattle.spf_replay.specs.Records.{RecordsAttempt, KeepsOthers};
 
 use crate::context::BlockContext;
 use crate::record::RecordMemory;
@@ -42,12 +39,8 @@ pub(crate) fn record_attempt(
     requires words { (cell : ℕ) → in_spans context.spans.now cell ≡ true
         → word_at cells.items cell ≡ word_at context.entry.now cell }
     requires work { length work.old ≡ length context.frame.now }
-    ensures record { (e : Entry) (n : ℕ) → IsEntry e → IsContextOf e n context.entry block.now
-        → IsRecordOf (attempt_events e n block.now.value []) (length room.items) result.full
-        (map event_of (take result.count result.room.items)) }
-    ensures outside { (e : Entry) (n : ℕ) → IsEntry e → IsContextOf e n context.entry block.now
-        → (cell : ℕ) → in_spans context.entry.spans.now cell ≡ false
-        → word_at result.cells.items cell ≡ word_at cells.items cell }
+    ensures record { RecordsAttempt context.entry block.now (length room.items) result }
+    ensures outside { KeepsOthers context.entry block.now cells.items result.cells.items }
     ensures room { length result.room.items ≡ length room.items }
     ensures inside { result.count ≤ length result.room.items }
     ensures cells { length result.cells.items ≡ length cells.items }

@@ -1,15 +1,13 @@
 //! Blocks of a schedule: an attempt's events are recorded, and taken piece by piece.
-ghost use Rattle.std.specs.Prelude.{◌≡◌, ◌≢◌, ◌≤◌, ◌<◌, ◌+◌, ◌++◌, ℕ, IsTrue, [], true, false};
-ghost use Rattle.std.specs.Prelude.{length, map, take, drop, None, IfOk, OnOk};
+ghost use Rattle.std.specs.Prelude.{◌≡◌, ◌≤◌, ◌<◌, IsTrue, [], true, false};
+ghost use Rattle.std.specs.Prelude.{length, drop, None, IfOk, OnOk};
 ghost use Rattle.spf_speculation_entry.specs.Entry.{Entry};
-ghost use Rattle.spf_speculation.specs.Steps.{steps_of};
 ghost use Rattle.spf_replay.specs.Entered.{entry_of, IsEntered};
-ghost use Rattle.spf_replay.specs.Reading.{event_of};
-ghost use Rattle.spf_replay.specs.Recording.{IsRecordOf};
-ghost use Rattle.spf_replay.specs.Runners.{status_of, seen_by, next_status, IsRunner, HasPiece};
+ghost use Rattle.spf_replay.specs.Runners.{status_of, seen_by, IsRunner, HasPiece};
 ghost use Rattle.spf_replay.specs.Runners.{AreOwnWords};
 ghost use Rattle.spf_replay.specs.Schedule.{attempt_events, piece, after_piece};
-ghost use Rattle.spf_replay.specs.SeenSteps.{seen_steps};
+ghost use Rattle.spf_replay.specs.Records.{Records};
+ghost use Rattle.spf_replay.specs.Going.{Appends, next_piece, status_next};
 
 use crate::copying::copy_spans;
 use crate::entered::{EnteredConstruct, context_of, number_at};
@@ -59,8 +57,8 @@ pub(crate) fn record_block(
     requires cells { length cells.items ≡ length entered.now.cells.now }
     requires words { AreOwnWords entered.now cells.items }
     requires work { length work.old ≡ length entered.now.frame.now }
-    ensures record { IsRecordOf (attempt_events (entry_of entered.now) n row []) (length room.items)
-        result.full (map event_of (take result.count result.room.items)) }
+    ensures record { Records (attempt_events (entry_of entered.now) n row []) (length room.items)
+        result }
     ensures room { length result.room.items ≡ length room.items }
     ensures inside { result.count ≤ length result.room.items }
     ensures cells { length result.cells.items ≡ length cells.items }
@@ -119,13 +117,9 @@ pub(crate) fn take_piece(
     requires taken { runner.old.taken ≤ runner.old.count }
     requires piece { HasPiece runner.old }
     ensures steps { (e : Entry) → IsRunner e n runner.old
-        → OnOk result (seen_steps steps.new.items ≡ seen_steps steps.old.items
-        ++ steps_of n (piece runner.old.flag
-        (drop runner.old.taken (attempt_events e n runner.old.row [])))) }
+        → OnOk result (Appends steps.old n (next_piece e n runner.old) steps.new) }
     ensures status { (e : Entry) → IsRunner e n runner.old
-        → OnOk result (status_of e n runner.new
-        ≡ next_status runner.old.flag runner.old.attempt runner.old.row
-        (after_piece (drop runner.old.taken (attempt_events e n runner.old.row [])))) }
+        → OnOk result (status_of e n runner.new ≡ status_next e n runner.old) }
     ensures runner { (e : Entry) → IsRunner e n runner.old → OnOk result (IsRunner e n runner.new) }
     ensures attempt { runner.new.attempt ≡ runner.old.attempt }
     ensures row { runner.new.row ≡ runner.old.row }

@@ -1,17 +1,14 @@
 //! Schedules of constructs.
-ghost use Rattle.std.specs.Prelude.{◌≡◌, ◌≤◌, ◌<◌, ◌+◌, ◌++◌, ℕ, List, [], true, length, drop};
+ghost use Rattle.std.specs.Prelude.{◌≡◌, ◌≤◌, ◌<◌, ◌+◌, ℕ, true, length};
 ghost use Rattle.std.specs.Prelude.{IfOk, IfErr, OnOk};
 ghost use Rattle.spf_ast.specs.Carried.{Carried};
-ghost use Rattle.spf_speculation.specs.Steps.{Step as Taken, steps_of};
 ghost use Rattle.spf_replay.specs.declared.schedule.ScheduleError.TheVariants.{OutOfMemory};
 ghost use Rattle.spf_replay.specs.declared.schedule.ScheduleError.TheVariants.{TooManySteps};
 ghost use Rattle.spf_replay.specs.Entered.{entry_of, IsEntered, HasGuesses};
 ghost use Rattle.spf_replay.specs.Limits.{max_steps};
-ghost use Rattle.spf_replay.specs.Runners.{status_of, next_status, IsRunner, HasRoom, IsScratch};
-ghost use Rattle.spf_replay.specs.Runners.{IsBlockOf, AreBlocksOf};
-ghost use Rattle.spf_replay.specs.Schedule.{attempt_events, piece, after_piece, beginning};
-ghost use Rattle.spf_replay.specs.Schedule.{IsScheduled};
-ghost use Rattle.spf_replay.specs.SeenSteps.{seen_steps};
+ghost use Rattle.spf_replay.specs.Runners.{status_of, IsRunner, HasRoom, IsScratch};
+ghost use Rattle.spf_replay.specs.Going.{Appends, PassesLimit, next_piece, status_next};
+ghost use Rattle.spf_replay.specs.Going.{IsFirst, AreFirst, IsScheduleOf, SaysTooMany};
 
 use crate::entered::{EnteredConstruct, first_row};
 use crate::filing::{follow, running_of};
@@ -60,9 +57,7 @@ pub struct Schedule {
 fn first_runner(alloc: Global, entered: &EnteredConstruct, n: u64) -> Runner
     requires is { IsEntered entered.now }
     requires block { n < entered.now.header.blocks }
-    ensures { (guess : ℕ → Carried) (state : ℕ) → HasGuesses entered.now guess
-        → IsBlockOf (entry_of entered.now) (beginning (entry_of entered.now) guess state) n
-        result }
+    ensures { IsFirst entered.now n result }
 {
     Runner {
         attempt: 1,
@@ -80,10 +75,7 @@ fn first_runner(alloc: Global, entered: &EnteredConstruct, n: u64) -> Runner
 /// All blocks at the start.
 fn first_runners(alloc: Global, entered: &EnteredConstruct) -> Result<Vec<Runner>, AllocError>
     requires is { IsEntered entered.now }
-    ensures { (guess : ℕ → Carried) (state : ℕ) → HasGuesses entered.now guess
-        → IfOk result (λ runners.
-        AreBlocksOf (entry_of entered.now) (beginning (entry_of entered.now) guess state)
-        runners.items) }
+    ensures { IfOk result (λ runners. AreFirst entered.now runners.items) }
 {
     let mut runners = Vec::new(alloc);
     for n in 0..entered.header.blocks {
@@ -111,17 +103,13 @@ fn go_on(
     requires scratch { IsScratch entered.now scratch.old }
     ensures runner { OnOk result (IsRunner (entry_of entered.now) n runner.new) }
     ensures status { OnOk result (status_of (entry_of entered.now) n runner.new
-        ≡ next_status runner.old.flag runner.old.attempt runner.old.row
-        (after_piece (drop runner.old.taken
-        (attempt_events (entry_of entered.now) n runner.old.row [])))) }
+        ≡ status_next (entry_of entered.now) n runner.old) }
     ensures flag { OnOk result (runner.new.flag ≡ runner.old.flag) }
-    ensures steps { OnOk result (seen_steps steps.new.items ≡ seen_steps steps.old.items
-        ++ steps_of n (piece runner.old.flag (drop runner.old.taken
-        (attempt_events (entry_of entered.now) n runner.old.row [])))) }
+    ensures steps { OnOk result
+        (Appends steps.old n (next_piece (entry_of entered.now) n runner.old) steps.new) }
     ensures few { OnOk result (length steps.new.items ≤ limit) }
     ensures too_many { IfErr result (λ why. why ≡ TooManySteps
-        → limit < length steps.old.items + length (piece runner.old.flag (drop runner.old.taken
-        (attempt_events (entry_of entered.now) n runner.old.row [])))) }
+        → PassesLimit limit steps.old (next_piece (entry_of entered.now) n runner.old)) }
     ensures scratch { IsScratch entered.now scratch.new }
 {
     let most = limit - steps.len();
@@ -152,13 +140,10 @@ pub fn schedule_of(
     requires counted { counted ≤ max_steps }
     requires scratch { IsScratch entered.now scratch.old }
     ensures scheduled { (guess : ℕ → Carried) → HasGuesses entered.now guess
-        → IfOk result (λ made.
-        IsScheduled (entry_of entered.now) guess state (seen_steps made.steps.items) made.state) }
+        → IfOk result (IsScheduleOf entered.now guess state) }
     ensures few { IfOk result (λ made. counted + length made.steps.items ≤ max_steps) }
     ensures too_many { (guess : ℕ → Carried) → HasGuesses entered.now guess
-        → IfErr result (λ why. why ≡ TooManySteps → (steps : List Taken) (last : ℕ)
-        → IsScheduled (entry_of entered.now) guess state steps last
-        → max_steps < counted + length steps) }
+        → IfErr result (SaysTooMany entered.now guess state counted) }
     ensures room { HasRoom entered.now scratch.new }
 {
     each_form_has_one_plain_run();

@@ -1,10 +1,10 @@
 //! Records of attempts that grow until they have the next piece.
-ghost use Rattle.std.specs.Prelude.{◌≡◌, ◌≤◌, ◌<◌, ℕ, IsTrue, [], true, false, length, drop};
+ghost use Rattle.std.specs.Prelude.{◌≡◌, ◌≤◌, ◌<◌, IsTrue, true, false};
 ghost use Rattle.std.specs.Prelude.{IfOk, OnOk};
 ghost use Rattle.spf_replay.specs.Entered.{entry_of, IsEntered};
 ghost use Rattle.spf_replay.specs.Limits.{max_steps};
 ghost use Rattle.spf_replay.specs.Runners.{with_record_of, IsRunner, IsScratch, HasPiece};
-ghost use Rattle.spf_replay.specs.Schedule.{attempt_events, piece};
+ghost use Rattle.spf_replay.specs.Going.{PieceIsOver, events_left};
 
 use crate::entered::EnteredConstruct;
 use crate::runner::{Runner, has_piece, record_block, room_of};
@@ -81,9 +81,8 @@ pub(crate) fn extend_record(
     ensures runner { OnOk result (IsRunner (entry_of entered.now) n runner.new) }
     ensures same { OnOk result (runner.new ≡ with_record_of runner.new runner.old) }
     ensures whole { IfOk result (λ whole. IsTrue whole → HasPiece runner.new) }
-    ensures long { IfOk result (λ whole. whole ≡ false → (number : ℕ)
-        → most < length (piece number (drop runner.old.taken
-        (attempt_events (entry_of entered.now) n runner.old.row [])))) }
+    ensures long { IfOk result (λ whole. whole ≡ false
+        → PieceIsOver most (events_left (entry_of entered.now) n runner.old)) }
     ensures scratch { IsScratch entered.now scratch.new }
 {
     let largest = runner.taken + most + 1;

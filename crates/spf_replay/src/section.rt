@@ -1,11 +1,9 @@
 //! Sections: whether the steps of a construct's blocks are a speculative run.
-ghost use Rattle.std.specs.Prelude.{◌≡◌, ◌<◌, ◌↔◌, ℕ, IsTrue, map, length, slice_get, IfOk};
+ghost use Rattle.std.specs.Prelude.{◌≡◌, ◌<◌, ◌↔◌, ℕ, IsTrue, length, IfOk};
 ghost use Rattle.spf_ast.specs.Carried.{Carried};
-ghost use Rattle.spf_replay.specs.Reading.{event_of};
-ghost use Rattle.spf_replay.specs.Deciding.{IsLogAt, IsRun};
-ghost use Rattle.spf_replay.specs.SeenSteps.{seen_steps};
-ghost use Rattle.spf_replay.specs.Entered.{entry_of, IsEntered, HasGuesses};
+ghost use Rattle.spf_replay.specs.Entered.{IsEntered, HasGuesses};
 ghost use Rattle.spf_replay.specs.Runners.{HasRoom, IsScratch};
+ghost use Rattle.spf_replay.specs.Sections.{IsLogOf, TellsRun};
 
 use crate::block::{is_guessed_log, is_real_log};
 use crate::entered::{EnteredConstruct, context_of, first_row, number_at, real_row};
@@ -24,8 +22,7 @@ fn is_log(entered: &EnteredConstruct, n: u64, log: &[Event], work: &mut Frame) -
     requires block { n < entered.now.header.blocks }
     requires work { length work.old ≡ length entered.now.frame.now }
     ensures log { (guess : ℕ → Carried) → HasGuesses entered.now guess → IsTrue result
-        ↔ IsLogAt (entry_of entered.now) guess (slice_get entered.now.reals.now n) n
-        (map event_of log.now) }
+        ↔ IsLogOf entered.now guess n log.now }
     ensures work { length work.new ≡ length work.old }
 {
     let context = context_of(entered, n);
@@ -57,8 +54,7 @@ pub fn is_speculative_run(
     requires is { IsEntered entered.now }
     requires scratch { IsScratch entered.now scratch.old }
     ensures run { (guess : ℕ → Carried) → HasGuesses entered.now guess
-        → IfOk result
-        (λ is. IsTrue is ↔ IsRun (entry_of entered.now) guess (seen_steps steps.now)) }
+        → IfOk result (TellsRun entered.now guess steps.now) }
     ensures room { HasRoom entered.now scratch.new }
 {
     runs_have_their_logs();

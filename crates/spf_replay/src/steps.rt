@@ -1,9 +1,10 @@
 //! Steps of a section on one memory.
-ghost use Rattle.std.specs.Prelude.{◌≡◌, ◌↔◌, IsTrue, List, ◌∷◌, length, slice_set};
-ghost use Rattle.spf_ast.specs.Event.{Event as AskedEvent, word_at, IsConsistent};
+ghost use Rattle.std.specs.Prelude.{◌≡◌, ◌↔◌, IsTrue, length, slice_set};
+ghost use Rattle.spf_ast.specs.Event.{word_at, IsConsistent};
 ghost use Rattle.spf_speculation.specs.Steps.{events_of, AreBelow};
 ghost use Rattle.spf_replay.specs.Reading.{event_of};
 ghost use Rattle.spf_replay.specs.SeenSteps.{seen_steps};
+ghost use Rattle.spf_replay.specs.Sections.{TellsEvent};
 
 use spf_replay_log::log::{Event, Step};
 
@@ -26,8 +27,7 @@ pub(crate) fn set_word(memory: &mut [i64], cell: u64, word: i64)
 
 /// Makes an event on a memory. Tells whether the memory gives what the event says.
 fn is_next(memory: &mut [i64], event: Event) -> bool
-    ensures next { (rest : List AskedEvent) → IsConsistent (event_of event ∷ rest) memory.old
-        ↔ (IsTrue result × IsConsistent rest memory.new) }
+    ensures next { TellsEvent (event_of event) memory.old result memory.new }
     ensures size { length memory.new ≡ length memory.old }
 {
     match event {

@@ -83,8 +83,8 @@ pub fn simulate_instance(
     seed: u64,
 ) -> Result<Option<Simulated>, AllocError>
     requires program { program_of instance.now ≡ seen_program checked.now }
-    requires hosts { missing_host (length hosts.old.items) (constructs_in (program_of instance.now).main)
-        ≡ None }
+    requires hosts { missing_host (length hosts.old.items)
+        (constructs_in (program_of instance.now).main) ≡ None }
     ensures simulated { IfOk result (ComesTo (supplied answer hosts.old.items)
         (program_of instance.now) instance.now.input seed) }
     ensures told { IfOk result (λ s. WereTold (supplied answer hosts.old.items)

@@ -1,5 +1,5 @@
 -- The verdict on a log, up to where a run stands.
-use Rattle.std.specs.Prelude.{◌≡◌, ◌+◌, ℕ, List, map, length, take, slice_get, Option, Some, None}
+use Rattle.std.specs.Prelude.{◌≡◌, ◌+◌, ℕ, List, [], ◌∷◌, ◌++◌, map, length, take, slice_get, Option, Some, None}
 use Rattle.std.specs.Global.{Vec}
 use Rattle.spf_ast.specs.Carried.{Carried}
 use Rattle.spf_speculation_entry.specs.Entry.{Entry}
@@ -8,7 +8,13 @@ use Rattle.spf_engine_laws.specs.Passed.{PassedConstruct}
 use Rattle.spf_replay_log.specs.declared.log.Step as logged
 use Rattle.spf_replay_log.specs.Log.{sections_of}
 use Rattle.spf_replay.specs.SeenSteps.{seen_steps}
+use Rattle.spf_ast.specs.Syntax.{Program}
+use Rattle.spf_guess_statistics.specs.Guess.{Hosts}
+use Rattle.spf_replay.specs.declared.entered.EnteredConstruct.{EnteredConstruct}
+use Rattle.spf_replay.specs.declared.verdict.Verdict.{Verdict}
 use Rattle.spf_replay.specs.declared.verdict.Verdict.TheVariants.{Yes}
+use Rattle.spf_replay.specs.Entered.{entry_of, HasGuesses}
+use Rattle.spf_replay.specs.Expecting.{expected}
 use Rattle.spf_replay.specs.Verdicts.{Expected, Fits, IsVerdict}
 use Rattle.spf_replay_walk.specs.declared.judging.Judge.{Judge}
 use Rattle.spf_replay_walk.specs.declared.judging.Judged.{Judged}
@@ -39,3 +45,24 @@ pub record HasJudged (passed : List PassedConstruct) (log : List (List Step)) (j
 pub record HasJudgedLog (first : Judge) (passed : List PassedConstruct) (now : Judge) : Type 0 where
   pub same_log : now.log.now ≡ first.log.now
   pub judged : HasJudged passed (seen_log first.log.now) now.judged
+
+-- the verdict on a whole log, where these constructs were passed and no further one is
+abbrev pub IsVerdictAfter : List PassedConstruct → List (Vec logged.Step) → Verdict → Type 0
+IsVerdictAfter passed log verdict = IsVerdict (expected_of_all passed) (seen_log log) verdict
+
+-- the verdict on the log of a judge, whatever it has judged so far
+abbrev pub GivesVerdict : Judge → Verdict → Type 0
+GivesVerdict judge verdict = (first : Judge) (passed : List PassedConstruct) → HasJudgedLog first passed judge → IsVerdictAfter passed first.log.now verdict
+
+-- the verdict on a log of a program's run with these hosts
+abbrev pub IsVerdictOn : Hosts → Program → List ℕ → List (Vec logged.Step) → Verdict → Type 0
+IsVerdictOn hosts p input log verdict = IsVerdict (expected hosts p input) (seen_log log) verdict
+
+-- the verdict on the section of a construct that a run has come to, with these guesses
+abbrev pub IsAfterSection : List (Vec logged.Step) → ℕ → EnteredConstruct → (ℕ → Carried) → Option ℕ → Type 0
+IsAfterSection log n entered guess next = IsAfterRun (seen_log log) n (entry_of entered) guess next
+
+-- the verdict on the sections of all constructs that were passed became that on these and one more
+abbrev pub JudgesNext : List (Vec logged.Step) → EnteredConstruct → (before after : Judged) → Type 0
+JudgesNext log entered before after = (passed : List PassedConstruct) (x : PassedConstruct) → HasJudged passed (seen_log log) before
+    → x.entry ≡ entry_of entered → HasGuesses entered x.guess → HasJudged (passed ++ x ∷ []) (seen_log log) after

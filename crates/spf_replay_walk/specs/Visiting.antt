@@ -5,6 +5,7 @@ use Rattle.spf_ast.specs.Syntax.{Program}
 use Rattle.spf_speculation_entry.specs.Entry.{Entry}
 use Rattle.spf_guess_statistics.specs.declared.guess.Guess as code_guess
 use Rattle.spf_guess_statistics.specs.Guess.{Guess, Hosts}
+use Rattle.spf_exec_instance.specs.Instance.{InstanceValue, program_of}
 use Rattle.spf_engine_laws.specs.Passed.{PassedConstruct, passed_from, all_passed, OneByOne, PassedAlike}
 
 -- these are the guesses for the blocks from 1 on
@@ -33,3 +34,7 @@ pub record VisitsAll {V : Type 0} (has_visited : Visits V) (before after : V) (h
   pub passed : List PassedConstruct
   pub alike : OneByOne PassedAlike passed (all_passed hosts p input)
   pub visited : VisitsFrom has_visited [] before passed after
+
+-- it took those of an instance's run
+abbrev pub VisitsRun : {V : Type 0} → Visits V → (before after : V) → Hosts → InstanceValue → Type 0
+VisitsRun {V} has_visited before after hosts i = VisitsAll has_visited before after hosts (program_of i) i.input

@@ -1,15 +1,16 @@
 //! The verdict on a log, section by section.
-ghost use Rattle.std.specs.Prelude.{◌≡◌, ◌<◌, ◌≤◌, ◌++◌, ◌∷◌, [], ℕ, List, length, slice_get, Some, IfOk};
+ghost use Rattle.std.specs.Prelude.{◌≡◌, ◌<◌, ◌≤◌, [], ℕ, List, length, slice_get, Some, IfOk};
 ghost use Rattle.spf_ast.specs.Carried.{Carried};
 ghost use Rattle.spf_engine_laws.specs.Passed.{PassedConstruct};
 ghost use Rattle.spf_speculation.specs.Steps.{Step as SeenStep};
 ghost use Rattle.spf_replay.specs.declared.verdict.Verdict.TheVariants.{Yes, No};
 ghost use Rattle.spf_replay.specs.SeenSteps.{seen_steps};
-ghost use Rattle.spf_replay.specs.Entered.{entry_of, IsEntered, HasGuesses};
+ghost use Rattle.spf_replay.specs.Entered.{IsEntered, HasGuesses};
 ghost use Rattle.spf_replay.specs.Runners.{HasRoom, IsScratch};
-ghost use Rattle.spf_replay.specs.Verdicts.{IsVerdict};
-ghost use Rattle.spf_replay_walk.specs.Judging.{seen_log, expected_of_all, HasJudged};
-ghost use Rattle.spf_replay_walk.specs.Judging.{HasJudgedLog, IsAfterRun};
+ghost use Rattle.spf_replay_walk.specs.Judging.{seen_log, HasJudged};
+ghost use Rattle.spf_replay_walk.specs.Judging.{HasJudgedLog};
+ghost use Rattle.spf_replay_walk.specs.Judging.{JudgesNext, IsAfterSection};
+ghost use Rattle.spf_replay_walk.specs.Judging.{IsVerdictAfter, GivesVerdict};
 
 use crate::visitor::Visitor;
 use spf_replay::Step;
@@ -78,7 +79,7 @@ fn after_section(
     requires is { IsEntered entered.now }
     requires scratch { IsScratch entered.now scratch.old }
     ensures after { (guess : ℕ → Carried) → HasGuesses entered.now guess
-        → IfOk result (IsAfterRun (seen_log log.now) n (entry_of entered.now) guess) }
+        → IfOk result (IsAfterSection log.now n entered.now guess) }
     ensures room { HasRoom entered.now scratch.new }
 {
     if n >= log.len() {
@@ -101,9 +102,7 @@ fn judge_next(
     requires is { IsEntered entered.now }
     requires scratch { IsScratch entered.now scratch.old }
     requires right { judged.verdict ≡ Yes }
-    ensures judged { IfOk result (λ j. (passed : List PassedConstruct) (x : PassedConstruct)
-        → HasJudged passed (seen_log log.now) judged → x.entry ≡ entry_of entered.now
-        → HasGuesses entered.now x.guess → HasJudged (passed ++ x ∷ []) (seen_log log.now) j) }
+    ensures judged { IfOk result (λ after. JudgesNext log.now entered.now judged after) }
     ensures room { HasRoom entered.now scratch.new }
 {
     match after_section(alloc, log, judged.next, entered, scratch)? {
@@ -129,9 +128,7 @@ pub(crate) fn judge_section(
 ) -> Result<Judged, AllocError>
     requires is { IsEntered entered.now }
     requires scratch { IsScratch entered.now scratch.old }
-    ensures judged { IfOk result (λ j. (passed : List PassedConstruct) (x : PassedConstruct)
-        → HasJudged passed (seen_log log.now) judged → x.entry ≡ entry_of entered.now
-        → HasGuesses entered.now x.guess → HasJudged (passed ++ x ∷ []) (seen_log log.now) j) }
+    ensures judged { IfOk result (λ after. JudgesNext log.now entered.now judged after) }
     ensures room { HasRoom entered.now scratch.new }
 {
     match judged.verdict {
@@ -154,7 +151,7 @@ fn end_verdict(log: &[Vec<Step>], next: usize) -> Verdict
 /// The verdict on the whole log, where no further construct is passed.
 pub(crate) fn judge_end(log: &[Vec<Step>], judged: Judged) -> Verdict
     ensures { (passed : List PassedConstruct) → HasJudged passed (seen_log log.now) judged
-        → IsVerdict (expected_of_all passed) (seen_log log.now) result }
+        → IsVerdictAfter passed log.now result }
 {
     match judged.verdict {
         Verdict::No { .. } => judged.verdict,
@@ -183,9 +180,7 @@ impl<'a> Judge<'a> {
 
     /// The verdict on the log, where no further construct is visited.
     pub(crate) fn verdict(&self) -> Verdict
-        ensures { (first : Judge) (passed : List PassedConstruct)
-            → HasJudgedLog first passed self.now
-            → IsVerdict (expected_of_all passed) (seen_log first.log.now) result }
+        ensures { GivesVerdict self.now result }
     {
         judge_end(self.log, self.judged)
     }

@@ -1,11 +1,11 @@
 //! The blocks of a construct, run plainly in place.
-ghost use Rattle.std.specs.Prelude.{◌≡◌, ℕ, true, IfOk, OnOk};
-ghost use Rattle.spf_ast.specs.Event.{word_at};
+ghost use Rattle.std.specs.Prelude.{◌≡◌, IfOk, OnOk};
 ghost use Rattle.spf_ast.specs.View.{program as seen_program};
 ghost use Rattle.spf_chain.specs.Finishing.{result_as};
-ghost use Rattle.spf_speculation_entry.specs.Entry.{IsEntry, plain_blocks};
-ghost use Rattle.spf_replay.specs.Copying.{in_plan, HasOwnSpans};
+ghost use Rattle.spf_speculation_entry.specs.Entry.{IsEntry};
+ghost use Rattle.spf_replay.specs.Copying.{HasOwnSpans};
 ghost use Rattle.spf_replay_walk.specs.Positions.{entry_at, spans_of, IsAtConstruct, IsSpare};
+ghost use Rattle.spf_replay_walk.specs.Examining.{plain_at, AgreeIn};
 
 use crate::position::{Position, Spare};
 use spf_ast::outcome::Trap;
@@ -60,15 +60,13 @@ pub(crate) fn run_plainly(
     requires plan { HasOwnSpans (entry_at position header.now cells.items) (spans_of plan.now) }
     requires spare { IsSpare position.instance.now spare.old }
     ensures reals { IfOk result (λ b. b.reals.items
-        ≡ (plain_blocks (entry_at position.entry header.now cells.items)).values) }
+        ≡ (plain_at position.entry header.now cells.items).values) }
     ensures result { IfOk result (λ b. result_as b.settled
-        ≡ (plain_blocks (entry_at position.entry header.now cells.items)).result) }
+        ≡ (plain_at position.entry header.now cells.items).result) }
     ensures cells { IfOk result (λ b. b.cells.items ≡ cells.items) }
-    ensures before { OnOk result ((cell : ℕ) → in_plan (spans_of plan.now) cell ≡ true
-        → word_at spare.new.scratch.cells.items cell ≡ word_at cells.items cell) }
-    ensures after { OnOk result ((cell : ℕ) → in_plan (spans_of plan.now) cell ≡ true
-        → word_at spare.new.after.items cell
-        ≡ word_at (plain_blocks (entry_at position.entry header.now cells.items)).memory cell) }
+    ensures before { OnOk result (AgreeIn plan.now spare.new.scratch.cells.items cells.items) }
+    ensures after { OnOk result (AgreeIn plan.now spare.new.after.items
+        (plain_at position.entry header.now cells.items).memory) }
     ensures spare { IsSpare position.entry.instance.now spare.new }
 {
     // Law: functions emit nothing, and there are fewer than 2^32 top constructs.

@@ -1,17 +1,14 @@
 //! Whole logs.
-ghost use Rattle.std.specs.Prelude.{◌≡◌, ◌<◌, ◌≤◌, length, map, None, IfOk, IfErr, IsErrAnd};
+ghost use Rattle.std.specs.Prelude.{◌≡◌, ◌<◌, length, None, IfOk, IfErr, IsErrAnd};
 ghost use Rattle.spf_ast.specs.View.{program as seen_program};
 ghost use Rattle.spf_ast.specs.Construct.{constructs_in};
-ghost use Rattle.spf_ast.specs.Program.{cell_count_of, max_cells};
 ghost use Rattle.spf_exec_instance.specs.Instance.{program_of};
-ghost use Rattle.spf_guess_statistics.specs.Statistics.{tally};
-ghost use Rattle.spf_guess.specs.Answers.{supplied, WereTold};
+ghost use Rattle.spf_guess.specs.Answers.{supplied};
 ghost use Rattle.spf_guess.specs.Missing.{missing_host};
-ghost use Rattle.spf_engine.specs.Runs.{WereToldFirst};
-ghost use Rattle.spf_engine.specs.Errors.{AreTooMany, IsMissing, WereToldNothing, IsNotRun};
-ghost use Rattle.spf_replay.specs.Expecting.{expected};
-ghost use Rattle.spf_replay.specs.Verdicts.{IsVerdict};
-ghost use Rattle.spf_replay_walk.specs.Judging.{seen_log};
+ghost use Rattle.spf_engine.specs.Errors.{WereToldNothing};
+ghost use Rattle.spf_engine.specs.Handed.{WereToldAll, WereToldSome, HasTooManyCells};
+ghost use Rattle.spf_engine.specs.Handed.{HasFewCells, SaysCells, SaysHost, SaysWhy};
+ghost use Rattle.spf_replay_walk.specs.Judging.{IsVerdictOn};
 
 use crate::judging::Judge;
 use crate::walk::walk;
@@ -39,16 +36,14 @@ pub fn replay_instance(
     log: &[Vec<LogStep>],
 ) -> Result<Verdict, AllocError>
     requires program { program_of instance.now ≡ seen_program checked.now }
-    requires hosts { missing_host (length hosts.old.items) (constructs_in (program_of instance.now).main)
-        ≡ None }
-    ensures verdict { IfOk result (IsVerdict (expected (supplied answer hosts.old.items)
-        (program_of instance.now) instance.now.input) (seen_log log.now)) }
-    ensures told { IfOk result (λ r. WereTold (supplied answer hosts.old.items)
-        (tally (supplied answer hosts.old.items) (program_of instance.now)
-        instance.now.input).telling (supplied answer hosts.new.items)) }
-    ensures told_first { IfErr result (λ why. WereToldFirst
-        (supplied answer hosts.old.items) (program_of instance.now)
-        instance.now.input (supplied answer hosts.new.items)) }
+    requires hosts { missing_host (length hosts.old.items)
+        (constructs_in (program_of instance.now).main) ≡ None }
+    ensures verdict { IfOk result (IsVerdictOn (supplied answer hosts.old.items)
+        (program_of instance.now) instance.now.input log.now) }
+    ensures told { IfOk result (λ r. WereToldAll answer (program_of instance.now) instance.now.input
+        hosts.old.items hosts.new.items) }
+    ensures told_first { IfErr result (λ why. WereToldSome answer (program_of instance.now)
+        instance.now.input hosts.old.items hosts.new.items) }
     ensures count { length hosts.new.items ≡ length hosts.old.items }
 {
     // Law: what is expected matters by its speculative runs alone.
@@ -80,33 +75,24 @@ pub fn replay(
     hosts: &mut Vec<Box<dyn Predictor>>,
     log: &[Vec<LogStep>],
 ) -> Result<Verdict, EngineError>
-    ensures verdict { IfOk result (IsVerdict (expected (supplied answer hosts.old.items)
-        (seen_program checked.now) input.now) (seen_log log.now)) }
-    ensures told { IfOk result (λ r. WereTold (supplied answer hosts.old.items)
-        (tally (supplied answer hosts.old.items) (seen_program checked.now)
-        input.now).telling (supplied answer hosts.new.items)) }
-    ensures told_first { IfErr result (λ why. WereToldFirst
-        (supplied answer hosts.old.items) (seen_program checked.now) input.now
-        (supplied answer hosts.new.items)) }
-    ensures too_many { max_cells (seen_program checked.now)
-        < cell_count_of (seen_program checked.now) (length input.now)
-        → IsErrAnd result
-        (AreTooMany (cell_count_of (seen_program checked.now) (length input.now))) }
-    ensures few { cell_count_of (seen_program checked.now) (length input.now)
-        ≤ max_cells (seen_program checked.now)
-        → IfErr result (IsMissing
-        (missing_host (length hosts.old.items) (constructs_in (seen_program checked.now).main))) }
+    ensures verdict { IfOk result (IsVerdictOn (supplied answer hosts.old.items)
+        (seen_program checked.now) input.now log.now) }
+    ensures told { IfOk result (λ r. WereToldAll answer (seen_program checked.now) input.now
+        hosts.old.items hosts.new.items) }
+    ensures told_first { IfErr result (λ why. WereToldSome answer (seen_program checked.now)
+        input.now hosts.old.items hosts.new.items) }
+    ensures too_many { HasTooManyCells (seen_program checked.now) input.now
+        → IsErrAnd result (SaysCells (seen_program checked.now) input.now) }
+    ensures few { HasFewCells (seen_program checked.now) input.now
+        → IfErr result (SaysHost (seen_program checked.now) hosts.old.items) }
     ensures complete { IfOk result (λ r.
         missing_host (length hosts.old.items) (constructs_in (seen_program checked.now).main)
         ≡ None) }
     ensures untold { IfErr result (λ why. WereToldNothing why
         (supplied answer hosts.old.items)
         (supplied answer hosts.new.items)) }
-    ensures not_run { IfErr result (IsNotRun
-        (cell_count_of (seen_program checked.now) (length input.now))
-        (max_cells (seen_program checked.now))
-        (missing_host (length hosts.old.items) (constructs_in (seen_program checked.now).main))
-        (supplied answer hosts.old.items) (supplied answer hosts.new.items)) }
+    ensures not_run { IfErr result (SaysWhy answer (seen_program checked.now) input.now
+        hosts.old.items hosts.new.items) }
     ensures count { length hosts.new.items ≡ length hosts.old.items }
 {
     let instance = set_up(alloc, checked, input, hosts.len() as u64)?;

@@ -1,15 +1,14 @@
 //! Walks: whole runs whose blocks are run plainly, in the calling thread.
-ghost use Rattle.std.specs.Prelude.{◌≡◌, length, map, None, IfOk, IfErr, OnOk};
+ghost use Rattle.std.specs.Prelude.{◌≡◌, length, None, IfOk, IfErr, OnOk};
 ghost use Rattle.spf_ast.specs.View.{program as seen_program};
 ghost use Rattle.spf_ast.specs.Construct.{constructs_in};
 ghost use Rattle.spf_ast.specs.Program.{outcome as outcome_of, seen_outcome, Done, Stopped};
 ghost use Rattle.spf_exec_instance.specs.Instance.{program_of};
-ghost use Rattle.spf_guess_statistics.specs.Statistics.{tally};
-ghost use Rattle.spf_guess.specs.Answers.{supplied, WereTold};
+ghost use Rattle.spf_guess.specs.Answers.{supplied};
 ghost use Rattle.spf_guess.specs.Missing.{missing_host};
-ghost use Rattle.spf_engine.specs.Runs.{WereToldFirst};
+ghost use Rattle.spf_engine.specs.Handed.{run_counts, WereToldAll, WereToldSome};
 ghost use Rattle.spf_replay_walk.specs.Positions.{IsSpare};
-ghost use Rattle.spf_replay_walk.specs.Visiting.{VisitsAll};
+ghost use Rattle.spf_replay_walk.specs.Visiting.{VisitsRun};
 
 use crate::position::Spare;
 use crate::visitor::Visitor;
@@ -85,21 +84,19 @@ pub fn walk<V: Visitor>(
     visitor: &mut V,
 ) -> Result<Walked, AllocError>
     requires program { program_of instance.now ≡ seen_program checked.now }
-    requires hosts { missing_host (length hosts.old.items) (constructs_in (program_of instance.now).main)
-        ≡ None }
+    requires hosts { missing_host (length hosts.old.items)
+        (constructs_in (program_of instance.now).main) ≡ None }
     ensures outcome { IfOk result
         (λ r. seen_outcome r.outcome ≡ outcome_of (program_of instance.now) instance.now.input) }
     ensures statistics { IfOk result (λ r. r.stats
-        ≡ (tally (supplied answer hosts.old.items) (program_of instance.now)
-        instance.now.input).stats) }
-    ensures visited { OnOk result (VisitsAll V.has_visited visitor.old visitor.new
-        (supplied answer hosts.old.items) (program_of instance.now) instance.now.input) }
-    ensures told { IfOk result (λ r. WereTold (supplied answer hosts.old.items)
-        (tally (supplied answer hosts.old.items) (program_of instance.now)
-        instance.now.input).telling (supplied answer hosts.new.items)) }
-    ensures told_first { IfErr result (λ why. WereToldFirst
-        (supplied answer hosts.old.items) (program_of instance.now)
-        instance.now.input (supplied answer hosts.new.items)) }
+        ≡ run_counts (supplied answer hosts.old.items) (program_of instance.now)
+        instance.now.input) }
+    ensures visited { OnOk result (VisitsRun V.has_visited visitor.old visitor.new
+        (supplied answer hosts.old.items) instance.now) }
+    ensures told { IfOk result (λ r. WereToldAll answer (program_of instance.now) instance.now.input
+        hosts.old.items hosts.new.items) }
+    ensures told_first { IfErr result (λ why. WereToldSome answer (program_of instance.now)
+        instance.now.input hosts.old.items hosts.new.items) }
     ensures count { length hosts.new.items ≡ length hosts.old.items }
 {
     // Law: a run in pieces goes on as the plain run does.

@@ -1,27 +1,23 @@
 //! Steps of a walk: a run whose blocks are run plainly, and a visitor that takes each construct.
-ghost use Rattle.std.specs.Prelude.{◌≡◌, ◌<◌, ◌≤◌, ◌+◌, ◌+ℤ◌, ◌≤ℤ◌, ◌++◌, ◌∷◌, [], List};
-ghost use Rattle.std.specs.Prelude.{length, map, pos, None, Some, slice_get, IfOk, IfErr, OnOk};
+ghost use Rattle.std.specs.Prelude.{◌≡◌, ◌<◌};
+ghost use Rattle.std.specs.Prelude.{length, None, IfOk, IfErr, OnOk};
 ghost use Rattle.std.specs.List.{All};
 ghost use Rattle.spf_ast.specs.Meaning.{max_blocks};
 ghost use Rattle.spf_ast.specs.View.{program as seen_program};
 ghost use Rattle.spf_ast.specs.ConstructView.{construct as seen_construct};
 ghost use Rattle.spf_ast.specs.Construct.{constructs_in};
-ghost use Rattle.spf_chain.specs.Finishing.{result_as};
 ghost use Rattle.spf_exec.specs.Pieces.{IsRunOf, seen_header};
 ghost use Rattle.spf_exec_instance.specs.Instance.{program_of};
-ghost use Rattle.spf_guess_statistics.specs.Guess.{Hosts, Telling, tells};
-ghost use Rattle.spf_guess_statistics.specs.Statistics.{statistics_with};
-ghost use Rattle.spf_guess.specs.Answers.{supplied, WereTold, WereToldNoMore};
+ghost use Rattle.spf_guess.specs.Answers.{supplied, WereToldNoMore};
 ghost use Rattle.spf_guess.specs.Missing.{missing_host};
-ghost use Rattle.spf_speculation_entry.specs.Entry.{IsEntry, plain_blocks};
+ghost use Rattle.spf_speculation_entry.specs.Entry.{IsEntry};
 ghost use Rattle.spf_engine_construct.specs.Guesses.{AreAtMost, IsHandedIn};
-ghost use Rattle.spf_engine_laws.specs.Progress.{entry_guess};
-ghost use Rattle.spf_engine.specs.Runs.{AreFew, GoesFurther, IsReadyAt, BreaksOff, BreaksOffAt};
-ghost use Rattle.spf_replay.specs.Plainly.{AreRunPlainly};
+ghost use Rattle.spf_engine.specs.Handed.{Stops, StopsAt};
+ghost use Rattle.spf_engine.specs.Runs.{AreFew, GoesFurther, IsReadyAt};
 ghost use Rattle.spf_replay.specs.Copying.{HasOwnSpans};
 ghost use Rattle.spf_replay_walk.specs.Positions.{entry_at, spans_of, IsAtConstruct, IsSpare};
-ghost use Rattle.spf_replay_walk.specs.Visiting.{VisitsBlocks};
-ghost use Rattle.spf_replay_walk.specs.Walking.{Walks, WalksPast};
+ghost use Rattle.spf_replay_walk.specs.Examining.{ComePlainlyTo, VisitsAt, CountsAt, TellsAt};
+ghost use Rattle.spf_replay_walk.specs.Steps.{TakesStep, TakesStepAt};
 
 use crate::plainly::run_plainly;
 use crate::position::{Position, Spare};
@@ -91,7 +87,8 @@ impl<'a> Walker<'a> {
         header: &Header,
         cells: &[i64],
     ) -> Result<Plan, AllocError>
-        requires there { IsAtConstruct (seen_program self.now.checked.now) position header.now cells.now }
+        requires there { IsAtConstruct (seen_program self.now.checked.now) position header.now
+            cells.now }
         ensures entry { IsEntry (entry_at position.entry header.now cells.now) }
         ensures plan { IfOk result
             (λ plan. HasOwnSpans (entry_at position.entry header.now cells.now) (spans_of plan)) }
@@ -124,30 +121,20 @@ impl<'a> Walker<'a> {
         visitor: &mut V,
         hosts: &mut Vec<Box<dyn Predictor>>,
     ) -> Result<Examined, AllocError>
-        requires there { IsAtConstruct (seen_program self.now.checked.now) position header.now cells.items }
+        requires there { IsAtConstruct (seen_program self.now.checked.now) position header.now
+            cells.items }
         requires spare { IsSpare position.instance.now spare.old }
         requires host { IsHandedIn (length hosts.old.items) (seen_construct position.construct) }
-        ensures plain { IfOk result (λ r. AreRunPlainly (entry_at position.entry header.now cells.items)
-            (plain_blocks (entry_at position.entry header.now cells.items)).values
-            (result_as r.settled) r.cells.items) }
+        ensures plain { IfOk result (λ r. ComePlainlyTo
+            (entry_at position.entry header.now cells.items) r.settled r.cells.items) }
         ensures size { IfOk result (λ r. length r.cells.items ≡ length cells.items) }
-        ensures visited { IfOk result (λ r. (before : Hosts) (telling : List Telling)
-            → WereTold before telling (supplied answer hosts.old.items)
-            → VisitsBlocks V.has_visited (entry_at position.entry header.now cells.items)
-            (entry_guess before telling (entry_at position.entry header.now cells.items))
-            visitor.old visitor.new) }
-        ensures statistics { IfOk result (λ r. (before : Hosts) (telling : List Telling)
-            → WereTold before telling (supplied answer hosts.old.items)
-            → r.stats ≡ statistics_with
-            (entry_guess before telling (entry_at position.entry header.now cells.items))
-            (plain_blocks (entry_at position.entry header.now cells.items)).values) }
+        ensures visited { OnOk result (VisitsAt V.has_visited position.entry header.now cells answer
+            hosts.old.items visitor.old visitor.new) }
+        ensures statistics { IfOk result (λ r.
+            CountsAt position.entry header.now cells answer hosts.old.items r.stats) }
         ensures few { IfOk result (λ r. AreAtMost r.stats max_blocks) }
-        ensures told { IfOk result (λ r. (before : Hosts) (telling : List Telling)
-            → WereTold before telling (supplied answer hosts.old.items)
-            → WereTold before (telling
-            ++ tells (seen_construct position.entry.construct) (seen_header header.now)
-            (plain_blocks (entry_at position.entry header.now cells.items)).values)
-            (supplied answer hosts.new.items)) }
+        ensures told { OnOk result
+            (TellsAt position.entry header.now cells answer hosts.old.items hosts.new.items) }
         ensures nothing_told { IfErr result (λ why.
             WereToldNoMore (supplied answer hosts.old.items) (supplied answer hosts.new.items)) }
         ensures count { length hosts.new.items ≡ length hosts.old.items }
@@ -223,13 +210,11 @@ impl<'a> Walker<'a> {
             (seen_construct site.now.construct) site.now.header run.old }
         requires few { AreFew (program_of self.now.instance.now) run.old stats.old }
         requires spare { IsSpare self.now.instance.now spare.old }
-        ensures steps { IfOk result (λ s. WalksPast V.has_visited self.now.instance.now
-            run.old visitor.old stats.old (supplied answer hosts.old.items)
-            (seen_construct site.now.construct) (seen_header site.now.header)
-            s run.new visitor.new stats.new (supplied answer hosts.new.items)) }
-        ensures told_first { IfErr result (λ why. BreaksOffAt self.now.instance.now run.old
-            (supplied answer hosts.old.items) (seen_construct site.now.construct)
-            (seen_header site.now.header) (supplied answer hosts.new.items)) }
+        ensures steps { IfOk result (λ s. TakesStepAt V.has_visited answer
+            self.now.instance.now site.now run.old visitor.old stats.old hosts.old.items
+            s run.new visitor.new stats.new hosts.new.items) }
+        ensures told_first { IfErr result (λ why. StopsAt answer self.now.instance.now
+            site.now.construct site.now.header run.old hosts.old hosts.new) }
         ensures count { length hosts.new.items ≡ length hosts.old.items }
         ensures run { OnOk result (IsRunOf (program_of self.now.instance.now)
             (length self.now.instance.now.input) run.new) }
@@ -273,11 +258,11 @@ impl<'a> Walker<'a> {
             (length self.now.instance.now.input) run.old }
         requires few { AreFew (program_of self.now.instance.now) run.old stats.old }
         requires spare { IsSpare self.now.instance.now spare.old }
-        ensures steps { IfOk result (λ s. Walks V.has_visited self.now.instance.now run.old
-            visitor.old stats.old (supplied answer hosts.old.items)
-            s run.new visitor.new stats.new (supplied answer hosts.new.items)) }
-        ensures told_first { IfErr result (λ why. BreaksOff self.now.instance.now run.old
-            (supplied answer hosts.old.items) (supplied answer hosts.new.items)) }
+        ensures steps { IfOk result (λ s. TakesStep V.has_visited answer
+            self.now.instance.now run.old visitor.old stats.old hosts.old.items
+            s run.new visitor.new stats.new hosts.new.items) }
+        ensures told_first { IfErr result (λ why. Stops answer self.now.instance.now run.old
+            hosts.old hosts.new) }
         ensures count { length hosts.new.items ≡ length hosts.old.items }
         ensures run { OnOk result (IsRunOf (program_of self.now.instance.now)
             (length self.now.instance.now.input) run.new) }

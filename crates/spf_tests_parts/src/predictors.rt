@@ -88,7 +88,8 @@ struct LastBlock {
 }
 
 impl Predictor for LastBlock {
-    ghost answer = { λ last pairs _. unwrap_or (last_or (Some last.block) (blocks_told pairs)) (pos 0) };
+    ghost answer = { λ last pairs _.
+        unwrap_or (last_or (Some last.block) (blocks_told pairs)) (pos 0) };
 
     fn guess(&mut self, _block: i64) -> i64 {
         self.block

@@ -62,8 +62,8 @@ pub(crate) fn start(
     values: &[i64],
 ) -> Result<Started, Fail>
     requires program { program_of job.now.instance.now ≡ seen_program checked.now }
-    requires construct { slice_get (constructs_in (program_of job.now.instance.now).main) job.now.index
-        ≡ Some (seen_construct job.now.construct) }
+    requires construct { slice_get (constructs_in (program_of job.now.instance.now).main)
+        job.now.index ≡ Some (seen_construct job.now.construct) }
     requires entry { length job.now.entry.now
         ≡ cell_count_of (program_of job.now.instance.now) (length job.now.instance.now.input) }
     ensures started { IfOk result (λ r. IsStarted r.0.site r.0 r.1 r.2.items) }

@@ -55,8 +55,8 @@ impl Ticket {
     pub fn run<G: Gate>(self, cells: &Cells, job: &Job, gate: &G) -> Report
         requires own { self.lane.table ≡ cells.now.table }
         requires lawful { IsLawful (program_of job.now.instance.now) }
-        requires construct { slice_get (constructs_in (program_of job.now.instance.now).main) job.now.index
-            ≡ Some (seen_construct job.now.construct) }
+        requires construct { slice_get (constructs_in (program_of job.now.instance.now).main)
+            job.now.index ≡ Some (seen_construct job.now.construct) }
         requires entry { length job.now.entry.now
             ≡ cell_count_of (program_of job.now.instance.now) (length job.now.instance.now.input) }
         requires frame { length self.frame ≡ frame_size (program_of job.now.instance.now) }

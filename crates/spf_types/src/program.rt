@@ -140,8 +140,11 @@ fn functions_of<'a>(
 /// Resolves what a program has besides its arrays.
 fn parts_of(alloc: Global, raw: &RawProgram) -> Result<Parts, TypeError>
     ensures { Answers {A = List function_form × List (List ℕ) × block_form}
-        (faults (raw_program raw.now)) (λ p.
-        (map seen_function p.functions.items, map seen_name p.slots.items, seen_block p.main.items)) (
+        (faults (raw_program raw.now)) (λ p. (
+          map seen_function p.functions.items,
+          map seen_name p.slots.items,
+          seen_block p.main.items,
+        )) (
           (resolved (raw_program raw.now)).functions,
           (resolved (raw_program raw.now)).slots,
           (resolved (raw_program raw.now)).main,

@@ -1,20 +1,14 @@
 //! Expressions: numbers, and truth values as conditions.
 
-ghost use Rattle.std.specs.Prelude.{◌≡◌, IfErr, Some, length, map};
-ghost use Rattle.spf_ast.specs.View.{expression as seen_expression, arguments as seen_arguments};
-ghost use Rattle.spf_ast.specs.View.{condition as seen_condition, predictor as seen_predictor};
-ghost use Rattle.spf_ast.specs.View.{name as seen_name};
+ghost use Rattle.std.specs.Prelude.{◌≡◌, map};
+ghost use Rattle.spf_ast.specs.View.{expression as seen_expression, condition as seen_condition};
 ghost use Rattle.spf_ast.specs.RawView.{raw_expression, raw_arguments, raw_predictor};
 ghost use Rattle.spf_types_names.specs.declared.fault.TypeError.TheVariants.{Refused};
 ghost use Rattle.spf_types_names.specs.declared.fault.TypeFault.TheVariants.{Kind};
 ghost use Rattle.spf_types_names.specs.HereView.{setting};
-ghost use Rattle.spf_types_names.specs.Faults.{expression_faults, arguments_faults};
-ghost use Rattle.spf_types_names.specs.Faults.{predictor_faults, predictors_faults, called_faults};
-ghost use Rattle.spf_types_names.specs.Faults.{no_truth, a_number, a_truth, first};
-ghost use Rattle.spf_types_names.specs.Resolved.{scope, resolved_expression, resolved_arguments};
-ghost use Rattle.spf_types_names.specs.Resolved.{resolved_condition, resolved_predictor};
-ghost use Rattle.spf_types_names.specs.Resolved.{resolved_predictors};
-ghost use Rattle.spf_types_names.specs.Answers.{Answers};
+ghost use Rattle.spf_types_forms.specs.Resolving.{AnswersArguments, AnswersCondition};
+ghost use Rattle.spf_types_forms.specs.Resolving.{AnswersNumber, AnswersPredictor};
+ghost use Rattle.spf_types_forms.specs.Resolving.{AnswersPredictors};
 
 use spf_ast::raw::{RawExpr, RawPredict};
 use spf_ast::syntax::{Cond, Expr, Predict};
@@ -38,10 +32,8 @@ pub(crate) fn number<'a>(
     line: u32,
     raw: &'a RawExpr,
 ) -> Result<Expr, TypeError>
-    ensures { Answers (expression_faults (setting here.now) (scope locals.now.locals) line a_number
-        (raw_expression raw.now)) seen_expression
-        (resolved_expression here.now.globals.now locals.now.locals (raw_expression raw.now))
-        result }
+    ensures { AnswersNumber (setting here.now) locals.now line (raw_expression raw.now)
+        seen_expression result }
 {
     match raw {
         RawExpr::Number(n) => Ok(Expr::Number(*n)),
@@ -88,10 +80,8 @@ pub(crate) fn boxed_expression<'a>(
     line: u32,
     raw: &'a RawExpr,
 ) -> Result<Box<Expr>, TypeError>
-    ensures { Answers (expression_faults (setting here.now) (scope locals.now.locals) line a_number
-        (raw_expression raw.now)) (λ b. seen_expression b.value)
-        (resolved_expression here.now.globals.now locals.now.locals (raw_expression raw.now))
-        result }
+    ensures { AnswersNumber (setting here.now) locals.now line (raw_expression raw.now)
+        (λ b. seen_expression b.value) result }
 {
     let expr = number(here, locals, line, raw)?;
     Ok(Box::new(here.alloc, expr)?)
@@ -105,10 +95,7 @@ pub(crate) fn numbers<'a>(
     line: u32,
     raw: &'a [RawExpr],
 ) -> Result<Vec<Expr>, TypeError>
-    ensures { Answers
-        (arguments_faults (setting here.now) (scope locals.now.locals) line (raw_arguments raw.now))
-        (λ v. seen_arguments v.items)
-        (resolved_arguments here.now.globals.now locals.now.locals (raw_arguments raw.now)) result }
+    ensures { AnswersArguments (setting here.now) locals.now line (raw_arguments raw.now) result }
 {
     let mut arguments = Vec::new(here.alloc);
     for argument in raw {
@@ -126,10 +113,8 @@ fn truth<'a>(
     line: u32,
     raw: &'a RawExpr,
 ) -> Result<Cond, TypeError>
-    ensures { Answers (expression_faults (setting here.now) (scope locals.now.locals) line a_truth
-        (raw_expression raw.now)) seen_condition
-        (resolved_condition here.now.globals.now locals.now.locals (raw_expression raw.now))
-        result }
+    ensures { AnswersCondition (setting here.now) locals.now line (raw_expression raw.now)
+        seen_condition result }
 {
     match raw {
         RawExpr::Compare(test, left, right) => {
@@ -179,10 +164,8 @@ pub(crate) fn boxed_truth<'a>(
     line: u32,
     raw: &'a RawExpr,
 ) -> Result<Box<Cond>, TypeError>
-    ensures { Answers (expression_faults (setting here.now) (scope locals.now.locals) line a_truth
-        (raw_expression raw.now)) (λ b. seen_condition b.value)
-        (resolved_condition here.now.globals.now locals.now.locals (raw_expression raw.now))
-        result }
+    ensures { AnswersCondition (setting here.now) locals.now line (raw_expression raw.now)
+        (λ b. seen_condition b.value) result }
 {
     let cond = truth(here, locals, line, raw)?;
     Ok(Box::new(here.alloc, cond)?)
@@ -195,10 +178,7 @@ fn predictor<'a>(
     line: u32,
     raw: &'a RawPredict,
 ) -> Result<Predict, TypeError>
-    ensures { Answers
-        (predictor_faults (setting here.now) (scope locals.now.locals) line (raw_predictor raw.now))
-        seen_predictor
-        (resolved_predictor here.now.globals.now locals.now.locals (raw_predictor raw.now)) result }
+    ensures { AnswersPredictor (setting here.now) locals.now line (raw_predictor raw.now) result }
 {
     match raw {
         RawPredict::Expr(guess) => {
@@ -216,9 +196,7 @@ pub(crate) fn predictors<'a>(
     line: u32,
     raw: &'a [RawPredict],
 ) -> Result<Vec<Predict>, TypeError>
-    ensures { Answers (predictors_faults (setting here.now) (scope locals.now.locals) line
-        (map raw_predictor raw.now)) (λ v. map seen_predictor v.items)
-        (resolved_predictors here.now.globals.now locals.now.locals (map raw_predictor raw.now))
+    ensures { AnswersPredictors (setting here.now) locals.now line (map raw_predictor raw.now)
         result }
 {
     let mut guesses = Vec::new(here.alloc);

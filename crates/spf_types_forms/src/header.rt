@@ -1,23 +1,14 @@
 //! What stands before the parts of a construct.
 
-ghost use Rattle.std.specs.Prelude.{◌≡◌, ◌+◌, ◌∷◌, ◌++◌, [], Bool, ℕ, IfOk, List, None, length};
-ghost use Rattle.std.specs.Prelude.{map};
-ghost use Rattle.spf_ast.specs.declared.raw.RawFold.{out-RawFold};
-ghost use Rattle.spf_ast.specs.declared.raw.RawPair.{out-RawPair};
-ghost use Rattle.spf_ast.specs.View.{expression as seen_expression, arguments as seen_arguments};
-ghost use Rattle.spf_ast.specs.View.{predictor as seen_predictor, name as seen_name};
+ghost use Rattle.std.specs.Prelude.{◌≡◌, IfOk, None, length};
 ghost use Rattle.spf_ast.specs.RawView.{raw_fold_head, raw_pair_head};
-ghost use Rattle.spf_ast.specs.Syntax.{Arguments, Expression, Predictor};
 ghost use Rattle.spf_types_names.specs.HereView.{setting};
 ghost use Rattle.spf_types_names.specs.Locals.{binding_of, AreNew};
-ghost use Rattle.spf_types_names.specs.Faults.{each_declared_faults, names_faults, fold_faults};
+ghost use Rattle.spf_types_names.specs.Faults.{each_declared_faults, names_faults};
 ghost use Rattle.spf_types_names.specs.Faults.{fold_widths_faults, pair_widths_faults};
-ghost use Rattle.spf_types_names.specs.Faults.{predictors_faults, showing_fixed};
-ghost use Rattle.spf_types_names.specs.Resolved.{scope, fixed, with_each};
-ghost use Rattle.spf_types_names.specs.Resolved.{row_slots as slots_of_row, block_slot};
-ghost use Rattle.spf_types_names.specs.Resolved.{resolved_arguments, resolved_expression};
-ghost use Rattle.spf_types_names.specs.Resolved.{resolved_predictors};
-ghost use Rattle.spf_types_names.specs.Answers.{Answers};
+ghost use Rattle.spf_types_names.specs.Resolved.{scope, block_slot};
+ghost use Rattle.spf_types_forms.specs.Resolving.{AnswersGuesses, AnswersHeader, BlockIsNew};
+ghost use Rattle.spf_types_forms.specs.Resolving.{HasSlots, Tests, names_of_fold, with_slots};
 
 use crate::expression::{boxed_expression, numbers, predictors};
 use spf_ast::raw::{RawFold, RawPair};
@@ -45,21 +36,15 @@ fn new_names<'a>(
     line: u32,
     raw: &'a RawFold,
 ) -> Result<u32, TypeError>
-    ensures answers { Answers
+    ensures answers { Tests
         (names_faults (setting here.now) (scope locals.old.locals) line (raw_fold_head raw.now))
-        (λ _. tt {0}) (tt {0}) result }
+        result }
     ensures slot { IfOk result
         (λ n. n ≡ block_slot (length locals.old.slots) (raw_fold_head raw.now)) }
     ensures after { IfOk result (λ _. locals.new
-        ≡ record {
-          locals = locals.old.locals;
-          slots = locals.old.slots
-              ++ ((raw_fold_head raw.now).carried ++ (raw_fold_head raw.now).block ∷ []);
-        }) }
+        ≡ with_slots locals.old (names_of_fold (raw_fold_head raw.now))) }
     ensures carried { IfOk result (λ _. AreNew locals.old.locals (raw_fold_head raw.now).carried) }
-    ensures block { IfOk result (λ _. (fixed : Bool) (n : ℕ)
-        → binding_of (with_each fixed locals.old.locals n (raw_fold_head raw.now).carried)
-        (raw_fold_head raw.now).block ≡ None) }
+    ensures block { IfOk result (λ _. BlockIsNew locals.old.locals (raw_fold_head raw.now)) }
 {
     let count = locals.count();
     declared_each(here, locals, line, &raw.carried)?;
@@ -72,8 +57,7 @@ fn new_names<'a>(
 #[tactic(auto, using(crate::proofs::Arguments::count_of_raw))]
 /// Tests that the lists of a fold's parts are as long as its names.
 fn fold_widths(line: u32, raw: &RawFold) -> Result<(), TypeError>
-    ensures { Answers (fold_widths_faults line (raw_fold_head raw.now)) (λ _. tt {0}) (tt {0})
-        result }
+    ensures { Tests (fold_widths_faults line (raw_fold_head raw.now)) result }
 {
     let width = raw.carried.len();
     same_width(line, width, raw.start.len())?;
@@ -91,11 +75,8 @@ fn guess<'a>(
     block: u32,
 ) -> Result<Vec<Predict>, TypeError>
     requires { binding_of locals.old.locals (raw_fold_head raw.now).block ≡ None }
-    ensures answers { Answers (predictors_faults (setting here.now)
-        (showing_fixed (raw_fold_head raw.now).block (scope locals.old.locals)) line
-        (raw_fold_head raw.now).predict) (λ v. map seen_predictor v.items) (resolved_predictors
-        here.now.globals.now (fixed (raw_fold_head raw.now).block block ∷ locals.old.locals)
-        (raw_fold_head raw.now).predict) result }
+    ensures answers { AnswersGuesses (setting here.now) locals.old line (raw_fold_head raw.now)
+        block result }
     ensures after { IfOk result (λ _. locals.new ≡ locals.old) }
 {
     let count = locals.count();
@@ -112,34 +93,14 @@ pub(crate) fn header_of<'a>(
     line: u32,
     raw: &'a RawFold,
 ) -> Result<Header, TypeError>
-    ensures answers { Answers {A = Arguments × Expression × Expression × List Predictor}
-        (fold_faults (setting here.now) (scope locals.old.locals) line (raw_fold_head raw.now))
-        (λ h. (
-          seen_arguments h.start.items,
-          seen_expression h.low.value,
-          seen_expression h.high.value,
-          map seen_predictor h.predict.items,
-        )) (
-          resolved_arguments here.now.globals.now locals.old.locals (raw_fold_head raw.now).start,
-          resolved_expression here.now.globals.now locals.old.locals (raw_fold_head raw.now).low,
-          resolved_expression here.now.globals.now locals.old.locals (raw_fold_head raw.now).high,
-          resolved_predictors here.now.globals.now (fixed (raw_fold_head raw.now).block
-              (block_slot (length locals.old.slots) (raw_fold_head raw.now)) ∷ locals.old.locals)
-              (raw_fold_head raw.now).predict,
-        ) result }
-    ensures slots { IfOk result (λ h. (h.first ≡ length locals.old.slots)
-        × (h.carried.items ≡ slots_of_row (length locals.old.slots) (raw_fold_head raw.now).carried)
-        × (h.block ≡ block_slot (length locals.old.slots) (raw_fold_head raw.now))) }
+    ensures answers { AnswersHeader (setting here.now) locals.old line (raw_fold_head raw.now)
+        result }
+    ensures slots { IfOk result
+        (λ h. HasSlots h (length locals.old.slots) (raw_fold_head raw.now)) }
     ensures after { IfOk result (λ _. locals.new
-        ≡ record {
-          locals = locals.old.locals;
-          slots = locals.old.slots
-              ++ ((raw_fold_head raw.now).carried ++ (raw_fold_head raw.now).block ∷ []);
-        }) }
+        ≡ with_slots locals.old (names_of_fold (raw_fold_head raw.now))) }
     ensures carried { IfOk result (λ _. AreNew locals.old.locals (raw_fold_head raw.now).carried) }
-    ensures block { IfOk result (λ _. (fixed : Bool) (n : ℕ)
-        → binding_of (with_each fixed locals.old.locals n (raw_fold_head raw.now).carried)
-        (raw_fold_head raw.now).block ≡ None) }
+    ensures block { IfOk result (λ _. BlockIsNew locals.old.locals (raw_fold_head raw.now)) }
 {
     let first = locals.next_slot()?;
     let block = new_names(here, locals, line, raw)?;
@@ -167,13 +128,11 @@ pub(crate) fn pair_names<'a>(
     line: u32,
     raw: &'a RawPair,
 ) -> Result<(), TypeError>
-    ensures answers { Answers (each_declared_faults (setting here.now) (scope locals.old.locals)
-        line (raw_pair_head raw.now).carried) (λ _. tt {0}) (tt {0}) result }
+    ensures answers { Tests
+        (each_declared_faults (setting here.now) (scope locals.old.locals) line
+        (raw_pair_head raw.now).carried) result }
     ensures after { IfOk result (λ _. locals.new
-        ≡ record {
-          locals = locals.old.locals;
-          slots = locals.old.slots ++ (raw_pair_head raw.now).carried;
-        }) }
+        ≡ with_slots locals.old (raw_pair_head raw.now).carried) }
     ensures new { IfOk result (λ _. AreNew locals.old.locals (raw_pair_head raw.now).carried) }
 {
     let count = locals.count();
@@ -185,8 +144,7 @@ pub(crate) fn pair_names<'a>(
 #[tactic(auto, using(crate::proofs::Arguments::count_of_raw))]
 /// Tests that the lists of a pair's parts are as long as its names.
 pub(crate) fn pair_widths(line: u32, raw: &RawPair) -> Result<(), TypeError>
-    ensures { Answers (pair_widths_faults line (raw_pair_head raw.now)) (λ _. tt {0}) (tt {0})
-        result }
+    ensures { Tests (pair_widths_faults line (raw_pair_head raw.now)) result }
 {
     let width = raw.carried.len();
     same_width(line, width, raw.give.len())?;

@@ -1,13 +1,13 @@
 //! Statements without blocks.
 
-ghost use Rattle.std.specs.Prelude.{◌≡◌, IfOk, length};
-ghost use Rattle.spf_ast.specs.View.{statement as seen_statement, name as seen_name};
+ghost use Rattle.std.specs.Prelude.{◌≡◌, IfOk};
+ghost use Rattle.spf_ast.specs.View.{name as seen_name};
 ghost use Rattle.spf_ast.specs.RawView.{raw_expression, raw_arguments};
 ghost use Rattle.spf_ast.specs.RawSyntax as raw_form;
 ghost use Rattle.spf_types_names.specs.HereView.{setting};
-ghost use Rattle.spf_types_names.specs.Faults.{statement_faults};
-ghost use Rattle.spf_types_names.specs.Resolved.{scope, resolved_statement, after_statement};
-ghost use Rattle.spf_types_names.specs.Answers.{Answers};
+ghost use Rattle.spf_types_names.specs.Resolved.{after_statement};
+ghost use Rattle.spf_types_forms.specs.Resolving.{AnswersStatement, raw_assign, raw_fill};
+ghost use Rattle.spf_types_forms.specs.Resolving.{raw_let, raw_store};
 
 use crate::expression::{boxed_expression, number, numbers};
 use spf_ast::raw::RawExpr;
@@ -26,13 +26,11 @@ pub(crate) fn declaration<'a>(
     name: &'a Name,
     value: &'a RawExpr,
 ) -> Result<StmtKind, TypeError>
-    ensures answers { Answers (statement_faults (setting here.now) (scope locals.old.locals) line
-        (raw_form.Let (seen_name name.now) (raw_expression value.now))) seen_statement
-        (resolved_statement here.now.globals.now locals.old.locals (length locals.old.slots)
-        (raw_form.Let (seen_name name.now) (raw_expression value.now))) result }
+    ensures answers { AnswersStatement (setting here.now) locals.old line
+        (raw_let name.now value.now) result }
     ensures after { IfOk result (λ _. locals.new
         ≡ after_statement locals.old
-        (raw_form.Let (seen_name name.now) (raw_expression value.now))) }
+        (raw_let name.now value.now)) }
 {
     declarable(here, locals, line, name)?;
     let value = boxed_expression(here, locals, line, value)?;
@@ -49,10 +47,8 @@ pub(crate) fn assignment<'a>(
     name: &'a Name,
     value: &'a RawExpr,
 ) -> Result<StmtKind, TypeError>
-    ensures { Answers (statement_faults (setting here.now) (scope locals.now.locals) line
-        (raw_form.Assign (seen_name name.now) (raw_expression value.now))) seen_statement
-        (resolved_statement here.now.globals.now locals.now.locals (length locals.now.slots)
-        (raw_form.Assign (seen_name name.now) (raw_expression value.now))) result }
+    ensures { AnswersStatement (setting here.now) locals.now line (raw_assign name.now value.now)
+        result }
 {
     let slot = slot_assigned(here, locals, line, name)?;
     let value = number(here, locals, line, value)?;
@@ -68,12 +64,8 @@ pub(crate) fn store<'a>(
     index: &'a RawExpr,
     value: &'a RawExpr,
 ) -> Result<StmtKind, TypeError>
-    ensures { Answers (statement_faults (setting here.now) (scope locals.now.locals) line
-        (raw_form.Store (seen_name name.now) (raw_expression index.now) (raw_expression value.now)))
-        seen_statement (resolved_statement here.now.globals.now locals.now.locals
-        (length locals.now.slots)
-        (raw_form.Store (seen_name name.now) (raw_expression index.now) (raw_expression value.now)))
-        result }
+    ensures { AnswersStatement (setting here.now) locals.now line
+        (raw_store name.now index.now value.now) result }
 {
     let array = array_indexed(here, locals, line, name)?;
     let index = boxed_expression(here, locals, line, index)?;
@@ -91,12 +83,8 @@ pub(crate) fn fill<'a>(
     high: &'a RawExpr,
     value: &'a RawExpr,
 ) -> Result<StmtKind, TypeError>
-    ensures { Answers (statement_faults (setting here.now) (scope locals.now.locals) line
-        (raw_form.Fill (seen_name name.now) (raw_expression low.now) (raw_expression high.now)
-        (raw_expression value.now))) seen_statement
-        (resolved_statement here.now.globals.now locals.now.locals (length locals.now.slots)
-        (raw_form.Fill (seen_name name.now) (raw_expression low.now) (raw_expression high.now)
-        (raw_expression value.now))) result }
+    ensures { AnswersStatement (setting here.now) locals.now line
+        (raw_fill name.now low.now high.now value.now) result }
 {
     let array = array_indexed(here, locals, line, name)?;
     let low = boxed_expression(here, locals, line, low)?;
@@ -112,10 +100,8 @@ pub(crate) fn emission<'a>(
     line: u32,
     value: &'a RawExpr,
 ) -> Result<StmtKind, TypeError>
-    ensures { Answers (statement_faults (setting here.now) (scope locals.now.locals) line
-        (raw_form.Emit (raw_expression value.now))) seen_statement
-        (resolved_statement here.now.globals.now locals.now.locals (length locals.now.slots)
-        (raw_form.Emit (raw_expression value.now))) result }
+    ensures { AnswersStatement (setting here.now) locals.now line
+        (raw_form.Emit (raw_expression value.now)) result }
 {
     if !here.in_main {
         let fault = TypeFault::Misplaced;
@@ -132,10 +118,7 @@ pub(crate) fn failure<'a>(
     line: u32,
     number: i64,
 ) -> Result<StmtKind, TypeError>
-    ensures { Answers
-        (statement_faults (setting here.now) (scope locals.now.locals) line (raw_form.Fail number))
-        seen_statement (resolved_statement here.now.globals.now locals.now.locals
-        (length locals.now.slots) (raw_form.Fail number)) result }
+    ensures { AnswersStatement (setting here.now) locals.now line (raw_form.Fail number) result }
 {
     match u8::try_from(number) {
         Ok(number) => Ok(StmtKind::Fail(number)),
@@ -152,10 +135,7 @@ pub(crate) fn departure<'a>(
     locals: &LocalTable<'a>,
     line: u32,
 ) -> Result<StmtKind, TypeError>
-    ensures { Answers
-        (statement_faults (setting here.now) (scope locals.now.locals) line raw_form.Break)
-        seen_statement (resolved_statement here.now.globals.now locals.now.locals
-        (length locals.now.slots) raw_form.Break) result }
+    ensures { AnswersStatement (setting here.now) locals.now line raw_form.Break result }
 {
     leaves_loop(here, line)?;
     Ok(StmtKind::Break)
@@ -170,10 +150,8 @@ pub(crate) fn call<'a>(
     name: &'a Name,
     given: &'a [RawExpr],
 ) -> Result<StmtKind, TypeError>
-    ensures { Answers (statement_faults (setting here.now) (scope locals.now.locals) line
-        (raw_form.Do (seen_name name.now) (raw_arguments given.now))) seen_statement
-        (resolved_statement here.now.globals.now locals.now.locals (length locals.now.slots)
-        (raw_form.Do (seen_name name.now) (raw_arguments given.now))) result }
+    ensures { AnswersStatement (setting here.now) locals.now line
+        (raw_form.Do (seen_name name.now) (raw_arguments given.now)) result }
 {
     let function = function_called(here, locals, line, name, given.len())?;
     let arguments = numbers(here, locals, line, given)?;

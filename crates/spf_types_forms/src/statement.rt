@@ -1,27 +1,21 @@
 //! Statements and blocks, which lead to each other.
 
-ghost use Rattle.std.specs.Prelude.{◌≡◌, ◌∷◌, true, false, IfOk, None, length, map};
+ghost use Rattle.std.specs.Prelude.{◌≡◌, true, IfOk, None};
 ghost use Rattle.spf_ast.specs.declared.syntax.Fold.{out-Fold};
 ghost use Rattle.spf_ast.specs.declared.syntax.Pair.{out-Pair};
-ghost use Rattle.spf_ast.specs.Syntax.{Arguments, Block, Expression};
-ghost use Rattle.spf_ast.specs.declared.raw.RawFold.{out-RawFold};
-ghost use Rattle.spf_ast.specs.declared.raw.RawPair.{out-RawPair};
-ghost use Rattle.spf_ast.specs.View.{expression as seen_expression, arguments as seen_arguments};
-ghost use Rattle.spf_ast.specs.View.{predictor as seen_predictor, fold_head, pair_head};
-ghost use Rattle.spf_ast.specs.View.{statement as seen_statement, block as seen_block};
-ghost use Rattle.spf_ast.specs.View.{name as seen_name};
+ghost use Rattle.spf_ast.specs.View.{fold_head, pair_head};
 ghost use Rattle.spf_ast.specs.RawView.{raw_expression, raw_arguments, raw_statement, raw_block};
 ghost use Rattle.spf_ast.specs.RawView.{raw_fold_head, raw_pair_head};
 ghost use Rattle.spf_ast.specs.RawSyntax as raw_form;
 ghost use Rattle.spf_types_names.specs.HereView.{setting};
 ghost use Rattle.spf_types_names.specs.Locals.{binding_of, AreNew};
-ghost use Rattle.spf_types_names.specs.Faults.{statement_faults, block_faults, valued_faults};
-ghost use Rattle.spf_types_names.specs.Faults.{rowed_faults, in_part};
-ghost use Rattle.spf_types_names.specs.Resolved.{scope, fixed, with_each, locals_at_end};
-ghost use Rattle.spf_types_names.specs.Resolved.{resolved_arguments, resolved_expression};
-ghost use Rattle.spf_types_names.specs.Resolved.{resolved_statement, resolved_block};
-ghost use Rattle.spf_types_names.specs.Resolved.{after_statement, after_block, after_inner};
-ghost use Rattle.spf_types_names.specs.Answers.{Answers};
+ghost use Rattle.spf_types_names.specs.Resolved.{with_each, after_statement, after_block};
+ghost use Rattle.spf_types_names.specs.Resolved.{after_inner};
+ghost use Rattle.spf_types_forms.specs.Resolving.{AnswersBlock, AnswersBody, AnswersConsumer};
+ghost use Rattle.spf_types_forms.specs.Resolving.{AnswersRow, AnswersStatement, AnswersValue};
+ghost use Rattle.spf_types_forms.specs.Resolving.{body_of, consumer_of, fold_head_of};
+ghost use Rattle.spf_types_forms.specs.Resolving.{inside_fold, pair_head_of, raw_fold, raw_for};
+ghost use Rattle.spf_types_forms.specs.Resolving.{raw_if, raw_pair, raw_while, showing_row};
 
 use crate::expression::{boxed_expression, boxed_truth, numbers, predictors};
 use crate::header::{Header, header_of, pair_names, pair_widths};
@@ -39,10 +33,7 @@ pub fn block<'a>(
     locals: &mut LocalTable<'a>,
     raw: &'a [RawStmt],
 ) -> Result<Vec<Stmt>, TypeError>
-    ensures answers { Answers
-        (block_faults (setting here.now) (scope locals.old.locals) (raw_block raw.now))
-        (λ v. seen_block v.items) (resolved_block here.now.globals.now locals.old.locals
-        (length locals.old.slots) (raw_block raw.now)) result }
+    ensures answers { AnswersBlock (setting here.now) locals.old (raw_block raw.now) result }
     ensures after { IfOk result (λ _. locals.new ≡ after_block locals.old (raw_block raw.now)) }
 {
     let mut statements = Vec::new(here.alloc);
@@ -61,10 +52,7 @@ fn inner<'a>(
     locals: &mut LocalTable<'a>,
     raw: &'a [RawStmt],
 ) -> Result<Vec<Stmt>, TypeError>
-    ensures answers { Answers
-        (block_faults (setting here.now) (scope locals.old.locals) (raw_block raw.now))
-        (λ v. seen_block v.items) (resolved_block here.now.globals.now locals.old.locals
-        (length locals.old.slots) (raw_block raw.now)) result }
+    ensures answers { AnswersBlock (setting here.now) locals.old (raw_block raw.now) result }
     ensures after { IfOk result (λ _. locals.new ≡ after_inner locals.old (raw_block raw.now)) }
 {
     let count = locals.count();
@@ -81,10 +69,8 @@ fn statement_kind<'a>(
     line: u32,
     raw: &'a RawStmtKind,
 ) -> Result<StmtKind, TypeError>
-    ensures answers { Answers
-        (statement_faults (setting here.now) (scope locals.old.locals) line (raw_statement raw.now))
-        seen_statement (resolved_statement here.now.globals.now locals.old.locals
-        (length locals.old.slots) (raw_statement raw.now)) result }
+    ensures answers { AnswersStatement (setting here.now) locals.old line (raw_statement raw.now)
+        result }
     ensures after { IfOk result
         (λ _. locals.new ≡ after_statement locals.old (raw_statement raw.now)) }
 {
@@ -119,14 +105,10 @@ fn choice<'a>(
     first: &'a [RawStmt],
     second: &'a [RawStmt],
 ) -> Result<StmtKind, TypeError>
-    ensures answers { Answers (statement_faults (setting here.now) (scope locals.old.locals) line
-        (raw_form.If (raw_expression test.now) (raw_block first.now) (raw_block second.now)))
-        seen_statement (resolved_statement here.now.globals.now locals.old.locals
-        (length locals.old.slots)
-        (raw_form.If (raw_expression test.now) (raw_block first.now) (raw_block second.now)))
-        result }
+    ensures answers { AnswersStatement (setting here.now) locals.old line
+        (raw_if test.now first.now second.now) result }
     ensures after { IfOk result (λ _. locals.new ≡ after_statement locals.old
-        (raw_form.If (raw_expression test.now) (raw_block first.now) (raw_block second.now))) }
+        (raw_if test.now first.now second.now)) }
 {
     let test = boxed_truth(here, locals, line, test)?;
     let first = inner(here, locals, first)?;
@@ -145,14 +127,10 @@ fn for_loop<'a>(
     high: &'a RawExpr,
     body: &'a [RawStmt],
 ) -> Result<StmtKind, TypeError>
-    ensures answers { Answers (statement_faults (setting here.now) (scope locals.old.locals) line
-        (raw_form.For (seen_name name.now) (raw_expression low.now) (raw_expression high.now)
-        (raw_block body.now))) seen_statement (resolved_statement here.now.globals.now
-        locals.old.locals (length locals.old.slots) (raw_form.For (seen_name name.now)
-        (raw_expression low.now) (raw_expression high.now) (raw_block body.now))) result }
+    ensures answers { AnswersStatement (setting here.now) locals.old line
+        (raw_for name.now low.now high.now body.now) result }
     ensures after { IfOk result (λ _. locals.new ≡ after_statement locals.old
-        (raw_form.For (seen_name name.now) (raw_expression low.now) (raw_expression high.now)
-        (raw_block body.now))) }
+        (raw_for name.now low.now high.now body.now)) }
 {
     declarable(here, locals, line, name)?;
     let low = boxed_expression(here, locals, line, low)?;
@@ -176,13 +154,11 @@ fn while_loop<'a>(
     most: u64,
     body: &'a [RawStmt],
 ) -> Result<StmtKind, TypeError>
-    ensures answers { Answers (statement_faults (setting here.now) (scope locals.old.locals) line
-        (raw_form.While (raw_expression test.now) most (raw_block body.now))) seen_statement
-        (resolved_statement here.now.globals.now locals.old.locals (length locals.old.slots)
-        (raw_form.While (raw_expression test.now) most (raw_block body.now))) result }
+    ensures answers { AnswersStatement (setting here.now) locals.old line
+        (raw_while test.now most body.now) result }
     ensures after { IfOk result (λ _. locals.new
         ≡ after_statement locals.old
-        (raw_form.While (raw_expression test.now) most (raw_block body.now))) }
+        (raw_while test.now most body.now)) }
 {
     let test = boxed_truth(here, locals, line, test)?;
     let inside = here.in_turn();
@@ -198,15 +174,8 @@ pub fn statements_and_number<'a>(
     line: u32,
     value: &'a RawExpr,
 ) -> Result<(Vec<Stmt>, Box<Expr>), TypeError>
-    ensures answers { Answers {A = Block × Expression} (valued_faults (setting here.now)
-        (scope locals.old.locals) (raw_block raw.now) line (raw_expression value.now))
-        (λ p. (seen_block p.0.items, seen_expression p.1.value)) (
-          resolved_block
-              here.now.globals.now locals.old.locals (length locals.old.slots) (raw_block raw.now),
-          resolved_expression here.now.globals.now
-              (locals_at_end locals.old.locals (length locals.old.slots) (raw_block raw.now))
-              (raw_expression value.now),
-        ) result }
+    ensures answers { AnswersValue (setting here.now) locals.old (raw_block raw.now) line
+        (raw_expression value.now) result }
     ensures after { IfOk result (λ _. locals.new ≡ after_inner locals.old (raw_block raw.now)) }
 {
     let count = locals.count();
@@ -226,15 +195,8 @@ fn statements_and_row<'a>(
     line: u32,
     row: &'a [RawExpr],
 ) -> Result<(Vec<Stmt>, Vec<Expr>), TypeError>
-    ensures answers { Answers {A = Block × Arguments} (rowed_faults (setting here.now)
-        (scope locals.old.locals) (raw_block raw.now) line (raw_arguments row.now))
-        (λ p. (seen_block p.0.items, seen_arguments p.1.items)) (
-          resolved_block
-              here.now.globals.now locals.old.locals (length locals.old.slots) (raw_block raw.now),
-          resolved_arguments here.now.globals.now
-              (locals_at_end locals.old.locals (length locals.old.slots) (raw_block raw.now))
-              (raw_arguments row.now),
-        ) result }
+    ensures answers { AnswersRow (setting here.now) locals.old (raw_block raw.now) line
+        (raw_arguments row.now) result }
     ensures after { IfOk result (λ _. locals.new ≡ after_inner locals.old (raw_block raw.now)) }
 {
     let count = locals.count();
@@ -258,19 +220,9 @@ fn fold_body<'a>(
     requires block { binding_of
         (with_each true locals.old.locals first (raw_fold_head raw.now).carried)
         (raw_fold_head raw.now).block ≡ None }
-    ensures answers { let inside = fixed (raw_fold_head raw.now).block block
-        ∷ with_each true locals.old.locals first (raw_fold_head raw.now).carried in Answers
-        {A = Block × Arguments} (rowed_faults (setting here.now) (scope inside)
-        (raw_block (out-RawFold raw.now).body.items) (raw_fold_head raw.now).next_line
-        (raw_fold_head raw.now).next) (λ p. (seen_block p.0.items, seen_arguments p.1.items)) (
-          resolved_block here.now.globals.now inside (length locals.old.slots)
-              (raw_block (out-RawFold raw.now).body.items),
-          resolved_arguments here.now.globals.now
-              (locals_at_end inside (length locals.old.slots)
-              (raw_block (out-RawFold raw.now).body.items)) (raw_fold_head raw.now).next,
-        ) result }
-    ensures after { IfOk result
-        (λ _. locals.new ≡ after_inner locals.old (raw_block (out-RawFold raw.now).body.items)) }
+    ensures answers { AnswersBody (setting here.now)
+        (inside_fold locals.old first block (raw_fold_head raw.now)) raw.now result }
+    ensures after { IfOk result (λ _. locals.new ≡ after_inner locals.old (body_of raw.now)) }
 {
     let count = locals.count();
     locals.show_each(&raw.carried, first, true)?;
@@ -288,14 +240,9 @@ fn fold<'a>(
     line: u32,
     raw: &'a RawFold,
 ) -> Result<StmtKind, TypeError>
-    ensures answers { Answers (statement_faults (setting here.now) (scope locals.old.locals) line
-        (raw_form.Fold (raw_fold_head raw.now) (raw_block (out-RawFold raw.now).body.items)))
-        seen_statement (resolved_statement here.now.globals.now locals.old.locals
-        (length locals.old.slots)
-        (raw_form.Fold (raw_fold_head raw.now) (raw_block (out-RawFold raw.now).body.items)))
+    ensures answers { AnswersStatement (setting here.now) locals.old line (raw_fold raw.now)
         result }
-    ensures after { IfOk result (λ _. locals.new ≡ after_statement locals.old
-        (raw_form.Fold (raw_fold_head raw.now) (raw_block (out-RawFold raw.now).body.items))) }
+    ensures after { IfOk result (λ _. locals.new ≡ after_statement locals.old (raw_fold raw.now)) }
 {
     let header = header_of(here, locals, line, raw)?;
     let (body, next) = fold_body(here, locals, raw, header.first, header.block)?;
@@ -313,13 +260,9 @@ fn consumer<'a>(
     first: u32,
 ) -> Result<Vec<Stmt>, TypeError>
     requires { AreNew locals.old.locals (raw_pair_head raw.now).carried }
-    ensures answers { let inside = with_each true locals.old.locals first
-        (raw_pair_head raw.now).carried in Answers (block_faults (in_part (setting here.now))
-        (scope inside) (raw_block (out-RawPair raw.now).consumer.items)) (λ v. seen_block v.items)
-        (resolved_block here.now.globals.now inside (length locals.old.slots)
-        (raw_block (out-RawPair raw.now).consumer.items)) result }
-    ensures after { IfOk result (λ _.
-        locals.new ≡ after_inner locals.old (raw_block (out-RawPair raw.now).consumer.items)) }
+    ensures answers { AnswersConsumer (setting here.now)
+        (showing_row locals.old first (raw_pair_head raw.now).carried) raw.now result }
+    ensures after { IfOk result (λ _. locals.new ≡ after_inner locals.old (consumer_of raw.now)) }
 {
     let count = locals.count();
     locals.show_each(&raw.carried, first, true)?;
@@ -337,15 +280,9 @@ fn pair<'a>(
     line: u32,
     raw: &'a RawPair,
 ) -> Result<StmtKind, TypeError>
-    ensures answers { Answers (statement_faults (setting here.now) (scope locals.old.locals) line
-        (raw_form.Pair (raw_pair_head raw.now) (raw_block (out-RawPair raw.now).producer.items)
-        (raw_block (out-RawPair raw.now).consumer.items))) seen_statement
-        (resolved_statement here.now.globals.now locals.old.locals (length locals.old.slots)
-        (raw_form.Pair (raw_pair_head raw.now) (raw_block (out-RawPair raw.now).producer.items)
-        (raw_block (out-RawPair raw.now).consumer.items))) result }
-    ensures after { IfOk result (λ _. locals.new ≡ after_statement locals.old
-        (raw_form.Pair (raw_pair_head raw.now) (raw_block (out-RawPair raw.now).producer.items)
-        (raw_block (out-RawPair raw.now).consumer.items))) }
+    ensures answers { AnswersStatement (setting here.now) locals.old line (raw_pair raw.now)
+        result }
+    ensures after { IfOk result (λ _. locals.new ≡ after_statement locals.old (raw_pair raw.now)) }
 {
     let first = locals.next_slot()?;
     pair_names(here, locals, line, raw)?;
@@ -367,16 +304,7 @@ fn pair<'a>(
 
 /// A fold of these parts.
 fn fold_of(header: Header, body: Vec<Stmt>, next: Vec<Expr>, next_line: u32) -> Fold
-    ensures head { fold_head result ≡ record {
-      carried = header.carried.items;
-      start = seen_arguments header.start.items;
-      block = header.block;
-      low = seen_expression header.low.value;
-      high = seen_expression header.high.value;
-      predict = map seen_predictor header.predict.items;
-      next = seen_arguments next.items;
-      next_line = next_line;
-    } }
+    ensures head { fold_head result ≡ fold_head_of header next next_line }
     ensures body { (out-Fold result).body ≡ body }
 {
     Fold {
@@ -401,13 +329,7 @@ fn pair_of(
     predict: Vec<Predict>,
     consumer: Vec<Stmt>,
 ) -> Pair
-    ensures head { pair_head result
-        ≡ record {
-          carried = carried.items;
-          give = seen_arguments give.items;
-          give_line = give_line;
-          predict = map seen_predictor predict.items;
-        } }
+    ensures head { pair_head result ≡ pair_head_of carried give give_line predict }
     ensures producer { (out-Pair result).producer ≡ producer }
     ensures consumer { (out-Pair result).consumer ≡ consumer }
 {

@@ -1,4 +1,5 @@
 use Rattle.std.proofs.Common.{[], ◌∙◌, sym, subst, map, string_bytes}
+use Rattle.std.proofs.lemmas.List.{length-map}
 use Rattle.spf_ast.specs.View.{program}
 use Rattle.spf_guess.specs.Answers.{supplied}
 use Rattle.spf_cli_answers.specs.Answering.{seen_answer}
@@ -25,6 +26,12 @@ returns-in-Ok-Answer-clause-answered g c =
     let a = c.in-Ok-Answer.given in
     answered_by (Whole given (map string_bytes c.args.words.now)) _ _ (seen_answer a) c.number-in-Err-put.result s (rw c.in-Ok-Answer.field-0-is at c.in-Ok-Answer.ensures.reply) (λ only.
     put_part _ (seen_answer a) c.number-in-Err-put.result s c.in-Err-put.error only c.put.ensures.part c.in-Err-put.ensures.failed (c.number-in-Err-put.ensures ∙ c.put_status.ensures))
+
+pub put_batch-requires-clause-complete : goal.put_batch-requires-clause-complete
+put_batch-requires-clause-complete g c =
+    let ready = rw c.in-Ok-Batch.field-0-is at c.in-Ok-Batch.ensures.reply in
+    let same = c.in-Ok-Batch.ensures.idle (subst IsBatch (sym c.in-Ok-Batch.field-0-is) tt) in
+    λ κs h. rw same (rw (length-map c.args.hosts.items (λ h. (goal.Predictor-dyn g (h.vtable, h.value)).answer h.value)) at ready.complete)
 
 pub returns-in-Ok-Batch-clause-answered : goal.returns-in-Ok-Batch-clause-answered
 returns-in-Ok-Batch-clause-answered g c =

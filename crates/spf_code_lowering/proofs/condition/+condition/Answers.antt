@@ -1,8 +1,8 @@
-use Rattle.std.proofs.Common.{ℕ, ◌<◌, sym, ap, subst, refl}
+use Rattle.std.proofs.Common.{◌<◌, sym, ap, subst, refl}
 use Rattle.spf_ast.specs.View.{condition}
 use Rattle.spf_ast.specs.Syntax.{Both, Either, Not}
 use Rattle.spf_code.specs.declared.node.Node.TheVariants as v
-use Rattle.spf_code.specs.Code.{stop, only, ◌then◌, Branch}
+use Rattle.spf_code.specs.Code.{stop, Branch}
 use Rattle.spf_code_lowering.specs.Flat.{nodes_set, Flattens}
 use Rattle.spf_code_lowering.proofs.Flat.{flat-none}
 use Rattle.spf_code_lowering.proofs.Lowering.{finish, mapped, branched}
@@ -59,7 +59,7 @@ tell-returns-in_ok-otherwise-in-Either-clause-spares t c =
 
 pub tell-returns-in_ok-tell-in-Not-clause-spares : goal.tell-returns-in_ok-tell-in-Not-clause-spares
 tell-returns-in_ok-tell-in-Not-clause-spares t c =
-    finished c.add.result _ _ _ (v.Flip c.args.free c.args.free) c.in_ok-tell-in-Not.ensures.spares c.add.ensures.appended (λ r l. less-differs r c.args.free l)
+    finished c.add.result _ _ _ (v.Flip c.args.free c.args.free) refl c.in_ok-tell-in-Not.ensures.spares c.add.ensures.appended (λ r l. less-differs r c.args.free l)
 
 pub code_telling-returns-clause-spares : goal.code_telling-returns-clause-spares
 code_telling-returns-clause-spares t c = λ r l. none-set (rw c.new-made.ensures.items at c.in_ok-tell.ensures.spares) r l

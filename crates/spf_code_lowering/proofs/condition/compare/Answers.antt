@@ -42,10 +42,10 @@ returns-clause-wrote c = λ calls.
 pub returns-in-Number-clause-spares : goal.returns-in-Number-clause-spares
 returns-in-Number-clause-spares c =
     let e : IfOk c.add.result (λ u. c.add.new.out.items ≡ c.hold.new.out.items ++ v.CheckWith c.args.test c.args.free c.in_ok-first.first.register c.in-Number.n ∷ []) = search rules in
-    finished c.add.result _ _ _ (v.CheckWith c.args.test c.args.free c.in_ok-first.first.register c.in-Number.n) c.in_ok-first.ensures.spares e (λ r l. less-differs r c.args.free l)
+    finished c.add.result _ _ _ (v.CheckWith c.args.test c.args.free c.in_ok-first.first.register c.in-Number.n) refl c.in_ok-first.ensures.spares e (λ r l. less-differs r c.args.free l)
 
 pub returns-clause-spares : goal.returns-clause-spares
 returns-clause-spares c =
     let wider = c.in_ok-first.ensures.next.0 in
-    finished c.add-2.result _ _ _ (v.Check c.args.test c.args.free c.in_ok-first.first.register c.in_ok-second.second.register)
+    finished c.add-2.result _ _ _ (v.Check c.args.test c.args.free c.in_ok-first.first.register c.in_ok-second.second.register) refl
     (both-spared c.in_ok-first.ensures.spares (fewer (λ r. r < c.args.free) c.in_ok-second.ensures.spares (λ r l. omega (arith, l, wider)))) c.add-2.ensures.appended (λ r l. less-differs r c.args.free l)

@@ -1,10 +1,11 @@
-use Rattle.std.proofs.Common.{rules, ◌≡◌, ◌+◌, List, [], ◌∷◌, ◌++◌, length, false, sym, ap, ◌∙◌, subst, refl, append_assoc}
+use Rattle.std.specs.Prelude.{◌||◌}
+use Rattle.std.proofs.Common.{rules, ◌≡◌, ◌+◌, List, [], ◌∷◌, ◌++◌, length, false, ap, ◌∙◌, subst, refl, append_assoc}
 use Rattle.spf_code.specs.declared.node.Node.TheVariants as v
 use Rattle.spf_code.specs.Code.{only}
-use Rattle.spf_code.specs.NodeView.{choose, Split, node}
+use Rattle.spf_code.specs.NodeView.{choose, Split, way_of, node}
 use Rattle.spf_code.specs.Code.{node_sets}
-use Rattle.spf_code_lowering.specs.Flat.{Flattens, nodes_set}
-use Rattle.spf_code_lowering.proofs.Flat.{flat-when, flat-choice, nodes-set-append}
+use Rattle.spf_code_lowering.specs.Flat.{Flattens, way_sets, nodes_set}
+use Rattle.spf_code_lowering.proofs.Flat.{flat-when, flat-choice, one-sets, nodes-set-append}
 use Rattle.spf_code_lowering.proofs.Lowering.{mapped, none_left}
 use Rattle.spf_code_lowering.proofs.Spared.{more-spared, either}
 use Rattle.spf_code_lowering.proofs.jump.add_choice.Goals as goal
@@ -35,7 +36,7 @@ returns-then-is_empty-clause-spares c =
     mapped c.append.result c.append.ensures.appended (λ u e.
     more-spared (λ r. (nodes_set r held ≡ false) × (nodes_set r c.args.other.items ≡ false)) (x ∷ held)
     (e ∙ ap (λ l. l ++ held) (c.in_ok-add.ensures {u = tt}).appended ∙ append_assoc c.args.out.now.items (x ∷ []) held)
-    (λ r p. either (node_sets r (node x)) _ (ap (node_sets r) c.unless.ensures.node) p.0))
+    (λ r p. either (node_sets r (node x) || way_sets r (way_of x)) _ (one-sets r x (ap (node_sets r) c.unless.ensures.node) (ap (way_sets r) c.unless.ensures.way)) p.0))
 
 pub returns-clause-wrote : goal.returns-clause-wrote
 returns-clause-wrote c = λ first second one other.
@@ -63,4 +64,4 @@ returns-clause-spares c =
     more-spared (λ r. (nodes_set r held ≡ false) × (nodes_set r missed ≡ false)) (x ∷ (held ++ j ∷ missed))
     (e ∙ ap (λ l. l ++ missed) ((c.in_ok-add-3.ensures {u = tt}).appended ∙ ap (λ l. l ++ j ∷ []) ((c.in_ok-append.ensures {u = tt}).appended ∙ ap (λ l. l ++ held) (c.in_ok-add-2.ensures {u = tt}).appended))
     ∙ put-together c.args.out.now.items held missed x j)
-    (λ r p. either (node_sets r (node x)) _ (ap (node_sets r) c.unless-2.ensures.node) (nodes-set-append r held (j ∷ missed) p.0 p.1)))
+    (λ r p. either (node_sets r (node x) || way_sets r (way_of x)) _ (one-sets r x (ap (node_sets r) c.unless-2.ensures.node) (ap (way_sets r) c.unless-2.ensures.way)) (nodes-set-append r held (j ∷ missed) p.0 p.1)))

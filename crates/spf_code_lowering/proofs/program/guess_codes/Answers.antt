@@ -1,7 +1,7 @@
 use Rattle.std.proofs.Common.{◌+◌, drop, map}
 use Rattle.spf_ast.specs.View.{predictor}
 use Rattle.spf_code_lowering.specs.Lowering.{callable_in}
-use Rattle.spf_code_lowering.proofs.Parts.{GuessesSoFar, next_guess, one_guess, all_guesses}
+use Rattle.spf_code_lowering.proofs.Parts.{next_guess, one_guess, all_guesses}
 use Rattle.spf_code_lowering.proofs.program.guess_codes.Goals as goal
 
 pub loop-part-preserved : goal.loop-part-preserved

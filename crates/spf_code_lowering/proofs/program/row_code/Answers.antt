@@ -1,4 +1,4 @@
-use Rattle.std.proofs.Common.{◌≡◌, sym, ap, ◌∙◌, refl}
+use Rattle.std.proofs.Common.{sym, ◌∙◌, refl}
 use Rattle.spf_code_lowering.proofs.Flat.{code-sets}
 use Rattle.spf_code_lowering.proofs.Lowering.{count_is}
 use Rattle.spf_code_lowering.proofs.Same.{both-same}

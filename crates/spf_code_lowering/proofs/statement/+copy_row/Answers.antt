@@ -1,4 +1,4 @@
-use Rattle.std.proofs.Common.{◌≡◌, ◌<◌, ◌≤◌, ◌+◌, Bool, true, false, ℕ, suc, length, List, [], ◌∷◌, refl, sym, ap, ◌∙◌, subst, arith}
+use Rattle.std.proofs.Common.{◌≡◌, ◌<◌, ◌≤◌, Bool, true, false, ℕ, suc, length, refl, sym, ap, ◌∙◌, subst, arith}
 use Rattle.std.specs.Prelude.{◌==◌, nat_lt, if◌then◌else◌}
 use Rattle.std.proofs.lemmas.Bool.Decides.{nat_tests}
 use Rattle.spf_ast_lemmas.proofs.Bools.{neither}
@@ -49,7 +49,7 @@ returns-in_ok-next-in-Some-clause-spares t c =
     let split : (r : ℕ) → left r → ((r == slot) ≡ false) × (is_among r c.in-Some.others.now ≡ false)
     = λ r p. neither (r == slot) (is_among r c.in-Some.others.now) (subst (λ l. is_among r l ≡ false) c.in-Some.ensures.cases.0 p.1) in
     let first : SetsNone left c.args.out.now.items c.if-slot-scope.out.items = elim c.if-slot-scope.branch [
-      | then-slot-scope+in_ok-add-in-Some w ↦ rw w.out-is (one-more left (v.Copy slot c.args.from) (w.in_ok-add-in-Some.ensures {u = tt}).appended (λ r p. (split r p).0))
+      | then-slot-scope+in_ok-add-in-Some w ↦ rw w.out-is (one-more left (v.Copy slot c.args.from) refl (w.in_ok-add-in-Some.ensures {u = tt}).appended (λ r p. (split r p).0))
       | else-slot-scope w ↦ rw w.out-is same-spared
     ] in
     mapped c.copy_row.result c.copy_row.ensures.spares (λ u w. both-spared first (fewer left w (λ r p. (p.0, (split r p).1))))

@@ -1,5 +1,5 @@
 use Rattle.std.specs.Prelude.{◌==◌}
-use Rattle.std.proofs.Common.{◌≡◌, ℕ, ◌+◌, ◌*◌, ◌<◌, ◌≤◌, suc, false, ◌⊎◌, List, [], ◌∷◌, length, drop, refl, sym, ap, ◌∙◌, subst, arith}
+use Rattle.std.proofs.Common.{◌≡◌, ℕ, ◌+◌, ◌*◌, ◌<◌, ◌≤◌, suc, false, ◌⊎◌, [], ◌∷◌, length, drop, refl, sym, ap, ◌∙◌, subst, arith}
 use Rattle.std.proofs.lemmas.List.{drop_all}
 use Rattle.std.proofs.Math.Seq.{drop-cons}
 use Rattle.spf_ast.specs.declared.syntax.Fold.{out-Fold}
@@ -13,7 +13,7 @@ use Rattle.spf_code.specs.NodeView.{node, code}
 use Rattle.spf_code_lowering.specs.Computes.{copies}
 use Rattle.spf_code_lowering.specs.Lowering.{SetsNone, IsLeft, AreLeft, callable_in, HeldIn, PassedIn, ToldIn, RunIn, BlockIn}
 use Rattle.spf_code_lowering.proofs.Lowering.{nothing, then-then, one_as, more, mapped, as_well, finish, alone}
-use Rattle.spf_code.proofs.NodeViews.{node-repeat, node-turning, node-blocks}
+use Rattle.spf_code.proofs.NodeViews.{node-turning, node-blocks}
 use Rattle.spf_code_lowering.specs.Flat.{DoesSame}
 use Rattle.spf_code_lowering.proofs.Flat.{code-sets}
 use Rattle.spf_code_lowering.proofs.Same.{block-too, told-too, does-same, whole, blocks-same}
@@ -121,13 +121,13 @@ repeat-returns-clause-wrote t c = λ calls.
     let next = c.in_ok-last.last.next in
     let turns = c.in_ok-turns.turns in
     let counter = c.register_of-counter.result in
-    let x = v.Repeat counter r q turns in
+    let x = c.iterations.result in
     let body = block c.args.body.now in
     let R = RunIn s calls c.args.line (For c.args.slot a b body) in
     let made_so_far = more (λ made. R (made then only (node x))) (c.in_ok-first.ensures.wrote calls) (c.in_ok-last.ensures.wrote calls)
-    (λ m k p w. subst R (sym (then-then m k (only (node x)))) (subst (λ y. R (m then (k then only y))) (sym (node-repeat counter r q turns))
+    (λ m k p w. subst R (sym (then-then m k (only (node x)))) (subst (λ y. R (m then (k then only y))) (sym c.iterations.ensures.node)
     (loop_run s calls c.args.line between next r q c.args.slot counter a b body m k (code turns.items) c.in_ok-first.ensures.next.1 c.register_of-counter.ensures.written c.register_of-counter.ensures.there p w (whole turns.items (BlockIn s calls body) (block-too (callable_in s) calls s.own body) (c.in_ok-turns.ensures.runs calls))))) in
-    finish c.add.result _ _ _ x (λ made. R (made then only (node x))) R refl made_so_far c.add.ensures.appended (λ made p. p)
+    finish c.add.result _ _ _ x (λ made. R (made then only (node x))) R c.iterations.ensures.way made_so_far c.add.ensures.appended (λ made p. p)
 
 pub turn-returns-clause-wrote : goal.turn-returns-clause-wrote
 turn-returns-clause-wrote t c = λ calls.
@@ -255,9 +255,9 @@ repeat-returns-clause-spares t c =
     let left = IsLeft s.own (For c.args.slot a b body) in
     let wider = c.in_ok-first.ensures.next.0 in
     let counter = c.register_of-counter.result in
-    let x = v.Repeat counter c.in_ok-first.first.register c.in_ok-last.last.register turns in
-    finished c.add.result _ _ _ x (both-spared (fewer left c.in_ok-first.ensures.spares (λ r p. p.0)) (fewer left c.in_ok-last.ensures.spares (λ r p. let l = p.0 in omega (arith, l, wider)))) c.add.ensures.appended
-    (λ r p. let parts = for-changes c.args.slot a b body r p.1 in ap (node_sets r) (node-repeat counter c.in_ok-first.first.register c.in_ok-last.last.register turns) ∙ either (r == counter) _ (written-elsewhere s.own c.args.slot counter r c.register_of-counter.ensures.written p.0 parts.0) (code-sets r turns.items (c.in_ok-turns.ensures.spares r (p.0, parts.1)) 0))
+    let x = c.iterations.result in
+    finished c.add.result _ _ _ x c.iterations.ensures.way (both-spared (fewer left c.in_ok-first.ensures.spares (λ r p. p.0)) (fewer left c.in_ok-last.ensures.spares (λ r p. let l = p.0 in omega (arith, l, wider)))) c.add.ensures.appended
+    (λ r p. let parts = for-changes c.args.slot a b body r p.1 in ap (node_sets r) c.iterations.ensures.node ∙ either (r == counter) _ (written-elsewhere s.own c.args.slot counter r c.register_of-counter.ensures.written p.0 parts.0) (code-sets r turns.items (c.in_ok-turns.ensures.spares r (p.0, parts.1)) 0))
 
 pub turn-returns-clause-spares : goal.turn-returns-clause-spares
 turn-returns-clause-spares t c =
@@ -266,7 +266,7 @@ turn-returns-clause-spares t c =
     let body = block c.args.body.now in
     let turns = c.in_ok-turns.turns in
     let asked = c.in_ok-asked.asked in
-    alone-spared c.add.result _ _ (v.Turning s.own c.args.most asked turns c.args.line) (IsLeft s.own (While test c.args.most body)) c.add.ensures.appended
+    alone-spared c.add.result _ _ (v.Turning s.own c.args.most asked turns c.args.line) (IsLeft s.own (While test c.args.most body)) refl c.add.ensures.appended
     (λ r p. ap (node_sets r) (node-turning s.own c.args.most asked turns c.args.line) ∙ either (code_sets r (code asked.items)) _ (code-sets r asked.items (c.in_ok-asked.ensures.spares r p.0) 0) (code-sets r turns.items (c.in_ok-turns.ensures.spares r p) 0))
 
 pub fold-returns-clause-spares : goal.fold-returns-clause-spares
@@ -294,7 +294,7 @@ fold-returns-clause-spares t c =
     (both-spared (fewer left c.in_ok-low.ensures.spares (λ k p. let l = p.0 in omega (arith, l, wide)))
     (fewer left c.in_ok-high.ensures.spares (λ k p. let l = p.0 in omega (arith, l, wide, wider)))) in
     mapped c.copy_row-2.result (rw c.deref-6.ensures.value at c.copy_row-2.ensures.spares) (λ u w.
-    both-spared so_far (both-spared (one-more left x (c.in_ok-add.ensures {u = tt}).appended set) (fewer left w (λ k p. (p.0, (fold-changes head all k p.1).0)))))
+    both-spared so_far (both-spared (one-more left x refl (c.in_ok-add.ensures {u = tt}).appended set) (fewer left w (λ k p. (p.0, (fold-changes head all k p.1).0)))))
 
 pub pair-returns-clause-spares : goal.pair-returns-clause-spares
 pair-returns-clause-spares t c =
@@ -319,11 +319,11 @@ statement-returns-in-Assign-clause-spares t c =
 
 pub statement-returns-in-Fail-clause-spares : goal.statement-returns-in-Fail-clause-spares
 statement-returns-in-Fail-clause-spares t c =
-    rw c.in-Fail.is (alone-spared c.add.result _ _ (v.Fail c.in-Fail.number c.args.line) (IsLeft c.args.scope.now.own (Fail c.in-Fail.number)) c.add.ensures.appended (λ r p. refl))
+    rw c.in-Fail.is (alone-spared c.add.result _ _ (v.Fail c.in-Fail.number c.args.line) (IsLeft c.args.scope.now.own (Fail c.in-Fail.number)) refl c.add.ensures.appended (λ r p. refl))
 
 pub statement-returns-in-Break-clause-spares : goal.statement-returns-in-Break-clause-spares
 statement-returns-in-Break-clause-spares t c =
-    rw c.in-Break.is (alone-spared c.add-in-Break.result _ _ v.Break (IsLeft c.args.scope.now.own Break) c.add-in-Break.ensures.appended (λ r p. refl))
+    rw c.in-Break.is (alone-spared c.add-in-Break.result _ _ v.Break (IsLeft c.args.scope.now.own Break) refl c.add-in-Break.ensures.appended (λ r p. refl))
 
 pub statement-returns-in-If-clause-spares : goal.statement-returns-in-If-clause-spares
 statement-returns-in-If-clause-spares t c =
