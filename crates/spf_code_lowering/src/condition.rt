@@ -31,7 +31,7 @@ fn compare(
     if let Expr::Number(n) = right {
         return add(
             out,
-            Node::CheckWith {
+            Node::CompareWith {
                 test,
                 to: free,
                 left: first.register,
@@ -42,7 +42,7 @@ fn compare(
     let second = hold(scope, line, first.next, right, out)?;
     add(
         out,
-        Node::Check {
+        Node::Compare {
             test,
             to: free,
             left: first.register,
@@ -82,7 +82,7 @@ pub(crate) fn tell(
             tell(scope, line, free, inner, out)?;
             add(
                 out,
-                Node::Flip {
+                Node::Not {
                     to: free,
                     from: free,
                 },

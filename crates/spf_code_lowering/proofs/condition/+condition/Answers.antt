@@ -41,7 +41,7 @@ tell-returns-in_ok-tell-in-Not-clause-wrote t c = λ calls.
     let s = c.args.scope.now in
     let a = condition c.deref-in-Not.result.now in
     rw (c.in-Not.is, ← c.deref-in-Not.ensures)
-    (finish c.add.result _ _ _ (v.Flip c.args.free c.args.free) (ToldIn s calls c.args.line c.args.free a) (ToldIn s calls c.args.line c.args.free (Not a)) refl (c.in_ok-tell-in-Not.ensures.wrote calls) c.add.ensures.appended
+    (finish c.add.result _ _ _ (v.Not c.args.free c.args.free) (ToldIn s calls c.args.line c.args.free a) (ToldIn s calls c.args.line c.args.free (Not a)) refl (c.in_ok-tell-in-Not.ensures.wrote calls) c.add.ensures.appended
     (λ made p. negation_told (callable_in s) calls c.args.line s.own c.args.free a made p))
 
 pub code_telling-returns-clause-told : goal.code_telling-returns-clause-told
@@ -59,7 +59,7 @@ tell-returns-in_ok-otherwise-in-Either-clause-spares t c =
 
 pub tell-returns-in_ok-tell-in-Not-clause-spares : goal.tell-returns-in_ok-tell-in-Not-clause-spares
 tell-returns-in_ok-tell-in-Not-clause-spares t c =
-    finished c.add.result _ _ _ (v.Flip c.args.free c.args.free) refl c.in_ok-tell-in-Not.ensures.spares c.add.ensures.appended (λ r l. less-differs r c.args.free l)
+    finished c.add.result _ _ _ (v.Not c.args.free c.args.free) refl c.in_ok-tell-in-Not.ensures.spares c.add.ensures.appended (λ r l. less-differs r c.args.free l)
 
 pub code_telling-returns-clause-spares : goal.code_telling-returns-clause-spares
 code_telling-returns-clause-spares t c = λ r l. none-set (rw c.new-made.ensures.items at c.in_ok-tell.ensures.spares) r l

@@ -18,9 +18,9 @@ returns-in-Number-clause-wrote c = λ calls.
     let r = c.in_ok-first.first.register in
     let next = c.in_ok-first.first.next in
     let Q = ToldIn s calls c.args.line c.args.free (Compare c.args.test a (Number c.in-Number.n)) in
-    let e : IfOk c.add.result (λ u. c.add.new.out.items ≡ c.hold.new.out.items ++ v.CheckWith c.args.test c.args.free r c.in-Number.n ∷ []) = search rules in
+    let e : IfOk c.add.result (λ u. c.add.new.out.items ≡ c.hold.new.out.items ++ v.CompareWith c.args.test c.args.free r c.in-Number.n ∷ []) = search rules in
     rw c.in-Number.is
-    (finish c.add.result _ _ _ (v.CheckWith c.args.test c.args.free r c.in-Number.n) (HeldIn s calls c.args.line c.args.free next r a) Q refl (c.in_ok-first.ensures.wrote calls) e
+    (finish c.add.result _ _ _ (v.CompareWith c.args.test c.args.free r c.in-Number.n) (HeldIn s calls c.args.line c.args.free next r a) Q refl (c.in_ok-first.ensures.wrote calls) e
     (λ made p. number_comparison_told (callable_in s) calls c.args.line s.own c.args.free next r c.args.test a c.in-Number.n made p))
 
 pub returns-clause-wrote : goal.returns-clause-wrote
@@ -32,7 +32,7 @@ returns-clause-wrote c = λ calls.
     let between = c.in_ok-first.first.next in
     let q = c.in_ok-second.second.register in
     let next = c.in_ok-second.second.next in
-    let x = v.Check c.args.test c.args.free r q in
+    let x = v.Compare c.args.test c.args.free r q in
     let made_so_far = more (λ made. ToldIn s calls c.args.line c.args.free (Compare c.args.test a b) (made then only (node x)))
     (c.in_ok-first.ensures.wrote calls) (c.in_ok-second.ensures.wrote calls)
     (λ m k p w. subst (ToldIn s calls c.args.line c.args.free (Compare c.args.test a b)) (sym (then-then m k (only (node x))))
@@ -41,11 +41,11 @@ returns-clause-wrote c = λ calls.
 
 pub returns-in-Number-clause-spares : goal.returns-in-Number-clause-spares
 returns-in-Number-clause-spares c =
-    let e : IfOk c.add.result (λ u. c.add.new.out.items ≡ c.hold.new.out.items ++ v.CheckWith c.args.test c.args.free c.in_ok-first.first.register c.in-Number.n ∷ []) = search rules in
-    finished c.add.result _ _ _ (v.CheckWith c.args.test c.args.free c.in_ok-first.first.register c.in-Number.n) refl c.in_ok-first.ensures.spares e (λ r l. less-differs r c.args.free l)
+    let e : IfOk c.add.result (λ u. c.add.new.out.items ≡ c.hold.new.out.items ++ v.CompareWith c.args.test c.args.free c.in_ok-first.first.register c.in-Number.n ∷ []) = search rules in
+    finished c.add.result _ _ _ (v.CompareWith c.args.test c.args.free c.in_ok-first.first.register c.in-Number.n) refl c.in_ok-first.ensures.spares e (λ r l. less-differs r c.args.free l)
 
 pub returns-clause-spares : goal.returns-clause-spares
 returns-clause-spares c =
     let wider = c.in_ok-first.ensures.next.0 in
-    finished c.add-2.result _ _ _ (v.Check c.args.test c.args.free c.in_ok-first.first.register c.in_ok-second.second.register) refl
+    finished c.add-2.result _ _ _ (v.Compare c.args.test c.args.free c.in_ok-first.first.register c.in_ok-second.second.register) refl
     (both-spared c.in_ok-first.ensures.spares (fewer (λ r. r < c.args.free) c.in_ok-second.ensures.spares (λ r l. omega (arith, l, wider)))) c.add-2.ensures.appended (λ r l. less-differs r c.args.free l)

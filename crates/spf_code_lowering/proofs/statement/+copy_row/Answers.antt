@@ -4,7 +4,7 @@ use Rattle.std.proofs.lemmas.Bool.Decides.{nat_tests}
 use Rattle.spf_ast_lemmas.proofs.Bools.{neither}
 use Rattle.spf_ast.specs.Slots.{is_among}
 use Rattle.spf_code.specs.declared.node.Node.TheVariants as v
-use Rattle.spf_code.specs.Code.{Code, Copy, stop, only, ◌then◌}
+use Rattle.spf_code.specs.Code.{Code, Move, stop, only, ◌then◌}
 use Rattle.spf_code_lowering.specs.Computes.{copies}
 use Rattle.spf_code_lowering.specs.Lowering.{Wrote, SetsNone}
 use Rattle.spf_code_lowering.proofs.Lowering.{mapped, nothing, one, more}
@@ -31,9 +31,9 @@ returns-in_ok-next-in-Some-clause-wrote t c =
     let from = c.args.from in
     let slot = c.in-Some.slot.now in
     let others = c.in-Some.others.now in
-    let copied : Bool → Code = λ b. if b then only (Copy slot from) else stop in
+    let copied : Bool → Code = λ b. if b then only (Move slot from) else stop in
     let first : Wrote c.args.out.now.items c.if-slot-scope.out.items (λ made. made ≡ copied (nat_lt slot own)) = elim c.if-slot-scope.branch [
-      | then-slot-scope+in_ok-add-in-Some w ↦ rw w.out-is (one _ _ (v.Copy slot from) _ refl (w.in_ok-add-in-Some.ensures {u = tt}).appended (ap copied (sym (is-less slot own w.if-slot-scope.true))))
+      | then-slot-scope+in_ok-add-in-Some w ↦ rw w.out-is (one _ _ (v.Move slot from) _ refl (w.in_ok-add-in-Some.ensures {u = tt}).appended (ap copied (sym (is-less slot own w.if-slot-scope.true))))
       | else-slot-scope w ↦ rw w.out-is (nothing _ _ (ap copied (sym (is-not-less slot own w.if-slot-scope.false))))
     ] in
     let next : suc from ≡ c.in_ok-next-in-Some.next = (let e = c.in_ok-next-in-Some.ensures {u = tt} in omega (arith, e)) in
@@ -49,7 +49,7 @@ returns-in_ok-next-in-Some-clause-spares t c =
     let split : (r : ℕ) → left r → ((r == slot) ≡ false) × (is_among r c.in-Some.others.now ≡ false)
     = λ r p. neither (r == slot) (is_among r c.in-Some.others.now) (subst (λ l. is_among r l ≡ false) c.in-Some.ensures.cases.0 p.1) in
     let first : SetsNone left c.args.out.now.items c.if-slot-scope.out.items = elim c.if-slot-scope.branch [
-      | then-slot-scope+in_ok-add-in-Some w ↦ rw w.out-is (one-more left (v.Copy slot c.args.from) refl (w.in_ok-add-in-Some.ensures {u = tt}).appended (λ r p. (split r p).0))
+      | then-slot-scope+in_ok-add-in-Some w ↦ rw w.out-is (one-more left (v.Move slot c.args.from) refl (w.in_ok-add-in-Some.ensures {u = tt}).appended (λ r p. (split r p).0))
       | else-slot-scope w ↦ rw w.out-is same-spared
     ] in
     mapped c.copy_row.result c.copy_row.ensures.spares (λ u w. both-spared first (fewer left w (λ r p. (p.0, (split r p).1))))

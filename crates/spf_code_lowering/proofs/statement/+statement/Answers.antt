@@ -8,12 +8,12 @@ use Rattle.spf_ast.specs.View.{expression, condition, statement, block, fold_hea
 use Rattle.spf_ast.specs.Syntax.{Let, Assign, Fail, If, For, While, Fold, Pair, Break, on_line}
 use Rattle.spf_ast.proofs.Views.{statement-if, statement-for, statement-while, statement-fold, statement-pair}
 use Rattle.spf_code.specs.declared.node.Node.TheVariants as v
-use Rattle.spf_code.specs.Code.{Code, stop, only, ◌then◌, Blocks, node_sets, code_sets}
+use Rattle.spf_code.specs.Code.{Code, stop, only, ◌then◌, Fold as code_fold, node_sets, code_sets}
 use Rattle.spf_code.specs.NodeView.{node, code}
 use Rattle.spf_code_lowering.specs.Computes.{copies}
 use Rattle.spf_code_lowering.specs.Lowering.{SetsNone, IsLeft, AreLeft, callable_in, HeldIn, PassedIn, ToldIn, RunIn, BlockIn}
 use Rattle.spf_code_lowering.proofs.Lowering.{nothing, then-then, one_as, more, mapped, as_well, finish, alone}
-use Rattle.spf_code.proofs.NodeViews.{node-turning, node-blocks}
+use Rattle.spf_code.proofs.NodeViews.{node-while, node-fold}
 use Rattle.spf_code_lowering.specs.Flat.{DoesSame}
 use Rattle.spf_code_lowering.proofs.Flat.{code-sets}
 use Rattle.spf_code_lowering.proofs.Same.{block-too, told-too, does-same, whole, blocks-same}
@@ -71,7 +71,7 @@ fold-returns-clause-wrote t c = λ calls.
     let q = c.in_ok-high.high.register in
     let whole_block = c.pass.new.out in
     let counter = c.counter_of-counter.result in
-    let x = v.Blocks counter r q whole_block line in
+    let x = v.Fold counter r q whole_block line in
     let wide : c.in_ok-free.free ≡ s.own + length head.carried = c.in_ok-free.ensures {u = tt} ∙ ap (λ n. s.own + n) (c.in_ok-count_of.ensures {u = tt} ∙ ap length c.deref.ensures.value) in
     let few = c.in_ok-low.ensures.next.1 in
     let bodies = more (λ made. (body : Code) × (made ≡ (row then body)) × BlockIn s calls all body)
@@ -82,8 +82,8 @@ fold-returns-clause-wrote t c = λ calls.
     (λ m k p w. (p.0, k, ap (λ m. m then k) p.1 ∙ then-then row p.0 k, p.2, w))) in
     let is = blocks.asked in
     let whole_code = row then (is.0 then is.1) in
-    let y = Blocks counter r q whole_code line in
-    let same = subst (λ z. DoesSame (only y) (only z)) (sym (node-blocks counter r q whole_block line))
+    let y = code_fold counter r q whole_code line in
+    let same = subst (λ z. DoesSame (only y) (only z)) (sym (node-fold counter r q whole_block line))
     (blocks-same counter r q line whole_code (code whole_block.items) (subst (λ k. DoesSame k (code whole_block.items)) is.2 (does-same whole_block.items _ blocks))) in
     let R = RunIn s calls line (Fold head all) in
     let two = more (λ made. (k : Code) → HeldIn s calls line between next q head.high k → R (made then (k then (only y then row))))
@@ -110,8 +110,8 @@ pair-returns-clause-wrote t c = λ calls.
     (λ m k p e. λ l z. subst R (sym (then-then m k l)) (subst (λ y. R (m then (y then l))) (sym e) (p l z))) in
     mapped c.append-2.result (rw c.deref-4.ensures.value at (c.append-2.ensures.wrote calls)) (λ u w. more R three w (λ m k p z. p k z))
 
-pub repeat-returns-clause-wrote : goal.repeat-returns-clause-wrote
-repeat-returns-clause-wrote t c = λ calls.
+pub for_loop-returns-clause-wrote : goal.for_loop-returns-clause-wrote
+for_loop-returns-clause-wrote t c = λ calls.
     let s = c.args.scope.now in
     let a = expression c.args.low.now in
     let b = expression c.args.high.now in
@@ -129,16 +129,16 @@ repeat-returns-clause-wrote t c = λ calls.
     (loop_run s calls c.args.line between next r q c.args.slot counter a b body m k (code turns.items) c.in_ok-first.ensures.next.1 c.register_of-counter.ensures.written c.register_of-counter.ensures.there p w (whole turns.items (BlockIn s calls body) (block-too (callable_in s) calls s.own body) (c.in_ok-turns.ensures.runs calls))))) in
     finish c.add.result _ _ _ x (λ made. R (made then only (node x))) R c.iterations.ensures.way made_so_far c.add.ensures.appended (λ made p. p)
 
-pub turn-returns-clause-wrote : goal.turn-returns-clause-wrote
-turn-returns-clause-wrote t c = λ calls.
+pub while_loop-returns-clause-wrote : goal.while_loop-returns-clause-wrote
+while_loop-returns-clause-wrote t c = λ calls.
     let s = c.args.scope.now in
     let test = condition c.args.test.now in
     let body = block c.args.body.now in
     let turns = c.in_ok-turns.turns in
     let asked = c.in_ok-asked.asked in
     let R = RunIn s calls c.args.line (While test c.args.most body) in
-    alone c.add.result _ _ (v.Turning s.own c.args.most asked turns c.args.line) R refl c.add.ensures.appended
-    (subst (λ y. R (only y)) (sym (node-turning s.own c.args.most asked turns c.args.line))
+    alone c.add.result _ _ (v.While s.own c.args.most asked turns c.args.line) R refl c.add.ensures.appended
+    (subst (λ y. R (only y)) (sym (node-while s.own c.args.most asked turns c.args.line))
     (while_run s calls c.args.line c.args.most test body (code asked.items) (code turns.items) (whole asked.items (ToldIn s calls c.args.line s.own test) (told-too (callable_in s) calls c.args.line s.own s.own test) (c.in_ok-asked.ensures.told calls)) (whole turns.items (BlockIn s calls body) (block-too (callable_in s) calls s.own body) (c.in_ok-turns.ensures.runs calls))))
 
 pub statement-returns-in-Assign-clause-wrote : goal.statement-returns-in-Assign-clause-wrote
@@ -165,11 +165,11 @@ statement-returns-in-If-clause-wrote t c = λ calls.
 
 pub statement-returns-in-For-clause-wrote : goal.statement-returns-in-For-clause-wrote
 statement-returns-in-For-clause-wrote t c = λ calls.
-    rw (c.in-For.is, statement-for c.in-For.slot c.in-For.low c.in-For.high c.in-For.body, ← c.deref-in-For.ensures.value) (c.repeat.ensures.wrote calls)
+    rw (c.in-For.is, statement-for c.in-For.slot c.in-For.low c.in-For.high c.in-For.body, ← c.deref-in-For.ensures.value) (c.for_loop.ensures.wrote calls)
 
 pub statement-returns-in-While-clause-wrote : goal.statement-returns-in-While-clause-wrote
 statement-returns-in-While-clause-wrote t c = λ calls.
-    rw (c.in-While.is, statement-while c.in-While.test c.in-While.most c.in-While.body, ← c.deref-in-While.ensures.value) (c.turn.ensures.wrote calls)
+    rw (c.in-While.is, statement-while c.in-While.test c.in-While.most c.in-While.body, ← c.deref-in-While.ensures.value) (c.while_loop.ensures.wrote calls)
 
 pub statement-returns-in-Fold-clause-wrote : goal.statement-returns-in-Fold-clause-wrote
 statement-returns-in-Fold-clause-wrote t c = λ calls.
@@ -197,16 +197,16 @@ statement-choose-requires t c =
     let k : 3 * (stmts_weight c.deref.result.now + stmts_weight c.deref-in-If.result.now) + 3 < t = omega (arith, m, e, d, f) in
     (k, tt)
 
-pub statement-repeat-requires : goal.statement-repeat-requires
-statement-repeat-requires t c =
+pub statement-for_loop-requires : goal.statement-for_loop-requires
+statement-for_loop-requires t c =
     let m : t ≡ 3 * statement_weight (statement c.args.kind.now) + 3 = sym c.decreases in
     let e = ap (λ k. statement_weight (statement k)) c.in-For.is ∙ ap statement_weight (statement-for c.in-For.slot c.in-For.low c.in-For.high c.in-For.body) in
     let d = ap stmts_weight c.deref-in-For.ensures.value in
     let k : 3 * stmts_weight c.deref-in-For.result.now + 3 < t = omega (arith, m, e, d) in
     (k, tt)
 
-pub statement-turn-requires : goal.statement-turn-requires
-statement-turn-requires t c =
+pub statement-while_loop-requires : goal.statement-while_loop-requires
+statement-while_loop-requires t c =
     let m : t ≡ 3 * statement_weight (statement c.args.kind.now) + 3 = sym c.decreases in
     let e = ap (λ k. statement_weight (statement k)) c.in-While.is ∙ ap statement_weight (statement-while c.in-While.test c.in-While.most c.in-While.body) in
     let d = ap stmts_weight c.deref-in-While.ensures.value in
@@ -245,8 +245,8 @@ choose-returns-clause-spares t c =
     mapped c.choose_where.result c.choose_where.ensures.spares (λ u w. fewer (IsLeft c.args.scope.now.own (If test first second)) w
     (λ r p. let parts = if-changes test first second r p.1 in (p.0, c.in_ok-one.ensures.spares r (p.0, parts.0), c.in_ok-other.ensures.spares r (p.0, parts.1))))
 
-pub repeat-returns-clause-spares : goal.repeat-returns-clause-spares
-repeat-returns-clause-spares t c =
+pub for_loop-returns-clause-spares : goal.for_loop-returns-clause-spares
+for_loop-returns-clause-spares t c =
     let s = c.args.scope.now in
     let a = expression c.args.low.now in
     let b = expression c.args.high.now in
@@ -259,15 +259,15 @@ repeat-returns-clause-spares t c =
     finished c.add.result _ _ _ x c.iterations.ensures.way (both-spared (fewer left c.in_ok-first.ensures.spares (λ r p. p.0)) (fewer left c.in_ok-last.ensures.spares (λ r p. let l = p.0 in omega (arith, l, wider)))) c.add.ensures.appended
     (λ r p. let parts = for-changes c.args.slot a b body r p.1 in ap (node_sets r) c.iterations.ensures.node ∙ either (r == counter) _ (written-elsewhere s.own c.args.slot counter r c.register_of-counter.ensures.written p.0 parts.0) (code-sets r turns.items (c.in_ok-turns.ensures.spares r (p.0, parts.1)) 0))
 
-pub turn-returns-clause-spares : goal.turn-returns-clause-spares
-turn-returns-clause-spares t c =
+pub while_loop-returns-clause-spares : goal.while_loop-returns-clause-spares
+while_loop-returns-clause-spares t c =
     let s = c.args.scope.now in
     let test = condition c.args.test.now in
     let body = block c.args.body.now in
     let turns = c.in_ok-turns.turns in
     let asked = c.in_ok-asked.asked in
-    alone-spared c.add.result _ _ (v.Turning s.own c.args.most asked turns c.args.line) (IsLeft s.own (While test c.args.most body)) refl c.add.ensures.appended
-    (λ r p. ap (node_sets r) (node-turning s.own c.args.most asked turns c.args.line) ∙ either (code_sets r (code asked.items)) _ (code-sets r asked.items (c.in_ok-asked.ensures.spares r p.0) 0) (code-sets r turns.items (c.in_ok-turns.ensures.spares r p) 0))
+    alone-spared c.add.result _ _ (v.While s.own c.args.most asked turns c.args.line) (IsLeft s.own (While test c.args.most body)) refl c.add.ensures.appended
+    (λ r p. ap (node_sets r) (node-while s.own c.args.most asked turns c.args.line) ∙ either (code_sets r (code asked.items)) _ (code-sets r asked.items (c.in_ok-asked.ensures.spares r p.0) 0) (code-sets r turns.items (c.in_ok-turns.ensures.spares r p) 0))
 
 pub fold-returns-clause-spares : goal.fold-returns-clause-spares
 fold-returns-clause-spares t c =
@@ -279,7 +279,7 @@ fold-returns-clause-spares t c =
     let q = c.in_ok-high.high.register in
     let whole_block = c.pass.new.out in
     let counter = c.counter_of-counter.result in
-    let x = v.Blocks counter r q whole_block c.args.line in
+    let x = v.Fold counter r q whole_block c.args.line in
     let free_is : c.in_ok-free.free ≡ s.own + c.in_ok-count_of.field-0 = c.in_ok-free.ensures {u = tt} in
     let wide : s.own ≤ c.in_ok-free.free = omega (arith, free_is) in
     let wider = c.in_ok-low.ensures.next.0 in
@@ -288,7 +288,7 @@ fold-returns-clause-spares t c =
     (both-spared (fewer left (rw c.deref-3.ensures.value at c.in_ok-append.ensures.spares) (λ k p. (p.0, (fold-changes head all k p.1).2)))
     (fewer left c.in_ok-pass.ensures.spares (λ k p. p.0))) in
     let set : (k : ℕ) → left k → node_sets k (node x) ≡ false
-    = λ k p. ap (node_sets k) (node-blocks counter r q whole_block c.args.line)
+    = λ k p. ap (node_sets k) (node-fold counter r q whole_block c.args.line)
     ∙ either (k == counter) _ (written-elsewhere s.own head.block counter k c.counter_of-counter.ensures.written p.0 (fold-changes head all k p.1).1) (code-sets k whole_block.items (none-set inner k p) 0) in
     let so_far = both-spared (fewer left c.in_ok-pass-2.ensures.spares (λ k p. p.0))
     (both-spared (fewer left c.in_ok-low.ensures.spares (λ k p. let l = p.0 in omega (arith, l, wide)))
@@ -331,11 +331,11 @@ statement-returns-in-If-clause-spares t c =
 
 pub statement-returns-in-For-clause-spares : goal.statement-returns-in-For-clause-spares
 statement-returns-in-For-clause-spares t c =
-    rw (c.in-For.is, statement-for c.in-For.slot c.in-For.low c.in-For.high c.in-For.body, ← c.deref-in-For.ensures.value) c.repeat.ensures.spares
+    rw (c.in-For.is, statement-for c.in-For.slot c.in-For.low c.in-For.high c.in-For.body, ← c.deref-in-For.ensures.value) c.for_loop.ensures.spares
 
 pub statement-returns-in-While-clause-spares : goal.statement-returns-in-While-clause-spares
 statement-returns-in-While-clause-spares t c =
-    rw (c.in-While.is, statement-while c.in-While.test c.in-While.most c.in-While.body, ← c.deref-in-While.ensures.value) c.turn.ensures.spares
+    rw (c.in-While.is, statement-while c.in-While.test c.in-While.most c.in-While.body, ← c.deref-in-While.ensures.value) c.while_loop.ensures.spares
 
 pub statement-returns-in-Fold-clause-spares : goal.statement-returns-in-Fold-clause-spares
 statement-returns-in-Fold-clause-spares t c =

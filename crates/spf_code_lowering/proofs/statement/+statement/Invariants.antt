@@ -19,11 +19,11 @@ decreases-statement l = 3 * statement_weight (statement l.kind.now) + 3
 abbrev pub decreases-choose : goal.decreases-choose
 decreases-choose l = 3 * (stmts_weight l.first.now + stmts_weight l.second.now) + 3
 
-abbrev pub decreases-repeat : goal.decreases-repeat
-decreases-repeat l = 3 * stmts_weight l.body.now + 3
+abbrev pub decreases-for_loop : goal.decreases-for_loop
+decreases-for_loop l = 3 * stmts_weight l.body.now + 3
 
-abbrev pub decreases-turn : goal.decreases-turn
-decreases-turn l = 3 * stmts_weight l.body.now + 3
+abbrev pub decreases-while_loop : goal.decreases-while_loop
+decreases-while_loop l = 3 * stmts_weight l.body.now + 3
 
 abbrev pub decreases-fold : goal.decreases-fold
 decreases-fold l = 3 * stmts_weight (out-Fold l.fold.now).body.items + 3
