@@ -4,4 +4,4 @@ for i = 0, 19999999 do
   s = t % 1000003
   if s == 7 then c = c + 1 end
 end
-print(s & 255)
+print(s % 256)

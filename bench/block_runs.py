@@ -12,22 +12,15 @@ import re
 import subprocess
 import tempfile
 
-from rounds import HERE, program
+from inputs import DECODERS, EXAMPLES, repeated
+from rounds import program
 
-EXAMPLES = os.path.join(HERE, "..", "examples")
 SPF = program()
-DECODERS = [("utf8", "utf8.txt"), ("csv", "cities.csv"), ("strings", "orders.json"), ("pcx", "glider.pcx"), ("hpack", "hpack.bin")]
 SIZE = 20_000
 
 # the functions whose calls perform blocks: in order, and over lanes
 IN_ORDER = "spf_exec_machine::machine::blocks::"
 ATTEMPTS = "spf_crew::mate::Mate::run::"
-
-
-def repeated(name):
-    with open(os.path.join(EXAMPLES, name), "rb") as file:
-        content = file.read()
-    return content * max(1, SIZE // len(content))
 
 
 def counted(folder, words, function):
@@ -44,9 +37,9 @@ def main():
     print("| Decoder | Blocks | Mispredicted | In order, a block | Over lanes, a block | Ratio |\n|---|---|---|---|---|---|")
     with tempfile.TemporaryDirectory() as folder:
         data = os.path.join(folder, "data")
-        for name, source in DECODERS:
+        for name in DECODERS:
             with open(data, "wb") as file:
-                file.write(repeated(source))
+                file.write(repeated(name, SIZE))
             path = os.path.join(EXAMPLES, name + ".spf")
             plain, _ = counted(folder, ["run", path, data, "--plain"], IN_ORDER)
             lanes, told = counted(folder, ["run", path, data, "--workers", "1", "--stats"], ATTEMPTS)

@@ -4,4 +4,4 @@ local function f(x, y)
 end
 local s = 0
 for i = 0, 19999999 do s = f(s, i) end
-print(s & 255)
+print(s % 256)

@@ -5,6 +5,7 @@ the other, and what is compared are the tasks of one round. A ratio is the media
 """
 
 import os
+import resource
 import statistics
 import subprocess
 import sys
@@ -21,11 +22,17 @@ def program():
     return path
 
 
-def timed(command):
-    """Wall-clock seconds of a run, and its output, messages and status."""
-    start = time.perf_counter()
-    done = subprocess.run(command, capture_output=True)
-    return time.perf_counter() - start, (done.stdout, done.stderr, done.returncode)
+def processor_time():
+    """The seconds of processor time that all runs until now took."""
+    used = resource.getrusage(resource.RUSAGE_CHILDREN)
+    return used.ru_utime + used.ru_stime
+
+
+def timed(command, data=None):
+    """Wall-clock seconds of a run, those of processor time on all its threads, and its output, messages and status."""
+    start, used = time.perf_counter(), processor_time()
+    done = subprocess.run(command, input=data, capture_output=True)
+    return time.perf_counter() - start, processor_time() - used, (done.stdout, done.stderr, done.returncode)
 
 
 class Rounds:
@@ -34,18 +41,24 @@ class Rounds:
     def __init__(self, tasks, count):
         """`tasks` maps names to commands, all of which must give the same answer."""
         self.times = {name: [] for name in tasks}
+        self.used = {name: [] for name in tasks}
         wanted = None
         for _ in range(count):
             for name, command in tasks.items():
-                took, got = timed(command)
+                took, used, got = timed(command)
                 if wanted is not None and got != wanted:
                     sys.exit(f"{' '.join(command)}: another answer")
                 wanted = got
                 self.times[name].append(took)
+                self.used[name].append(used)
 
     def seconds(self, name):
         return statistics.median(self.times[name])
 
-    def ratio(self, one, other, less=0.0):
-        """How many times as long the one task takes as the other, after as many seconds are taken off both."""
-        return statistics.median((a - less) / (b - less) for a, b in zip(self.times[one], self.times[other]))
+    def ratio(self, one, other):
+        """How many times as long the one task takes as the other."""
+        return statistics.median(a / b for a, b in zip(self.times[one], self.times[other]))
+
+    def processor_ratio(self, one, other):
+        """How many times as much processor time the one task takes as the other."""
+        return statistics.median(a / b for a, b in zip(self.used[one], self.used[other]))

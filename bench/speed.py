@@ -1,51 +1,64 @@
 #!/usr/bin/env python3
 """Times the decoders of examples/ on 1, 2 and 4 workers compared with a plain run, prints a table, and draws it as bench/speed.svg.
 
-The inputs are those of the examples, repeated up to about SIZE bytes. Wall-clock times of whole runs, in rounds (rounds.py). The first word
-may name the program that is timed in the place of crates/spf/out/spf. Needs the built program (`./spf --build`) and idle cores.
+Inputs and blocks are those of inputs.py, with about 1 MB and about 4 MB; hpack, which has eight cells for each byte, has half of these.
+Wall-clock times of whole runs, in rounds (rounds.py). Beside them stand the instructions for a byte more in order, counted by valgrind's
+callgrind where it is installed. The picture shows the longer inputs. The first word may name the program that is timed in the place of
+crates/spf/out/spf. Needs the built program (`./spf --build`) and idle cores.
 """
 
 import os
+import re
+import shutil
+import subprocess
 import tempfile
 
+from inputs import DECODERS, program_text, repeated
 from rounds import HERE, Rounds, program
 
-EXAMPLES = os.path.join(HERE, "..", "examples")
 SPF = program()
 WORKERS = [1, 2, 4]
 ROUNDS = 7
-
-# a program, its input, and how many bytes it is repeated to: no more than 4,096 blocks and 4,194,304 cells
-DECODERS = [
-    ("utf8", "utf8.txt", 1_000_000),
-    ("csv", "cities.csv", 1_000_000),
-    ("strings", "orders.json", 1_000_000),
-    ("pcx", "glider.pcx", 1_000_000),
-    ("hpack", "hpack.bin", 500_000),
-]
+SIZES = [1_000_000, 4_000_000]
+COUNTED = [60_000, 120_000]
 
 
-def repeated(name, size):
-    with open(os.path.join(EXAMPLES, name), "rb") as file:
-        content = file.read()
-    return content * (size // len(content))
+def held(folder, name, content):
+    path = os.path.join(folder, name)
+    with open(path, "wb") as file:
+        file.write(content)
+    return path
+
+
+def instructions(folder, name, path):
+    """The instructions of a run in order, for each byte that the input has more."""
+    if not shutil.which("valgrind"):
+        return "-"
+    counts = []
+    for size in COUNTED:
+        content = repeated(name, size)
+        words = [SPF, "run", path, held(folder, "counted", content), "--plain"]
+        done = subprocess.run(["valgrind", "--tool=callgrind", "--callgrind-out-file=/dev/null", *words], capture_output=True)
+        counts.append((len(content), int(re.search(rb"Collected : (\d+)", done.stderr)[1])))
+    (few, less), (many, more) = counts
+    return f"{(more - less) / (many - few):,.0f}"
 
 
 def measure():
-    """For each decoder its name, and how many times as fast as a plain run it is, for each number of workers."""
+    """For each decoder its name, and how many times as fast as a plain run it is on the longer input, for each number of workers."""
     rows = []
-    for name, data, size in DECODERS:
-        path = os.path.join(EXAMPLES, name + ".spf")
-        with tempfile.NamedTemporaryFile() as file:
-            content = repeated(data, size)
-            file.write(content)
-            file.flush()
-            tasks = {"plain": [SPF, "run", path, file.name, "--plain"]}
-            tasks |= {n: [SPF, "run", path, file.name, "--workers", str(n)] for n in WORKERS}
-            rounds = Rounds(tasks, ROUNDS)
-        ratios = [rounds.ratio("plain", n) for n in WORKERS]
-        rows.append((name, ratios))
-        print(f"{name:<10}{len(content):>10}" + "".join(f"{rounds.seconds(task):>9.3f}" for task in tasks) + "".join(f"{ratio:>8.2f}" for ratio in ratios), flush=True)
+    with tempfile.TemporaryDirectory() as folder:
+        for name in DECODERS:
+            path = held(folder, name + ".spf", program_text(name).encode())
+            count = instructions(folder, name, path)
+            for size in SIZES:
+                content = repeated(name, size // 2 if name == "hpack" else size)
+                run = [SPF, "run", path, held(folder, "input", content)]
+                rounds = Rounds({"plain": run + ["--plain"]} | {n: run + ["--workers", str(n)] for n in WORKERS}, ROUNDS)
+                ratios = [rounds.ratio("plain", n) for n in WORKERS]
+                cells = [name, f"{len(content):,}", count, f"{rounds.seconds('plain'):.3f}"] + [f"{ratio:.2f}" for ratio in ratios]
+                print("| " + " | ".join(cells) + " |", flush=True)
+            rows.append((name, ratios))
     return rows
 
 
@@ -82,7 +95,8 @@ def drawn(rows):
 
 
 def main():
-    print(f"{'decoder':<10}{'bytes':>10}{'plain':>9}" + "".join(f"{f'{n} w.':>9}" for n in WORKERS) + "".join(f"{f'x {n}':>8}" for n in WORKERS))
+    print("| Decoder | Bytes | Instructions a byte, in order | Plain run, seconds | " + " | ".join(f"{n} worker{'s' if n > 1 else ''}" for n in WORKERS) + " |")
+    print("|---" * (4 + len(WORKERS)) + "|")
     rows = measure()
     with open(os.path.join(HERE, "speed.svg"), "w", encoding="utf-8") as file:
         file.write(drawn(rows))

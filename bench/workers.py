@@ -49,7 +49,8 @@ def main():
         for name in ("right", "wrong"):
             print(f"| {name} predictions: seconds | {rounds.seconds('plain'):.2f} |" + "".join(f" {rounds.seconds(f'{name} {n}'):.2f} |" for n in WORKERS))
             print("| times as fast as one worker | |" + "".join(f" {rounds.ratio(f'{name} 1', f'{name} {n}'):.2f} |" for n in WORKERS))
-            print("| times a plain run | 1 |" + "".join(f" {rounds.ratio(f'{name} {n}', 'plain'):.2f} |" for n in WORKERS), flush=True)
+            print("| times a plain run | 1 |" + "".join(f" {rounds.ratio(f'{name} {n}', 'plain'):.2f} |" for n in WORKERS))
+            print("| processor time, times a plain run | 1 |" + "".join(f" {rounds.processor_ratio(f'{name} {n}', 'plain'):.2f} |" for n in WORKERS), flush=True)
 
         tasks = {f"nothing {n}": command(folder, "nothing", "main { emit 0; }", on(n)) for n in WORKERS}
         tasks |= {f"tiny {n}": command(folder, "tiny", TINY, on(n)) for n in WORKERS}

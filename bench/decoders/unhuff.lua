@@ -1,21 +1,24 @@
 -- Decodes a HUF1 file from standard input, bit by bit.
-local data = io.read("a")
-local code, word = {}, 0
+local data = io.read("*a")
+local code, word, first = {}, 0, 1
 for length = 1, 15 do
+  first = first * 2
   for symbol = 0, 255 do
     if data:byte(5 + symbol) == length then
-      code[1 << length | word] = string.char(symbol)
+      code[first + word] = string.char(symbol)
       word = word + 1
     end
   end
   word = word * 2
 end
-local count = string.unpack(">I4", data, 261)
+local count = 0
+for at = 261, 264 do count = count * 256 + data:byte(at) end
 local out, done, held = {}, 0, 1
 for at = 265, #data do
   local byte = data:byte(at)
-  for bit = 7, 0, -1 do
-    held = held * 2 + (byte >> bit & 1)
+  for _ = 1, 8 do
+    held = held * 2 + (byte >= 128 and 1 or 0)
+    byte = byte % 128 * 2
     local symbol = code[held]
     if symbol and done < count then
       done = done + 1

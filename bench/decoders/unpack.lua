@@ -1,5 +1,5 @@
 -- Unpacks a PackBits file from standard input.
-local data = io.read("a")
+local data = io.read("*a")
 local out, at, size = {}, 1, #data
 while at <= size do
   local header = data:byte(at)

@@ -10,14 +10,14 @@ local function written(state, byte)
     if byte == 34 then return 0 end
     return byte + 1
   end
-  if byte == 34 then return state // 2 * 35 end
+  if byte == 34 then return state == 2 and 35 or 0 end
   if byte == 44 then return 32 end
   if byte == 10 then return 31 end
   if byte == 13 then return 0 end
   return byte + 1
 end
 
-local data = io.read("a")
+local data = io.read("*a")
 local out, state = {}, 0
 for at = 1, #data do
   local byte = data:byte(at)

@@ -1,4 +1,4 @@
-/* The scanners `utf8` and `csv` of examples/ over standard input, for comparison. */
+/* Decoders of examples/ over standard input, for comparison. */
 #include <stdio.h>
 #include <stdlib.h>
 #include <string.h>
@@ -56,7 +56,118 @@ static int csv(void) {
     return state == 1;
 }
 
+static int strings(void) {
+    int byte, state = 0;
+    while ((byte = getchar_unlocked()) != EOF) {
+        if (state == 1 && byte == 34)
+            putchar_unlocked(10);
+        else if (state > 0)
+            putchar_unlocked(byte);
+        if (state == 2)
+            state = 1;
+        else if (byte == 34)
+            state = 1 - state;
+        else if (byte == 92)
+            state = 2 * state;
+    }
+    return state > 0;
+}
+
+static int pcx(void) {
+    int byte, count = 0;
+    while ((byte = getchar_unlocked()) != EOF) {
+        if (count > 0) {
+            for (int i = 192; i < count; i++) putchar_unlocked(byte);
+            count = 0;
+        } else if (byte >= 192) {
+            count = byte;
+        } else {
+            putchar_unlocked(byte);
+        }
+    }
+    return count > 0;
+}
+
+/* The length of a symbol's code in the Huffman code of HPACK, or 0. */
+static int length_of(int symbol) {
+    static const char *letters[16] = {[5] = "012aceiost", [6] = " %-./3456789=A_bdfghlmnpru", [8] = "&*,;XZ", [10] = "!\"()?", [11] = "'+|", [12] = "#>", [13] = "$@[]~", [14] = "^}", [15] = "<`{"};
+    if (symbol == 0) return 13;
+    if (symbol < 32 || symbol == 92 || symbol == 127) return 0;
+    for (int length = 5; length < 16; length++)
+        if (letters[length] && strchr(letters[length], symbol)) return length;
+    return 7;
+}
+
+static int hpack(void) {
+    static unsigned char symbol[65536];
+    int byte, code = 0, bits = 1;
+    for (int length = 1; length < 16; length++, code *= 2)
+        for (int letter = 0; letter < 128; letter++)
+            if (length_of(letter) == length) symbol[(1 << length) + code++] = letter + 1;
+    while ((byte = getchar_unlocked()) != EOF)
+        for (int place = 7; place >= 0; place--) {
+            bits = bits > 0 ? 2 * bits + (byte >> place & 1) : 0;
+            if (bits > 65535) bits = 0;
+            if (symbol[bits] > 0) {
+                putchar_unlocked(symbol[bits] - 1);
+                bits = 1;
+            }
+        }
+    return bits == 0 || bits > 255 || ((bits + 1) & bits) > 0;
+}
+
+static int six(int byte) {
+    if (byte >= 65 && byte <= 90) return byte - 65;
+    if (byte >= 97 && byte <= 122) return byte - 71;
+    if (byte >= 48 && byte <= 57) return byte + 4;
+    if (byte == 43) return 62;
+    return byte == 47 ? 63 : -1;
+}
+
+static int base64(void) {
+    int byte, count = 0, bits = 0;
+    while ((byte = getchar_unlocked()) != EOF) {
+        if (byte == 61) {
+            count = 0;
+        } else if (byte != 10) {
+            int value = six(byte);
+            if (value < 0) return 1;
+            bits = (bits << 6 | value) & 4095;
+            count += 6;
+            if (count >= 8) {
+                count -= 8;
+                putchar_unlocked(bits >> count & 255);
+            }
+        }
+    }
+    return 0;
+}
+
+/* A name is put out once its colon has come. */
+static int headers(void) {
+    static char name[4194304];
+    int byte, length = 0, open = 1;
+    while ((byte = getchar_unlocked()) != EOF) {
+        if (open && byte > 32 && byte != 58) {
+            name[length++] = byte;
+        } else {
+            if (open && byte == 58 && length > 0) {
+                fwrite(name, 1, length, stdout);
+                putchar_unlocked(10);
+            }
+            open = byte == 10;
+            length = 0;
+        }
+    }
+    return 0;
+}
+
 int main(int count, char **words) {
-    if (count != 2) return 2;
-    return !strcmp(words[1], "utf8") ? utf8() : csv();
+    static const struct {
+        const char *name;
+        int (*run)(void);
+    } all[] = {{"utf8", utf8}, {"csv", csv}, {"strings", strings}, {"pcx", pcx}, {"hpack", hpack}, {"base64", base64}, {"headers", headers}};
+    for (unsigned at = 0; count == 2 && at < sizeof all / sizeof *all; at++)
+        if (!strcmp(words[1], all[at].name)) return all[at].run();
+    return 2;
 }

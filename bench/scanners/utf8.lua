@@ -13,7 +13,7 @@ end
 
 local function after(state, byte)
   local low, high, rest = 128, 191, state - 1
-  if state > 3 then rest = state // 2 - 1 end
+  if state > 3 then rest = state > 5 and 2 or 1 end
   if state == 4 then low = 160 end
   if state == 5 then high = 159 end
   if state == 6 then low = 144 end
@@ -33,6 +33,6 @@ local function scan(data)
   return #data, 1
 end
 
-local shown, status = scan(io.read("a"))
+local shown, status = scan(io.read("*a"))
 print(shown)
 os.exit(status)
