@@ -6,7 +6,7 @@ ghost use Rattle.spf_code_lowering.specs.Adding.{LowersFunction};
 ghost use Rattle.spf_code_lowering.specs.Lowering.{AreCodesOf};
 ghost use Rattle.spf_code_lowering.specs.Tables.{AreEmpty, HaveNoTables};
 
-use crate::expression::{Scope, hold};
+use crate::expression::{Scope, end_list, hold};
 use crate::statement::block;
 use spf_ast::syntax::Function;
 use spf_code::function::{FunctionCode, Tables};
@@ -43,9 +43,10 @@ pub fn function(
     };
     let mut made = block(&scope, &source.body)?;
     let held = hold(&scope, source.answer_line, own, &source.answer, &mut made)?;
+    let code = end_list(made)?;
     Ok(FunctionCode {
         slots: own,
-        code: made,
+        code,
         register: held.register,
         tables: Tables {
             one: Vec::new(alloc),

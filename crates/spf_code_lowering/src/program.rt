@@ -13,7 +13,7 @@ ghost use Rattle.spf_code_lowering.specs.Adding.{LowersStatements};
 ghost use Rattle.spf_code_lowering.specs.Lowering.{IsCodeOfProgram, SetsWhatIsChanged, SetsNoSlot};
 ghost use Rattle.spf_code_lowering.specs.Lowering.{RunIn, BlockIn};
 
-use crate::expression::{Scope, count_of, hold, pass};
+use crate::expression::{Scope, count_of, end_list, hold, pass};
 use crate::function::functions;
 use crate::statement::{block, statement};
 use spf_ast::construct::{ConstructKind, TopConstruct, as_construct};
@@ -46,8 +46,9 @@ fn row_code(
 {
     let mut nodes = block(scope, statements)?;
     pass(scope, line, scope.own, row, &mut nodes)?;
+    let list = end_list(nodes)?;
     Ok(RowCode {
-        nodes,
+        nodes: list,
         register: scope.own,
         width: count_of(row)?,
     })
@@ -60,8 +61,9 @@ fn expression_code(scope: &Scope, line: u32, value: &Expr) -> Result<ValueCode, 
 {
     let mut nodes = Vec::new(scope.alloc);
     let held = hold(scope, line, scope.own, value, &mut nodes)?;
+    let list = end_list(nodes)?;
     Ok(ValueCode {
-        nodes,
+        nodes: list,
         register: held.register,
     })
 }
@@ -137,7 +139,8 @@ fn block_code(scope: &Scope, statements: &[Stmt]) -> Result<Vec<Node>, AllocErro
         (code k.items)) }
 {
     let nodes = block(scope, statements)?;
-    Ok(nodes)
+    let list = end_list(nodes)?;
+    Ok(list)
 }
 
 /// Returns the code of a pair's parts.
@@ -193,7 +196,8 @@ fn statement_code(scope: &Scope, stmt: &Stmt) -> Result<Vec<Node>, AllocError>
 {
     let mut nodes = Vec::new(scope.alloc);
     statement(scope, stmt.line, &stmt.kind, &mut nodes)?;
-    Ok(nodes)
+    let list = end_list(nodes)?;
+    Ok(list)
 }
 
 /// Returns the code of each of these statements.

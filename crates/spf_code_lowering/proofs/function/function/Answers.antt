@@ -16,7 +16,7 @@ returns-clause-code c = λ calls.
       body = body.made;
       answer = value.made;
       next = c.in_ok-held.held.next;
-      same = both-same c.in_ok-made.made.items c.hold.new.out.items _ _ body value;
+      same = both-same c.in_ok-made.made.items c.hold.new.out.items c.in_ok-code.code.items _ _ (c.in_ok-code.ensures {u = tt}) body value;
       runs = subst (λ n. AreRun callable calls n (block f.body.items) body.made) own body.asked;
       holds = subst (λ n. IsHeldIn callable calls f.answer_line n n c.in_ok-held.held.next c.in_ok-held.held.register (expression f.answer) value.made) own value.asked;
     }

@@ -25,7 +25,7 @@ returns-then-is_empty-clause-wrote c = λ first second one other.
       nodes = x ∷ held;
       appended = e ∙ ap (λ l. l ++ held) (c.in_ok-add.ensures {u = tt}).appended ∙ append_assoc c.args.out.now.items (x ∷ []) held;
       made = only (choose c.args.choice first second);
-      flat = flat-when x c.args.choice held first second c.unless.ensures.node (c.unless.ensures.way ∙ ap (Split c.args.choice) past) one (subst (λ l. Flattens l second) (none_left c.args.other.items none) other);
+      flat = flat-when x c.args.choice held first second (c.unless.ensures.way ∙ ap (Split c.args.choice) past) one (subst (λ l. Flattens l second) (none_left c.args.other.items none) other);
       asked = refl;
     })
 
@@ -50,7 +50,7 @@ returns-clause-wrote c = λ first second one other.
       appended = e ∙ ap (λ l. l ++ missed) ((c.in_ok-add-3.ensures {u = tt}).appended ∙ ap (λ l. l ++ v.Jump c.in_ok-left_out.left_out ∷ []) ((c.in_ok-append.ensures {u = tt}).appended ∙ ap (λ l. l ++ held) (c.in_ok-add-2.ensures {u = tt}).appended))
           ∙ ap (λ k. (((c.args.out.now.items ++ x ∷ []) ++ held) ++ v.Jump k ∷ []) ++ missed) left ∙ put-together c.args.out.now.items held missed x (v.Jump (length missed));
       made = only (choose c.args.choice first second);
-      flat = flat-choice x c.args.choice held missed first second c.unless-2.ensures.node (c.unless-2.ensures.way ∙ ap (Split c.args.choice) past) one other;
+      flat = flat-choice x c.args.choice held missed first second (c.unless-2.ensures.way ∙ ap (Split c.args.choice) past) one other;
       asked = refl;
     })
 

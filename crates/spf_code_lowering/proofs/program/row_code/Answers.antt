@@ -1,5 +1,5 @@
 use Rattle.std.proofs.Common.{sym, ◌∙◌, refl}
-use Rattle.spf_code_lowering.proofs.Flat.{code-sets}
+use Rattle.spf_code_lowering.proofs.Flat.{ended-sets}
 use Rattle.spf_code_lowering.proofs.Lowering.{count_is}
 use Rattle.spf_code_lowering.proofs.Same.{both-same}
 use Rattle.spf_code_lowering.proofs.program.row_code.Goals as goal
@@ -11,7 +11,7 @@ returns-clause-code c = λ calls.
     record {
       body = body.made;
       answer = value.made;
-      same = both-same c.in_ok-nodes.nodes.items c.pass.new.out.items _ _ body value;
+      same = both-same c.in_ok-nodes.nodes.items c.pass.new.out.items c.in_ok-list.list.items _ _ (c.in_ok-list.ensures {u = tt}) body value;
       runs = body.asked;
       passes = value.asked;
       register = refl;
@@ -19,4 +19,4 @@ returns-clause-code c = λ calls.
     }
 
 pub returns-clause-sets : goal.returns-clause-sets
-returns-clause-sets c = λ r p. code-sets r c.pass.new.out.items (c.in_ok-pass.ensures.spares.each r p.0 (c.in_ok-nodes.ensures.spares r p)) 0
+returns-clause-sets c = λ r p. ended-sets r c.pass.new.out.items c.in_ok-list.list.items (c.in_ok-list.ensures {u = tt}) (c.in_ok-pass.ensures.spares.each r p.0 (c.in_ok-nodes.ensures.spares r p))

@@ -15,7 +15,7 @@ use Rattle.spf_code_lowering.specs.Lowering.{SetsNone, IsLeft, AreLeft, callable
 use Rattle.spf_code_lowering.proofs.Lowering.{nothing, then-then, one_as, more, mapped, as_well, finish, alone}
 use Rattle.spf_code.proofs.NodeViews.{node-while, node-fold}
 use Rattle.spf_code_lowering.specs.Flat.{DoesSame}
-use Rattle.spf_code_lowering.proofs.Flat.{code-sets}
+use Rattle.spf_code_lowering.proofs.Flat.{ended-sets}
 use Rattle.spf_code_lowering.proofs.Same.{block-too, told-too, does-same, whole, blocks-same}
 use Rattle.spf_code_lowering.proofs.Running.{then-stop, no_block, block_run, assign_run, loop_run, while_run, fold_run, pair_run, fail_run, break_run}
 use Rattle.spf_code_lowering.proofs.Weight.{statement_weight, stmts_weight, weight_at}
@@ -69,7 +69,7 @@ fold-returns-clause-wrote t c = λ calls.
     let r = c.in_ok-low.low.register in
     let next = c.in_ok-high.high.next in
     let q = c.in_ok-high.high.register in
-    let whole_block = c.pass.new.out in
+    let whole_block = c.in_ok-list.list in
     let counter = c.counter_of-counter.result in
     let x = v.Fold counter r q whole_block line in
     let wide : c.in_ok-free.free ≡ s.own + length head.carried = c.in_ok-free.ensures {u = tt} ∙ ap (λ n. s.own + n) (c.in_ok-count_of.ensures {u = tt} ∙ ap length c.deref.ensures.value) in
@@ -84,7 +84,7 @@ fold-returns-clause-wrote t c = λ calls.
     let whole_code = row then (is.0 then is.1) in
     let y = code_fold counter r q whole_code line in
     let same = subst (λ z. DoesSame (only y) (only z)) (sym (node-fold counter r q whole_block line))
-    (blocks-same counter r q line whole_code (code whole_block.items) (subst (λ k. DoesSame k (code whole_block.items)) is.2 (does-same whole_block.items _ blocks))) in
+    (blocks-same counter r q line whole_code (code whole_block.items) (subst (λ k. DoesSame k (code whole_block.items)) is.2 (does-same c.pass.new.out.items whole_block.items _ (c.in_ok-list.ensures {u = tt}) blocks))) in
     let R = RunIn s calls line (Fold head all) in
     let two = more (λ made. (k : Code) → HeldIn s calls line between next q head.high k → R (made then (k then (only y then row))))
     (rw c.deref-5.ensures.value at c.in_ok-pass-2.ensures.wrote calls) (c.in_ok-low.ensures.wrote calls)
@@ -126,7 +126,7 @@ for_loop-returns-clause-wrote t c = λ calls.
     let R = RunIn s calls c.args.line (For c.args.slot a b body) in
     let made_so_far = more (λ made. R (made then only (node x))) (c.in_ok-first.ensures.wrote calls) (c.in_ok-last.ensures.wrote calls)
     (λ m k p w. subst R (sym (then-then m k (only (node x)))) (subst (λ y. R (m then (k then only y))) (sym c.iterations.ensures.node)
-    (loop_run s calls c.args.line between next r q c.args.slot counter a b body m k (code turns.items) c.in_ok-first.ensures.next.1 c.register_of-counter.ensures.written c.register_of-counter.ensures.there p w (whole turns.items (BlockIn s calls body) (block-too (callable_in s) calls s.own body) (c.in_ok-turns.ensures.runs calls))))) in
+    (loop_run s calls c.args.line between next r q c.args.slot counter a b body m k (code c.in_ok-list.list.items) c.in_ok-first.ensures.next.1 c.register_of-counter.ensures.written c.register_of-counter.ensures.there p w (whole turns.items c.in_ok-list.list.items (BlockIn s calls body) (block-too (callable_in s) calls s.own body) (c.in_ok-list.ensures {u = tt}) (c.in_ok-turns.ensures.runs calls))))) in
     finish c.add.result _ _ _ x (λ made. R (made then only (node x))) R c.iterations.ensures.way made_so_far c.add.ensures.appended (λ made p. p)
 
 pub while_loop-returns-clause-wrote : goal.while_loop-returns-clause-wrote
@@ -137,9 +137,11 @@ while_loop-returns-clause-wrote t c = λ calls.
     let turns = c.in_ok-turns.turns in
     let asked = c.in_ok-asked.asked in
     let R = RunIn s calls c.args.line (While test c.args.most body) in
-    alone c.add.result _ _ (v.While s.own c.args.most asked turns c.args.line) R refl c.add.ensures.appended
-    (subst (λ y. R (only y)) (sym (node-while s.own c.args.most asked turns c.args.line))
-    (while_run s calls c.args.line c.args.most test body (code asked.items) (code turns.items) (whole asked.items (ToldIn s calls c.args.line s.own test) (told-too (callable_in s) calls c.args.line s.own s.own test) (c.in_ok-asked.ensures.told calls)) (whole turns.items (BlockIn s calls body) (block-too (callable_in s) calls s.own body) (c.in_ok-turns.ensures.runs calls))))
+    alone c.add.result _ _ (v.While s.own c.args.most c.in_ok-test_list.test_list c.in_ok-list.list c.args.line) R refl c.add.ensures.appended
+    (subst (λ y. R (only y)) (sym (node-while s.own c.args.most c.in_ok-test_list.test_list c.in_ok-list.list c.args.line))
+    (while_run s calls c.args.line c.args.most test body (code c.in_ok-test_list.test_list.items) (code c.in_ok-list.list.items)
+    (whole asked.items c.in_ok-test_list.test_list.items (ToldIn s calls c.args.line s.own test) (told-too (callable_in s) calls c.args.line s.own s.own test) (c.in_ok-test_list.ensures {u = tt}) (c.in_ok-asked.ensures.told calls))
+    (whole turns.items c.in_ok-list.list.items (BlockIn s calls body) (block-too (callable_in s) calls s.own body) (c.in_ok-list.ensures {u = tt}) (c.in_ok-turns.ensures.runs calls))))
 
 pub statement-returns-in-Assign-clause-wrote : goal.statement-returns-in-Assign-clause-wrote
 statement-returns-in-Assign-clause-wrote t c = λ calls.
@@ -257,7 +259,7 @@ for_loop-returns-clause-spares t c =
     let counter = c.register_of-counter.result in
     let x = c.iterations.result in
     finished c.add.result _ _ _ x c.iterations.ensures.way (both-spared (fewer left c.in_ok-first.ensures.spares (λ r p. p.0)) (fewer left c.in_ok-last.ensures.spares (λ r p. let l = p.0 in omega (arith, l, wider)))) c.add.ensures.appended
-    (λ r p. let parts = for-changes c.args.slot a b body r p.1 in ap (node_sets r) c.iterations.ensures.node ∙ either (r == counter) _ (written-elsewhere s.own c.args.slot counter r c.register_of-counter.ensures.written p.0 parts.0) (code-sets r turns.items (c.in_ok-turns.ensures.spares r (p.0, parts.1)) 0))
+    (λ r p. let parts = for-changes c.args.slot a b body r p.1 in ap (node_sets r) c.iterations.ensures.node ∙ either (r == counter) _ (written-elsewhere s.own c.args.slot counter r c.register_of-counter.ensures.written p.0 parts.0) (ended-sets r turns.items c.in_ok-list.list.items (c.in_ok-list.ensures {u = tt}) (c.in_ok-turns.ensures.spares r (p.0, parts.1))))
 
 pub while_loop-returns-clause-spares : goal.while_loop-returns-clause-spares
 while_loop-returns-clause-spares t c =
@@ -266,8 +268,9 @@ while_loop-returns-clause-spares t c =
     let body = block c.args.body.now in
     let turns = c.in_ok-turns.turns in
     let asked = c.in_ok-asked.asked in
-    alone-spared c.add.result _ _ (v.While s.own c.args.most asked turns c.args.line) (IsLeft s.own (While test c.args.most body)) refl c.add.ensures.appended
-    (λ r p. ap (node_sets r) (node-while s.own c.args.most asked turns c.args.line) ∙ either (code_sets r (code asked.items)) _ (code-sets r asked.items (c.in_ok-asked.ensures.spares r p.0) 0) (code-sets r turns.items (c.in_ok-turns.ensures.spares r p) 0))
+    alone-spared c.add.result _ _ (v.While s.own c.args.most c.in_ok-test_list.test_list c.in_ok-list.list c.args.line) (IsLeft s.own (While test c.args.most body)) refl c.add.ensures.appended
+    (λ r p. ap (node_sets r) (node-while s.own c.args.most c.in_ok-test_list.test_list c.in_ok-list.list c.args.line)
+    ∙ either (code_sets r (code c.in_ok-test_list.test_list.items)) _ (ended-sets r asked.items c.in_ok-test_list.test_list.items (c.in_ok-test_list.ensures {u = tt}) (c.in_ok-asked.ensures.spares r p.0)) (ended-sets r turns.items c.in_ok-list.list.items (c.in_ok-list.ensures {u = tt}) (c.in_ok-turns.ensures.spares r p)))
 
 pub fold-returns-clause-spares : goal.fold-returns-clause-spares
 fold-returns-clause-spares t c =
@@ -277,19 +280,19 @@ fold-returns-clause-spares t c =
     let left = IsLeft s.own (Fold head all) in
     let r = c.in_ok-low.low.register in
     let q = c.in_ok-high.high.register in
-    let whole_block = c.pass.new.out in
+    let whole_block = c.in_ok-list.list in
     let counter = c.counter_of-counter.result in
     let x = v.Fold counter r q whole_block c.args.line in
     let free_is : c.in_ok-free.free ≡ s.own + c.in_ok-count_of.field-0 = c.in_ok-free.ensures {u = tt} in
     let wide : s.own ≤ c.in_ok-free.free = omega (arith, free_is) in
     let wider = c.in_ok-low.ensures.next.0 in
-    let inner : SetsNone left [] whole_block.items =
+    let inner : SetsNone left [] c.pass.new.out.items =
     both-spared (fewer left (rw (c.new-one_block.ensures.items, c.deref-2.ensures.value) at c.in_ok-copy_row.ensures.spares) (λ k p. (p.0, (fold-changes head all k p.1).0)))
     (both-spared (fewer left (rw c.deref-3.ensures.value at c.in_ok-append.ensures.spares) (λ k p. (p.0, (fold-changes head all k p.1).2)))
     (fewer left c.in_ok-pass.ensures.spares (λ k p. p.0))) in
     let set : (k : ℕ) → left k → node_sets k (node x) ≡ false
     = λ k p. ap (node_sets k) (node-fold counter r q whole_block c.args.line)
-    ∙ either (k == counter) _ (written-elsewhere s.own head.block counter k c.counter_of-counter.ensures.written p.0 (fold-changes head all k p.1).1) (code-sets k whole_block.items (none-set inner k p) 0) in
+    ∙ either (k == counter) _ (written-elsewhere s.own head.block counter k c.counter_of-counter.ensures.written p.0 (fold-changes head all k p.1).1) (ended-sets k c.pass.new.out.items whole_block.items (c.in_ok-list.ensures {u = tt}) (none-set inner k p)) in
     let so_far = both-spared (fewer left c.in_ok-pass-2.ensures.spares (λ k p. p.0))
     (both-spared (fewer left c.in_ok-low.ensures.spares (λ k p. let l = p.0 in omega (arith, l, wide)))
     (fewer left c.in_ok-high.ensures.spares (λ k p. let l = p.0 in omega (arith, l, wide, wider)))) in
