@@ -55,9 +55,9 @@ class Rounds:
     def seconds(self, name):
         return statistics.median(self.times[name])
 
-    def ratio(self, one, other):
-        """How many times as long the one task takes as the other."""
-        return statistics.median(a / b for a, b in zip(self.times[one], self.times[other]))
+    def ratio(self, one, other, less=0.0):
+        """How many times as long the one task takes as the other, after as many seconds are taken off both."""
+        return statistics.median((a - less) / (b - less) for a, b in zip(self.times[one], self.times[other]))
 
     def processor_ratio(self, one, other):
         """How many times as much processor time the one task takes as the other."""
