@@ -2,10 +2,10 @@
 """Times three loops, three decoder commands and the decoders of examples/ by `spf`, CPython, Lua 5.4, LuaJIT and C (-O2), in rounds
 (rounds.py), by processor time.
 
-Prints a table of seconds and of ratios, and for each group the geometric means. `spf` runs the loops and the examples by `--plain`, and the
-decoder commands on one worker. The outputs of the languages are compared. LuaJIT is left out where it is not installed. Where Lua 5.4 and
-LuaJIT write something in different ways, the script for LuaJIT ends in .luajit.lua. Needs the built program (`./spf --build`), `lua5.4`,
-`cc`, and idle cores. The first word may name the program that is timed in the place of crates/spf/out/spf.
+Prints a table of seconds and of ratios, and for each group the geometric means. `spf` runs the loops and the examples, with the larger
+blocks of inputs.py, by `--plain`, and the decoder commands on one worker. The outputs of the languages are compared. LuaJIT is left out
+where it is not installed; where it writes something in another way than Lua 5.4, its script ends in .luajit.lua. Needs the built program
+(`./spf --build`), `lua5.4`, `cc`, and idle cores. The first word may name the program that is timed in the place of crates/spf/out/spf.
 """
 
 import math
@@ -17,7 +17,7 @@ import sys
 import tempfile
 
 from decoders import MACHINE, coded, letters, packed
-from inputs import DECODERS, EXAMPLES, repeated
+from inputs import DECODERS, program_text, repeated
 from rounds import HERE, program, timed
 
 SPF = program()
@@ -51,7 +51,7 @@ def tasks(folder):
         }
 
     def held(name, data):
-        path = os.path.join(folder, name + ".input")
+        path = os.path.join(folder, "of-" + name)
         with open(path, "wb") as file:
             file.write(data)
         return path
@@ -65,7 +65,7 @@ def tasks(folder):
         groups["commands"].append((name, data, commands(spf, os.path.join("decoders", name), words, [decode, name] + words)))
     for name in DECODERS:
         data = repeated(name, 500_000 if name == "hpack" else 1_000_000)
-        spf = ["run", os.path.join(EXAMPLES, name + ".spf"), held(name, data), "--plain"]
+        spf = ["run", held(name + ".spf", program_text(name).encode()), held(name, data), "--plain"]
         groups["examples"].append((name, data, commands(spf, os.path.join("scanners", name), [], [scan, name])))
     return groups
 
