@@ -29,7 +29,7 @@ use std::thread::Threads;
 /// | Status | Where |
 /// |---|---|
 /// | 0 | the command is done |
-/// | 1 | the program trapped |
+/// | 1 | the program trapped; not of `batch` and `replay` |
 /// | 2 | the words aren't understood |
 /// | 3 | the text has no lawful program |
 /// | 4 | the rules refuse the program |
@@ -37,7 +37,8 @@ use std::thread::Threads;
 /// | 6 | a sink failed |
 /// | 7 | a limit was passed, or a host isn't supplied |
 /// | 8 | memory ran out |
-/// | 9 | a file isn't of its format: HUF1, LEX1, a machine's text, or a list of names |
+/// | 9 | a file isn't of its format: HUF1, LEX1, SPL1, a machine's text, or a list of names |
+/// | 10 | the log of `replay` isn't that of a run by blocks |
 pub fn spf_main<R: Threads + Wait + Sync, F: Files, S: Sink, G: Gate + Sync>(
     rt: &R,
     alloc: Global,
