@@ -19,7 +19,7 @@ SPF = program()
 SIZE = 20_000
 
 # the functions whose calls perform blocks: in order, and over lanes
-IN_ORDER = "spf_exec_machine::machine::blocks::"
+IN_ORDER = "spf_exec_machine::machine::fold_loop::"
 ATTEMPTS = "spf_crew::mate::Mate::run::"
 
 

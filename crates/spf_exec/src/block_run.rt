@@ -49,7 +49,7 @@ pub struct Block<'a> {
     pub value: Row,
 }
 
-/// Performs a guess. One that is supplied gives no value here.
+/// Performs a guess. One that is supplied is 0 here.
 fn perform_guess<M: Memory>(
     instance: &Instance,
     code: &ValueCode,
@@ -264,7 +264,7 @@ pub fn exec_block<M: Memory>(
     }
 }
 
-/// Performs the guess of one part of a row. A part that isn't there gives none.
+/// Performs the guess of one part of a row. A part that isn't there gives 0.
 fn guess_of<M: Memory>(
     instance: &Instance,
     codes: &[ValueCode],
@@ -350,7 +350,7 @@ fn perform_guess_at<M: Memory>(
 
 /// Performs the guess of one part of a top construct's row, for a block number, over cells that are
 /// only read: a function that stores doesn't change them, and a load gives the word that is there.
-/// A guess that is supplied gives no value here. A slot of `main` that isn't the block name is as
+/// A guess that is supplied is 0 here. A slot of `main` that isn't the block name is as
 /// before.
 ///
 /// # Errors

@@ -7,14 +7,14 @@ ghost use Rattle.spf_code.specs.Fits.{FunctionsFit};
 ghost use Rattle.spf_exec_instance.specs.Instance.{program_of};
 ghost use Rattle.spf_exec_memory.specs.Performs.{AreWithin};
 ghost use Rattle.spf_exec_instructions.specs.Instructions.{setting};
-ghost use Rattle.spf_exec.specs.Sources.{FitsProgram, IsLowered};
+ghost use Rattle.spf_exec.specs.Sources.{AgreesWithProgram, IsLowered};
 
 use spf_exec_instance::instance::Instance;
 use spf_exec_instructions::context::Context;
 
 /// What the code of `main` is performed in: all functions may be called.
 pub(crate) fn context_of<'a>(instance: &'a Instance) -> Context<'a>
-    ensures fits { FitsProgram (program_of instance.now) instance.now.input
+    ensures fits { AgreesWithProgram (program_of instance.now) instance.now.input
         (setting result (length result.functions.now)) }
     ensures lowered { IsLowered (program_of instance.now) instance.now.input
         result.functions.now }

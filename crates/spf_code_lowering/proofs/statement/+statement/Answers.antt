@@ -119,14 +119,14 @@ for_loop-returns-clause-wrote t c = λ calls.
     let between = c.in_ok-first.first.next in
     let q = c.in_ok-last.last.register in
     let next = c.in_ok-last.last.next in
-    let turns = c.in_ok-turns.turns in
+    let nodes = c.in_ok-nodes.nodes in
     let counter = c.register_of-counter.result in
     let x = c.iterations.result in
     let body = block c.args.body.now in
     let R = RunIn s calls c.args.line (For c.args.slot a b body) in
     let made_so_far = more (λ made. R (made then only (node x))) (c.in_ok-first.ensures.wrote calls) (c.in_ok-last.ensures.wrote calls)
     (λ m k p w. subst R (sym (then-then m k (only (node x)))) (subst (λ y. R (m then (k then only y))) (sym c.iterations.ensures.node)
-    (loop_run s calls c.args.line between next r q c.args.slot counter a b body m k (code c.in_ok-list.list.items) c.in_ok-first.ensures.next.1 c.register_of-counter.ensures.written c.register_of-counter.ensures.there p w (whole turns.items c.in_ok-list.list.items (BlockIn s calls body) (block-too (callable_in s) calls s.own body) (c.in_ok-list.ensures {u = tt}) (c.in_ok-turns.ensures.runs calls))))) in
+    (loop_run s calls c.args.line between next r q c.args.slot counter a b body m k (code c.in_ok-list.list.items) c.in_ok-first.ensures.next.1 c.register_of-counter.ensures.written c.register_of-counter.ensures.there p w (whole nodes.items c.in_ok-list.list.items (BlockIn s calls body) (block-too (callable_in s) calls s.own body) (c.in_ok-list.ensures {u = tt}) (c.in_ok-nodes.ensures.runs calls))))) in
     finish c.add.result _ _ _ x (λ made. R (made then only (node x))) R c.iterations.ensures.way made_so_far c.add.ensures.appended (λ made p. p)
 
 pub while_loop-returns-clause-wrote : goal.while_loop-returns-clause-wrote
@@ -134,14 +134,14 @@ while_loop-returns-clause-wrote t c = λ calls.
     let s = c.args.scope.now in
     let test = condition c.args.test.now in
     let body = block c.args.body.now in
-    let turns = c.in_ok-turns.turns in
+    let nodes = c.in_ok-nodes.nodes in
     let asked = c.in_ok-asked.asked in
     let R = RunIn s calls c.args.line (While test c.args.most body) in
     alone c.add.result _ _ (v.While s.own c.args.most c.in_ok-test_list.test_list c.in_ok-list.list c.args.line) R refl c.add.ensures.appended
     (subst (λ y. R (only y)) (sym (node-while s.own c.args.most c.in_ok-test_list.test_list c.in_ok-list.list c.args.line))
     (while_run s calls c.args.line c.args.most test body (code c.in_ok-test_list.test_list.items) (code c.in_ok-list.list.items)
     (whole asked.items c.in_ok-test_list.test_list.items (ToldIn s calls c.args.line s.own test) (told-too (callable_in s) calls c.args.line s.own s.own test) (c.in_ok-test_list.ensures {u = tt}) (c.in_ok-asked.ensures.told calls))
-    (whole turns.items c.in_ok-list.list.items (BlockIn s calls body) (block-too (callable_in s) calls s.own body) (c.in_ok-list.ensures {u = tt}) (c.in_ok-turns.ensures.runs calls))))
+    (whole nodes.items c.in_ok-list.list.items (BlockIn s calls body) (block-too (callable_in s) calls s.own body) (c.in_ok-list.ensures {u = tt}) (c.in_ok-nodes.ensures.runs calls))))
 
 pub statement-returns-in-Assign-clause-wrote : goal.statement-returns-in-Assign-clause-wrote
 statement-returns-in-Assign-clause-wrote t c = λ calls.
@@ -253,24 +253,24 @@ for_loop-returns-clause-spares t c =
     let a = expression c.args.low.now in
     let b = expression c.args.high.now in
     let body = block c.args.body.now in
-    let turns = c.in_ok-turns.turns in
+    let nodes = c.in_ok-nodes.nodes in
     let left = IsLeft s.own (For c.args.slot a b body) in
     let wider = c.in_ok-first.ensures.next.0 in
     let counter = c.register_of-counter.result in
     let x = c.iterations.result in
     finished c.add.result _ _ _ x c.iterations.ensures.way (both-spared (fewer left c.in_ok-first.ensures.spares (λ r p. p.0)) (fewer left c.in_ok-last.ensures.spares (λ r p. let l = p.0 in omega (arith, l, wider)))) c.add.ensures.appended
-    (λ r p. let parts = for-changes c.args.slot a b body r p.1 in ap (node_sets r) c.iterations.ensures.node ∙ either (r == counter) _ (written-elsewhere s.own c.args.slot counter r c.register_of-counter.ensures.written p.0 parts.0) (ended-sets r turns.items c.in_ok-list.list.items (c.in_ok-list.ensures {u = tt}) (c.in_ok-turns.ensures.spares r (p.0, parts.1))))
+    (λ r p. let parts = for-changes c.args.slot a b body r p.1 in ap (node_sets r) c.iterations.ensures.node ∙ either (r == counter) _ (written-elsewhere s.own c.args.slot counter r c.register_of-counter.ensures.written p.0 parts.0) (ended-sets r nodes.items c.in_ok-list.list.items (c.in_ok-list.ensures {u = tt}) (c.in_ok-nodes.ensures.spares r (p.0, parts.1))))
 
 pub while_loop-returns-clause-spares : goal.while_loop-returns-clause-spares
 while_loop-returns-clause-spares t c =
     let s = c.args.scope.now in
     let test = condition c.args.test.now in
     let body = block c.args.body.now in
-    let turns = c.in_ok-turns.turns in
+    let nodes = c.in_ok-nodes.nodes in
     let asked = c.in_ok-asked.asked in
     alone-spared c.add.result _ _ (v.While s.own c.args.most c.in_ok-test_list.test_list c.in_ok-list.list c.args.line) (IsLeft s.own (While test c.args.most body)) refl c.add.ensures.appended
     (λ r p. ap (node_sets r) (node-while s.own c.args.most c.in_ok-test_list.test_list c.in_ok-list.list c.args.line)
-    ∙ either (code_sets r (code c.in_ok-test_list.test_list.items)) _ (ended-sets r asked.items c.in_ok-test_list.test_list.items (c.in_ok-test_list.ensures {u = tt}) (c.in_ok-asked.ensures.spares r p.0)) (ended-sets r turns.items c.in_ok-list.list.items (c.in_ok-list.ensures {u = tt}) (c.in_ok-turns.ensures.spares r p)))
+    ∙ either (code_sets r (code c.in_ok-test_list.test_list.items)) _ (ended-sets r asked.items c.in_ok-test_list.test_list.items (c.in_ok-test_list.ensures {u = tt}) (c.in_ok-asked.ensures.spares r p.0)) (ended-sets r nodes.items c.in_ok-list.list.items (c.in_ok-list.ensures {u = tt}) (c.in_ok-nodes.ensures.spares r p)))
 
 pub fold-returns-clause-spares : goal.fold-returns-clause-spares
 fold-returns-clause-spares t c =

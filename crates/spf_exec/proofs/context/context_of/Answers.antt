@@ -5,7 +5,7 @@ use Rattle.spf_code.specs.Fits.{FunctionsFit}
 use Rattle.spf_code.specs.Settings.{setting_before}
 use Rattle.spf_code_lowering.proofs.Fitted.{functions_fit}
 use Rattle.spf_exec_instance.specs.Instance.{program_of}
-use Rattle.spf_exec.specs.Sources.{FitsProgram}
+use Rattle.spf_exec.specs.Sources.{AgreesWithProgram}
 use Rattle.spf_exec.proofs.Sources.{fits_main}
 use Rattle.spf_exec.proofs.Within.{layout_within}
 use Rattle.spf_exec.proofs.context.context_of.Goals as goal
@@ -14,7 +14,7 @@ pub returns-clause-fits : goal.returns-clause-fits
 returns-clause-fits c =
     let p = program_of c.args.instance.now in
     let input = c.args.instance.now.input in
-    subst (λ (x : List ℕ × List FunctionCode). FitsProgram p input (setting_before x.0 c.extents.result.now x.1 (length x.1)))
+    subst (λ (x : List ℕ × List FunctionCode). AgreesWithProgram p input (setting_before x.0 c.extents.result.now x.1 (length x.1)))
     (λ t. (sym c.input.ensures.same t, sym c.deref.ensures.value t))
     (fits_main p input c.extents.result.now c.code.result.now c.code.ensures.code c.code.ensures.orderly c.code.ensures.tables (c.extents.ensures ∙ c.layout.ensures.extents))
 
