@@ -2,7 +2,7 @@
 #![tactic(auto)]
 
 use spf_cli_answers::{Status, number};
-use spf_cli_shell::answer;
+use spf_cli_shell::run_words;
 use spf_edge::{RealFiles, RealSink, StandardStream};
 use std::process::ExitCode;
 use std::{env, io};
@@ -29,5 +29,5 @@ fn main(rt: HostRuntime) -> ExitCode {
     let mut files = RealFiles::make(&rt);
     let mut out = RealSink::make(StandardStream::Output(rt.stdout()));
     let mut err = RealSink::make(StandardStream::Error(rt.stderr()));
-    ExitCode::from(answer(&rt, alloc, &words, &mut files, &mut out, &mut err))
+    ExitCode::from(run_words(&rt, alloc, &words, &mut files, &mut out, &mut err))
 }

@@ -9,7 +9,7 @@ use Rattle.spf_guess_statistics.specs.declared.stats.Stats.{Stats}
 use Rattle.spf_guess_statistics.specs.Guess.{Hosts}
 use Rattle.spf_guess_statistics.specs.Statistics.{tally}
 use Rattle.spf_guess.specs.Answers.{WereTold}
-use Rattle.spf_engine.specs.Errors.{IsNotRun}
+use Rattle.spf_engine.specs.Errors.{IsCauseOf}
 use Rattle.spf_engine.specs.Runs.{WereToldFirst}
 use Rattle.spf_edge.specs.Entries.{Entry}
 use Rattle.spf_edge.specs.Faults.{Rose}
@@ -44,7 +44,7 @@ untold hosts host pairs block = refl
 
 -- no host is missing
 stopped-host : (p : Program) (name : List ℕ) (place cells limit number : ℕ) (missing : Option ℕ) (before now : World) (hosts then : Hosts)
-    → missing ≡ None → IsNotRun cells limit missing hosts then (NoHost number) → IsStoppedBy p name place before now (stop.NoHost number)
+    → missing ≡ None → IsCauseOf cells limit missing hosts then (NoHost number) → IsStoppedBy p name place before now (stop.NoHost number)
 stopped-host p name place cells limit number missing before now hosts then none why = none-some (sym none ∙ why.1)
   where
     none-some : None ≡ Some number → ⊥
@@ -74,7 +74,7 @@ stopped-fetch p name place old new out hosts stop.OutOfMemory h = inl (record { 
 -- it has too many cells
 stopped-cells : (p : Program) (name content input : List ℕ) (place count : ℕ) (missing : Option ℕ) (old new : FilesState) (out : SinkState) (hosts now : Hosts)
     → AreMade old new (fetch_giving name (Ok content) ∷ []) → input ≡ content
-    → IsNotRun (cell_count_of p (length input)) (max_cells p) missing hosts now (TooManyCells count)
+    → IsCauseOf (cell_count_of p (length input)) (max_cells p) missing hosts now (TooManyCells count)
     → IsStoppedBy p name place (world old out hosts) (world new out now) (stop.TooManyCells place count)
 stopped-cells p name content input place count missing old new out hosts now made same why = (
   refl,
@@ -101,12 +101,12 @@ stopped-short p name content input place old new out hosts now made same first =
 -- the run was not begun, or memory ran out in it
 pub stopped-run : (p : Program) (name content input : List ℕ) (place : ℕ) (missing : Option ℕ) (old new : FilesState) (out : SinkState) (hosts now : Hosts) (error : EngineError) (left : BatchError)
     → AreMade old new (fetch_giving name (Ok content) ∷ []) → input ≡ content → missing ≡ None
-    → IsNotRun (cell_count_of p (length input)) (max_cells p) missing hosts now error → WereToldFirst hosts p input now → left ≡ error_for place error
+    → IsCauseOf (cell_count_of p (length input)) (max_cells p) missing hosts now error → WereToldFirst hosts p input now → left ≡ error_for place error
     → IsStoppedBy p name place (world old out hosts) (world new out now) left
 stopped-run p name content input place missing old new out hosts now error left made same none why first is =
     subst (λ e. IsStoppedBy p name place (world old out hosts) (world new out now) e) (sym is) (by_error error why)
   where
-    by_error : (error : EngineError) → IsNotRun (cell_count_of p (length input)) (max_cells p) missing hosts now error → IsStoppedBy p name place (world old out hosts) (world new out now) (error_for place error)
+    by_error : (error : EngineError) → IsCauseOf (cell_count_of p (length input)) (max_cells p) missing hosts now error → IsStoppedBy p name place (world old out hosts) (world new out now) (error_for place error)
     by_error (TooManyCells count) why = stopped-cells p name content input place count missing old new out hosts now made same why
     by_error (NoHost number) why = stopped-host p name place (cell_count_of p (length input)) (max_cells p) number missing (world old out hosts) (world new out now) hosts now none why
     by_error OutOfMemory why = stopped-short p name content input place old new out hosts now made same first

@@ -4,7 +4,7 @@ use Rattle.spf_ast_lemmas.specs.Counts.{one_more}
 use Rattle.spf_ticket.specs.declared.ticket.Report.{Report}
 use Rattle.spf_chain.specs.declared.chain.Filed.{Filed}
 use Rattle.spf_chain.specs.declared.chain.Filed.TheVariants.{Rerun, Waiting, Ended}
-use Rattle.spf_chain.specs.Chains.{ChainValue, cells_of, came_home, Validates, Raises, IsAnswer, IsSameChain}
+use Rattle.spf_chain.specs.Chains.{ChainValue, chain_cells, came_home, Validates, Raises, IsFiledAnswer, IsSameChain}
 
 -- the same site, cells, and number of reports
 record Keeps (c d : ChainValue) : Type 0 where
@@ -13,7 +13,7 @@ record Keeps (c d : ChainValue) : Type 0 where
 
 validated : (c d : ChainValue) → Validates c d → Keeps c d
 validated c d v = record {
-  same = record { site = ap (λ (x : ChainValue). x.site) v.same; cells = ap cells_of v.same };
+  same = record { site = ap (λ (x : ChainValue). x.site) v.same; cells = ap chain_cells v.same };
   reports = ap (λ (x : ChainValue). x.reports) v.same;
 }
 
@@ -28,13 +28,13 @@ raised c d r = record {
 
 is-kept : (c d : ChainValue) → d ≡ c → Keeps c d
 is-kept c d e = record {
-  same = record { site = ap (λ (x : ChainValue). x.site) e; cells = ap cells_of e };
+  same = record { site = ap (λ (x : ChainValue). x.site) e; cells = ap chain_cells e };
   reports = ap (λ (x : ChainValue). x.reports) e;
 }
 
-answered : (c d : ChainValue) (answer : Filed) → IsAnswer c answer d → Keeps c d
+answered : (c d : ChainValue) (answer : Filed) → IsFiledAnswer c answer d → Keeps c d
 answered c d (Rerun t) is = record {
-  same = record { site = ap (λ (x : ChainValue). x.site) is.4; cells = ap cells_of is.4 };
+  same = record { site = ap (λ (x : ChainValue). x.site) is.4; cells = ap chain_cells is.4 };
   reports = ap (λ (x : ChainValue). x.reports) is.4;
 }
 answered c d (Waiting b) is = is-kept c d is.1
@@ -45,7 +45,7 @@ pub record Went (before home checked flagged after : ChainValue) (r : Report) (a
   pub came : home ≡ came_home before r
   pub validates : Validates home checked
   pub raises : Raises checked flagged
-  pub answers : IsAnswer flagged answer after
+  pub answers : IsFiledAnswer flagged answer after
 
 kept-after : (before home checked flagged after : ChainValue) (r : Report) (answer : Filed) → Went before home checked flagged after r answer → Keeps home after
 kept-after before home checked flagged after r answer w =
@@ -57,7 +57,7 @@ kept-after before home checked flagged after r answer w =
 pub same-after : (before home checked flagged after : ChainValue) (r : Report) (answer : Filed) → Went before home checked flagged after r answer → IsSameChain before after
 same-after before home checked flagged after r answer w =
     let k = kept-after before home checked flagged after r answer w in
-    record { site = k.same.site ∙ ap (λ (x : ChainValue). x.site) w.came; cells = k.same.cells ∙ ap cells_of w.came }
+    record { site = k.same.site ∙ ap (λ (x : ChainValue). x.site) w.came; cells = k.same.cells ∙ ap chain_cells w.came }
 
 pub one-filed : (before home checked flagged after : ChainValue) (r : Report) (answer : Filed) → Went before home checked flagged after r answer → after.reports ≡ one_more before.reports
 one-filed before home checked flagged after r answer w =

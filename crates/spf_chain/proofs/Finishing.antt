@@ -19,12 +19,12 @@ use Rattle.spf_speculation_entry.specs.Attempts.{attempted}
 use Rattle.spf_speculation.specs.Runs.{IsSpeculativeRun, IsRealLog, IsGuessedLog, LogsComeTo, no_more_blocks, gave_value, gave_trap}
 use Rattle.spf_speculation.specs.Prefixes.{PrefixesComplete}
 use Rattle.spf_speculation_lanes.specs.Lanes.{trace_of, logs_in, AreLanesFor, EveryMergingOfLanes}
-use Rattle.spf_ticket.specs.Tickets.{IsReady, first, second, EndsAs}
+use Rattle.spf_ticket.specs.Tickets.{CanBeAttempted, first, second, EndsAs}
 use Rattle.spf_ticket.specs.declared.ticket.Report.{Report}
 use Rattle.spf_chain.specs.declared.chain.Chain.TheInside.{Inside}
 use Rattle.spf_speculation_entry.specs.Sites.{entry_at, guess_at}
 use Rattle.spf_chain.specs.Homes.{home_log, log_in, IsHome}
-use Rattle.spf_chain.specs.Standing.{reals, PrefixAt, TrappedAt, StandsAt}
+use Rattle.spf_chain.specs.Standing.{validated_rows, PrefixAt, TrappedAt, HasValidated}
 use Rattle.spf_chain.specs.Chains.{ChainValue, HasEnded, HasTrapped}
 use Rattle.spf_chain.specs.Kept.{chain_value, cells_inside, IsKept}
 use Rattle.spf_chain.specs.Finishing.{lanes_in, result_as, EveryMergingRuns}
@@ -96,7 +96,7 @@ logs-same e guess logs others same {n} {v} (gave_trap trap output low real later
     gave_trap trap output low (subst (λ l. IsRealLog e guess n v l (Trapped trap output)) (same n low) real)
     (λ k from below. subst (IsGuessedLog e guess k) (same k below) (later k from below))
 
-guessed-ready : (e : Entry) (guess : ℕ → Carried) (n a : ℕ) (w : Carried) (all before log : List Event) (s : Stop) → ((v : Carried) → slice_get (plain_blocks e).values n ≢ Some v) → IsReady e guess n a w before → all ≡ before ++ log
+guessed-ready : (e : Entry) (guess : ℕ → Carried) (n a : ℕ) (w : Carried) (all before log : List Event) (s : Stop) → ((v : Carried) → slice_get (plain_blocks e).values n ≢ Some v) → CanBeAttempted e guess n a w before → all ≡ before ++ log
     → EndsAs (attempted e n w a log) s → IsGuessedLog e guess n all
 guessed-ready e guess n a w all before log s none (first a-is w-is empty) grown is =
     let same : all ≡ log = grown ∙ ap (λ l. l ++ log) empty in
@@ -108,7 +108,7 @@ guessed-home : (e : Entry) (guess : ℕ → Carried) (c : CellsValue) (n : ℕ) 
 guessed-home e guess c n r none home =
     let l = home.lawful in
     guessed-ready e guess n r.ticket.attempt r.ticket.carried (events r.ticket.lane.log) l.before l.log r.stop none
-    (subst (λ k. IsReady e guess k r.ticket.attempt r.ticket.carried l.before) home.block l.ready) l.grown
+    (subst (λ k. CanBeAttempted e guess k r.ticket.attempt r.ticket.carried l.before) home.block l.ready) l.grown
     (subst (λ k. EndsAs (attempted e k r.ticket.carried r.ticket.attempt l.log) r.stop) home.block l.stopped)
 
 is-home-at : (homes : List (Option Report)) → AllHome homes → (n : ℕ) (x : Option Report) → slice_get homes n ≡ Some x → (r : Report) × (slice_get homes n ≡ Some (Some r))
@@ -117,16 +117,16 @@ is-home-at homes all n (Some r) at = (r, at)
 
 -- what the chain's blocks come to
 pub record CameOut (a : Inside) : Type 0 where
-  pub come : LogsComeTo (entry_at a.site.value) (guess_at a.site.value) (log_in a.homes.items) 0 a.site.value.start (reals a.validation.count a.validation.blocks.items) (result_as a.validation.settled)
-  pub values : reals a.validation.count a.validation.blocks.items ≡ (plain_blocks (entry_at a.site.value)).values
+  pub come : LogsComeTo (entry_at a.site.value) (guess_at a.site.value) (log_in a.homes.items) 0 a.site.value.start (validated_rows a.validation.count a.validation.blocks.items) (result_as a.validation.settled)
+  pub values : validated_rows a.validation.count a.validation.blocks.items ≡ (plain_blocks (entry_at a.site.value)).values
   pub result : (plain_blocks (entry_at a.site.value)).result ≡ result_as a.validation.settled
 
 came-carried : PrefixesComplete → (a : Inside) → IsKept a → (v : Carried) → a.validation.settled ≡ settled.Carried v → a.validation.count ≡ a.site.value.blocks → CameOut a
 came-carried law a h v is last =
     let e = entry_at a.site.value in
     let g = guess_at a.site.value in
-    let vs = reals a.validation.count a.validation.blocks.items in
-    let f : PrefixAt e g (log_in a.homes.items) a.validation.count vs v = subst (StandsAt e g (log_in a.homes.items) a.validation.count vs) is h.stands.stands in
+    let vs = validated_rows a.validation.count a.validation.blocks.items in
+    let f : PrefixAt e g (log_in a.homes.items) a.validation.count vs v = subst (HasValidated e g (log_in a.homes.items) a.validation.count vs) is h.stands.stands in
     let d = law e g (log_in a.homes.items) a.validation.count vs v f.memory f.prefix last in
     record {
       come = subst (λ s. LogsComeTo e g (log_in a.homes.items) 0 e.header.start vs (result_as s)) (sym is) d.come;
@@ -138,8 +138,8 @@ came-trapped : (a : Inside) → IsKept a → AllHome a.homes.items → (t : Trap
 came-trapped a h all t is =
     let e = entry_at a.site.value in
     let g = guess_at a.site.value in
-    let vs = reals a.validation.count a.validation.blocks.items in
-    let f : TrappedAt e g (log_in a.homes.items) a.validation.count vs t = subst (StandsAt e g (log_in a.homes.items) a.validation.count vs) is h.stands.stands in
+    let vs = validated_rows a.validation.count a.validation.blocks.items in
+    let f : TrappedAt e g (log_in a.homes.items) a.validation.count vs t = subst (HasValidated e g (log_in a.homes.items) a.validation.count vs) is h.stands.stands in
     let later : (k : ℕ) → f.last < k → k < e.header.blocks → IsGuessedLog e g k (log_in a.homes.items k) = λ k above low.
     let x = at-index a.homes.items k (omega (arith, low, h.stands.blocks)) in
     let r = is-home-at a.homes.items all k x.0 x.1 in
@@ -166,7 +166,7 @@ came-out law a v h is ended =
 
 -- the same of the trace's logs
 pub trace-come : (a : Inside) → AllHome a.homes.items → CameOut a
-    → LogsComeTo (entry_at a.site.value) (guess_at a.site.value) (logs_in (trace_of (lanes_in a.homes.items))) 0 a.site.value.start (reals a.validation.count a.validation.blocks.items) (result_as a.validation.settled)
+    → LogsComeTo (entry_at a.site.value) (guess_at a.site.value) (logs_in (trace_of (lanes_in a.homes.items))) 0 a.site.value.start (validated_rows a.validation.count a.validation.blocks.items) (result_as a.validation.settled)
 trace-come a all c = logs-same (entry_at a.site.value) (guess_at a.site.value) (log_in a.homes.items) (logs_in (trace_of (lanes_in a.homes.items))) (λ n low. sym (logs-are a.homes.items all n)) c.come
 
 -- every merging of an ended chain's logs is a speculative run
@@ -175,7 +175,7 @@ merged complete merging a v h is ended =
     let e = entry_at a.site.value in
     let g = guess_at a.site.value in
     let d : HasEnded (chain_value a) = subst HasEnded (sym is) ended in
-    let values = reals a.validation.count a.validation.blocks.items in
+    let values = validated_rows a.validation.count a.validation.blocks.items in
     let result = result_as a.validation.settled in
     let come = trace-come a d.home (came-out complete a v h is ended) in
     subst (λ (w : ChainValue). EveryMergingRuns w (log_in w.homes)) is

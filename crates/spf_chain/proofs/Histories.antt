@@ -10,8 +10,8 @@ use Rattle.spf_speculation_entry.specs.Entry.{plain_blocks}
 use Rattle.spf_chain.specs.declared.chain.Chain.TheInside.{Inside}
 use Rattle.spf_speculation_entry.specs.Sites.{entry_at, guess_at}
 use Rattle.spf_chain.specs.Homes.{log_in}
-use Rattle.spf_chain.specs.Standing.{reals, StandsAt}
-use Rattle.spf_chain.specs.Chains.{ChainValue, next_block, IsOut, WaitsFor, IsAnswer, IsExact}
+use Rattle.spf_chain.specs.Standing.{validated_rows, HasValidated}
+use Rattle.spf_chain.specs.Chains.{ChainValue, next_block, IsOut, WaitsFor, IsFiledAnswer, IsExact}
 use Rattle.spf_chain.specs.declared.chain.Filed.{Filed}
 use Rattle.spf_chain.specs.declared.chain.Filed.TheVariants.{Rerun, Waiting, Ended}
 use Rattle.spf_chain.specs.Kept.{chain_value, IsKept}
@@ -36,16 +36,16 @@ take-get (suc k) (x ∷ xs) zero b at = at
 take-get (suc k) (x ∷ xs) (suc n) b at = take-get k xs n b at
 
 -- the real rows of the validated blocks are the first ones of the plain run
-plain-first : (a : Inside) (h : IsKept a) (s : Settled) → a.validation.settled ≡ s → (later : List (List ℤ)) × ((plain_blocks (entry_at a.site.value)).values ≡ reals a.validation.count a.validation.blocks.items ++ later)
+plain-first : (a : Inside) (h : IsKept a) (s : Settled) → a.validation.settled ≡ s → (later : List (List ℤ)) × ((plain_blocks (entry_at a.site.value)).values ≡ validated_rows a.validation.count a.validation.blocks.items ++ later)
 plain-first a h (settled.Carried v) is =
     let e = entry_at a.site.value in
-    let vs = reals a.validation.count a.validation.blocks.items in
-    let f = subst (StandsAt e (guess_at a.site.value) (log_in a.homes.items) a.validation.count vs) is h.stands.stands in
+    let vs = validated_rows a.validation.count a.validation.blocks.items in
+    let f = subst (HasValidated e (guess_at a.site.value) (log_in a.homes.items) a.validation.count vs) is h.stands.stands in
     (_, (f.prefix.rest (a.site.value.blocks - a.validation.count) (omega (arith, h.within, h.stands.blocks))).all_values)
 plain-first a h (settled.Trapped t) is =
     let e = entry_at a.site.value in
-    let vs = reals a.validation.count a.validation.blocks.items in
-    let f = subst (StandsAt e (guess_at a.site.value) (log_in a.homes.items) a.validation.count vs) is h.stands.stands in
+    let vs = validated_rows a.validation.count a.validation.blocks.items in
+    let f = subst (HasValidated e (guess_at a.site.value) (log_in a.homes.items) a.validation.count vs) is h.stands.stands in
     ([], f.ends.plain_values ∙ sym (append-nil vs))
 
 history-inside : (a : Inside) → IsKept a → IsHistory (chain_value a)
@@ -54,7 +54,7 @@ history-inside a h n b at =
     let p = plain-first a h a.validation.settled refl in record {
       block = l.block;
       guess = l.guess;
-      real_value = ap (λ xs. slice_get xs n) p.1 ∙ first-get (reals a.validation.count a.validation.blocks.items) p.0 n b.row (map-get (take a.validation.count a.validation.blocks.items) n b at);
+      real_value = ap (λ xs. slice_get xs n) p.1 ∙ first-get (validated_rows a.validation.count a.validation.blocks.items) p.0 n b.row (map-get (take a.validation.count a.validation.blocks.items) n b at);
     }
 
 pub history-is : (a : Inside) (v : ChainValue) → IsKept a → chain_value a ≡ v → IsHistory v
@@ -103,7 +103,7 @@ exclusive a v h is = subst AreExclusive is record {
 
 -- ---- answers are exact
 
-pub exact-of : (c d : ChainValue) (answer : Filed) → AreExclusive c → IsAnswer c answer d → IsExact c answer
+pub exact-of : (c d : ChainValue) (answer : Filed) → AreExclusive c → IsFiledAnswer c answer d → IsExact c answer
 exact-of c d (Rerun t) ex is = record {
   rerun = (λ u. (is.0, is.1, is.2), λ u. (t, refl));
   waiting = λ block. (λ e. absurd cc, λ waits. absurd (ex.rerun_or_waiting is.0 is.1 block is.2 waits));

@@ -24,7 +24,7 @@ use Rattle.spf_speculation_entry.specs.Attempts.{attempted, IsAttempt, TurnsAreB
 use Rattle.spf_speculation.specs.Prefixes.{EndsAt, PrefixesHaveRealValues, PrefixesDependOnEarlierLogs}
 use Rattle.spf_speculation.specs.Laws.{UnstoppedAttemptsAreWhole}
 use Rattle.spf_speculation_lanes.specs.Lanes.{LanesStopNoSecondAttempt}
-use Rattle.spf_ticket.specs.Tickets.{IsReady, first, second, IsLawfulReport, EndsAs, IsFresh}
+use Rattle.spf_ticket.specs.Tickets.{CanBeAttempted, first, second, IsLawfulReport, EndsAs, IsFresh}
 use Rattle.spf_ticket.specs.declared.ticket.Report.{Report}
 use Rattle.spf_ast.specs.Construct.{part_of}
 use Rattle.spf_ast_laws.specs.Agreement.{AgreeOutside}
@@ -33,11 +33,11 @@ use Rattle.spf_ticket.specs.declared.ticket.Ticket.{Ticket}
 use Rattle.spf_cells.specs.declared.view.TakenLane.{TakenLane}
 use Rattle.spf_cells.specs.Rule.{HasNoBlockTwice}
 use Rattle.spf_chain.specs.declared.chain.Chain.TheInside.{Inside}
-use Rattle.spf_chain.specs.Chains.{ChainValue, cells_of, next_block, HasTrapped, HasEnded, WaitsFor}
+use Rattle.spf_chain.specs.Chains.{ChainValue, chain_cells, next_block, HasTrapped, HasEnded, WaitsFor}
 use Rattle.spf_chain.specs.Kept.{chain_value, cells_inside, IsKept}
 use Rattle.spf_speculation_entry.specs.Sites.{entry_at, guess_at, AreMadeFor, RaisesMispredicted}
 use Rattle.spf_chain.specs.Homes.{known_at, known_in, home_log, log_in, IsHome, AreHomes}
-use Rattle.spf_chain.specs.Standing.{reals, PrefixAt, StandsAt, StandsOver}
+use Rattle.spf_chain.specs.Standing.{validated_rows, PrefixAt, HasValidated, IsValidationOf}
 use Rattle.spf_chain.specs.declared.validation.Validation.{Validation}
 use Rattle.spf_chain.proofs.Lists.{some-same}
 
@@ -50,7 +50,7 @@ ends-earlier e guess logs others n values t h same = record {
   come = λ more is later. h.come more (λ k low. is k low ∙ sym (same k low)) later;
 }
 
-stands-earlier : PrefixesDependOnEarlierLogs → (e : Entry) (guess : ℕ → Carried) (logs others : ℕ → List Event) (n : ℕ) (values : List Carried) (s : Settled) → StandsAt e guess logs n values s → ((k : ℕ) → k < n → logs k ≡ others k) → StandsAt e guess others n values s
+stands-earlier : PrefixesDependOnEarlierLogs → (e : Entry) (guess : ℕ → Carried) (logs others : ℕ → List Event) (n : ℕ) (values : List Carried) (s : Settled) → HasValidated e guess logs n values s → ((k : ℕ) → k < n → logs k ≡ others k) → HasValidated e guess others n values s
 stands-earlier law e guess logs others n values (settled.Carried v) h same = record { memory = h.memory; prefix = law e guess logs others n values v h.memory h.prefix same }
 stands-earlier law e guess logs others n values (settled.Trapped t) h same = record {
   last = h.last;
@@ -62,7 +62,7 @@ stands-earlier law e guess logs others n values (settled.Trapped t) h same = rec
 
 -- ---- another report at an index after the validated ones
 
-pub over-set : PrefixesDependOnEarlierLogs → (e : Entry) (guess : ℕ → Carried) (homes : List (Option Report)) (x : Validation) (i : ℕ) (y : Option Report) → StandsOver e guess homes x → x.count ≤ i → StandsOver e guess (set homes i y) x
+pub over-set : PrefixesDependOnEarlierLogs → (e : Entry) (guess : ℕ → Carried) (homes : List (Option Report)) (x : Validation) (i : ℕ) (y : Option Report) → IsValidationOf e guess homes x → x.count ≤ i → IsValidationOf e guess (set homes i y) x
 over-set law e guess homes x i y h above = record {
   blocks = length-set homes i y ∙ h.blocks;
   stands = stands-earlier law e guess (log_in homes) (log_in (set homes i y)) x.count _ x.settled h.stands
@@ -89,7 +89,7 @@ pub not-less : (k i : ℕ) → (i < k → ⊥) → k ≤ i
 not-less k i h = grind (arith, h)
 
 -- what is out is after the validated blocks
-pub out-above : (e : Entry) (guess : ℕ → Carried) (homes : List (Option Report)) (x : Validation) (i : ℕ) → StandsOver e guess homes x → slice_get homes i ≡ Some None → x.count ≤ i
+pub out-above : (e : Entry) (guess : ℕ → Carried) (homes : List (Option Report)) (x : Validation) (i : ℕ) → IsValidationOf e guess homes x → slice_get homes i ≡ Some None → x.count ≤ i
 out-above e guess homes x i h out = not-less x.count i (λ low. let r = h.home i low in both-at homes i r.0 out r.1)
 
 -- ---- a report at the real row isn't cancelled
@@ -116,7 +116,7 @@ not-stopped law e n a seen v all before log low grown is =
 
 -- a lawful report of a block at its real row came to an answer
 ready-not : UnstoppedAttemptsAreWhole → LanesStopNoSecondAttempt → (e : Entry) (guess : ℕ → Carried) (k : Setting) (n a seen : ℕ) (v : Carried) (all : List LogEntry) (before log : List Event) → RaisesMispredicted e guess k → ArePossibleTurns k n all
-    → slice_get (plain_blocks e).values n ≡ Some v → IsReady e guess n a v before → events all ≡ before ++ log → attempted e n v a log ≡ Stopped seen [] → ⊥
+    → slice_get (plain_blocks e).values n ≡ Some v → CanBeAttempted e guess n a v before → events all ≡ before ++ log → attempted e n v a log ≡ Stopped seen [] → ⊥
 ready-not law lanes e guess k n a seen v all before log may turns real (first a-is v-is none) grown is =
     let not : Contains k.raisable n → ⊥ = λ i. may.only n i (real ∙ ap (λ x. Some x) v-is) in
     not-stopped law e n a seen v (events all) before log (subst (λ x. TurnsAreBelow x (events all)) (sym a-is) (below-one k n all not turns)) grown is
@@ -139,8 +139,8 @@ pub wrong-home : UnstoppedAttemptsAreWhole → LanesStopNoSecondAttempt → (e :
 wrong-home law lanes e guess c n v r may home real none is =
     let l = home.lawful in
     let s = cancelled-not r.stop (unknown v r none is) in
-    let ready : IsReady e guess n r.ticket.attempt v l.before =
-    subst (λ x. IsReady e guess n r.ticket.attempt x l.before) is (subst (λ k. IsReady e guess k r.ticket.attempt r.ticket.carried l.before) home.block l.ready) in
+    let ready : CanBeAttempted e guess n r.ticket.attempt v l.before =
+    subst (λ x. CanBeAttempted e guess n r.ticket.attempt x l.before) is (subst (λ k. CanBeAttempted e guess k r.ticket.attempt r.ticket.carried l.before) home.block l.ready) in
     let stopped : attempted e r.ticket.block r.ticket.carried r.ticket.attempt l.log ≡ Stopped s.0 [] = subst (EndsAs (attempted e r.ticket.block r.ticket.carried r.ticket.attempt l.log)) s.1 l.stopped in
     ready-not law lanes e guess c.setting n r.ticket.attempt s.0 v r.ticket.lane.log l.before l.log may home.turns real ready l.grown
     ((λ t. attempted e (sym home.block t) (sym is t) r.ticket.attempt l.log) ∙ stopped)
@@ -156,7 +156,7 @@ read-all came (stop.Ended v) h = subst HasReadAll (sym h.1) refl
 read-all came (stop.Trapped t) h = subst HasReadAll (sym h) refl
 read-all came (stop.Cancelled seen) h = subst HasReadAll (sym h) refl
 
-first-ready : (e : Entry) (guess : ℕ → Carried) (n a : ℕ) (v w : Carried) (all before log : List Event) (s : Stop) → slice_get (plain_blocks e).values n ≡ Some v → w ≢ v → IsReady e guess n a w before → all ≡ before ++ log
+first-ready : (e : Entry) (guess : ℕ → Carried) (n a : ℕ) (v w : Carried) (all before log : List Event) (s : Stop) → slice_get (plain_blocks e).values n ≡ Some v → w ≢ v → CanBeAttempted e guess n a w before → all ≡ before ++ log
     → EndsAs (attempted e n w a log) s → (a ≡ 1) × (w ≡ begins_at e guess n) × IsAttempt e n (begins_at e guess n) 1 all
 first-ready e guess n a v w all before log s real wrong (first a-is w-is none) grown is =
     let same : all ≡ log = grown ∙ ap (λ l. l ++ log) none in
@@ -169,7 +169,7 @@ pub first-home : (e : Entry) (guess : ℕ → Carried) (c : CellsValue) (n : ℕ
 first-home e guess c n v r home real wrong =
     let l = home.lawful in
     let f = first-ready e guess n r.ticket.attempt v r.ticket.carried (events r.ticket.lane.log) l.before l.log r.stop real wrong
-    (subst (λ k. IsReady e guess k r.ticket.attempt r.ticket.carried l.before) home.block l.ready) l.grown
+    (subst (λ k. CanBeAttempted e guess k r.ticket.attempt r.ticket.carried l.before) home.block l.ready) l.grown
     (subst (λ k. EndsAs (attempted e k r.ticket.carried r.ticket.attempt l.log) r.stop) home.block l.stopped) in
     record { attempt = f.0; carried = f.1; log = f.2 }
 
@@ -195,9 +195,9 @@ never w x y l m none one two once same =
 
 -- ---- the parts of a chain
 
-pub lawful-inside : (a : Inside) (v : ChainValue) (k : CellsValue) (r : Report) → chain_value a ≡ v → k ≡ cells_of v → IsLawfulReport (entry_at v.site) (guess_at v.site) k r → IsLawfulReport (entry_at a.site.value) (guess_at a.site.value) (cells_inside a) r
+pub lawful-inside : (a : Inside) (v : ChainValue) (k : CellsValue) (r : Report) → chain_value a ≡ v → k ≡ chain_cells v → IsLawfulReport (entry_at v.site) (guess_at v.site) k r → IsLawfulReport (entry_at a.site.value) (guess_at a.site.value) (cells_inside a) r
 lawful-inside a v k r is own l =
-    subst (λ (w : ChainValue). IsLawfulReport (entry_at w.site) (guess_at w.site) (cells_of w) r) (sym is) (subst (λ x. IsLawfulReport (entry_at v.site) (guess_at v.site) x r) own l)
+    subst (λ (w : ChainValue). IsLawfulReport (entry_at w.site) (guess_at w.site) (chain_cells w) r) (sym is) (subst (λ x. IsLawfulReport (entry_at v.site) (guess_at v.site) x r) own l)
 
 pub next-is : (a : Inside) (v : ChainValue) → IsKept a → chain_value a ≡ v → next_block v ≡ a.validation.count
 next-is a v h is =
@@ -207,14 +207,14 @@ next-is a v h is =
 pub next-value : PrefixesHaveRealValues → (a : Inside) → IsKept a → (v : Carried) → a.validation.settled ≡ settled.Carried v → a.validation.count < length a.homes.items → slice_get (plain_blocks (entry_at a.site.value)).values a.validation.count ≡ Some v
 next-value law a h v is low =
     let e = entry_at a.site.value in
-    let f : PrefixAt e (guess_at a.site.value) (log_in a.homes.items) a.validation.count (reals a.validation.count a.validation.blocks.items) v =
-    subst (StandsAt e (guess_at a.site.value) (log_in a.homes.items) a.validation.count (reals a.validation.count a.validation.blocks.items)) is h.stands.stands in
-    law e (guess_at a.site.value) (log_in a.homes.items) a.validation.count (reals a.validation.count a.validation.blocks.items) v f.memory f.prefix (omega (arith, low, h.stands.blocks))
+    let f : PrefixAt e (guess_at a.site.value) (log_in a.homes.items) a.validation.count (validated_rows a.validation.count a.validation.blocks.items) v =
+    subst (HasValidated e (guess_at a.site.value) (log_in a.homes.items) a.validation.count (validated_rows a.validation.count a.validation.blocks.items)) is h.stands.stands in
+    law e (guess_at a.site.value) (log_in a.homes.items) a.validation.count (validated_rows a.validation.count a.validation.blocks.items) v f.memory f.prefix (omega (arith, low, h.stands.blocks))
 
 -- ---- the next block's second attempt
 
 -- what a second attempt has for its row
-second-real : (e : Entry) (guess : ℕ → Carried) (n a : ℕ) (v : Carried) (before : List Event) → a ≡ 2 → IsReady e guess n a v before → slice_get (plain_blocks e).values n ≡ Some v
+second-real : (e : Entry) (guess : ℕ → Carried) (n a : ℕ) (v : Carried) (before : List Event) → a ≡ 2 → CanBeAttempted e guess n a v before → slice_get (plain_blocks e).values n ≡ Some v
 second-real e guess n a v before two (first a-is v-is none) = absurd (omega (arith, two, a-is))
 second-real e guess n a v before two (second a-is ne real att) = real
 
@@ -235,7 +235,7 @@ second-known real whole lanes a h r at two none = by-settled a.validation.settle
 
     value : slice_get (plain_blocks e).values a.validation.count ≡ Some r.ticket.carried
     value = second-real e (guess_at a.site.value) a.validation.count r.ticket.attempt r.ticket.carried home.lawful.before two
-        (subst (λ k. IsReady e (guess_at a.site.value) k r.ticket.attempt r.ticket.carried home.lawful.before) home.block home.lawful.ready)
+        (subst (λ k. CanBeAttempted e (guess_at a.site.value) k r.ticket.attempt r.ticket.carried home.lawful.before) home.block home.lawful.ready)
 
     low : a.validation.count < length a.homes.items
     low = slice_get_within a.homes.items a.validation.count (Some r) at
@@ -246,7 +246,7 @@ second-known real whole lanes a h r at two none = by-settled a.validation.settle
         wrong-home whole lanes e (guess_at a.site.value) (cells_inside a) a.validation.count v r h.ground.raisable home here (ap (known_in v) (sym at) ∙ none v is)
         (some-same r.ticket.carried v (sym value ∙ here))
     by-settled (settled.Trapped t) is =
-        let ended = subst (StandsAt e (guess_at a.site.value) (log_in a.homes.items) a.validation.count (reals a.validation.count a.validation.blocks.items)) is h.stands.stands in
+        let ended = subst (HasValidated e (guess_at a.site.value) (log_in a.homes.items) a.validation.count (validated_rows a.validation.count a.validation.blocks.items)) is h.stands.stands in
         no-real (plain_blocks e).values a.validation.count r.ticket.carried (omega (arith, ended.count, ap length ended.ends.plain_values)) value
 
 -- ---- the next block's second ticket

@@ -16,7 +16,7 @@ use Rattle.spf_speculation.specs.Prefixes.{PrefixesHaveRealValues}
 use Rattle.spf_chain.specs.declared.block.ChainBlock.{ChainBlock}
 use Rattle.spf_chain.specs.Sites.{IsGround}
 use Rattle.spf_chain.specs.Homes.{log_in, AreHomes}
-use Rattle.spf_chain.specs.Standing.{reals, TrappedAt, StandsAt}
+use Rattle.spf_chain.specs.Standing.{validated_rows, TrappedAt, HasValidated}
 use Rattle.spf_chain.specs.declared.chain.Chain.TheInside.{Inside}
 use Rattle.spf_chain.specs.Kept.{chain_value, cells_inside, IsKept}
 use Rattle.spf_chain.proofs.Keeping.{next-value, out-above, next-is}
@@ -73,8 +73,8 @@ values-end xs n v past at = let low = slice_get_within xs n v at in omega (arith
 pub trapped-raisable : (a : Inside) (t : Trap) → IsKept a → a.validation.settled ≡ Trapped t → (n : ℕ) → a.validation.count ≤ n → n < length a.homes.items → Contains a.warden.setting.raisable n
 trapped-raisable a t h is n above low =
     let e = entry_at a.site.value in
-    let vs = reals a.validation.count a.validation.blocks.items in
-    let at : TrappedAt e (guess_at a.site.value) (log_in a.homes.items) a.validation.count vs t = subst (StandsAt e (guess_at a.site.value) (log_in a.homes.items) a.validation.count vs) is h.stands.stands in
+    let vs = validated_rows a.validation.count a.validation.blocks.items in
+    let at : TrappedAt e (guess_at a.site.value) (log_in a.homes.items) a.validation.count vs t = subst (HasValidated e (guess_at a.site.value) (log_in a.homes.items) a.validation.count vs) is h.stands.stands in
     h.ground.raisable.all n (omega (arith, low, h.stands.blocks))
     (λ there. values-end vs n (begins_at e (guess_at a.site.value) n) (omega (arith, at.count, above)) (ap (λ l. slice_get l n) (sym at.ends.plain_values) ∙ there))
 

@@ -30,7 +30,7 @@ use Rattle.spf_guess_statistics.specs.declared.guess.Guess.{Guess}
 use Rattle.spf_chain.specs.declared.block.ChainBlock.{ChainBlock}
 use Rattle.spf_chain.specs.Sites.{IsGround}
 use Rattle.spf_chain.specs.declared.chain.Chain.TheInside.{Inside}
-use Rattle.spf_chain.specs.Chains.{ChainValue, cells_of, next_block}
+use Rattle.spf_chain.specs.Chains.{ChainValue, chain_cells, next_block}
 use Rattle.spf_chain.specs.Kept.{chain_value, cells_inside, IsListed, IsKept}
 use Rattle.spf_chain.proofs.Keeping.{next-is}
 use Rattle.spf_chain.specs.Beginning.{site_of, begun, IsFirstTicket, AreFirstTickets, IsStarted}
@@ -106,8 +106,8 @@ pub started : (a : Inside) (v : ChainValue) (s : Site) (w : WardenValue) (m : �
     → AreFirstTickets cells s.low a.validation.blocks.items frame (length a.validation.blocks.items) tickets
     → length frame ≡ frame_size (program s.program) → s.slots ≡ main_slots (program s.program) frame → IsStarted s v cells tickets
 started a v s w m cells frame tickets h is new warden are size slots =
-    let its : cells ≡ cells_of v = sym (ap cells_of new ∙ ap (λ (x : WardenValue). let k : CellsValue = record { table = x.table; setting = x.setting } in k) warden) in
-    let inside : cells_inside a ≡ cells = ap cells_of is ∙ sym its in
+    let its : cells ≡ chain_cells v = sym (ap chain_cells new ∙ ap (λ (x : WardenValue). let k : CellsValue = record { table = x.table; setting = x.setting } in k) warden) in
+    let inside : cells_inside a ≡ cells = ap chain_cells is ∙ sym its in
     let site : a.site.value ≡ s = ap (λ (x : ChainValue). x.site) is ∙ ap (λ (x : ChainValue). x.site) new in
     let ground : IsGround s cells = subst (λ (x : Site). IsGround x cells) site (subst (IsGround a.site.value) inside h.ground) in
     let none : a.validation.count ≡ 0 = sym (next-is a v h is) ∙ ap next_block new in

@@ -20,10 +20,10 @@ use Rattle.spf_speculation_entry.specs.Entry.{Entry, IsEntry}
 use Rattle.spf_speculation_entry.specs.Attempts.{attempted, IsWhole}
 use Rattle.spf_speculation.specs.Runs.{IsRealLog, at_once, again}
 use Rattle.spf_speculation.specs.Prefixes.{PrefixesGrow, PrefixesEnd}
-use Rattle.spf_ticket.specs.Tickets.{IsReady, first, second, EndsAs}
+use Rattle.spf_ticket.specs.Tickets.{CanBeAttempted, first, second, EndsAs}
 use Rattle.spf_ticket.specs.declared.ticket.Report.{Report}
 use Rattle.spf_chain.specs.Homes.{known_at, known_in, home_log, log_in, IsHome, AreHomes}
-use Rattle.spf_chain.specs.Standing.{Grows, reals, PrefixAt, StandsAt}
+use Rattle.spf_chain.specs.Standing.{Grows, validated_rows, PrefixAt, HasValidated}
 use Rattle.spf_chain.proofs.Lists.{map-append, some-same}
 
 -- ---- what a report says
@@ -64,7 +64,7 @@ record RealLogTo (e : Entry) (guess : ℕ → Carried) (n : ℕ) (v : Carried) (
   ends : EndsWith ending o
 
 -- a whole attempt after what was before it
-ready-log : (e : Entry) (guess : ℕ → Carried) (n a : ℕ) (v : Carried) (all before log : List Event) (ending : Ending Carried) → IsReady e guess n a v before → all ≡ before ++ log → IsWhole e n v a log ending → IsRealLog e guess n v all ending
+ready-log : (e : Entry) (guess : ℕ → Carried) (n a : ℕ) (v : Carried) (all before log : List Event) (ending : Ending Carried) → CanBeAttempted e guess n a v before → all ≡ before ++ log → IsWhole e n v a log ending → IsRealLog e guess n v all ending
 ready-log e guess n a v all before log ending (first a-is v-is none) grown whole =
     let same : all ≡ log = grown ∙ ap (λ l. l ++ log) none in
     at_once (sym v-is) (subst (λ l. IsWhole e n v 1 l ending) (sym same) (subst (λ x. IsWhole e n v x log ending) a-is whole))
@@ -75,8 +75,8 @@ home-log : (e : Entry) (guess : ℕ → Carried) (c : CellsValue) (n : ℕ) (v :
     → RealLogTo e guess n v (events r.ticket.lane.log) o
 home-log e guess c n v r o h carried known =
     let l = h.lawful in
-    let ready : IsReady e guess n r.ticket.attempt v l.before =
-    subst (λ x. IsReady e guess n r.ticket.attempt x l.before) carried (subst (λ k. IsReady e guess k r.ticket.attempt r.ticket.carried l.before) h.block l.ready) in
+    let ready : CanBeAttempted e guess n r.ticket.attempt v l.before =
+    subst (λ x. CanBeAttempted e guess n r.ticket.attempt x l.before) carried (subst (λ k. CanBeAttempted e guess k r.ticket.attempt r.ticket.carried l.before) h.block l.ready) in
     let w = whole-as (attempted e r.ticket.block r.ticket.carried r.ticket.attempt l.log) r.stop o known l.stopped in
     let whole : IsWhole e n v r.ticket.attempt l.log w.ending = (λ t. attempted e (sym h.block t) (sym carried t) r.ticket.attempt l.log) ∙ w.whole in
     record { ending = w.ending; real = ready-log e guess n r.ticket.attempt v (events r.ticket.lane.log) l.before l.log w.ending ready l.grown whole; ends = w.ends }
@@ -94,7 +94,7 @@ known-somewhere homes k v o (Some None) at h = absurd cc
 known-somewhere homes k v o (Some (Some r)) at h = let i = known-home v r o h in (r, at, i.0, i.1)
 
 stands-on : PrefixesGrow → PrefixesEnd → (e : Entry) (guess : ℕ → Carried) (homes : List (Option Report)) (k : ℕ) (v : Carried) (values : List Carried) (o : Settled) → IsEntry e → k < e.header.blocks → PrefixAt e guess (log_in homes) k values v
-    → RealLogTo e guess k v (log_in homes k) o → IsConsistent (log_in homes k) e.memory → StandsAt e guess (log_in homes) (suc k) (values ++ v ∷ []) o
+    → RealLogTo e guess k v (log_in homes k) o → IsConsistent (log_in homes k) e.memory → HasValidated e guess (log_in homes) (suc k) (values ++ v ∷ []) o
 stands-on grow end e guess homes k v values (settled.Carried w) h low f real is = record {
   memory = _;
   prefix = grow e guess (log_in homes) k values v f.memory w real.ends.0 h f.prefix low (subst (IsRealLog e guess k v (log_in homes k)) real.ends.1 real.real) is;
@@ -109,19 +109,19 @@ stands-on grow end e guess homes k v values (settled.Trapped t) h low f real is 
 
 pub one-more : PrefixesGrow → PrefixesEnd → (e : Entry) (guess : ℕ → Carried) (c : CellsValue) (homes : List (Option Report)) (bs : List ChainBlock) (k : ℕ) (v : Carried) (o : Settled) (b : ChainBlock)
     → IsEntry e → AreHomes e guess c homes → length homes ≡ e.header.blocks → length bs ≡ length homes → k < length homes
-    → PrefixAt e guess (log_in homes) k (reals k bs) v → known_in v (slice_get homes k) ≡ Some o
-    → StandsAt e guess (log_in homes) (k + 1) (reals (k + 1) (set bs k (with_real b v))) o
+    → PrefixAt e guess (log_in homes) k (validated_rows k bs) v → known_in v (slice_get homes k) ≡ Some o
+    → HasValidated e guess (log_in homes) (k + 1) (validated_rows (k + 1) (set bs k (with_real b v))) o
 one-more grow end e guess c homes bs k v o b h are many size low f known =
     let r = known-somewhere homes k v o (slice_get homes k) refl known in
     let home = are k r.0 r.1 in
     let log : events r.0.ticket.lane.log ≡ log_in homes k = ap home_log (sym r.1) in
     let real : RealLogTo e guess k v (log_in homes k) o = subst (λ l. RealLogTo e guess k v l o) log (home-log e guess c k v r.0 o home r.2 r.3) in
-    let values : reals (k + 1) (set bs k (with_real b v)) ≡ reals k bs ++ v ∷ [] =
+    let values : validated_rows (k + 1) (set bs k (with_real b v)) ≡ validated_rows k bs ++ v ∷ [] =
     ap (map (λ x. x.row)) (take_more_set bs k (with_real b v) (omega (arith, low, size))) ∙ map-append (λ x. x.row) (take k bs) (with_real b v ∷ []) in
     let more : suc k ≡ k + 1 = omega arith in
-    subst (λ l. StandsAt e guess (log_in homes) (k + 1) l o) (sym values)
-    (subst (λ n. StandsAt e guess (log_in homes) n (reals k bs ++ v ∷ []) o) more
-    (stands-on grow end e guess homes k v (reals k bs) o h (omega (arith, low, many)) f real (subst (λ l. IsConsistent l e.memory) log home.consistent)))
+    subst (λ l. HasValidated e guess (log_in homes) (k + 1) l o) (sym values)
+    (subst (λ n. HasValidated e guess (log_in homes) n (validated_rows k bs ++ v ∷ []) o) more
+    (stands-on grow end e guess homes k v (validated_rows k bs) o h (omega (arith, low, many)) f real (subst (λ l. IsConsistent l e.memory) log home.consistent)))
 
 -- what code read of an index
 pub there : (homes : List (Option Report)) (i : ℕ) (home : Option Report) → i < length homes → home ≡ get_or homes i home → slice_get homes i ≡ Some home
@@ -130,13 +130,13 @@ there homes i home low read = slice_get-get_or homes i home low ∙ ap (λ x. So
 -- the same, as code does it
 pub one-more-at : PrefixesGrow → PrefixesEnd → (e : Entry) (guess : ℕ → Carried) (c : CellsValue) (homes : List (Option Report)) (bs : List ChainBlock) (k i : ℕ) (s o : Settled) (v w : Carried) (b : ChainBlock) (home : Option Report)
     → IsEntry e → AreHomes e guess c homes → length homes ≡ e.header.blocks → length bs ≡ length homes
-    → StandsAt e guess (log_in homes) k (reals k bs) s → k ≡ i → s ≡ settled.Carried v → w ≡ v → i < length homes → home ≡ get_or homes i home → Some o ≡ known_at w home
-    → StandsAt e guess (log_in homes) (i + 1) (reals (i + 1) (set bs i (with_real b w))) o
+    → HasValidated e guess (log_in homes) k (validated_rows k bs) s → k ≡ i → s ≡ settled.Carried v → w ≡ v → i < length homes → home ≡ get_or homes i home → Some o ≡ known_at w home
+    → HasValidated e guess (log_in homes) (i + 1) (validated_rows (i + 1) (set bs i (with_real b w))) o
 one-more-at grow end e guess c homes bs k i s o v w b home h are many size stands is carried same low read known =
-    let at : StandsAt e guess (log_in homes) i (reals i bs) (settled.Carried v) =
-    subst (λ n. StandsAt e guess (log_in homes) n (reals n bs) (settled.Carried v)) is (subst (λ x. StandsAt e guess (log_in homes) k (reals k bs) x) carried stands) in
+    let at : HasValidated e guess (log_in homes) i (validated_rows i bs) (settled.Carried v) =
+    subst (λ n. HasValidated e guess (log_in homes) n (validated_rows n bs) (settled.Carried v)) is (subst (λ x. HasValidated e guess (log_in homes) k (validated_rows k bs) x) carried stands) in
     let here : known_in v (slice_get homes i) ≡ Some o = ap (known_in v) (there homes i home low read) ∙ ap (λ x. known_at x home) (sym same) ∙ sym known in
-    subst (λ x. StandsAt e guess (log_in homes) (i + 1) (reals (i + 1) (set bs i (with_real b x))) o) (sym same)
+    subst (λ x. HasValidated e guess (log_in homes) (i + 1) (validated_rows (i + 1) (set bs i (with_real b x))) o) (sym same)
     (one-more grow end e guess c homes bs i v o b h are many size low at here)
 
 less-or-same : (n i : ℕ) → n < i + 1 → (n < i) ⊎ (n ≡ i)

@@ -14,7 +14,7 @@ use Rattle.spf_guess_statistics.specs.declared.guess.Guess.{Guess}
 use Rattle.spf_chain.specs.declared.block.Settled.TheVariants.{Carried}
 use Rattle.spf_chain.specs.declared.block.ChainBlock.{ChainBlock}
 use Rattle.spf_chain.specs.Sites.{IsGround}
-use Rattle.spf_chain.specs.Chains.{ChainValue, cells_of}
+use Rattle.spf_chain.specs.Chains.{ChainValue, chain_cells}
 
 -- the guess for each block; block 0 has none
 abbrev pub guesses_for : List Guess → List (Option carried.Carried)
@@ -46,7 +46,7 @@ begun s w = record { site = s; warden = w; homes = replicate s.blocks None; agai
 -- the site of a construct of this number, whose header is done, with these slots and this memory at its entry
 abbrev pub site_of : InstanceValue → ℕ → Header → List ℤ → List ℤ → List Guess → Site
 site_of i construct h frame entry guesses = record {
-  program = i.code;
+  program = i.source;
   construct = construct;
   input = i.input;
   slots = main_slots (program_of i) frame;
@@ -76,7 +76,7 @@ pub record AreFirstTickets (cells : CellsValue) (low : ℤ) (blocks : List Chain
 -- site, and no flag is raised.
 pub record IsStarted (s : Site) (c : ChainValue) (cells : CellsValue) (tickets : List Ticket) : Type 0 where
   pub chain : c ≡ begun s c.warden
-  pub its_cells : cells ≡ cells_of c
+  pub its_cells : cells ≡ chain_cells c
   pub ground : IsGround s cells
   pub flags : c.warden.view.flags ≡ replicate s.blocks 0
   pub count : length tickets ≡ s.blocks

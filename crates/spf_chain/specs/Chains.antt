@@ -39,7 +39,7 @@ use Rattle.spf_speculation_entry.specs.declared.site.Site.{Site}
 use Rattle.spf_speculation_entry.specs.Sites.{entry_at, guess_at}
 use Rattle.spf_ast.specs.Carried as carried
 use Rattle.spf_chain.specs.Homes.{known_in, log_in}
-use Rattle.spf_chain.specs.Standing.{StandsAt}
+use Rattle.spf_chain.specs.Standing.{HasValidated}
 
 -- the site, the warden, the reports that are home, whether the second attempt of the next block to be validated is
 -- out, the validated blocks, the real row of the next block or the trap of the last one, and how many reports were
@@ -54,8 +54,8 @@ pub record ChainValue : Type 0 where
   pub reports : ℕ
 
 -- the cells of a chain
-abbrev pub cells_of : ChainValue → CellsValue
-cells_of c = record { table = c.warden.table; setting = c.warden.setting }
+abbrev pub chain_cells : ChainValue → CellsValue
+chain_cells c = record { table = c.warden.table; setting = c.warden.setting }
 
 -- the next block: the first that isn't validated
 abbrev pub next_block : ChainValue → ℕ
@@ -140,7 +140,7 @@ sent_again c = record c { homes = slice_set c.homes (next_block c) None; again =
 
 -- the validated blocks are a prefix of the plain run, at their real rows; it goes on with this row, or its last block trapped
 abbrev pub IsPrefix : ChainValue → Type 0
-IsPrefix c = StandsAt (entry_at c.site) (guess_at c.site) (log_in c.homes) (next_block c) (map (λ b. b.row) c.history) c.settled
+IsPrefix c = HasValidated (entry_at c.site) (guess_at c.site) (log_in c.homes) (next_block c) (map (λ b. b.row) c.history) c.settled
 
 -- blocks that are home and were run at their real rows are validated in order, and no further block can be
 pub record Validates (before after : ChainValue) : Type 0 where
@@ -152,16 +152,16 @@ pub record Validates (before after : ChainValue) : Type 0 where
 
 -- the ticket runs the next block again, at its real row
 pub record IsAgain (c : ChainValue) (real : carried.Carried) (t : Ticket) : Type 0 where
-  pub fresh : IsFresh (entry_at c.site) (guess_at c.site) (cells_of c) t
+  pub fresh : IsFresh (entry_at c.site) (guess_at c.site) (chain_cells c) t
   pub block : t.block ≡ next_block c
   pub attempt : t.attempt ≡ 2
   pub carried : t.carried ≡ real
 
 -- what the answer says of the chain, and the chain after it
-abbrev pub IsAnswer : ChainValue → Filed → ChainValue → Type 0
-IsAnswer c (Rerun t) d = (real : carried.Carried) × (r : Report) × NeedsRerun c real r × IsAgain c real t × (d ≡ sent_again c)
-IsAnswer c (Waiting block) d = WaitsFor c block × (d ≡ c)
-IsAnswer c Ended d = HasEnded c × (d ≡ c)
+abbrev pub IsFiledAnswer : ChainValue → Filed → ChainValue → Type 0
+IsFiledAnswer c (Rerun t) d = (real : carried.Carried) × (r : Report) × NeedsRerun c real r × IsAgain c real t × (d ≡ sent_again c)
+IsFiledAnswer c (Waiting block) d = WaitsFor c block × (d ≡ c)
+IsFiledAnswer c Ended d = HasEnded c × (d ≡ c)
 
 -- each answer comes exactly where its cause holds of the chain
 pub record IsExact (c : ChainValue) (answer : Filed) : Type 0 where
@@ -172,7 +172,7 @@ pub record IsExact (c : ChainValue) (answer : Filed) : Type 0 where
 -- the chain is of the same site, with the same cells
 pub record IsSameChain (before after : ChainValue) : Type 0 where
   pub site : after.site ≡ before.site
-  pub cells : cells_of after ≡ cells_of before
+  pub cells : chain_cells after ≡ chain_cells before
 
 -- A report was filed: it came home, blocks were validated, flags were raised, and then this was the answer, exactly
 -- where its cause held. After a trap nothing more is validated; the second attempt of the next block to be validated
@@ -184,5 +184,5 @@ pub record IsFiled (before : ChainValue) (r : Report) (answer : Filed) (after : 
   pub second : r.ticket.attempt ≡ 2 → r.ticket.block ≡ next_block before → next_block before < next_block validated
   pub raised : ChainValue
   pub raises : Raises validated raised
-  pub answers : IsAnswer raised answer after
+  pub answers : IsFiledAnswer raised answer after
   pub exact : IsExact raised answer

@@ -10,7 +10,7 @@ use Rattle.spf_speculation_entry.specs.declared.site.Site.{Site}
 use Rattle.spf_speculation_entry.specs.Sites.{entry_at, guess_at, guess_given}
 use Rattle.spf_chain.specs.Sites.{IsGround}
 use Rattle.spf_chain.specs.Homes.{AreHomes}
-use Rattle.spf_chain.specs.Standing.{StandsOver, history_of}
+use Rattle.spf_chain.specs.Standing.{IsValidationOf, history_of}
 use Rattle.spf_chain.specs.Chains.{ChainValue}
 
 -- what contracts see of a chain
@@ -45,6 +45,6 @@ pub record IsKept (a : Inside) : Type 0 where
   pub size : length a.validation.blocks.items ≡ length a.homes.items
   pub within : a.validation.count ≤ length a.homes.items
   pub homes : AreHomes (entry_at a.site.value) (guess_at a.site.value) (cells_inside a) a.homes.items
-  pub stands : StandsOver (entry_at a.site.value) (guess_at a.site.value) a.homes.items a.validation
+  pub stands : IsValidationOf (entry_at a.site.value) (guess_at a.site.value) a.homes.items a.validation
   pub listed : (n : ℕ) (b : ChainBlock) → slice_get a.validation.blocks.items n ≡ Some b → IsListed a.site.value a.validation.count n b
   pub second : a.again ≡ true → (v : carried.Carried) × (a.validation.settled ≡ Carried v) × (slice_get a.homes.items a.validation.count ≡ Some None)

@@ -13,8 +13,8 @@ use Rattle.spf_chain.specs.declared.validation.Validation.{Validation}
 use Rattle.spf_chain.specs.Homes.{known_in, log_in}
 
 -- the real rows of the first blocks
-abbrev pub reals : ℕ → List ChainBlock → List carried.Carried
-reals count blocks = map (λ b. b.row) (take count blocks)
+abbrev pub validated_rows : ℕ → List ChainBlock → List carried.Carried
+validated_rows count blocks = map (λ b. b.row) (take count blocks)
 
 -- the first n blocks are a validated prefix, on some memory
 pub record PrefixAt (e : Entry) (guess : ℕ → carried.Carried) (logs : ℕ → List Event) (n : ℕ)
@@ -31,14 +31,14 @@ pub record TrappedAt (e : Entry) (guess : ℕ → carried.Carried) (logs : ℕ �
   pub ends : EndsAt e guess logs last values trap
 
 -- the first n blocks are validated, with these real rows: the next one begins at this row, or the last one trapped
-abbrev pub StandsAt : Entry → (ℕ → carried.Carried) → (ℕ → List Event) → ℕ → List carried.Carried → Settled → Type 0
-StandsAt e guess logs n values (Carried v) = PrefixAt e guess logs n values v
-StandsAt e guess logs n values (Trapped trap) = TrappedAt e guess logs n values trap
+abbrev pub HasValidated : Entry → (ℕ → carried.Carried) → (ℕ → List Event) → ℕ → List carried.Carried → Settled → Type 0
+HasValidated e guess logs n values (Carried v) = PrefixAt e guess logs n values v
+HasValidated e guess logs n values (Trapped trap) = TrappedAt e guess logs n values trap
 
--- the validation stands over these reports
-pub record StandsOver (e : Entry) (guess : ℕ → carried.Carried) (homes : List (Option Report)) (x : Validation) : Type 0 where
+-- the first `count` blocks are validated over these reports, all of which are home
+pub record IsValidationOf (e : Entry) (guess : ℕ → carried.Carried) (homes : List (Option Report)) (x : Validation) : Type 0 where
   pub blocks : length homes ≡ e.header.blocks
-  pub stands : StandsAt e guess (log_in homes) x.count (reals x.count x.blocks.items) x.settled
+  pub stands : HasValidated e guess (log_in homes) x.count (validated_rows x.count x.blocks.items) x.settled
   pub home : (n : ℕ) → n < x.count → (r : Report) × (slice_get homes n ≡ Some (Some r))
 
 -- no further block can be validated

@@ -9,8 +9,8 @@ ghost use Rattle.spf_ticket.specs.declared.ticket.Report.{Report as SeenReport};
 ghost use Rattle.spf_ticket.specs.Tickets.{IsLawfulReport};
 ghost use Rattle.spf_speculation_entry.specs.Sites.{entry_at, guess_at};
 ghost use Rattle.spf_chain.specs.Homes.{known_in};
-ghost use Rattle.spf_chain.specs.Chains.{HasRaised, Raises, IsToRaise, IsFiled, cells_of};
-ghost use Rattle.spf_chain.specs.Chains.{next_block, IsOut, came_home, Validates, IsAnswer};
+ghost use Rattle.spf_chain.specs.Chains.{HasRaised, Raises, IsToRaise, IsFiled, chain_cells};
+ghost use Rattle.spf_chain.specs.Chains.{next_block, IsOut, came_home, Validates, IsFiledAnswer};
 ghost use Rattle.spf_chain.specs.Chains.{IsExact, HasTrapped, IsSameChain};
 ghost use Rattle.spf_ast_lemmas.specs.Counts.{one_more};
 
@@ -56,7 +56,7 @@ fn still_again(again: bool, block: usize, next_block: usize) -> bool
 impl Chain {
     // Brings a report home. Its home is free, since the report has its block's only lane.
     fn come_home(&mut self, cells: &Cells, report: Report)
-        requires own { cells.now ≡ cells_of self.old }
+        requires own { cells.now ≡ chain_cells self.old }
         requires lawful { IsLawfulReport (entry_at self.old.site) (guess_at self.old.site) cells.now
             report }
         ensures state { self.new ≡ came_home self.old report }
@@ -102,7 +102,7 @@ impl Chain {
     fn answer_next(&mut self, real: Row) -> Filed
         requires carried { self.old.settled ≡ Gave real }
         requires done { known_in real (slice_get self.old.homes (next_block self.old)) ≡ None }
-        ensures { IsAnswer self.old result self.new }
+        ensures { IsFiledAnswer self.old result self.new }
     {
         // Law: the plain run stands where the validated prefix leaves it.
         spf_speculation::laws::prefixes_grow();
@@ -131,7 +131,7 @@ impl Chain {
     // What is to be done after a trap.
     fn answer_trapped(&self) -> Filed
         requires { HasTrapped self.now }
-        ensures { IsAnswer self.now result self.now }
+        ensures { IsFiledAnswer self.now result self.now }
     {
         match lowest_out(&self.homes) {
             Some(block) => Filed::Waiting { block },
@@ -163,7 +163,7 @@ impl Chain {
     fn answer(&mut self) -> Filed
         requires done { (v : CarriedValue) → self.old.settled ≡ Gave v
             → known_in v (slice_get self.old.homes (next_block self.old)) ≡ None }
-        ensures answer { IsAnswer self.old result self.new }
+        ensures answer { IsFiledAnswer self.old result self.new }
         ensures exact { IsExact self.old result }
     {
         self.answers_are_exact();
@@ -194,7 +194,7 @@ impl Chain {
 
     // Raises the next block's flag where that is to be done.
     fn raise_next(&mut self, cells: &Cells, real: Row)
-        requires own { cells.now ≡ cells_of self.old }
+        requires own { cells.now ≡ chain_cells self.old }
         requires carried { self.old.settled ≡ Gave real }
         ensures { Raises self.old self.new }
     {
@@ -208,7 +208,7 @@ impl Chain {
 
     // Raises the flags of all blocks that are out, after a trap.
     fn raise_rest(&mut self, cells: &Cells)
-        requires own { cells.now ≡ cells_of self.old }
+        requires own { cells.now ≡ chain_cells self.old }
         requires trapped { HasTrapped self.old }
         ensures { Raises self.old self.new }
     {
@@ -217,7 +217,7 @@ impl Chain {
 
     // Raises the flags that are to be raised.
     fn raise(&mut self, cells: &Cells)
-        requires own { cells.now ≡ cells_of self.old }
+        requires own { cells.now ≡ chain_cells self.old }
         ensures { Raises self.old self.new }
     {
         let settled = self.validation.settled;
@@ -231,7 +231,7 @@ impl Chain {
     /// real rows are validated, and the flags of attempts that can't be of use are raised. Says
     /// what is to be done next. One more report is filed then. Takes no memory.
     pub fn file(&mut self, cells: &Cells, report: Report) -> Filed
-        requires own { cells.now ≡ cells_of self.old }
+        requires own { cells.now ≡ chain_cells self.old }
         requires lawful { IsLawfulReport (entry_at self.old.site) (guess_at self.old.site) cells.now
             report }
         ensures filed { IsFiled self.old report result self.new }

@@ -2,7 +2,7 @@
 ghost use Rattle.std.specs.Prelude.{◌≡◌, ◌≤◌, [], length, map};
 ghost use Rattle.spf_speculation_entry.specs.Entry.{plain_blocks};
 ghost use Rattle.spf_speculation_entry.specs.Sites.{entry_at};
-ghost use Rattle.spf_chain.specs.Chains.{HasEnded, cells_of};
+ghost use Rattle.spf_chain.specs.Chains.{HasEnded, chain_cells};
 ghost use Rattle.spf_chain.specs.Homes.{log_in};
 ghost use Rattle.spf_chain.specs.Finishing.{lanes_in, EveryMergingRuns, IsFinished};
 
@@ -53,7 +53,7 @@ impl Chain {
     /// contents, and the trace has their logs. It takes no memory.
     pub fn finish(self, cells: Cells, into: &mut [i64]) -> (Settled, Trace)
         requires ended { HasEnded self }
-        requires own { cells ≡ cells_of self }
+        requires own { cells ≡ chain_cells self }
         requires size { length into.old ≡ length self.site.memory }
         ensures { IsFinished self result.0 result.1 into.old into.new }
     {

@@ -6,7 +6,7 @@ ghost use Rattle.spf_speculation_entry.specs.Entry.{Entry, IsEntry};
 ghost use Rattle.spf_cells.specs.Values.{CellsValue};
 ghost use Rattle.spf_chain.specs.declared.block.Settled.TheVariants.{Trapped};
 ghost use Rattle.spf_chain.specs.Homes.{AreHomes};
-ghost use Rattle.spf_chain.specs.Standing.{StandsOver, IsDone, GrowsTo};
+ghost use Rattle.spf_chain.specs.Standing.{IsValidationOf, IsDone, GrowsTo};
 
 use crate::block::{ChainBlock, Settled};
 use crate::home::result_at;
@@ -30,8 +30,8 @@ impl Validation {
         requires size { length self.old.blocks.items ≡ length homes.now }
         requires within { self.old.count ≤ length homes.now }
         ensures stands { (e : Entry) (guess : ℕ → CarriedValue) (c : CellsValue) → IsEntry e
-            → AreHomes e guess c homes.now → StandsOver e guess homes.now self.old
-            → StandsOver e guess homes.now self.new }
+            → AreHomes e guess c homes.now → IsValidationOf e guess homes.now self.old
+            → IsValidationOf e guess homes.now self.new }
         ensures done { IsDone homes.now self.new.count self.new.settled }
         ensures grown { GrowsTo self.old self.new }
         ensures trapped { (t : SeenTrap) → self.old.settled ≡ Trapped t → self.new ≡ self.old }

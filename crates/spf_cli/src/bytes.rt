@@ -1,14 +1,15 @@
 //! A run over bytes at hand.
 
-ghost use Rattle.std.specs.Prelude.{◌≡◌, ◌⊎◌, ◌≤◌, ◌<◌, [], map};
+ghost use Rattle.std.specs.Prelude.{◌≡◌, ◌⊎◌, ◌≤◌, ◌<◌, []};
 ghost use Rattle.spf_ast_lemmas.specs.Limits.{max_workers};
 ghost use Rattle.spf_ast.specs.Syntax.{Program};
 ghost use Rattle.spf_guess_statistics.specs.Statistics.{tally};
 ghost use Rattle.spf_guess.specs.Answers.{WereTold, supplied};
 ghost use Rattle.spf_engine.specs.Runs.{WereToldFirst};
 ghost use Rattle.spf_edge.specs.Faults.{Rose};
-ghost use Rattle.spf_cli_answers.specs.Reading.{IsVerdict, Refusal, Refuses, Says};
-ghost use Rattle.spf_cli_answers.specs.Whole.{handed, RunsText};
+ghost use Rattle.spf_cli_answers.specs.Reading.{IsTextVerdict, TextRefusal, Refuses, Says};
+ghost use Rattle.spf_cli_answers.specs.Following.{given_by};
+ghost use Rattle.spf_cli_answers.specs.Whole.{RunsText};
 ghost use Rattle.spf_cli.specs.Answered.{sinks, IsPut, IsUntouched};
 
 use crate::putting::{put, put_status};
@@ -28,10 +29,8 @@ use std::thread::Threads;
 /// run on 1 to 64 workers, in threads, and the call waits for them. The bytes that the program
 /// emits go to `out`, and the line of a refusal or a trap, and that of the statistics, to `err`.
 ///
-/// The statuses are those of [`spf_main`](crate::spf_main): 0 where the run is done, 1 where the
-/// program trapped, 3 where the text has no lawful program, 4 where the rules refuse it, 6 where a
-/// sink failed, 7 where it has too many cells or names a host that isn't supplied, and 8 where
-/// memory ran out.
+/// Returns the number of the [`Status`] with which it ended: there are no words to be understood,
+/// and no files to be read.
 pub fn run_file<R: Threads + Wait + Sync, S: Sink, G: Gate + Sync>(
     rt: &R,
     alloc: Global,
@@ -46,23 +45,23 @@ pub fn run_file<R: Threads + Wait + Sync, S: Sink, G: Gate + Sync>(
     requires workers { (0 < workers) × (workers ≤ max_workers) }
     // The one answer is put whole; or its first pieces are, until a sink failed or memory ran out.
     ensures answered { IsPut
-        (RunsText (handed (map (λ h. answer h) hosts.old.items)) workers program.now input.now)
+        (RunsText (given_by answer hosts.old.items) workers program.now input.now)
         result (sinks (S.state out.old) (S.state out.new) (S.state err.old) (S.state err.new))
         ⊎ IsUntouched result
         (sinks (S.state out.old) (S.state out.new) (S.state err.old) (S.state err.new)) }
 
-    // The hosts were told the first of what they are told in the whole run of the program that the
+    // The hosts were told a prefix of what they are told in the whole run of the program that the
     // text says.
-    ensures told_first { (p : Program) → IsVerdict program.now (Says p)
+    ensures told_first { (p : Program) → IsTextVerdict program.now (Says p)
         → WereToldFirst (supplied answer hosts.old.items) p input.now
         (supplied answer hosts.new.items) }
     // They were told all of it where the program was run to its end or to its trap, and nothing
     // where the text says no program.
-    ensures told { (p : Program) → IsVerdict program.now (Says p) → (result ≡ 0) ⊎ (result ≡ 1)
+    ensures told { (p : Program) → IsTextVerdict program.now (Says p) → (result ≡ 0) ⊎ (result ≡ 1)
         → WereTold (supplied answer hosts.old.items)
         (tally (supplied answer hosts.old.items) p input.now).telling
         (supplied answer hosts.new.items) }
-    ensures untold { (refusal : Refusal) → IsVerdict program.now (Refuses refusal)
+    ensures untold { (refusal : TextRefusal) → IsTextVerdict program.now (Refuses refusal)
         → WereTold (supplied answer hosts.old.items) []
         (supplied answer hosts.new.items) }
     // Nor were they told anything where the rules or a limit left the program unrun.

@@ -3,7 +3,8 @@
 ghost use Rattle.std.specs.Prelude.{◌≡◌, ◌⊎◌, List, Some, map, string_bytes};
 ghost use Rattle.spf_edge.specs.Entries.{Entry};
 ghost use Rattle.spf_edge.specs.Faults.{Rose};
-ghost use Rattle.spf_cli_answers.specs.Whole.{handed, AskForNothing, Whole};
+ghost use Rattle.spf_cli_answers.specs.Following.{given_by};
+ghost use Rattle.spf_cli_answers.specs.Whole.{AskForNothing, Whole};
 ghost use Rattle.spf_cli.specs.Answered.{sinks, IsAnswered};
 
 use crate::batch::put_batch;
@@ -26,19 +27,7 @@ use std::thread::Threads;
 /// the predictors that a program names by number; they are asked, told and dropped here. `gate`
 /// watches the attempts. Blocks run in threads, and the call waits for them.
 ///
-/// | Status | Where |
-/// |---|---|
-/// | 0 | the command is done |
-/// | 1 | the program trapped; not of `batch` and `replay` |
-/// | 2 | the words aren't understood |
-/// | 3 | the text has no lawful program |
-/// | 4 | the rules refuse the program |
-/// | 5 | a file could not be read |
-/// | 6 | a sink failed |
-/// | 7 | a limit was passed, or a host isn't supplied |
-/// | 8 | memory ran out |
-/// | 9 | a file isn't of its format: HUF1, LEX1, SPL1, a machine's text, or a list of names |
-/// | 10 | the log of `replay` isn't that of a run by blocks |
+/// Returns the number of the [`Status`] with which the program ends.
 pub fn spf_main<R: Threads + Wait + Sync, F: Files, S: Sink, G: Gate + Sync>(
     rt: &R,
     alloc: Global,
@@ -53,7 +42,7 @@ pub fn spf_main<R: Threads + Wait + Sync, F: Files, S: Sink, G: Gate + Sync>(
     // give is put whole; or its first pieces are, until a sink failed or memory ran out. A batch
     // may be broken off between its files, too.
     ensures answered { IsAnswered
-        (Whole (handed (map (λ h. answer h) hosts.items)) (map string_bytes words.now))
+        (Whole (given_by answer hosts.items) (map string_bytes words.now))
         (F.state files.old) (F.state files.new) result
         (sinks (S.state out.old) (S.state out.new) (S.state err.old) (S.state err.new)) }
 

@@ -3,8 +3,8 @@ use Rattle.std.proofs.Common.{◌≡◌, inl, inr, ◌∙◌, ℕ, List, [], ari
 use Rattle.std.specs.Prelude.{Result, Err}
 use Rattle.spf_ast.specs.Syntax.{Program}
 use Rattle.spf_cli_answers.specs.Answer.{Answer, ran}
-use Rattle.spf_cli_answers.specs.Answering.{seen_answer, IsReadExit, IsRuleExit, IsNotRun, AnswersWith, IsRunToItsEnd, IsLeftUnrun, SaysWhy}
-use Rattle.spf_cli_answers.specs.Reading.{Verdict, Says, Refuses, Refusal, IsVerdict}
+use Rattle.spf_cli_answers.specs.Answering.{seen_answer, IsReadExit, IsRuleExit, IsRefusedRun, AnswersWith, IsRunToItsEnd, IsLeftUnrun, IsAnswerToError}
+use Rattle.spf_cli_answers.specs.Reading.{TextVerdict, Says, Refuses, TextRefusal, IsTextVerdict}
 use Rattle.spf_exec_instance.specs.declared.layout.RunError.{RunError}
 use Rattle.spf_exec_instance.specs.declared.layout.RunError.TheVariants as run_error
 use Rattle.spf_exec_instance.specs.declared.layout.RunError.TheVariants.{TooManyCells}
@@ -34,14 +34,14 @@ text_left text next (Answered a) h = only_unread text next (seen_answer a) h.0 h
 text_left text next NoMemory h = tt
 
 -- the rules refuse the program
-pub rules_left : RuleLaws → (text : List ℕ) (p : Program) (next : Program → Course) (left : Exit) → IsOnly (IsVerdict text) (Says p) → IsRuleExit p left
+pub rules_left : RuleLaws → (text : List ℕ) (p : Program) (next : Program → Course) (left : Exit) → IsOnly (IsTextVerdict text) (Says p) → IsRuleExit p left
     → AnswersWith (IsOnly (Read text (λ q. CheckedBy q (next q)) [])) (Err left)
 rules_left laws text p next (Answered a) v h =
     read_says text p (λ q. CheckedBy q (next q)) (seen_answer a) [] v (only_refused laws p (next p) (seen_answer a) h.0 h.1 h.2 h.3 h.4)
 rules_left laws text p next NoMemory v h = tt
 
 -- the program is run
-pub text_run : RuleLaws → (text : List ℕ) (p : Program) (next : Program → Wanted) (r : Result made.Answer Exit) → IsOnly (IsVerdict text) (Says p)
+pub text_run : RuleLaws → (text : List ℕ) (p : Program) (next : Program → Wanted) (r : Result made.Answer Exit) → IsOnly (IsTextVerdict text) (Says p)
     → IsAccepted p → AnswersWith (IsOnly (next p)) r → AnswersWith (IsOnly (Read text (λ q. CheckedBy q (Ends (next q))) [])) r
 text_run laws text p next r v accepted h =
     answers_with (IsOnly (Read text (λ q. CheckedBy q (Ends (next q))) [])) (IsOnly (next p)) r h
@@ -76,33 +76,33 @@ told_along hosts now q p other input same content t =
 -- ---- what a text says
 
 -- the program of a verdict, or this one
-the_program : Program → Verdict → Program
+the_program : Program → TextVerdict → Program
 the_program other (Says p) = p
 the_program other (Refuses refusal) = other
 
-abbrev IsRefused : Verdict → Type 0
+abbrev IsRefused : TextVerdict → Type 0
 IsRefused (Says p) = ⊥
 IsRefused (Refuses refusal) = Unit {0}
 
 -- a text that says one program says no other
-pub says_one : (text : List ℕ) (q p : Program) → IsOnly (IsVerdict text) (Says q) → IsVerdict text (Says p) → q ≡ p
+pub says_one : (text : List ℕ) (q p : Program) → IsOnly (IsTextVerdict text) (Says q) → IsTextVerdict text (Says p) → q ≡ p
 unfolding the_program
 says_one text q p only v = ap (the_program q) (sym (only.only (Says p) v))
 
 -- and it isn't refused
-pub says_no_refusal : {A : Type 0} (text : List ℕ) (q : Program) (refusal : Refusal) → IsOnly (IsVerdict text) (Says q) → IsVerdict text (Refuses refusal) → A
+pub says_no_refusal : {A : Type 0} (text : List ℕ) (q : Program) (refusal : TextRefusal) → IsOnly (IsTextVerdict text) (Says q) → IsTextVerdict text (Refuses refusal) → A
 says_no_refusal text q refusal only v = absurd (subst IsRefused (only.only (Refuses refusal) v) tt)
 
 -- what the hosts were told of the program that the text says, they were told of each that it says
-pub told_first_of : (text : List ℕ) (q : Program) (hosts now : Hosts) (input : List ℕ) → IsOnly (IsVerdict text) (Says q)
-    → WereToldFirst hosts q input now → (p : Program) → IsVerdict text (Says p) → WereToldFirst hosts p input now
+pub told_first_of : (text : List ℕ) (q : Program) (hosts now : Hosts) (input : List ℕ) → IsOnly (IsTextVerdict text) (Says q)
+    → WereToldFirst hosts q input now → (p : Program) → IsTextVerdict text (Says p) → WereToldFirst hosts p input now
 told_first_of text q hosts now input only t p v = subst (λ x. WereToldFirst hosts x input now) (says_one text q p only v) t
 
-pub told_of : (text : List ℕ) (q : Program) (hosts now : Hosts) (input : List ℕ) (r : Result made.Answer Exit) → IsOnly (IsVerdict text) (Says q)
+pub told_of : (text : List ℕ) (q : Program) (hosts now : Hosts) (input : List ℕ) (r : Result made.Answer Exit) → IsOnly (IsTextVerdict text) (Says q)
     → AnswersWith (λ a. IsRunToItsEnd a → WereTold hosts (tally hosts q input).telling now) r
-    → AnswersWith (λ a. (p : Program) → IsVerdict text (Says p) → IsRunToItsEnd a → WereTold hosts (tally hosts p input).telling now) r
+    → AnswersWith (λ a. (p : Program) → IsTextVerdict text (Says p) → IsRunToItsEnd a → WereTold hosts (tally hosts p input).telling now) r
 told_of text q hosts now input r only t =
-    answers_with (λ a. (p : Program) → IsVerdict text (Says p) → IsRunToItsEnd a → WereTold hosts (tally hosts p input).telling now)
+    answers_with (λ a. (p : Program) → IsTextVerdict text (Says p) → IsRunToItsEnd a → WereTold hosts (tally hosts p input).telling now)
     (λ a. IsRunToItsEnd a → WereTold hosts (tally hosts q input).telling now) r t
     (λ a f p v e. subst (λ x. WereTold hosts (tally hosts x input).telling now) (says_one text q p only v) (f e))
 
@@ -118,7 +118,7 @@ ran_status options p len (Done cells output) stats answer e s = other_status 7 0
 ran_status options p len (Stopped trap output) stats answer e s = other_status 7 1 answer _ e refl (λ z. omega (arith, z)) s
 
 -- a program that wasn't run, since it has too many cells, wasn't run to its end
-pub unrun_told : (P : Type 0) (p : Program) (error : RunError) (left : Exit) → IsNotRun p error left → AnswersWith (λ a. IsRunToItsEnd a → P) (Err left)
+pub unrun_told : (P : Type 0) (p : Program) (error : RunError) (left : Exit) → IsRefusedRun p error left → AnswersWith (λ a. IsRunToItsEnd a → P) (Err left)
 unrun_told P p (TooManyCells count) (Answered a) h = λ ended. elim ended [
   | inl e ↦ absurd (omega (arith, e, ap (λ (b : Answer). b.status) h))
   | inr e ↦ absurd (omega (arith, e, ap (λ (b : Answer). b.status) h))
@@ -127,10 +127,10 @@ unrun_told P p run_error.OutOfMemory (Answered a) h = absurd h
 unrun_told P p error NoMemory h = tt
 
 -- a run that didn't reach its end isn't answered as one that did
-pub unfinished_told : (P : Type 0) (p : Program) (error : EngineError) (r : Result made.Answer Exit) → AnswersWith (SaysWhy p error) r → AnswersWith (λ a. IsRunToItsEnd a → P) r
-unfinished_told P p error r h = answers_with (λ a. IsRunToItsEnd a → P) (SaysWhy p error) r h (λ a why. go error a why)
+pub unfinished_told : (P : Type 0) (p : Program) (error : EngineError) (r : Result made.Answer Exit) → AnswersWith (IsAnswerToError p error) r → AnswersWith (λ a. IsRunToItsEnd a → P) r
+unfinished_told P p error r h = answers_with (λ a. IsRunToItsEnd a → P) (IsAnswerToError p error) r h (λ a why. go error a why)
   where
-    go : (error : EngineError) (a : Answer) → SaysWhy p error a → IsRunToItsEnd a → P
+    go : (error : EngineError) (a : Answer) → IsAnswerToError p error a → IsRunToItsEnd a → P
     go (engine_error.TooManyCells count) a why ended = elim ended [
       | inl e ↦ absurd (omega (arith, e, ap (λ (b : Answer). b.status) why))
       | inr e ↦ absurd (omega (arith, e, ap (λ (b : Answer). b.status) why))
@@ -142,11 +142,11 @@ unfinished_told P p error r h = answers_with (λ a. IsRunToItsEnd a → P) (Says
     go engine_error.OutOfMemory a why ended = absurd why
 
 -- hosts were told nothing where a limit left the program unrun
-pub unfinished_untold : (before now : Hosts) (p : Program) (error : EngineError) (r : Result made.Answer Exit) → AnswersWith (SaysWhy p error) r → WereToldNothing error before now
+pub unfinished_untold : (before now : Hosts) (p : Program) (error : EngineError) (r : Result made.Answer Exit) → AnswersWith (IsAnswerToError p error) r → WereToldNothing error before now
     → AnswersWith (λ a. IsLeftUnrun a → WereTold before [] now) r
-unfinished_untold before now p error r h untold = answers_with (λ a. IsLeftUnrun a → WereTold before [] now) (SaysWhy p error) r h (λ a why left. go error a why untold)
+unfinished_untold before now p error r h untold = answers_with (λ a. IsLeftUnrun a → WereTold before [] now) (IsAnswerToError p error) r h (λ a why left. go error a why untold)
   where
-    go : (error : EngineError) (a : Answer) → SaysWhy p error a → WereToldNothing error before now → WereTold before [] now
+    go : (error : EngineError) (a : Answer) → IsAnswerToError p error a → WereToldNothing error before now → WereTold before [] now
     go (engine_error.TooManyCells count) a why untold = untold
     go (engine_error.NoHost host) a why untold = untold
     go engine_error.OutOfMemory a why untold = absurd why

@@ -18,9 +18,9 @@ use Rattle.spf_cli_answers.specs.Answering.{seen_answer, IsFollowed, AnswersWith
 use Rattle.spf_cli_answers.specs.Batched.{RunsFiles}
 use Rattle.spf_cli_answers.specs.Course.{Wanted, Is, Course, FetchesOr, Fetches}
 use Rattle.spf_cli_answers.specs.Laws.{RuleLaws}
-use Rattle.spf_cli_answers.specs.Reading.{Says, IsVerdict}
-use Rattle.spf_cli_answers.specs.Replying.{LeadsTo, IsReady, IsNoList, IsListExit, IsReply, RepliesWith, reply_of}
-use Rattle.spf_cli_answers.specs.Whole.{Handed, Judged, Read, CheckedBy, WithNames, Batches, WholeOf, Whole, max_list}
+use Rattle.spf_cli_answers.specs.Reading.{Says, IsTextVerdict}
+use Rattle.spf_cli_answers.specs.Replying.{LeadsTo, CanRunFiles, IsNoList, IsListExit, IsReply, RepliesWith, reply_of}
+use Rattle.spf_cli_answers.specs.Whole.{Handed, WithText, Read, CheckedBy, WithNames, Batches, WholeOf, Whole, max_list}
 use Rattle.spf_cli_answers.specs.declared.answer.Answer as made
 use Rattle.spf_cli_answers.specs.declared.reply.Reply.{Reply}
 use Rattle.spf_cli_answers.specs.declared.reply.Reply.TheVariants as reply
@@ -32,7 +32,7 @@ use Rattle.spf_cli_answers.proofs.Steps.{answers_fetch, fetch_left, followed_end
 
 -- no host is missing, and the files are what is left
 pub ready : (given : Handed) (p : Program) (names : List (List ℕ)) (state : FilesState) → missing_host given.count (constructs_in p.main) ≡ None
-    → IsReady given (Batches given p names (missing_host given.count (constructs_in p.main))) p names state state
+    → CanRunFiles given (Batches given p names (missing_host given.count (constructs_in p.main))) p names state state
 ready given p names state none = record {
   complete = none;
   leads = subst (λ m. LeadsTo (Batches given p names m) (RunsFiles given.hosts p [] names) state state) (sym none) (record {
@@ -46,7 +46,7 @@ ready given p names state none = record {
 -- what leads on from the course that is left of this one after these fetches leads on from this one
 pub ready_by : (given : Handed) (course next : Course) (p : Program) (names : List (List ℕ)) (old mid new : FilesState) (fetches : List Fetch) → AreMade old mid fetches
     → ((more : List Fetch) (a : Answer) → next more a → course (fetches ++ more) a) → ((more : List Fetch) (a : Answer) → course (fetches ++ more) a → next more a)
-    → IsReady given next p names mid new → IsReady given course p names old new
+    → CanRunFiles given next p names mid new → CanRunFiles given course p names old new
 ready_by given course next p names old mid new fetches made on back r = record {
   complete = r.complete;
   leads = record {
@@ -58,19 +58,19 @@ ready_by given course next p names old mid new fetches made on back r = record {
 }
 
 pub ready_fetch : (given : Handed) (left : FetchError → Wanted) (name : List ℕ) (limit : ℕ) (next : List ℕ → Course) (content : List ℕ) (p : Program) (names : List (List ℕ)) (old mid new : FilesState)
-    → AreMade old mid (record { name = name; limit = limit; gave = Ok content } ∷ []) → IsReady given (next content) p names mid new → IsReady given (FetchesOr left name limit next) p names old new
+    → AreMade old mid (record { name = name; limit = limit; gave = Ok content } ∷ []) → CanRunFiles given (next content) p names mid new → CanRunFiles given (FetchesOr left name limit next) p names old new
 ready_fetch given left name limit next content p names old mid new made =
     ready_by given (FetchesOr left name limit next) (next content) p names old mid new (record { name = name; limit = limit; gave = Ok content } ∷ []) made
     (λ more a h. (refl, refl, h)) (λ more a h. h.2)
 
 pub ready_read : (given : Handed) (text : List ℕ) (q : Program) (next : Program → Course) (p : Program) (names : List (List ℕ)) (old new : FilesState)
-    → IsOnly (IsVerdict text) (Says q) → IsReady given (next q) p names old new → IsReady given (Read text next) p names old new
+    → IsOnly (IsTextVerdict text) (Says q) → CanRunFiles given (next q) p names old new → CanRunFiles given (Read text next) p names old new
 ready_read given text q next p names old new v =
     ready_by given (Read text next) (next q) p names old old new [] (made_none old)
-    (λ more a h. (Says q, v.is, h)) (λ more a h. subst (λ w. Judged w next more a) (v.only h.0 h.1) h.2)
+    (λ more a h. (Says q, v.is, h)) (λ more a h. subst (λ w. WithText w next more a) (v.only h.0 h.1) h.2)
 
 pub ready_accepted : RuleLaws → (given : Handed) (q : Program) (next : Course) (p : Program) (names : List (List ℕ)) (old new : FilesState)
-    → IsAccepted q → IsReady given next p names old new → IsReady given (CheckedBy q next) p names old new
+    → IsAccepted q → CanRunFiles given next p names old new → CanRunFiles given (CheckedBy q next) p names old new
 ready_accepted laws given q next p names old new accepted =
     ready_by given (CheckedBy q next) next p names old old new [] (made_none old) (λ more a h. inl (accepted, h)) (λ more a h. back more a h)
   where
@@ -81,7 +81,7 @@ ready_accepted laws given q next p names old new accepted =
     ]
 
 pub ready_names : ListsHaveOneVerdict → (given : Handed) (list : List ℕ) (found : List (List ℕ)) (next : List (List ℕ) → Course) (p : Program) (names : List (List ℕ)) (old new : FilesState)
-    → AreNames list found → IsReady given (next found) p names old new → IsReady given (WithNames list next) p names old new
+    → AreNames list found → CanRunFiles given (next found) p names old new → CanRunFiles given (WithNames list next) p names old new
 ready_names laws given list found next p names old new are =
     ready_by given (WithNames list next) (next found) p names old old new [] (made_none old) (λ more a h. inl (found, are, h)) (λ more a h. back more a h)
   where

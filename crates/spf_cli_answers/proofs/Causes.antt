@@ -23,12 +23,12 @@ use Rattle.spf_apps_programs.specs.PackBits.{packbits_program}
 use Rattle.spf_apps_programs.specs.Huffman.{huffman_program}
 use Rattle.spf_apps_programs.specs.Lexer.{lexer_program}
 use Rattle.spf_cli_answers.specs.Answer.{Answer, not_understood, text_refused, accepted, rule_refused, explained, printed, file_failed, file_too_long, too_many_cells, host_missing, not_huf1, not_lex1, not_a_machine, not_a_name, not_a_log, too_many_steps, written, ran, simulated, judged, shown}
-use Rattle.spf_cli_answers.specs.Reading.{Verdict, Says, Refuses}
+use Rattle.spf_cli_answers.specs.Reading.{TextVerdict, Says, Refuses}
 use Rattle.spf_cli_answers.specs.Course.{Wanted, Is, Either, Course, Ends, Chosen, Unfetched, After, FetchesOr, Fetches}
 use Rattle.spf_cli_answers.specs.Message.{failed_line, long_line, too_many_line}
 use Rattle.spf_cli_answers.specs.Batched.{batch_answer, batch_done, FileUnfetched, RunsFiles}
-use Rattle.spf_batch.specs.Batch.{max_input as file_limit}
-use Rattle.spf_cli_answers.specs.Whole.{Handed, handed, Judged, Read, CheckedBy, AcceptedIn, Allowed, Explained, WithHosts, Started, host_wanted, RunsTo, WithLog, Drawn, Simulates, Ruled, Replays, stats_of, Runs, RunsOn, Decodes, Unpacking, Unhuffing, Lexing, WithHuf1, WithLex1, WithMachine, Batches, BatchesOn, Demonstrates, WholeOf, AskForNothing, Whole, block_of, run_options, by_blocks, with_stats, RunsText, demo_program, demo_input, max_program, max_machine, max_text, max_list, max_log, max_input}
+use Rattle.spf_batch.specs.Batch.{max_input}
+use Rattle.spf_cli_answers.specs.Whole.{Handed, handed, WithText, Read, CheckedBy, AcceptedIn, Allowed, Explained, WithHosts, Started, host_wanted, RunsTo, WithLog, Drawn, Simulates, Ruled, Replays, stats_of, Runs, RunsOn, Decodes, Unpacking, Unhuffing, Lexing, WithHuf1, WithLex1, WithMachine, Batches, BatchesOn, Demonstrates, WholeOf, AskForNothing, Whole, block_of, run_options, by_blocks, with_stats, RunsText, demo_program, demo_input, max_program, max_machine, max_machine_text, max_list, max_log}
 use Rattle.spf_cli_answers.specs.Laws.{HasFailed, StatusesHaveCauses}
 
 -- the status is none of those for words, for a file, for a put and for want of memory
@@ -169,7 +169,7 @@ caused_fetches name limit next f = caused_fetches_or (Unfetched name limit) name
 caused_read : (text : List ℕ) (next : Program → Course) → ((p : Program) → AreCaused (next p)) → AreCaused (Read text next)
 caused_read text next f fetches a h = by h.0 h.2
   where
-    by : (v : Verdict) → Judged v next fetches a → IsCaused fetches a
+    by : (v : TextVerdict) → WithText v next fetches a → IsCaused fetches a
     by (Says p) judged = f p fetches a judged
     by (Refuses refusal) judged = caused_ends (Is (text_refused refusal)) (λ b e. no_program b (text_refused refusal) e refl) fetches a judged
 
@@ -195,10 +195,10 @@ caused_chosen false first second f g = g
 caused_files : (hosts : Hosts) (p : Program) (files : List Entry) (names : List (List ℕ)) → AreCaused (RunsFiles hosts p files names)
 caused_files hosts p files [] = caused_ends (Is (batch_done hosts p files)) (λ a e. done a (batch_done hosts p files) e refl)
 caused_files hosts p files (name ∷ names) =
-    caused_fetches_or (FileUnfetched p files name) name file_limit _ (record {
+    caused_fetches_or (FileUnfetched p files name) name max_input _ (record {
       missing = λ a e. status_as a (batch_answer p files 5 (failed_line name)) 5 e refl;
       failed = λ a e. status_as a (batch_answer p files 5 (failed_line name)) 5 e refl;
-      long = λ a e. over_limit a (batch_answer p files 7 (long_line name file_limit)) e refl;
+      long = λ a e. over_limit a (batch_answer p files 7 (long_line name max_input)) e refl;
       memory = λ a none. none;
     }) (λ content. caused_chosen (nat_le (cell_count_of p (length content)) (max_cells p)) _ _
     (caused_files hosts p (files ++ record { name = name; content = content } ∷ []) names)
@@ -266,7 +266,7 @@ caused_command given (Show machine) =
       | inr x ↦ caused_ends (Is (not_lex1 x.0)) (λ b e. wrong_format b (not_lex1 x.0) e refl) fetches a x.2
     ])
 caused_command given (Build text) =
-    caused_fetches text max_text (λ bytes. WithMachine bytes (λ file. Ends (Is (written file)))) (λ bytes fetches a h.
+    caused_fetches text max_machine_text (λ bytes. WithMachine bytes (λ file. Ends (Is (written file)))) (λ bytes fetches a h.
     elim h [
       | inl x ↦ caused_ends (Is (written x.0)) (λ b e. done b (written x.0) e refl) fetches a x.2
       | inr x ↦ caused_ends (Is not_a_machine) (λ b e. wrong_format b not_a_machine e refl) fetches a x.1

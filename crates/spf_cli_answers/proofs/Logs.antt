@@ -24,7 +24,7 @@ use Rattle.spf_replay.specs.Reading.{event_of}
 use Rattle.spf_replay.specs.SeenSteps.{seen_steps}
 use Rattle.spf_replay.specs.Expecting.{expected, IsSchedule, SchedulesOfRunsAreOne}
 use Rattle.spf_replay.specs.declared.verdict.Verdict as log_verdict
-use Rattle.spf_replay.specs.Verdicts.{VerdictsAreOne, IsVerdict as IsVerdictOn}
+use Rattle.spf_replay.specs.Verdicts.{VerdictsAreOne, IsVerdict}
 use Rattle.spf_replay_sim.specs.Bytes.{bytes_of, logged_event_of, logged_step}
 use Rattle.spf_replay_sim.specs.Drawing.{step_count, AreOfFewBlocks, HasTooManySteps}
 use Rattle.spf_replay_sim.specs.Simulating.{IsSimulation}
@@ -37,9 +37,9 @@ use Rattle.spf_cli_answers.specs.Message.{stats_line}
 use Rattle.spf_cli_answers.specs.Course.{Course, Fetches}
 use Rattle.spf_cli_answers.specs.Laws.{RuleLaws}
 use Rattle.spf_cli_answers.specs.Logs.{IsFetchedAccepted, IsTextExit, IsNoneAccepted, IsLogExit, IsNoLog}
-use Rattle.spf_cli_answers.specs.Reading.{Says, IsVerdict}
+use Rattle.spf_cli_answers.specs.Reading.{Says, IsTextVerdict}
 use Rattle.spf_cli_answers.specs.Replying.{LeadsTo}
-use Rattle.spf_cli_answers.specs.Whole.{AcceptedIn, Read, CheckedBy, Judged, WithLog, Drawn, Ruled, max_program, max_log}
+use Rattle.spf_cli_answers.specs.Whole.{AcceptedIn, Read, CheckedBy, WithText, WithLog, Drawn, Ruled, max_program, max_log}
 use Rattle.spf_cli_answers.specs.declared.answer.Answer as made
 use Rattle.spf_cli_answers.specs.declared.answer.Exit.{Exit}
 use Rattle.spf_cli_answers.specs.declared.answer.Exit.TheVariants.{Answered, NoMemory}
@@ -66,7 +66,7 @@ accepted_leads laws name next p old new is = record {
   fetches = record { name = name; limit = max_program; gave = Ok is.0 } ∷ [];
   made = is.1;
   on = λ more a h. (refl, refl, (Says p, is.2.is, inl (is.3, h)));
-  back = λ more a x. back more a (subst (λ w. Judged w (λ q. CheckedBy q (next q)) more a) (is.2.only x.2.0 x.2.1) x.2.2);
+  back = λ more a x. back more a (subst (λ w. WithText w (λ q. CheckedBy q (next q)) more a) (is.2.only x.2.0 x.2.1) x.2.2);
 }
   where
     back : (more : List Fetch) (a : Answer) → CheckedBy p (next p) more a → next p more a
@@ -93,14 +93,14 @@ accepted_left laws name next old new NoMemory h = tt
 
 -- a program that was fetched, read and accepted
 pub is_accepted : (old new : FilesState) (name text : List ℕ) (parsed : code_program.Program) (r : Result code_program.Program Exit)
-    → AreMade old new (record { name = name; limit = max_program; gave = Ok text } ∷ []) → IsOnly (IsVerdict text) (Says (program parsed))
+    → AreMade old new (record { name = name; limit = max_program; gave = Ok text } ∷ []) → IsOnly (IsTextVerdict text) (Says (program parsed))
     → IfOk r (λ checked. checked ≡ parsed) → IfOk r (λ checked. IsAccepted (program parsed)) → IfOk r (λ checked. IsFetchedAccepted old new name (program checked))
 is_accepted old new name text parsed (Ok checked) made says same accepted = subst (λ q. IsFetchedAccepted old new name (program q)) (sym same) (text, made, says, accepted)
 is_accepted old new name text parsed (Err left) made says same accepted = tt
 
 -- one that the rules refuse
 pub none_accepted : (old new : FilesState) (name text : List ℕ) (p : Program) (r : Result code_program.Program Exit)
-    → AreMade old new (record { name = name; limit = max_program; gave = Ok text } ∷ []) → IsOnly (IsVerdict text) (Says p) → IfErr r (IsRuleExit p) → IfErr r (IsNoneAccepted old new name)
+    → AreMade old new (record { name = name; limit = max_program; gave = Ok text } ∷ []) → IsOnly (IsTextVerdict text) (Says p) → IfErr r (IsRuleExit p) → IfErr r (IsNoneAccepted old new name)
 none_accepted old new name text p (Ok checked) made says h = tt
 none_accepted old new name text p (Err (Answered a)) made says h = inr (text, made, inr (p, says, h))
 none_accepted old new name text p (Err NoMemory) made says h = tt
@@ -179,7 +179,7 @@ too_long_so hosts p input seed a long e = record { is = inr (long, e); only = λ
 -- ---- verdicts
 
 pub ruled_so : VerdictsAreOne → (hosts : Hosts) (p : Program) (input : List ℕ) (log : List (List logged.Step)) (v : log_verdict.Verdict) (a : Answer)
-    → IsVerdictOn (expected hosts p input) (map seen_steps log) v → a ≡ judged v → IsOnly (Ruled hosts p input log) a
+    → IsVerdict (expected hosts p input) (map seen_steps log) v → a ≡ judged v → IsOnly (Ruled hosts p input log) a
 ruled_so one hosts p input log v a is e = record {
   is = (v, is, e);
   only = λ b x. x.2 ∙ ap judged (one (expected hosts p input) (map seen_steps log) x.0 v x.1 is) ∙ sym e;

@@ -25,11 +25,11 @@ use Rattle.spf_edge.proofs.Fetched.{made_none, made_both}
 use Rattle.spf_cli_words.specs.Command.{Command, Options, Asks}
 use Rattle.spf_cli_words.specs.Only.{IsOnly}
 use Rattle.spf_cli_answers.specs.Answer.{Answer, not_understood, text_refused, rule_refused, explained, file_failed, file_too_long, host_missing, too_many_cells}
-use Rattle.spf_cli_answers.specs.Answering.{seen_answer, IsFetchExit, IsReadExit, IsRuleExit, IsNotAccepted, IsFollowed, AnswersWith, SaysWhy}
+use Rattle.spf_cli_answers.specs.Answering.{seen_answer, IsFetchExit, IsReadExit, IsRuleExit, IsNotAccepted, IsFollowed, AnswersWith, IsAnswerToError}
 use Rattle.spf_cli_answers.specs.Course.{Wanted, Is, Either, Course, Ends, Unfetched, Fetches}
-use Rattle.spf_cli_answers.specs.Reading.{Says, Refuses, IsVerdict, Refusal}
+use Rattle.spf_cli_answers.specs.Reading.{Says, Refuses, IsTextVerdict, TextRefusal}
 use Rattle.spf_cli_answers.specs.Laws.{RuleLaws}
-use Rattle.spf_cli_answers.specs.Whole.{Handed, Judged, Read, CheckedBy, Allowed, Explained, WithHosts, Started, host_wanted, RunsTo, stats_of, WholeOf, AskForNothing, Whole}
+use Rattle.spf_cli_answers.specs.Whole.{Handed, WithText, Read, CheckedBy, Allowed, Explained, WithHosts, Started, host_wanted, RunsTo, stats_of, WholeOf, AskForNothing, Whole}
 use Rattle.spf_cli_answers.specs.declared.answer.Answer as made
 use Rattle.spf_cli_answers.specs.declared.answer.Exit.{Exit}
 use Rattle.spf_cli_answers.specs.declared.answer.Exit.TheVariants.{Answered, NoMemory}
@@ -121,19 +121,19 @@ started_too_large missing p input next a over e =
 pub started_left : (missing : Option ℕ) (p : Program) (input : List ℕ) (next : Wanted) (error : EngineError) (a : Answer)
     → (max_cells p < cell_count_of p (length input) → AreTooMany (cell_count_of p (length input)) error)
     → (cell_count_of p (length input) ≤ max_cells p → IsMissing missing error)
-    → SaysWhy p error a → IsOnly (Started missing p input next) a
+    → IsAnswerToError p error a → IsOnly (Started missing p input next) a
 started_left missing p input next error a many none why = elim (cases_lt (max_cells p) (cell_count_of p (length input))) [
   | inl over ↦ too_large error over (many over) why
   | inr fits ↦ without_host error fits (none fits) why
 ]
   where
-    too_large : (error : EngineError) → max_cells p < cell_count_of p (length input) → AreTooMany (cell_count_of p (length input)) error → SaysWhy p error a
+    too_large : (error : EngineError) → max_cells p < cell_count_of p (length input) → AreTooMany (cell_count_of p (length input)) error → IsAnswerToError p error a
         → IsOnly (Started missing p input next) a
     too_large (engine_error.TooManyCells count) over is why = started_too_large missing p input next a over (why ∙ ap (λ n. too_many_cells n (max_cells p)) is)
     too_large (engine_error.NoHost host) over is why = absurd is
     too_large engine_error.OutOfMemory over is why = absurd why
 
-    without_host : (error : EngineError) → cell_count_of p (length input) ≤ max_cells p → IsMissing missing error → SaysWhy p error a
+    without_host : (error : EngineError) → cell_count_of p (length input) ≤ max_cells p → IsMissing missing error → IsAnswerToError p error a
         → IsOnly (Started missing p input next) a
     without_host (engine_error.TooManyCells count) fits is why = absurd is
     without_host (engine_error.NoHost host) fits is why = started_without_host missing p input next host a (λ over. omega (arith, fits, over)) is why
@@ -150,7 +150,7 @@ run_done said options given p input a few none e =
 pub unfinished : (said : Outcome → Stats → Answer) (options : Options) (given : Handed) (p : Program) (input : List ℕ) (error : EngineError) (a : Answer)
     → (max_cells p < cell_count_of p (length input) → AreTooMany (cell_count_of p (length input)) error)
     → (cell_count_of p (length input) ≤ max_cells p → IsMissing (host_wanted options given p) error)
-    → SaysWhy p error a → IsOnly (RunsTo said options given p input) a
+    → IsAnswerToError p error a → IsOnly (RunsTo said options given p input) a
 unfinished said options given p input error a many missing why =
     started_left (host_wanted options given p) p input (Is (said (outcome p input) (stats_of options given p input))) error a many missing why
 
@@ -206,20 +206,20 @@ fetch_left name limit next old new NoMemory h = tt
 -- ---- texts
 
 -- with a text that says a program
-pub read_says : (text : List ℕ) (p : Program) (next : Program → Course) (a : Answer) (fetches : List Fetch) → IsOnly (IsVerdict text) (Says p) → IsOnly (next p fetches) a → IsOnly (Read text next fetches) a
+pub read_says : (text : List ℕ) (p : Program) (next : Program → Course) (a : Answer) (fetches : List Fetch) → IsOnly (IsTextVerdict text) (Says p) → IsOnly (next p fetches) a → IsOnly (Read text next fetches) a
 read_says text p next a fetches v h = record {
   is = (Says p, v.is, h.is);
-  only = λ b r. h.only b (subst (λ w. Judged w next fetches b) (v.only r.0 r.1) r.2);
+  only = λ b r. h.only b (subst (λ w. WithText w next fetches b) (v.only r.0 r.1) r.2);
 }
 
-pub answers_read : (text : List ℕ) (p : Program) (next : Program → Course) (old new : FilesState) (r : Result made.Answer Exit) → IsOnly (IsVerdict text) (Says p) → AnswersWith (IsFollowed (next p) old new) r → AnswersWith (IsFollowed (Read text next) old new) r
+pub answers_read : (text : List ℕ) (p : Program) (next : Program → Course) (old new : FilesState) (r : Result made.Answer Exit) → IsOnly (IsTextVerdict text) (Says p) → AnswersWith (IsFollowed (next p) old new) r → AnswersWith (IsFollowed (Read text next) old new) r
 answers_read text p next old new r v h = answers_as (next p) (Read text next) old new r (λ a fetches. read_says text p next a fetches v) h
 
 -- with a text that is refused
-pub only_unread : (text : List ℕ) (next : Program → Course) (a : Answer) (refusal : Refusal) → IsOnly (IsVerdict text) (Refuses refusal) → a ≡ text_refused refusal → IsOnly (Read text next []) a
+pub only_unread : (text : List ℕ) (next : Program → Course) (a : Answer) (refusal : TextRefusal) → IsOnly (IsTextVerdict text) (Refuses refusal) → a ≡ text_refused refusal → IsOnly (Read text next []) a
 only_unread text next a refusal v e = record {
   is = (Refuses refusal, v.is, e);
-  only = λ b r. subst (λ w. Judged w next [] b) (v.only r.0 r.1) r.2 ∙ sym e;
+  only = λ b r. subst (λ w. WithText w next [] b) (v.only r.0 r.1) r.2 ∙ sym e;
 }
 
 pub read_left : (text : List ℕ) (next : Program → Course) (state : FilesState) (left : Exit) → IsReadExit text left → AnswersWith (IsFollowed (Read text next) state state) (Err left)

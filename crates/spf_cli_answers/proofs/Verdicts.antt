@@ -13,7 +13,7 @@ use Rattle.spf_types_names.specs.declared.fault.TypeFault.{TypeFault}
 use Rattle.spf_types_names.specs.declared.fault.TypeError.{TypeError}
 use Rattle.spf_types_names.specs.declared.fault.TypeError.TheVariants as type
 use Rattle.spf_types.specs.Contract.{IsResolved, IsRefused}
-use Rattle.spf_cli_answers.specs.Reading.{Refusal, text_too_long, bad_byte, number_too_large, unexpected, too_deep, on_line, Verdict, Says, Refuses, IsTextRefused, IsVerdict}
+use Rattle.spf_cli_answers.specs.Reading.{TextRefusal, text_too_long, bad_byte, number_too_large, unexpected, too_deep, on_line, TextVerdict, Says, Refuses, IsTextRefused, IsTextVerdict}
 use Rattle.spf_cli_answers.specs.Unread.{refusal_of, seen_refusal, IsRefusalOf, IsUnread, IsAtByte, HasNoByteFault}
 use Rattle.spf_cli_answers.specs.declared.reading.Unread.{Unread}
 use Rattle.spf_cli_answers.specs.declared.reading.Unread.TheVariants.{Refused, NoMemory}
@@ -22,11 +22,11 @@ use Rattle.spf_cli_words.specs.Only.{IsOnly}
 -- a text that is refused at a byte is refused so by the parser, unless memory ran out
 abbrev pub IsExact : {A : Type 0} → List ℕ → Result A ParseError → Type 0
 IsExact text r =
-    (refusal : Refusal) → IsTextRefused text refusal → IsAtByte refusal → (e : ParseError) × (refusal_of e ≡ Some refusal) × ((r ≡ Err e) ⊎ (r ≡ Err error.OutOfMemory))
+    (refusal : TextRefusal) → IsTextRefused text refusal → IsAtByte refusal → (e : ParseError) × (refusal_of e ≡ Some refusal) × ((r ≡ Err e) ⊎ (r ≡ Err error.OutOfMemory))
 
 -- what the parser refuses is refused so
 abbrev pub IsRight : {A : Type 0} → List ℕ → Result A ParseError → Type 0
-IsRight text r = (e : ParseError) (mine : Refusal) → r ≡ Err e → refusal_of e ≡ Some mine → IsTextRefused text mine
+IsRight text r = (e : ParseError) (mine : TextRefusal) → r ≡ Err e → refusal_of e ≡ Some mine → IsTextRefused text mine
 
 pub exact_of : {A : Type 0} (text : List ℕ) (r : Result A ParseError)
     → ((e : ScanError) → IsNoTokenText text e → (r ≡ Err (error.Scan e)) ⊎ (r ≡ Err error.OutOfMemory))
@@ -73,10 +73,10 @@ faultless_of text r x is exact refusal h b =
     elim found.2 [ inl e ↦ absurd (cc) | inr e ↦ absurd (cc) ]
 
 -- where the parser refuses the text, it is refused in this way, and in no other
-pub refused_by_parser : {A : Type 0} (text : List ℕ) (r : Result A ParseError) (e : ParseError) (mine : Refusal)
+pub refused_by_parser : {A : Type 0} (text : List ℕ) (r : Result A ParseError) (e : ParseError) (mine : TextRefusal)
     → IsExact text r → IsRight text r
     → ((q : RawProgram) → IsProgramOf text q → IsOkUnless r error.OutOfMemory)
-    → r ≡ Err e → refusal_of e ≡ Some mine → IsOnly (IsVerdict text) (Refuses mine)
+    → r ≡ Err e → refusal_of e ≡ Some mine → IsOnly (IsTextVerdict text) (Refuses mine)
 refused_by_parser {A} text r e mine exact right accepted is m = record {
   is = right e mine is m;
   only = λ v h. other v h;
@@ -85,7 +85,7 @@ refused_by_parser {A} text r e mine exact right accepted is m = record {
     no_program : {B : Type 0} → (q : RawProgram) → IsProgramOf text q → B
     no_program q h = let same : refusal_of e ≡ None = ap refusal_of (only_error r e error.OutOfMemory (accepted q h) is) in absurd (cc)
 
-    same_refusal : (refusal : Refusal) → IsTextRefused text refusal → IsAtByte refusal → refusal ≡ mine
+    same_refusal : (refusal : TextRefusal) → IsTextRefused text refusal → IsAtByte refusal → refusal ≡ mine
     same_refusal refusal h b =
         let found = exact refusal h b in
         elim found.2 [
@@ -93,7 +93,7 @@ refused_by_parser {A} text r e mine exact right accepted is m = record {
           | inr short ↦ (let same : refusal_of e ≡ None = short_is r e is short in absurd (cc))
         ]
 
-    other : (v : Verdict) → IsVerdict text v → v ≡ Refuses mine
+    other : (v : TextVerdict) → IsTextVerdict text v → v ≡ Refuses mine
     other (Says p) h = no_program h.0 h.1
     other (Refuses (text_too_long at)) h = ap Refuses (same_refusal (text_too_long at) h tt)
     other (Refuses (bad_byte at)) h = ap Refuses (same_refusal (bad_byte at) h tt)
@@ -107,13 +107,13 @@ pub said_by_program : {A : Type 0} (text : List ℕ) (raw : RawProgram) (r : Res
     → IsOnly (IsProgramOf text) raw → HasNoByteFault text → r ≡ Ok x → IsResolved raw p
     → ((q : Program) → IsResolved raw q → q ≡ p)
     → ((fault : TypeFault) (line : ℕ) → IsRefused raw fault line → (r ≡ Err (type.Refused fault line)) ⊎ (r ≡ Err type.OutOfMemory))
-    → IsOnly (IsVerdict text) (Says p)
+    → IsOnly (IsTextVerdict text) (Says p)
 said_by_program text raw r x p one none is resolved only refused = record {
   is = (raw, one.is, resolved);
   only = λ v h. other v h;
 }
   where
-    other : (v : Verdict) → IsVerdict text v → v ≡ Says p
+    other : (v : TextVerdict) → IsTextVerdict text v → v ≡ Says p
     other (Says q) h = ap Says (only q (subst (λ w. IsResolved w q) (one.only h.0 h.1) h.2))
     other (Refuses (text_too_long at)) h = absurd (none (text_too_long at) h tt)
     other (Refuses (bad_byte at)) h = absurd (none (bad_byte at) h tt)
@@ -128,13 +128,13 @@ pub refused_by_resolver : {A : Type 0} (text : List ℕ) (raw : RawProgram) (r :
     → IsOnly (IsProgramOf text) raw → HasNoByteFault text → r ≡ Err (type.Refused fault line) → IsRefused raw fault line
     → ((q : Program) → IsResolved raw q → IsOkUnless r type.OutOfMemory)
     → ((fault : TypeFault) (line : ℕ) → IsRefused raw fault line → (r ≡ Err (type.Refused fault line)) ⊎ (r ≡ Err type.OutOfMemory))
-    → IsOnly (IsVerdict text) (Refuses (on_line fault line))
+    → IsOnly (IsTextVerdict text) (Refuses (on_line fault line))
 refused_by_resolver text raw r fault line one none is right accepted refused = record {
   is = (raw, one.is, right);
   only = λ v h. other v h;
 }
   where
-    other : (v : Verdict) → IsVerdict text v → v ≡ Refuses (on_line fault line)
+    other : (v : TextVerdict) → IsTextVerdict text v → v ≡ Refuses (on_line fault line)
     other (Says q) h =
         let same = only_error r (type.Refused fault line) type.OutOfMemory (accepted q (subst (λ w. IsResolved w q) (one.only h.0 h.1) h.2)) is in
         absurd (cc)

@@ -31,7 +31,7 @@ use Rattle.spf_cli_answers.specs.Message.{
 use Rattle.spf_replay.specs.declared.verdict.Verdict.{Verdict}
 use Rattle.spf_replay.specs.declared.verdict.Verdict.TheVariants.{Yes, No}
 use Rattle.spf_cli_words.specs.Command.{Options}
-use Rattle.spf_cli_answers.specs.Reading.{Refusal, refusal_line}
+use Rattle.spf_cli_answers.specs.Reading.{TextRefusal, refusal_line}
 
 -- a status, with the texts on the output, each in pieces of its own, and the lines on the error stream
 pub record Answer : Type 0 where
@@ -48,7 +48,7 @@ abbrev pub not_understood : Answer
 not_understood = refused 2 words_line
 
 -- the text has no lawful program
-abbrev pub text_refused : Refusal → Answer
+abbrev pub text_refused : TextRefusal → Answer
 text_refused refusal = refused 3 (refusal_line refusal)
 
 -- the program keeps the rules

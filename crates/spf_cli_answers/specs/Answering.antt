@@ -19,7 +19,7 @@ use Rattle.spf_exec_instance.specs.declared.layout.RunError.TheVariants as run_e
 use Rattle.spf_cli_answers.specs.Answer as said
 use Rattle.spf_cli_answers.specs.Answer.{text_refused, rule_refused, too_many_cells, host_missing}
 use Rattle.spf_cli_answers.specs.Course.{Course, Unfetched}
-use Rattle.spf_cli_answers.specs.Reading.{Refusal, Refuses, IsVerdict}
+use Rattle.spf_cli_answers.specs.Reading.{TextRefusal, Refuses, IsTextVerdict}
 use Rattle.spf_cli_answers.specs.Status.{status_number}
 use Rattle.spf_cli_words.specs.Only.{IsOnly}
 use Rattle.spf_cli_answers.specs.declared.answer.Answer.{Answer}
@@ -44,7 +44,7 @@ IsFetchExit old new name limit NoMemory = Unit {0}
 
 -- the text is refused in this way, and in no other
 abbrev pub IsReadExit : List ℕ → Exit → Type 0
-IsReadExit text (Answered a) = (refusal : Refusal) × IsOnly (IsVerdict text) (Refuses refusal) × (seen_answer a ≡ text_refused refusal)
+IsReadExit text (Answered a) = (refusal : TextRefusal) × IsOnly (IsTextVerdict text) (Refuses refusal) × (seen_answer a ≡ text_refused refusal)
 IsReadExit text NoMemory = Unit {0}
 
 -- the rules refuse the program so, or memory ran out
@@ -60,16 +60,16 @@ IsNotAccepted (not_accepted.OutOfMemory p) (Answered a) = ⊥
 IsNotAccepted error NoMemory = Unit {0}
 
 -- the arrays have too many cells, or memory ran out
-abbrev pub IsNotRun : Program → RunError → Exit → Type 0
-IsNotRun p (TooManyCells count) (Answered a) = seen_answer a ≡ too_many_cells count (max_cells p)
-IsNotRun p run_error.OutOfMemory (Answered a) = ⊥
-IsNotRun p error NoMemory = Unit {0}
+abbrev pub IsRefusedRun : Program → RunError → Exit → Type 0
+IsRefusedRun p (TooManyCells count) (Answered a) = seen_answer a ≡ too_many_cells count (max_cells p)
+IsRefusedRun p run_error.OutOfMemory (Answered a) = ⊥
+IsRefusedRun p error NoMemory = Unit {0}
 
 -- a run by blocks didn't reach its end, and its answer says why
-abbrev pub SaysWhy : Program → EngineError → said.Answer → Type 0
-SaysWhy p (engine_error.TooManyCells count) a = a ≡ too_many_cells count (max_cells p)
-SaysWhy p (engine_error.NoHost host) a = a ≡ host_missing host
-SaysWhy p engine_error.OutOfMemory a = ⊥
+abbrev pub IsAnswerToError : Program → EngineError → said.Answer → Type 0
+IsAnswerToError p (engine_error.TooManyCells count) a = a ≡ too_many_cells count (max_cells p)
+IsAnswerToError p (engine_error.NoHost host) a = a ≡ host_missing host
+IsAnswerToError p engine_error.OutOfMemory a = ⊥
 
 -- the course was followed: these fetches were made, and this is the one answer to what they gave
 pub record IsFollowed (course : Course) (old new : FilesState) (answer : said.Answer) : Type 0 where

@@ -28,10 +28,11 @@ use Rattle.spf_cli_answers.specs.Answer.{ran, simulated}
 use Rattle.spf_cli_answers.specs.Answering.{lines_of, AnswersWith, IsFollowed, IsRunToItsEnd}
 use Rattle.spf_cli_answers.specs.Course.{Course, Fetches, Ends}
 use Rattle.spf_cli_answers.specs.Ending.{EndsWith}
-use Rattle.spf_cli_answers.specs.Reading.{Says, IsVerdict}
+use Rattle.spf_cli_answers.specs.Reading.{Says, IsTextVerdict}
 use Rattle.spf_cli_answers.specs.Replying.{CanBegin, IsReply, RepliesWith}
 use Rattle.spf_cli_answers.specs.Status.{status_number}
-use Rattle.spf_cli_answers.specs.Whole.{Handed, handed, Whole, WholeOf, Runs, RunsOn, Replays, Lexing, max_input}
+use Rattle.spf_batch.specs.Batch.{max_input}
+use Rattle.spf_cli_answers.specs.Whole.{Handed, handed, Whole, WholeOf, Runs, RunsOn, Replays, Lexing}
 use Rattle.spf_cli_answers.specs.declared.answer.Answer.{Answer}
 use Rattle.spf_cli_answers.specs.declared.answer.Exit.{Exit}
 use Rattle.spf_cli_answers.specs.declared.batch.Batch.{Batch}
@@ -48,7 +49,7 @@ given_by answers boxes = handed (map answers boxes)
 abbrev pub Untold : {Box : Type 0} → (Box → Answers) → List Box → List Box → Type 0
 Untold answers old new = WereTold (supplied answers old) [] (supplied answers new)
 
--- the predictors were told the first of what they are told in a whole run
+-- the predictors were told a prefix of what they are told in a whole run
 abbrev pub ToldFirst : {Box : Type 0} → (Box → Answers) → List Box → List Box → Program → List ℕ → Type 0
 ToldFirst answers old new p input = WereToldFirst (supplied answers old) p input (supplied answers new)
 
@@ -60,7 +61,7 @@ ToldAll answers old new p input answer =
 -- so it is with the program that a text says
 abbrev pub ToldAllOf : {Box : Type 0} → (Box → Answers) → List Box → List Box → List ℕ → List ℕ → said.Answer → Type 0
 ToldAllOf answers old new text input answer =
-    (p : Program) → IsVerdict text (Says p) → ToldAll answers old new p input answer
+    (p : Program) → IsTextVerdict text (Says p) → ToldAll answers old new p input answer
 
 -- ---- courses
 

@@ -8,7 +8,7 @@ use Rattle.spf_replay_log.specs.Log.{IsLog}
 use Rattle.spf_replay_log.specs.Refusals.{LogBreaksAt}
 use Rattle.spf_cli_answers.specs.Answer.{not_a_log}
 use Rattle.spf_cli_answers.specs.Answering.{seen_answer, IsFetchExit, IsReadExit, IsRuleExit}
-use Rattle.spf_cli_answers.specs.Reading.{Says, IsVerdict}
+use Rattle.spf_cli_answers.specs.Reading.{Says, IsTextVerdict}
 use Rattle.spf_cli_answers.specs.Whole.{max_program, max_log}
 use Rattle.spf_cli_words.specs.Only.{IsOnly}
 use Rattle.spf_cli_answers.specs.declared.answer.Exit.{Exit}
@@ -20,11 +20,11 @@ use Rattle.spf_cli_answers.specs.declared.answer.Exit.TheVariants.{Answered, NoM
 abbrev pub IsFetchedAccepted : FilesState → FilesState → List ℕ → Program → Type 0
 IsFetchedAccepted old new name p =
     (text : List ℕ) × AreMade old new (record { name = name; limit = max_program; gave = Ok text } ∷ [])
-    × IsOnly (IsVerdict text) (Says p) × IsAccepted p
+    × IsOnly (IsTextVerdict text) (Says p) × IsAccepted p
 
 -- a text doesn't say a program, or says one that the rules refuse; there is the answer to that, or memory ran out
 abbrev pub IsTextExit : List ℕ → Exit → Type 0
-IsTextExit text left = IsReadExit text left ⊎ ((p : Program) × IsOnly (IsVerdict text) (Says p) × IsRuleExit p left)
+IsTextExit text left = IsReadExit text left ⊎ ((p : Program) × IsOnly (IsTextVerdict text) (Says p) × IsRuleExit p left)
 
 -- the file can't be fetched, or there is no such program in it; there is the answer to that, or memory ran out
 abbrev pub IsNoneAccepted : FilesState → FilesState → List ℕ → Exit → Type 0

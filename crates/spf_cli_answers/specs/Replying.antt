@@ -26,13 +26,13 @@ pub record LeadsTo (course rest : Course) (old new : FilesState) : Type 0 where
   pub back : (more : List Fetch) (answer : Answer) → course (fetches ++ more) answer → rest more answer
 
 -- what is left of the course is to run the program on the files of these names, and no host is missing
-pub record IsReady (given : Handed) (course : Course) (p : Program) (names : List (List ℕ)) (old new : FilesState) : Type 0 where
+pub record CanRunFiles (given : Handed) (course : Course) (p : Program) (names : List (List ℕ)) (old new : FilesState) : Type 0 where
   pub complete : missing_host given.count (constructs_in p.main) ≡ None
   pub leads : LeadsTo course (RunsFiles given.hosts p [] names) old new
 
 -- the same of a batch
 abbrev pub CanBegin : Handed → Course → FilesState → FilesState → Batch → Type 0
-CanBegin given course old new b = IsReady given course (program b.checked) (map string_bytes b.names.items) old new
+CanBegin given course old new b = CanRunFiles given course (program b.checked) (map string_bytes b.names.items) old new
 
 -- the course was followed to its answer, or to a batch
 abbrev pub IsReply : Handed → Course → FilesState → FilesState → Reply → Type 0

@@ -57,10 +57,11 @@ use Rattle.spf_replay.specs.Limits.{max_steps}
 use Rattle.spf_replay.specs.SeenSteps.{seen_steps}
 use Rattle.spf_replay.specs.Expecting.{expected, IsSchedule}
 use Rattle.spf_replay.specs.declared.verdict.Verdict as log_verdict
-use Rattle.spf_replay.specs.Verdicts.{IsVerdict as IsVerdictOn}
+use Rattle.spf_replay.specs.Verdicts.{IsVerdict}
 use Rattle.spf_replay_sim.specs.Drawing.{step_count, HasTooManySteps}
 use Rattle.spf_replay_sim.specs.Bytes.{bytes_of}
-use Rattle.spf_cli_answers.specs.Reading.{Verdict, Says, Refuses, IsVerdict}
+use Rattle.spf_cli_answers.specs.Reading.{TextVerdict, Says, Refuses, IsTextVerdict}
+use Rattle.spf_batch.specs.Batch.{max_input}
 use Rattle.spf_batch_lists.specs.Lists.{AreNames, IsBadAt}
 use Rattle.spf_cli_answers.specs.Batched.{RunsFiles}
 use Rattle.spf_cli_answers.specs.Decoded.{Unpacked, Unhuffed, Tokenized}
@@ -72,8 +73,8 @@ max_program = 1048576
 abbrev pub max_machine : ℕ
 max_machine = 16384
 
-abbrev pub max_text : ℕ
-max_text = 32768
+abbrev pub max_machine_text : ℕ
+max_machine_text = 32768
 
 abbrev pub max_list : ℕ
 max_list = 1048576
@@ -81,16 +82,14 @@ max_list = 1048576
 abbrev pub max_log : ℕ
 max_log = 20971520
 
-abbrev pub max_input : ℕ
-max_input = 4194304
-
 -- with the program that a text says, or without one
-abbrev pub Judged : Verdict → (Program → Course) → Course
-Judged (Says p) next = next p
-Judged (Refuses refusal) next = Ends (Is (text_refused refusal))
+abbrev pub WithText : TextVerdict → (Program → Course) → Course
+WithText (Says p) next = next p
+WithText (Refuses refusal) next = Ends (Is (text_refused refusal))
 
+-- with the verdict on a text: its program, or the refusal
 abbrev pub Read : List ℕ → (Program → Course) → Course
-Read text next fetches answer = (v : Verdict) × IsVerdict text v × Judged v next fetches answer
+Read text next fetches answer = (v : TextVerdict) × IsTextVerdict text v × WithText v next fetches answer
 
 -- with a program that the rules accept, or by the first refusal of one that they don't
 abbrev pub CheckedBy : Program → Course → Course
@@ -248,7 +247,7 @@ Simulates given seed p input = Started (missing_host given.count (constructs_in 
 
 -- the verdict on a log
 abbrev pub Ruled : Hosts → Program → List ℕ → List (List logged.Step) → Wanted
-Ruled hosts p input log answer = (v : log_verdict.Verdict) × IsVerdictOn (expected hosts p input) (map seen_steps log) v × (answer ≡ judged v)
+Ruled hosts p input log answer = (v : log_verdict.Verdict) × IsVerdict (expected hosts p input) (map seen_steps log) v × (answer ≡ judged v)
 
 -- a log is checked against the runs of a program on an input
 abbrev pub Replays : Handed → Program → List ℕ → List (List logged.Step) → Wanted
@@ -294,7 +293,7 @@ WholeOf given (Lex machine input options) =
     Fetches input max_input (λ content. Ends (Lexing options table states classes content))))
 WholeOf given (Show machine) =
     Fetches machine max_machine (λ table. WithLex1 table (λ states classes. Ends (Is (written (machine_text table)))))
-WholeOf given (Build text) = Fetches text max_text (λ bytes. WithMachine bytes (λ file. Ends (Is (written file))))
+WholeOf given (Build text) = Fetches text max_machine_text (λ bytes. WithMachine bytes (λ file. Ends (Is (written file))))
 WholeOf given (Sim program input seed) =
     AcceptedIn program (λ p. Fetches input max_input (λ content. Ends (Simulates given seed p content)))
 WholeOf given (Replay program input log) =

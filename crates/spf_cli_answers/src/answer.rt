@@ -10,7 +10,7 @@ ghost use Rattle.spf_cli_answers.specs.Message.{array_lines};
 ghost use Rattle.spf_cli_words.specs.Command.{Check as check_command};
 ghost use Rattle.spf_cli_words.specs.Command.{Explain as explain_command, Print as print_command};
 ghost use Rattle.spf_cli_words.specs.Command.{IsUpTo, HasNumbers};
-ghost use Rattle.spf_cli_answers.specs.Reading.{IsVerdict, Says};
+ghost use Rattle.spf_cli_answers.specs.Reading.{IsTextVerdict, Says};
 ghost use Rattle.spf_check.specs.Accepting.{IsAccepted};
 ghost use Rattle.spf_cli_answers.specs.Answer.{refused as refused_answer};
 ghost use Rattle.spf_cli_answers.specs.Answer.{not_understood as not_understood_answer};
@@ -22,7 +22,7 @@ ghost use Rattle.spf_cli_answers.specs.Status.{status_number};
 ghost use Rattle.spf_cli_words.specs.Only.{IsOnly};
 ghost use Rattle.spf_cli_answers.specs.Whole.{Handed};
 ghost use Rattle.spf_cli_answers.specs.Answering.{lines_of, seen_answer, IsFetchExit, IsReadExit};
-ghost use Rattle.spf_cli_answers.specs.Answering.{SaysWhy, IsRuleExit, IsNotAccepted, IsNotRun};
+ghost use Rattle.spf_cli_answers.specs.Answering.{IsAnswerToError, IsRuleExit, IsNotAccepted, IsRefusedRun};
 ghost use Rattle.spf_cli_answers.specs.Replying.{IsBatch};
 ghost use Rattle.spf_cli_answers.specs.Answering.{AnswersWith, IsLeftUnrun};
 ghost use Rattle.spf_cli_answers.specs.Following.{Adds, AnswersRun, Follows, FollowsPlainRun};
@@ -172,7 +172,7 @@ pub(crate) fn fetch<F: Files>(
 
 /// The program that a text says.
 pub(crate) fn read(alloc: Global, text: &[u8]) -> Result<Program, Exit>
-    ensures program { IfOk result (λ p. IsOnly (IsVerdict text.now) (Says (seen_program p))) }
+    ensures program { IfOk result (λ p. IsOnly (IsTextVerdict text.now) (Says (seen_program p))) }
     ensures left { IfErr result (IsReadExit text.now) }
 {
     match read_program(alloc, text) {
@@ -313,7 +313,7 @@ fn answer_of_run(
 
 /// The answer where the arrays of a program have too many cells, or memory runs out.
 fn not_run(alloc: Global, program: &Program, error: RunError) -> Exit
-    ensures { IsNotRun (seen_program program.now) error result }
+    ensures { IsRefusedRun (seen_program program.now) error result }
 {
     match error {
         RunError::TooManyCells { count } => match too_many(alloc, count, max_cells_of(program)) {
@@ -348,7 +348,7 @@ pub(crate) fn answer_of_error(
     program: &Program,
     error: EngineError,
 ) -> Result<Answer, Exit>
-    ensures { AnswersWith (SaysWhy (seen_program program.now) error) result }
+    ensures { AnswersWith (IsAnswerToError (seen_program program.now) error) result }
 {
     match error {
         EngineError::TooManyCells { count } => {

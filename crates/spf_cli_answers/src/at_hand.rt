@@ -3,7 +3,7 @@
 ghost use Rattle.std.specs.Prelude.{◌≤◌, ◌<◌, IfOk};
 ghost use Rattle.spf_ast_lemmas.specs.Limits.{max_workers};
 ghost use Rattle.spf_ast.specs.Syntax.{Program};
-ghost use Rattle.spf_cli_answers.specs.Reading.{IsVerdict, Refusal, Refuses, Says};
+ghost use Rattle.spf_cli_answers.specs.Reading.{IsTextVerdict, TextRefusal, Refuses, Says};
 ghost use Rattle.spf_cli_words.specs.Only.{IsOnly};
 ghost use Rattle.spf_cli_answers.specs.Whole.{RunsText};
 ghost use Rattle.spf_cli_answers.specs.Answering.{AnswersWith, IsLeftUnrun};
@@ -32,11 +32,11 @@ impl<'a, R: Threads + Wait + Sync, G: Gate + Sync> Context<'a, R, G> {
         ensures answer { AnswersWith (IsOnly
             (RunsText (given_by answer hosts.old.items) workers text.now input.now))
             result }
-        ensures told_first { (p : Program) → IsVerdict text.now (Says p)
+        ensures told_first { (p : Program) → IsTextVerdict text.now (Says p)
             → ToldFirst answer hosts.old.items hosts.new.items p input.now }
         ensures told { AnswersWith
             (ToldAllOf answer hosts.old.items hosts.new.items text.now input.now) result }
-        ensures untold { (refusal : Refusal) → IsVerdict text.now (Refuses refusal)
+        ensures untold { (refusal : TextRefusal) → IsTextVerdict text.now (Refuses refusal)
             → Untold answer hosts.old.items hosts.new.items }
         ensures unrun { AnswersWith (λ a. IsLeftUnrun a
             → Untold answer hosts.old.items hosts.new.items) result }
@@ -73,11 +73,11 @@ pub fn answer_text<R: Threads + Wait + Sync, G: Gate + Sync>(
     ensures answer { IfOk result (λ a. IsOnly
         (RunsText (given_by answer hosts.old.items) workers text.now input.now)
         (seen_answer a)) }
-    ensures told_first { (p : Program) → IsVerdict text.now (Says p)
+    ensures told_first { (p : Program) → IsTextVerdict text.now (Says p)
         → ToldFirst answer hosts.old.items hosts.new.items p input.now }
     ensures told { IfOk result
         (λ a. ToldAllOf answer hosts.old.items hosts.new.items text.now input.now (seen_answer a)) }
-    ensures untold { (refusal : Refusal) → IsVerdict text.now (Refuses refusal)
+    ensures untold { (refusal : TextRefusal) → IsTextVerdict text.now (Refuses refusal)
         → Untold answer hosts.old.items hosts.new.items }
     ensures unrun { IfOk result (λ a. IsLeftUnrun (seen_answer a)
         → Untold answer hosts.old.items hosts.new.items) }

@@ -5,7 +5,7 @@ ghost use Rattle.spf_ast.specs.View.{program as seen_program};
 ghost use Rattle.spf_ast.specs.RawView.{raw_program};
 ghost use Rattle.spf_ast.specs.Spelling.{IsWellFormed};
 ghost use Rattle.spf_parse_grammar.specs.Texts.{IsProgramOf};
-ghost use Rattle.spf_cli_answers.specs.Reading.{IsVerdict, Says, refusal_line as refusal_line_of};
+ghost use Rattle.spf_cli_answers.specs.Reading.{IsTextVerdict, Says, refusal_line as refusal_line_of};
 ghost use Rattle.spf_cli_answers.specs.Unread.{seen_refusal, IsUnread, HasNoByteFault, IsRefusalOf};
 ghost use Rattle.spf_cli_words.specs.Only.{IsOnly};
 
@@ -19,7 +19,7 @@ use std::alloc::{AllocError, Global};
 
 /// Why a text has no lawful program: a fault at a byte, or one of names, kinds or sizes on a line.
 #[derive(Clone, Copy, Debug)]
-pub(crate) enum Refusal {
+pub(crate) enum TextRefusal {
     TextTooLong { at: usize },
     BadByte { at: usize },
     NumberTooLarge { at: usize },
@@ -31,7 +31,7 @@ pub(crate) enum Refusal {
 /// Why there is no program of a text.
 #[derive(Clone, Copy, Debug)]
 pub(crate) enum Unread {
-    Refused(Refusal),
+    Refused(TextRefusal),
     NoMemory,
 }
 
@@ -40,14 +40,16 @@ fn from_error(error: ParseError) -> Unread
     ensures { IsRefusalOf error result }
 {
     match error {
-        ParseError::Scan(ScanError::TooLong { at }) => Unread::Refused(Refusal::TextTooLong { at }),
-        ParseError::Scan(ScanError::BadByte { at }) => Unread::Refused(Refusal::BadByte { at }),
+        ParseError::Scan(ScanError::TooLong { at }) => Unread::Refused(TextRefusal::TextTooLong {
+            at,
+        }),
+        ParseError::Scan(ScanError::BadByte { at }) => Unread::Refused(TextRefusal::BadByte { at }),
         ParseError::Scan(ScanError::NumberTooLarge { at }) => {
-            Unread::Refused(Refusal::NumberTooLarge { at })
+            Unread::Refused(TextRefusal::NumberTooLarge { at })
         }
         ParseError::Scan(ScanError::OutOfMemory) => Unread::NoMemory,
-        ParseError::Unexpected { at } => Unread::Refused(Refusal::Unexpected { at }),
-        ParseError::TooDeep { at } => Unread::Refused(Refusal::TooDeep { at }),
+        ParseError::Unexpected { at } => Unread::Refused(TextRefusal::Unexpected { at }),
+        ParseError::TooDeep { at } => Unread::Refused(TextRefusal::TooDeep { at }),
         ParseError::OutOfMemory => Unread::NoMemory,
     }
 }
@@ -67,29 +69,29 @@ fn read_raw(alloc: Global, text: &[u8]) -> Result<RawProgram, Unread>
 
 /// The program that a text says.
 pub(crate) fn read_program(alloc: Global, text: &[u8]) -> Result<Program, Unread>
-    ensures program { IfOk result (λ p. IsOnly (IsVerdict text.now) (Says (seen_program p))) }
+    ensures program { IfOk result (λ p. IsOnly (IsTextVerdict text.now) (Says (seen_program p))) }
     ensures unread { IfErr result (IsUnread text.now) }
 {
     let raw = read_raw(alloc, text)?;
     match resolve(alloc, raw) {
         Ok(program) => Ok(program),
         Err(TypeError::Refused { fault, line }) => {
-            Err(Unread::Refused(Refusal::OnLine { fault, line }))
+            Err(Unread::Refused(TextRefusal::OnLine { fault, line }))
         }
         Err(TypeError::OutOfMemory) => Err(Unread::NoMemory),
     }
 }
 
 /// The line of a refusal.
-pub(crate) fn refusal_line(alloc: Global, refusal: Refusal) -> Result<String, AllocError>
+pub(crate) fn refusal_line(alloc: Global, refusal: TextRefusal) -> Result<String, AllocError>
     ensures { IfOk result (λ text. string_bytes text ≡ refusal_line_of (seen_refusal refusal)) }
 {
     match refusal {
-        Refusal::TextTooLong { at } => byte_line(alloc, at, "text too long"),
-        Refusal::BadByte { at } => byte_line(alloc, at, "bad byte"),
-        Refusal::NumberTooLarge { at } => byte_line(alloc, at, "number too large"),
-        Refusal::Unexpected { at } => byte_line(alloc, at, "unexpected"),
-        Refusal::TooDeep { at } => byte_line(alloc, at, "too deep"),
-        Refusal::OnLine { fault, line } => fault_line(alloc, fault, line),
+        TextRefusal::TextTooLong { at } => byte_line(alloc, at, "text too long"),
+        TextRefusal::BadByte { at } => byte_line(alloc, at, "bad byte"),
+        TextRefusal::NumberTooLarge { at } => byte_line(alloc, at, "number too large"),
+        TextRefusal::Unexpected { at } => byte_line(alloc, at, "unexpected"),
+        TextRefusal::TooDeep { at } => byte_line(alloc, at, "too deep"),
+        TextRefusal::OnLine { fault, line } => fault_line(alloc, fault, line),
     }
 }

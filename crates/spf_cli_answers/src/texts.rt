@@ -17,7 +17,7 @@ use spf_edge::Files;
 use std::alloc::{AllocError, Global};
 
 /// How many bytes the file of a machine's text may have.
-const MAX_TEXT: u64 = 32_768;
+const MAX_MACHINE_TEXT: u64 = 32_768;
 
 /// The answer where a machine's text, or its file, is written.
 fn written(alloc: Global, output: Vec<u8>) -> Answer
@@ -60,7 +60,7 @@ pub(crate) fn build_file<F: Files>(alloc: Global, text: &str, files: &mut F) -> 
 {
     // Law: a text belongs to one machine.
     spf_apps_machine_text::laws::machines_have_one_text();
-    let content = fetch(alloc, files, text, MAX_TEXT)?;
+    let content = fetch(alloc, files, text, MAX_MACHINE_TEXT)?;
     match build_machine(alloc, &content) {
         Ok(file) => Ok(written(alloc, file)),
         Err(BuildError::NotMachine) => Ok(not_a_machine(alloc)?),

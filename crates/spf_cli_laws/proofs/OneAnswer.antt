@@ -34,21 +34,21 @@ use Rattle.spf_replay.specs.Expecting.{expected, IsSchedule, SchedulesOfRunsExis
 use Rattle.spf_replay.specs.declared.verdict.Verdict as log_verdict
 use Rattle.spf_replay.specs.declared.verdict.Verdict.TheVariants.{Yes, No}
 use Rattle.spf_replay.specs.Verdicts.{Expected, SectionFits, VerdictsAreOne}
-use Rattle.spf_replay.specs.Verdicts.{IsVerdict as IsVerdictOn}
+use Rattle.spf_replay.specs.Verdicts.{IsVerdict}
 use Rattle.spf_replay_sim.specs.Bytes.{bytes_of}
 use Rattle.spf_replay_sim.specs.Drawing.{step_count, HasTooManySteps}
 use Rattle.spf_ast.specs.Construct.{constructs_in}
-use Rattle.spf_batch.specs.Batch.{max_input as file_limit}
+use Rattle.spf_batch.specs.Batch.{max_input}
 use Rattle.spf_batch_lists.specs.Lists.{AreNames, IsBadAt}
 use Rattle.spf_batch_lists.specs.Laws.{ListsHaveOneVerdict}
 use Rattle.spf_cli_words.specs.Command.{Command, Run, Check, Explain, Print, Unpack, Unhuff, Lex, Show, Build, Sim, Replay, Batch, Demo, Options, DecodeOptions, Asks}
 use Rattle.spf_cli_words.specs.Only.{IsOnly}
 use Rattle.spf_cli_words.specs.Laws.{EachAsksForOneOrNone}
-use Rattle.spf_cli_answers.specs.Reading.{Verdict, Says, Refuses, IsVerdict}
+use Rattle.spf_cli_answers.specs.Reading.{TextVerdict, Says, Refuses, IsTextVerdict}
 use Rattle.spf_cli_answers.specs.Decoded.{Unpacked, Unhuffed, Tokenized}
 use Rattle.spf_cli_answers.specs.Course.{Wanted, Is, Both, Either, Course, Ends, Chosen, Unfetched, After, FetchesOr, Fetches}
 use Rattle.spf_cli_answers.specs.Batched.{batch_done, FileUnfetched, RunsFiles}
-use Rattle.spf_cli_answers.specs.Whole.{Handed, handed, Judged, Read, CheckedBy, AcceptedIn, Allowed, Explained, WithHosts, Started, host_wanted, RunsTo, WithLog, Drawn, Simulates, Ruled, Replays, Runs, RunsOn, Decodes, Unpacking, Unhuffing, Lexing, WithHuf1, WithLex1, WithMachine, WithNames, Batches, BatchesOn, Demonstrates, WholeOf, Whole, block_of, run_options, by_blocks, demo_program, demo_input, max_program, max_machine, max_text, max_list, max_log, max_input}
+use Rattle.spf_cli_answers.specs.Whole.{Handed, handed, WithText, Read, CheckedBy, AcceptedIn, Allowed, Explained, WithHosts, Started, host_wanted, RunsTo, WithLog, Drawn, Simulates, Ruled, Replays, Runs, RunsOn, Decodes, Unpacking, Unhuffing, Lexing, WithHuf1, WithLex1, WithMachine, WithNames, Batches, BatchesOn, Demonstrates, WholeOf, Whole, block_of, run_options, by_blocks, demo_program, demo_input, max_program, max_machine, max_machine_text, max_list, max_log}
 use Rattle.spf_cli_answers.specs.Laws.{RuleLaws, DecoderLaws}
 use Rattle.spf_cli_laws.specs.Laws.{VerdictsAreTheSame, NoTextIsLeftUnjudged, HoldBytes, Over}
 
@@ -155,13 +155,13 @@ same_fetches_or files left name limit next each f a b x y = by x.0 y.0 x.1 y.1 x
 same_fetches : (files : List Entry) (name : List ℕ) (limit : ℕ) (next : List ℕ → Course) → ((content : List ℕ) → AtMostOne (Over files (next content))) → AtMostOne (Over files (Fetches name limit next))
 same_fetches files name limit next f = same_fetches_or files (Unfetched name limit) name limit next (record { same = same_unfetched name limit; none = λ a h. h }) f
 
-same_judged : (files : List Entry) (v : Verdict) (next : Program → Course) → ((p : Program) → AtMostOne (Over files (next p))) → AtMostOne (Over files (Judged v next))
+same_judged : (files : List Entry) (v : TextVerdict) (next : Program → Course) → ((p : Program) → AtMostOne (Over files (next p))) → AtMostOne (Over files (WithText v next))
 same_judged files (Says p) next f = f p
 same_judged files (Refuses refusal) next f = same_ends files (Is (text_refused refusal)) (same_said (text_refused refusal))
 
 same_read : VerdictsAreTheSame → (files : List Entry) (text : List ℕ) (next : Program → Course) → ((p : Program) → AtMostOne (Over files (next p))) → AtMostOne (Over files (Read text next))
 same_read one files text next f a b x y =
-    same_judged files x.2.0 next f a b (x.0, x.1, x.2.2) (y.0, y.1, subst (λ v. Judged v next y.0 b) (one text y.2.0 x.2.0 y.2.1 x.2.1) y.2.2)
+    same_judged files x.2.0 next f a b (x.0, x.1, x.2.2) (y.0, y.1, subst (λ v. WithText v next y.0 b) (one text y.2.0 x.2.0 y.2.1 x.2.1) y.2.2)
 
 -- a case that ends is one answer
 ends_said : (files : List Entry) (said : Answer) (fetches : List Fetch) (a : Answer) → Ends (Is said) fetches a → a ≡ said
@@ -280,7 +280,7 @@ same_chosen files false first second f g = g
 same_files : (files : List Entry) (hosts : Hosts) (p : Program) (done : List Entry) (names : List (List ℕ)) → AtMostOne (Over files (RunsFiles hosts p done names))
 same_files files hosts p done [] = same_ends files (Is (batch_done hosts p done)) (same_said (batch_done hosts p done))
 same_files files hosts p done (name ∷ names) =
-    same_fetches_or files (FileUnfetched p done name) name file_limit _ (record { same = same_left p done name; none = λ a h. h }) (λ content.
+    same_fetches_or files (FileUnfetched p done name) name max_input _ (record { same = same_left p done name; none = λ a h. h }) (λ content.
     same_chosen files (nat_le (cell_count_of p (length content)) (max_cells p)) _ _
     (same_files files hosts p (done ++ record { name = name; content = content } ∷ []) names) (same_ends files (Is _) (same_said _)))
 
@@ -335,7 +335,7 @@ command_same laws one formats given (Show machine) files =
     same_lex1 formats.lex1 files table (λ states classes. Ends (Is (written (machine_text table)))) (λ states classes.
     same_ends files (Is (written (machine_text table))) (same_said (written (machine_text table)))))
 command_same laws one formats given (Build text) files =
-    same_fetches files text max_text _ (λ bytes.
+    same_fetches files text max_machine_text _ (λ bytes.
     same_machine formats.machines files bytes (λ file. Ends (Is (written file))) (λ file. same_ends files (Is (written file)) (same_said (written file))))
 command_same laws one formats given (Sim program input seed) files =
     same_accepted laws one files program (λ p. Fetches input max_input (λ content. Ends (Simulates given seed p content))) (λ p.
@@ -391,7 +391,7 @@ HasOne P = (answer : Answer) × P answer
 
 -- there is a verdict on a text
 abbrev HasVerdict : List ℕ → Type 0
-HasVerdict text = (v : Verdict) × IsVerdict text v
+HasVerdict text = (v : TextVerdict) × IsTextVerdict text v
 
 some_either : (A B : Wanted) (b : Bool) → HasOne A → HasOne B → HasOne (Either b A B)
 some_either A B true a b = a
@@ -422,7 +422,7 @@ some_fetches files name limit next f = some_fetches_or files (Unfetched name lim
 some_read : (files : List Entry) (text : List ℕ) (next : Program → Course) → HasVerdict text → ((p : Program) → HasOne (Over files (next p))) → HasOne (Over files (Read text next))
 some_read files text next v f = let judged = by_verdict v.0 in (judged.0, (judged.1.0, judged.1.1, (v.0, v.1, judged.1.2)))
   where
-    by_verdict : (w : Verdict) → HasOne (Over files (Judged w next))
+    by_verdict : (w : TextVerdict) → HasOne (Over files (WithText w next))
     by_verdict (Says p) = f p
     by_verdict (Refuses refusal) = some_ends files (Is (text_refused refusal)) (text_refused refusal, refl)
 
@@ -500,7 +500,7 @@ some_chosen files false first second f g = g
 some_files : (files : List Entry) (hosts : Hosts) (p : Program) (done : List Entry) (names : List (List ℕ)) → HasOne (Over files (RunsFiles hosts p done names))
 some_files files hosts p done [] = some_ends files (Is (batch_done hosts p done)) (batch_done hosts p done, refl)
 some_files files hosts p done (name ∷ names) =
-    some_fetches_or files (FileUnfetched p done name) name file_limit _ (_, refl) (_, refl) (λ content e.
+    some_fetches_or files (FileUnfetched p done name) name max_input _ (_, refl) (_, refl) (λ content e.
     some_chosen files (nat_le (cell_count_of p (length content)) (max_cells p)) _ _
     (some_files files hosts p (done ++ record { name = name; content = content } ∷ []) names) (some_ends files (Is _) (_, refl)))
 
@@ -591,7 +591,7 @@ some_command laws formats given (Show machine) files other judged listed =
     some_lex1 formats.lex1 files table (λ states classes. Ends (Is (written (machine_text table)))) (λ states classes lex1.
     some_ends files (Is (written (machine_text table))) (written (machine_text table), refl)))
 some_command laws formats given (Build text) files other judged listed =
-    some_fetches files text max_text _ (λ bytes e.
+    some_fetches files text max_machine_text _ (λ bytes e.
     some_machine formats.machines files bytes (λ file. Ends (Is (written file))) (λ file. some_ends files (Is (written file)) (written file, refl)))
 some_command laws formats given (Sim program input seed) files other judged listed =
     some_fetches files program max_program _ (λ text e.
@@ -633,7 +633,7 @@ undenied_fetches files name limit next f = by (lookup files name) refl
 undenied_read : NoTextIsLeftUnjudged → (files : List Entry) (text : List ℕ) (next : Program → Course) → ((p : Program) → Undenied (HasOne (Over files (next p)))) → Undenied (HasOne (Over files (Read text next)))
 undenied_read left files text next f never = left text (λ v is. by v (λ one. never (one.0, (one.1.0, one.1.1, (v, is, one.1.2)))))
   where
-    by : (w : Verdict) → Undenied (HasOne (Over files (Judged w next)))
+    by : (w : TextVerdict) → Undenied (HasOne (Over files (WithText w next)))
     by (Says p) = f p
     by (Refuses refusal) = told (some_ends files (Is (text_refused refusal)) (text_refused refusal, refl))
 
@@ -654,10 +654,10 @@ undenied_log laws files file next bytes f =
 
 -- a verdict with one more section that is as expected
 later_verdict : (x : Expected) (xs : List Expected) (steps : List Step) (log : List (List Step)) → IsRun x.entry x.guess steps
-    → (v : log_verdict.Verdict) × IsVerdictOn xs log v → (v : log_verdict.Verdict) × IsVerdictOn (x ∷ xs) (steps ∷ log) v
+    → (v : log_verdict.Verdict) × IsVerdict xs log v → (v : log_verdict.Verdict) × IsVerdict (x ∷ xs) (steps ∷ log) v
 later_verdict x xs steps log run h = by h.0 h.1
   where
-    by : (v : log_verdict.Verdict) → IsVerdictOn xs log v → (w : log_verdict.Verdict) × IsVerdictOn (x ∷ xs) (steps ∷ log) w
+    by : (v : log_verdict.Verdict) → IsVerdict xs log v → (w : log_verdict.Verdict) × IsVerdict (x ∷ xs) (steps ∷ log) w
     by Yes all = (Yes, λ n. at n)
       where
         at : (n : ℕ) → SectionFits (x ∷ xs) (steps ∷ log) n
@@ -669,10 +669,10 @@ later_verdict x xs steps log run h = by h.0 h.1
         at zero below = run
         at (suc n) below = first.0 n (omega (arith, below))
 
-no_first : (xs : List Expected) (log : List (List Step)) → (SectionFits xs log 0 → ⊥) → IsVerdictOn xs log (No 0)
+no_first : (xs : List Expected) (log : List (List Step)) → (SectionFits xs log 0 → ⊥) → IsVerdict xs log (No 0)
 no_first xs log wrong = ((λ n below. absurd (omega (arith, below))), wrong)
 
-undenied_verdict : (xs : List Expected) (log : List (List Step)) → Undenied ((v : log_verdict.Verdict) × IsVerdictOn xs log v)
+undenied_verdict : (xs : List Expected) (log : List (List Step)) → Undenied ((v : log_verdict.Verdict) × IsVerdict xs log v)
 undenied_verdict [] [] = told (Yes, λ n. tt)
 undenied_verdict [] (steps ∷ log) = told (No 0, no_first [] (steps ∷ log) (λ none. none))
 undenied_verdict (x ∷ xs) [] = told (No 0, no_first (x ∷ xs) [] (λ none. none))

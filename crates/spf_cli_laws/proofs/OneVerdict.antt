@@ -13,7 +13,7 @@ use Rattle.spf_print_laws.specs.Laws.{TokensAreOfOneProgram, NoTokensAreLeft}
 use Rattle.spf_types_names.specs.declared.fault.TypeFault.{TypeFault}
 use Rattle.spf_types.specs.Contract.{IsResolved, IsRefused}
 use Rattle.spf_types.specs.Laws.{ResolveOrAreRefused, ResolveToOne, AreRefusedForOne, ResolvedAreNotRefused}
-use Rattle.spf_cli_answers.specs.Reading.{text_too_long, bad_byte, number_too_large, unexpected, too_deep, on_line, Verdict, Says, Refuses, IsVerdict}
+use Rattle.spf_cli_answers.specs.Reading.{text_too_long, bad_byte, number_too_large, unexpected, too_deep, on_line, TextVerdict, Says, Refuses, IsTextVerdict}
 
 -- the laws on texts, tokens and raw programs that are used
 pub record TextLaws : Type 0 where
@@ -65,7 +65,7 @@ module _ (laws : TextLaws) (text : List ℕ) where
 
   -- ---- what else a text may say
 
-  only_long : max_text < length text → (v : Verdict) → IsVerdict text v → Refuses (text_too_long max_text) ≡ v
+  only_long : max_text < length text → (v : TextVerdict) → IsTextVerdict text v → Refuses (text_too_long max_text) ≡ v
   only_long l (Says p) h = clash max_text (length text) l h.1.short
   only_long l (Refuses (text_too_long at)) h = ap (λ n. Refuses (text_too_long n)) (sym h.1)
   only_long l (Refuses (bad_byte at)) h = clash max_text (length text) l h.0
@@ -74,7 +74,7 @@ module _ (laws : TextLaws) (text : List ℕ) where
   only_long l (Refuses (too_deep at)) h = clash max_text (length text) l h.short
   only_long l (Refuses (on_line fault line)) h = clash max_text (length text) l h.1.short
 
-  only_bad : (at : ℕ) → length text ≤ max_text → IsFaultyAt BeginsNothing text at → (v : Verdict) → IsVerdict text v → Refuses (bad_byte at) ≡ v
+  only_bad : (at : ℕ) → length text ≤ max_text → IsFaultyAt BeginsNothing text at → (v : TextVerdict) → IsTextVerdict text v → Refuses (bad_byte at) ≡ v
   only_bad at s f (Says p) h = faultless h.1.tokens h.1.are at (inl f)
   only_bad at s f (Refuses (text_too_long other)) h = clash max_text (length text) h.0 s
   only_bad at s f (Refuses (bad_byte other)) h = ap (λ n. Refuses (bad_byte n)) ((laws.one_fault text).bad_byte at other f h.1)
@@ -83,7 +83,7 @@ module _ (laws : TextLaws) (text : List ℕ) where
   only_bad at s f (Refuses (too_deep other)) h = faultless h.tokens h.are at (inl f)
   only_bad at s f (Refuses (on_line fault line)) h = faultless h.1.tokens h.1.are at (inl f)
 
-  only_large : (at : ℕ) → length text ≤ max_text → IsFaultyAt BeginsTooLarge text at → (v : Verdict) → IsVerdict text v → Refuses (number_too_large at) ≡ v
+  only_large : (at : ℕ) → length text ≤ max_text → IsFaultyAt BeginsTooLarge text at → (v : TextVerdict) → IsTextVerdict text v → Refuses (number_too_large at) ≡ v
   only_large at s f (Says p) h = faultless h.1.tokens h.1.are at (inr f)
   only_large at s f (Refuses (text_too_long other)) h = clash max_text (length text) h.0 s
   only_large at s f (Refuses (bad_byte other)) h = absurd ((laws.one_fault text).not_both other at h.1 f)
@@ -92,7 +92,7 @@ module _ (laws : TextLaws) (text : List ℕ) where
   only_large at s f (Refuses (too_deep other)) h = faultless h.tokens h.are at (inr f)
   only_large at s f (Refuses (on_line fault line)) h = faultless h.1.tokens h.1.are at (inr f)
 
-  only_unexpected : (at : ℕ) → IsUnexpectedAt text at → (v : Verdict) → IsVerdict text v → Refuses (unexpected at) ≡ v
+  only_unexpected : (at : ℕ) → IsUnexpectedAt text at → (v : TextVerdict) → IsTextVerdict text v → Refuses (unexpected at) ≡ v
   only_unexpected at u (Says p) h = not_unexpected h.0 h.1 at u
   only_unexpected at u (Refuses (text_too_long other)) h = clash max_text (length text) h.0 u.short
   only_unexpected at u (Refuses (bad_byte other)) h = faultless u.tokens u.are other (inl h.1)
@@ -102,7 +102,7 @@ module _ (laws : TextLaws) (text : List ℕ) where
   only_unexpected at u (Refuses (too_deep other)) h = not_both_ways at other u h
   only_unexpected at u (Refuses (on_line fault line)) h = not_unexpected h.0 h.1 at u
 
-  only_deep : (at : ℕ) → IsTooDeepAt text at → (v : Verdict) → IsVerdict text v → Refuses (too_deep at) ≡ v
+  only_deep : (at : ℕ) → IsTooDeepAt text at → (v : TextVerdict) → IsTextVerdict text v → Refuses (too_deep at) ≡ v
   only_deep at u (Says p) h = not_deep h.0 h.1 at u
   only_deep at u (Refuses (text_too_long other)) h = clash max_text (length text) h.0 u.short
   only_deep at u (Refuses (bad_byte other)) h = faultless u.tokens u.are other (inl h.1)
@@ -112,7 +112,7 @@ module _ (laws : TextLaws) (text : List ℕ) where
       ap (λ n. Refuses (too_deep n)) ((laws.wrong_once (lexemes_of text u.tokens) (length text)).too_deep at other u.too_deep (deep_by u.tokens u.are other h))
   only_deep at u (Refuses (on_line fault line)) h = not_deep h.0 h.1 at u
 
-  only_on_line : (fault : TypeFault) (line : ℕ) (raw : RawProgram) → IsProgramOf text raw → IsRefused raw fault line → (v : Verdict) → IsVerdict text v → Refuses (on_line fault line) ≡ v
+  only_on_line : (fault : TypeFault) (line : ℕ) (raw : RawProgram) → IsProgramOf text raw → IsRefused raw fault line → (v : TextVerdict) → IsTextVerdict text v → Refuses (on_line fault line) ≡ v
   only_on_line fault line raw i r (Says p) h = absurd (laws.not_both raw p fault line (subst (λ w. IsResolved w p) (same_raw h.0 raw h.1 i) h.2) r)
   only_on_line fault line raw i r (Refuses (text_too_long other)) h = clash max_text (length text) h.0 i.short
   only_on_line fault line raw i r (Refuses (bad_byte other)) h = faultless i.tokens i.are other (inl h.1)
@@ -123,7 +123,7 @@ module _ (laws : TextLaws) (text : List ℕ) where
       let same = laws.one_refusal raw fault fault' line line' r (subst (λ w. IsRefused w fault' line') (same_raw h.0 raw h.1 i) h.2) in
       λ j. Refuses (on_line (same.0 j) (same.1 j))
 
-  only_says : (p : Program) (raw : RawProgram) → IsProgramOf text raw → IsResolved raw p → (v : Verdict) → IsVerdict text v → Says p ≡ v
+  only_says : (p : Program) (raw : RawProgram) → IsProgramOf text raw → IsResolved raw p → (v : TextVerdict) → IsTextVerdict text v → Says p ≡ v
   only_says p raw i r (Says q) h = ap Says (laws.one_program raw p q r (subst (λ w. IsResolved w q) (same_raw h.0 raw h.1 i) h.2))
   only_says p raw i r (Refuses (text_too_long other)) h = clash max_text (length text) h.0 i.short
   only_says p raw i r (Refuses (bad_byte other)) h = faultless i.tokens i.are other (inl h.1)
@@ -132,7 +132,7 @@ module _ (laws : TextLaws) (text : List ℕ) where
   only_says p raw i r (Refuses (too_deep other)) h = not_deep raw i other h
   only_says p raw i r (Refuses (on_line fault line)) h = absurd (laws.not_both raw p fault line r (subst (λ w. IsRefused w fault line) (same_raw h.0 raw h.1 i) h.2))
 
-  pub one_verdict : (v w : Verdict) → IsVerdict text v → IsVerdict text w → v ≡ w
+  pub one_verdict : (v w : TextVerdict) → IsTextVerdict text v → IsTextVerdict text w → v ≡ w
   one_verdict (Says p) w h k = only_says p h.0 h.1 h.2 w k
   one_verdict (Refuses (text_too_long at)) w h k = ap (λ n. Refuses (text_too_long n)) h.1 ∙ only_long h.0 w k
   one_verdict (Refuses (bad_byte at)) w h k = only_bad at h.0 h.1 w k
@@ -143,7 +143,7 @@ module _ (laws : TextLaws) (text : List ℕ) where
 
   -- ---- no text is left without a verdict
 
-  pub none_unjudged : ((v : Verdict) → IsVerdict text v → ⊥) → ⊥
+  pub none_unjudged : ((v : TextVerdict) → IsTextVerdict text v → ⊥) → ⊥
   none_unjudged never = elim (order (length text) max_text) [
     | inl short ↦ elim (laws.some_tokens text) [
       | inl t ↦ with_tokens short t.0 t.1

@@ -5,18 +5,18 @@ use Rattle.spf_edge.specs.Entries.{Entry}
 use Rattle.spf_edge.specs.Fetches.{Fetch, IsGiven}
 use Rattle.spf_cli_answers.specs.Answer.{Answer}
 use Rattle.spf_cli_answers.specs.Course.{Wanted, Course}
-use Rattle.spf_cli_answers.specs.Reading.{Verdict, IsVerdict}
+use Rattle.spf_cli_answers.specs.Reading.{TextVerdict, IsTextVerdict}
 use Rattle.spf_cli_answers.specs.Whole.{Handed, Whole}
 
 -- ---- texts
 
 -- a text has at most one verdict
 abbrev pub VerdictsAreTheSame : Type 0
-VerdictsAreTheSame = (text : List ℕ) (one other : Verdict) → IsVerdict text one → IsVerdict text other → one ≡ other
+VerdictsAreTheSame = (text : List ℕ) (one other : TextVerdict) → IsTextVerdict text one → IsTextVerdict text other → one ≡ other
 
 -- no text is left without a verdict: there is none of which no verdict is so
 abbrev pub NoTextIsLeftUnjudged : Type 0
-NoTextIsLeftUnjudged = (text : List ℕ) → ((verdict : Verdict) → IsVerdict text verdict → ⊥) → ⊥
+NoTextIsLeftUnjudged = (text : List ℕ) → ((verdict : TextVerdict) → IsTextVerdict text verdict → ⊥) → ⊥
 
 -- ---- lists of words
 

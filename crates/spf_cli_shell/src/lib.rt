@@ -70,7 +70,7 @@ fn put_text<S: Sink>(sink: &mut S, text: &str, status: Status) -> u8
 /// Does what the words after the program's name ask for, and gives the status with which the
 /// program ends: 0 where the help or the version is shown, 2 where the words for hosts aren't
 /// understood and the error stream took the line that says so, and else that of [`spf_main`].
-pub fn answer<R: Threads + Wait + Sync, F: Files, S: Sink>(
+pub fn run_words<R: Threads + Wait + Sync, F: Files, S: Sink>(
     rt: &R,
     alloc: Global,
     words: &[String],

@@ -4,7 +4,7 @@ use Rattle.spf_ast_lemmas.specs.Counts.{one_more}
 use Rattle.spf_ticket.specs.declared.ticket.Report.{Report}
 use Rattle.spf_chain.specs.declared.chain.Filed.{Filed}
 use Rattle.spf_chain.specs.declared.chain.Filed.TheVariants.{Rerun, Waiting, Ended}
-use Rattle.spf_chain.specs.Chains.{ChainValue, cells_of, HasEnded, IsFiled, IsAnswer, IsSameChain, IsOut, Raises}
+use Rattle.spf_chain.specs.Chains.{ChainValue, chain_cells, HasEnded, IsFiled, IsFiledAnswer, IsSameChain, IsOut, Raises}
 use Rattle.spf_speculation_entry.specs.Sites.{entry_at, guess_at}
 use Rattle.spf_cells.specs.Values.{CellsValue}
 use Rattle.spf_ticket.specs.declared.ticket.Ticket.{Ticket}
@@ -25,7 +25,7 @@ one-report half n m low is more = more ∙ (ap one_more is ∙ small half low)
     small : (h : ℕ) → h < 8192 → one_more h ≡ h + 1
     small h l = omega (arith, l)
 
-raised-site : (v w : ChainValue) → Raises v w → (w.site ≡ v.site) × (cells_of w ≡ cells_of v)
+raised-site : (v w : ChainValue) → Raises v w → (w.site ≡ v.site) × (chain_cells w ≡ chain_cells v)
 raised-site v w r = (
   ap (λ (x : ChainValue). x.site) r.same,
   (λ t. record { table = (ap (λ (x : ChainValue). x.warden.table) r.same ∙ ap (λ x. x.table) r.raised.same) t; setting = (ap (λ (x : ChainValue). x.warden.setting) r.same ∙ ap (λ x. x.setting) r.raised.same) t }),
@@ -35,9 +35,9 @@ raised-site v w r = (
 raised-of : (k : CrewSetting) (before after : ChainValue) (r : Report) (answer : Filed) → IsChainOf k before → (f : IsFiled before r answer after) → IsChainOf k f.raised
 raised-of k before after r answer of f =
     let s = raised-site f.validated f.raised f.raises in
-    record { site = s.0 ∙ (ap (λ (x : ChainValue). x.site) f.validates.same ∙ of.site); cells = s.1 ∙ (ap cells_of f.validates.same ∙ of.cells) }
+    record { site = s.0 ∙ (ap (λ (x : ChainValue). x.site) f.validates.same ∙ of.site); cells = s.1 ∙ (ap chain_cells f.validates.same ∙ of.cells) }
 
-reruns : (k : CrewSetting) (raised after : ChainValue) (answer : Filed) → IsChainOf k raised → IsAnswer raised answer after → RerunsFresh k answer
+reruns : (k : CrewSetting) (raised after : ChainValue) (answer : Filed) → IsChainOf k raised → IsFiledAnswer raised answer after → RerunsFresh k answer
 reruns k raised after (Rerun t) of is =
     subst (λ s. IsFresh (entry_at s) (guess_at s) k.cells t) of.site (subst (λ c. IsFresh (entry_at raised.site) (guess_at raised.site) c t) of.cells is.3.fresh)
 reruns k raised after (Waiting block) of is = tt
@@ -53,9 +53,9 @@ filed-at k half before after r answer of count f = record {
   rerun = reruns k f.raised after answer (raised-of k before after r answer of f) f.answers;
 }
 
-answered-ended : (raised after : ChainValue) (answer : Filed) → answer ≡ Ended → IsAnswer raised answer after → HasEnded after
+answered-ended : (raised after : ChainValue) (answer : Filed) → answer ≡ Ended → IsFiledAnswer raised answer after → HasEnded after
 answered-ended raised after answer is said =
-    let a : IsAnswer raised Ended after = subst (λ x. IsAnswer raised x after) is said in subst HasEnded (sym a.1) a.0
+    let a : IsFiledAnswer raised Ended after = subst (λ x. IsFiledAnswer raised x after) is said in subst HasEnded (sym a.1) a.0
 
 pub filed-ended : (before after : ChainValue) (r : Report) (answer : Filed) → answer ≡ Ended → IsFiled before r answer after → has_ended after ≡ true
 filed-ended before after r answer is f = ended-is after (answered-ended f.raised after answer is f.answers)

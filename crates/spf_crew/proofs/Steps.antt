@@ -24,7 +24,7 @@ below [] i a at = absurd (some-ne-none a (sym at))
 below (x ∷ xs) zero a at = omega arith
 below (x ∷ xs) (suc i) a at = let h = below xs i a at in omega arith
 
--- what a seat knows stays where the turn word grows and the ending word doesn't fall
+-- what a seat knows stays where the sequence word grows and the ending word doesn't fall
 others : (k : CrewSetting) (n n' x x' h h' : ℕ) (owner : ℕ → ℕ) (j : ℕ) (v : CrewView) → n ≤ n' → (x ≡ 1 → x' ≡ 1)
     → (v.holds ≡ true → h ≡ j → v.seen ≡ n → (half : ℕ) → n ≡ 2 * half + 1 → (h' ≡ h) × (n' ≡ n)) → Knows k n x h owner j v → Knows k n' x' h' owner j v
 others k n n' x x' h h' owner j v le up kept f = record {

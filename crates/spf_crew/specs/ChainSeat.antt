@@ -1,6 +1,6 @@
 -- What a seat's type shows and keeps.
 use Rattle.std.specs.Prelude.{◌≡◌, ◌<◌, ◌≤◌, []}
-use Rattle.spf_crew.specs.Limits.{last_turn}
+use Rattle.spf_crew.specs.Limits.{last_sequence}
 use Rattle.spf_crew.specs.declared.seat.ChainSeat.TheInside.{Inside}
 use Rattle.spf_crew.specs.Rule.{resting}
 use Rattle.spf_crew.specs.Values.{ChainSeatValue}
@@ -21,6 +21,6 @@ pub record IsChainSeat (a : Inside) : Type 0 where
   pub table_seat : a.table_seat.me ≡ (resting a.key.value a.table_seat.me.0.from a.table_seat.me.0.to a.table_seat.me.0.seen a.table_seat.me.0.read, [])
   pub number : a.table_seat.me.0.from < a.table_seat.me.0.to
   pub seen : a.seen ≡ a.table_seat.me.0.seen
-  pub last : a.seen ≤ last_turn
+  pub last : a.seen ≤ last_sequence
   pub words : a.table_seat.table_id.words ≡ 2
   pub slots : a.table_seat.table_id.slots ≡ 1

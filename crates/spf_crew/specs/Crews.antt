@@ -47,7 +47,7 @@ pub record IsDealtTo (k : CrewSetting) (tickets : ℕ) (h : HandValue CrewSettin
 abbrev pub AreDealt : CrewSetting → ℕ → ℕ → List (HandValue CrewSetting) → Type 0
 AreDealt k tickets from hands = (i : ℕ) (h : HandValue CrewSetting) → get_elem? hands i ≡ some h → IsDealtTo k (dealt tickets (from + i)) h
 
--- a new mate: it holds nothing, has seen the turn number 0, and not read 1; its own deque was given `tickets` tickets
+-- a new mate: it holds nothing, has seen the sequence number 0, and not read 1; its own deque was given `tickets` tickets
 pub record IsNewMate (tickets : ℕ) (m : MateValue) : Type 0 where
   pub held : m.held ≡ held.Nothing
   pub seen : m.seat.seen ≡ 0

@@ -13,5 +13,5 @@ joined_down zero logs = []
 joined_down (suc n) logs = steps_of n (logs n) ++ joined_down n logs
 
 -- the steps are a speculative run of the chain's blocks, with the chain's guesses, real values and result
-abbrev pub IsRunOf : ChainValue → List Step → Type 0
-IsRunOf c steps = IsSpeculativeRun (entry_at c.site) (guess_at c.site) steps (map (λ b. b.row) c.history) (result_as c.settled)
+abbrev pub IsSpeculativeRunOf : ChainValue → List Step → Type 0
+IsSpeculativeRunOf c steps = IsSpeculativeRun (entry_at c.site) (guess_at c.site) steps (map (λ b. b.row) c.history) (result_as c.settled)

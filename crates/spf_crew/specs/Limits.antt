@@ -5,6 +5,6 @@ use Rattle.std.specs.Prelude.{ℕ}
 abbrev pub max_reports : ℕ
 max_reports = 8192
 
--- the last value of the turn word, which is twice the number of reports filed
-abbrev pub last_turn : ℕ
-last_turn = 16384
+-- the last value of the sequence word, which is twice the number of reports filed
+abbrev pub last_sequence : ℕ
+last_sequence = 16384

@@ -1,6 +1,6 @@
 -- What contracts see of a mate, and what a turn can be.
 use Rattle.std.specs.Prelude.{◌≡◌, ◌≢◌, ◌⊎◌, ℕ, ◌+◌, true, false}
-use Rattle.spf_crew.specs.Limits.{last_turn}
+use Rattle.spf_crew.specs.Limits.{last_sequence}
 use Rattle.spf_ticket.specs.declared.ticket.Ticket.{Ticket}
 use Rattle.spf_ticket.specs.declared.ticket.Report.{Report}
 use Rattle.spf_chain.specs.declared.chain.Filed.{Filed}
@@ -36,7 +36,7 @@ IsHeldBy k held.Nothing = Unit {0}
 IsHeldBy k (held.Ticket t) = IsFreshOf k t
 IsHeldBy k (held.Report r) = IsLawfulOf k r
 
--- it filed the report that it held, at the turn number expected, and holds the ticket to rerun, if there is one
+-- it filed the report that it held, at the sequence number expected, and holds the ticket to rerun, if there is one
 pub record HasFiled (m m' : MateValue) : Type 0 where
   pub report : Report
   pub before : m.held ≡ held.Report report
@@ -52,7 +52,7 @@ pub record HasRerun (m m' : MateValue) : Type 0 where
   pub ran : IsAttemptBy m.seat.setting ticket report
   pub after : m' ≡ record m { held = held.Report report }
 
--- its hands were free, and the ending word wasn't 1; it took a ticket, ran it, and holds the report
+-- it held nothing, and the ending word wasn't 1; it took a ticket, ran it, and holds the report
 pub record HasRun (m m' : MateValue) : Type 0 where
   pub ticket : Ticket
   pub report : Report
@@ -63,14 +63,14 @@ pub record HasRun (m m' : MateValue) : Type 0 where
   pub seat : m'.seat ≡ record m.seat { read = false }
   pub after : m'.held ≡ held.Report report
 
--- it has a report, which it keeps, and found this turn number, which isn't the one expected, or is the last one
+-- it has a report, which it keeps, and found this sequence number, which isn't the one expected, or is the last one
 pub record IsKeptOut (seen : ℕ) (m m' : MateValue) : Type 0 where
   pub report : Report
   pub before : m.held ≡ held.Report report
-  pub number : (seen ≡ last_turn) ⊎ (seen ≢ expected m.seat.seen)
+  pub number : (seen ≡ last_sequence) ⊎ (seen ≢ expected m.seat.seen)
   pub after : m' ≡ record m { seat = record m.seat { seen = seen } }
 
--- its hands are free, the ending word wasn't 1, and its hand found no ticket, since P
+-- it held nothing, the ending word wasn't 1, and its hand found no ticket, since P
 pub record FindsNone (P : Type 0) (m m' : MateValue) : Type 0 where
   pub before : m.held ≡ held.Nothing
   pub why : P
@@ -79,7 +79,7 @@ pub record FindsNone (P : Type 0) (m m' : MateValue) : Type 0 where
   pub seat : m'.seat ≡ record m.seat { read = false }
   pub after : m'.held ≡ held.Nothing
 
--- its hands are free, and it read 1 in the ending word
+-- it held nothing, and read 1 in the ending word
 pub record HasEnded (m m' : MateValue) : Type 0 where
   pub before : m.held ≡ held.Nothing
   pub after : m' ≡ record m { seat = record m.seat { read = true } }

@@ -23,6 +23,6 @@ pub record HoldsNow (k : CrewSetting) (m : Me (Option ChainValue) CrewView) : Ty
   pub view : m ≡ (holding k m.0.from m.0.to m.0.seen m.0.announced m.0.read, (0, slot) ∷ [])
 
 -- a seat that rested has taken the chain's slot, has seen n, and e says whether the end is announced
-pub record Holds (n : ℕ) (e : Bool) (k : CrewSetting) (old new : Me (Option ChainValue) CrewView) : Type 0 where
+pub record HasTakenChain (n : ℕ) (e : Bool) (k : CrewSetting) (old new : Me (Option ChainValue) CrewView) : Type 0 where
   pub slot : Option ChainValue
   pub view : new ≡ (holding k old.0.from old.0.to n e old.0.read, (0, slot) ∷ [])

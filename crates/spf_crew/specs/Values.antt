@@ -1,7 +1,7 @@
 -- What contracts see of a crew and of a mate's seat in it.
 use Rattle.std.specs.Prelude.{◌≡◌, ℕ, Bool}
 use Rattle.atomic_table.specs.Seated.{TableId}
-use Rattle.spf_chain.specs.Chains.{ChainValue, cells_of}
+use Rattle.spf_chain.specs.Chains.{ChainValue, chain_cells}
 use Rattle.spf_crew.specs.declared.view.CrewSetting.{CrewSetting}
 
 -- a crew: its table, and what is fixed for it
@@ -9,7 +9,7 @@ pub record CrewValue : Type 0 where
   pub table : TableId
   pub setting : CrewSetting
 
--- a seat: its table and what is fixed, its numbers, the turn number that it saw last, and whether it has read 1 in the ending word
+-- a seat: its table and what is fixed, its numbers, the sequence number that it saw last, and whether it has read 1 in the ending word
 pub record ChainSeatValue : Type 0 where
   pub table : TableId
   pub setting : CrewSetting
@@ -24,4 +24,4 @@ IsChainSeatOf c p = (p.table ≡ c.table) × (p.setting ≡ c.setting)
 
 -- what is fixed for a crew of `mates` mates over this chain
 abbrev pub setting_of : ChainValue → ℕ → CrewSetting
-setting_of c mates = record { site = c.site; cells = cells_of c; mates = mates }
+setting_of c mates = record { site = c.site; cells = chain_cells c; mates = mates }

@@ -1,6 +1,6 @@
 //! Closes a crew.
 ghost use Rattle.std.specs.Prelude.{◌≡◌, true, length};
-ghost use Rattle.spf_chain.specs.Chains.{cells_of, HasEnded};
+ghost use Rattle.spf_chain.specs.Chains.{chain_cells, HasEnded};
 ghost use Rattle.spf_chain.specs.Finishing.{EveryMergingRuns};
 ghost use Rattle.spf_chain.specs.Homes.{log_in};
 ghost use Rattle.spf_crew.specs.Crews.{AreFirstMates, AreAllMates, HaveRead};
@@ -38,7 +38,7 @@ impl Crew {
         requires ended { HaveRead mates.items }
         ensures ended { HasEnded result.0 }
         ensures site { result.0.site ≡ self.setting.site }
-        ensures own { result.1 ≡ cells_of result.0 }
+        ensures own { result.1 ≡ chain_cells result.0 }
         ensures cells { result.1 ≡ self.setting.cells }
         ensures merging { EveryMergingRuns result.0 (log_in result.0.homes) }
     {

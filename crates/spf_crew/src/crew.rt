@@ -3,7 +3,7 @@ use crate::rule::CrewTable;
 use spf_cells::cells::Cells;
 use std::marker::Model;
 
-/// The turn word, the ending word, the slot of the chain, and the cells.
+/// The sequence word, the ending word, the slot of the chain, and the cells.
 ///
 /// Contracts see of it its table, and what is fixed for it: the site and the cells of its chain,
 /// and how many mates it has.

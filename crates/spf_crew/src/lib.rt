@@ -1,8 +1,8 @@
 //! A crew of mates over one validation chain, without a lock.
 //!
-//! The chain stands in a slot of a table of shared words, beside a turn word and an ending word. A
-//! mate takes it by one compare-and-exchange of the turn word, files a report, and gives it back by
-//! one store. The turn word is even while the chain is in its slot, and is then twice the number of
+//! The chain stands in a slot of a table of shared words, beside a sequence word and an ending word. A
+//! mate takes it by one compare-and-exchange of the sequence word, files a report, and gives it back by
+//! one store. The sequence word is even while the chain is in its slot, and is then twice the number of
 //! reports filed. A mate without a report takes a ticket from a pool and runs it.
 #![tactic(auto)]
 

@@ -22,7 +22,7 @@ use std::mem;
 /// One worker of a crew, for one thread.
 ///
 /// Contracts see of it its seat at the chain, what its hand has seen, and what it holds. Of the
-/// seat they see the numbers of its mate, the turn number that it saw last, and whether it has
+/// seat they see the numbers of its mate, the sequence number that it saw last, and whether it has
 /// read 1 in the ending word.
 #[derive(Drop)]
 pub struct Mate {
@@ -140,7 +140,7 @@ impl Mate {
     /// takes a ticket and runs it. `attempter` makes the attempts.
     ///
     /// `Ended` comes only where the mate held nothing and read 1 in the ending word, and from then
-    /// on. `Idle` with `ChainOut` comes only where it has a report and found another turn number
+    /// on. `Idle` with `ChainOut` comes only where it has a report and found another sequence number
     /// than the even one at or after that which it saw last, or 16,384, at which no report is
     /// filed; it keeps the report. `Idle` with `Empty` or `Again` comes only where it held nothing
     /// and its hand found no ticket. It neither takes memory nor waits.

@@ -1,7 +1,7 @@
 //! Makes the table with the chain in its slot, splits seats off and joins them again, and takes
 //! the chain back.
 ghost use Rattle.std.specs.Prelude.{◌≡◌, ◌+◌, ◌<◌, true, false, IfOk};
-ghost use Rattle.spf_chain.specs.Chains.{cells_of};
+ghost use Rattle.spf_chain.specs.Chains.{chain_cells};
 ghost use Rattle.spf_chain.specs.Sites.{IsGround};
 ghost use Rattle.spf_crew.specs.declared.view.CrewSetting.{CrewSetting};
 ghost use Rattle.spf_crew.specs.Endings.{has_ended};
@@ -44,7 +44,7 @@ impl Crew {
         cells: Cells,
         mates: u64,
     ) -> Result<(Crew, ChainSeat), AllocError>
-        requires cells { cells ≡ cells_of chain }
+        requires cells { cells ≡ chain_cells chain }
         requires ground { IsGround chain.site cells }
         requires mates { 0 < mates }
         requires new { chain.reports ≡ 0 }

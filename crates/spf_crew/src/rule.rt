@@ -25,7 +25,7 @@ impl Play<Option<Chain>, CrewView> for Takes {
     ghost then = { IsTake };
 }
 
-/// A step on the turn word that leaves it as it is.
+/// A step on the sequence word that leaves it as it is.
 pub struct Looks;
 
 impl Play<Option<Chain>, CrewView> for Looks {
@@ -83,7 +83,7 @@ impl Join<CrewView> for Dismisses {
     ghost spent = { spent_view };
 }
 
-/// The table of the turn word, the ending word and the chain.
+/// The table of the sequence word, the ending word and the chain.
 pub type CrewTable = Table<Option<Chain>, CrewView, GhostKey<CrewSetting>, CrewRule, Global>;
 
 /// A mate's seat on it.

@@ -2,10 +2,10 @@
 //! neither waits nor takes memory.
 ghost use Rattle.std.specs.Prelude.{◌≡◌, ◌≢◌, ◌⊎◌, ◌+◌, ◌*◌, ◌<◌, ◌≤◌, true, false, [], IfOk};
 ghost use Rattle.std.specs.Prelude.{IfErr, if◌then◌else◌};
-ghost use Rattle.spf_crew.specs.Limits.{last_turn, max_reports};
+ghost use Rattle.spf_crew.specs.Limits.{last_sequence, max_reports};
 ghost use Rattle.spf_crew.specs.Rule.{expected, half_of, IsChainOf};
 ghost use Rattle.spf_crew.specs.Endings.{has_ended};
-ghost use Rattle.spf_crew.specs.Seats.{IsSeatOf, Rests, Holds, HoldsNow};
+ghost use Rattle.spf_crew.specs.Seats.{IsSeatOf, Rests, HasTakenChain, HoldsNow};
 ghost use Rattle.spf_crew.specs.Tickets.{IsLawfulOf};
 ghost use Rattle.spf_crew.specs.Values.{IsChainSeatOf};
 ghost use Rattle.spf_crew.specs.Filing.{IsFiledAt, read_after};
@@ -18,16 +18,16 @@ use spf_chain::chain::{Chain, Filed};
 use spf_ticket::ticket::Report;
 use std::marker::Model;
 
-const TURN: usize = 0;
+const SEQUENCE: usize = 0;
 
 const ENDING: usize = 1;
 
-// The last turn number, at which no report is taken.
+// The last sequence number, at which no report is taken.
 const LAST: u64 = 16_384;
 
 /// A seat at the chain of a crew.
 ///
-/// Contracts see of it its crew's table and setting, its numbers, the turn number that it saw last,
+/// Contracts see of it its crew's table and setting, its numbers, the sequence number that it saw last,
 /// and whether it has read 1 in the ending word.
 #[derive(Drop)]
 pub struct ChainSeat {
@@ -53,7 +53,7 @@ impl Model for ChainSeat {
     ghost invariant = { IsChainSeat };
 }
 
-// Takes the chain where the turn number is the one expected. Otherwise the seat has seen another
+// Takes the chain where the sequence number is the one expected. Otherwise the seat has seen another
 // number.
 fn take_chain(seat: &mut CrewSeat, crew: &Crew, half: u64) -> Result<Chain, u64>
     requires own { IsSeatOf crew.now.table seat.old.table_id }
@@ -61,13 +61,13 @@ fn take_chain(seat: &mut CrewSeat, crew: &Crew, half: u64) -> Result<Chain, u64>
     requires room { half < max_reports }
     ensures same { seat.new.table_id ≡ seat.old.table_id }
     ensures taken { IfOk result (λ c.
-        Holds (2 * half + 1) (has_ended c) crew.now.setting seat.old.me seat.new.me
+        HasTakenChain (2 * half + 1) (has_ended c) crew.now.setting seat.old.me seat.new.me
         × (c.reports ≡ half) × IsChainOf crew.now.setting c) }
-    ensures out { IfErr result (λ n. (n ≢ 2 * half) × (n ≤ last_turn)
+    ensures out { IfErr result (λ n. (n ≢ 2 * half) × (n ≤ last_sequence)
         × (seat.new.me ≡ (record seat.old.me.0 { seen = n }, []))) }
 {
     let shared = &crew.table.shared;
-    let found = shared.compare_exchange::<Takes>(seat, TURN, 2 * half, 2 * half + 1);
+    let found = shared.compare_exchange::<Takes>(seat, SEQUENCE, 2 * half, 2 * half + 1);
     if found != 2 * half {
         return Err(found);
     }
@@ -106,22 +106,22 @@ fn give_chain(seat: &mut CrewSeat, crew: &Crew, half: u64, chain: Chain)
 {
     let shared = &crew.table.shared;
     shared.exchange(seat, 0, Some(chain));
-    shared.store::<Gives>(seat, TURN, 2 * half + 2);
+    shared.store::<Gives>(seat, SEQUENCE, 2 * half + 2);
 }
 
 impl ChainSeat {
-    // Looks at the turn word once, where it is expected to be the last number.
+    // Looks at the sequence word once, where it is expected to be the last number.
     fn look(&mut self, crew: &Crew) -> u64
         requires own { IsChainSeatOf crew.now self.old }
-        ensures last { result ≤ last_turn }
+        ensures last { result ≤ last_sequence }
         ensures seen { self.new ≡ record self.old { seen = result } }
     {
         let shared = &crew.table.shared;
-        self.seen = shared.compare_exchange::<Looks>(&mut self.table_seat, TURN, LAST, LAST);
+        self.seen = shared.compare_exchange::<Looks>(&mut self.table_seat, SEQUENCE, LAST, LAST);
         self.seen
     }
 
-    // Files a report where the turn number is the one expected. Otherwise the report comes back,
+    // Files a report where the sequence number is the one expected. Otherwise the report comes back,
     // with the number that was found.
     fn take_turn(&mut self, crew: &Crew, half: u64, report: Report) -> Result<Filed, (Report, u64)>
         requires own { IsChainSeatOf crew.now self.old }
@@ -148,7 +148,7 @@ impl ChainSeat {
         }
     }
 
-    /// Files a report where the turn number is the one expected. Otherwise the report comes back,
+    /// Files a report where the sequence number is the one expected. Otherwise the report comes back,
     /// with the number that was found.
     pub(crate) fn file(&mut self, crew: &Crew, report: Report) -> Result<Filed, (Report, u64)>
         requires own { IsChainSeatOf crew.now self.old }
@@ -159,7 +159,7 @@ impl ChainSeat {
             ≡ record self.old
             { seen = expected self.old.seen + 2; read = read_after f self.old.read })) }
         ensures out { IfErr result (λ r. (r.0 ≡ report)
-            × ((r.1 ≡ last_turn) ⊎ (r.1 ≢ expected self.old.seen))
+            × ((r.1 ≡ last_sequence) ⊎ (r.1 ≢ expected self.old.seen))
             × (self.new ≡ record self.old { seen = r.1 })) }
     {
         let half = (self.seen + 1) / 2;

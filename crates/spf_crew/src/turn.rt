@@ -3,7 +3,7 @@
 /// Why a mate did nothing.
 #[derive(Clone, Copy, PartialEq, Eq, Debug)]
 pub enum Why {
-    /// It has a report, and found this turn number.
+    /// It has a report, and found this sequence number.
     ChainOut { seen: u64 },
     /// Each deque was seen empty.
     Empty,

@@ -21,7 +21,7 @@ pub struct CrewView {
     pub from: u64,
     /// .. up to but excluding this one. With no number it holds nothing.
     pub to: u64,
-    /// The turn number that it saw last.
+    /// The sequence number that it saw last.
     pub seen: u64,
     /// Whether it holds the chain.
     pub holds: bool,

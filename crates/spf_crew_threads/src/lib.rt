@@ -4,7 +4,7 @@
 ghost use Rattle.std.specs.Prelude.{◌≡◌, ◌<◌, length, IfOk};
 ghost use Rattle.std.specs.List.{All};
 ghost use Rattle.spf_chain.specs.Beginning.{IsStarted};
-ghost use Rattle.spf_chain.specs.Chains.{cells_of, HasEnded};
+ghost use Rattle.spf_chain.specs.Chains.{chain_cells, HasEnded};
 ghost use Rattle.spf_chain.specs.Finishing.{EveryMergingRuns};
 ghost use Rattle.spf_chain.specs.Homes.{log_in};
 ghost use Rattle.spf_chain.specs.Jobs.{CanRun};
@@ -13,10 +13,11 @@ ghost use Rattle.spf_ticket.specs.Tickets.{IsJobOf};
 ghost use Rattle.spf_crew.specs.Mates.{IsMateOf};
 ghost use Rattle.spf_crew_threads.specs.Driving.{HasReadAt, HaveAllReadAt, MakesAttempts};
 
+mod pauses;
 pub mod workers;
 
+use crate::pauses::Pauses;
 use crate::workers::Workers;
-use crossbeam_utils::Backoff;
 use spf_cells::cells::Cells;
 use spf_chain::chain::Chain;
 use spf_crew::attempt::{Attempter, GatedJob, HasConstruct, HasInstance};
@@ -39,11 +40,11 @@ fn drive<R: Wait, A: Attempter>(rt: &R, crew: &Crew, attempter: &A, mate: &mut M
     requires serves { A.serves crew.now.setting attempter.now }
     ensures { HasReadAt crew.now mate.old mate.new }
 {
-    let backoff = Backoff::new();
+    let mut pauses = Pauses::new();
     for _ in rt.forever() {
         match mate.turn(crew, attempter) {
-            Turn::Worked => backoff.reset(),
-            Turn::Idle { why: _ } => backoff.snooze(),
+            Turn::Worked => pauses.reset(),
+            Turn::Idle { why: _ } => pauses.pause(rt),
             Turn::Ended => break,
         }
     }
@@ -141,7 +142,7 @@ impl<'a, R: Threads + Wait + Sync, G: Gate + Sync> Workers<'a, R, G> {
         requires entry { IsJobOf (entry_at chain.site) job }
         ensures ended { IfOk result (λ r. HasEnded r.0) }
         ensures site { IfOk result (λ r. r.0.site ≡ chain.site) }
-        ensures own { IfOk result (λ r. r.1 ≡ cells_of r.0) }
+        ensures own { IfOk result (λ r. r.1 ≡ chain_cells r.0) }
         ensures cells { IfOk result (λ r. r.1 ≡ cells) }
         ensures merging { IfOk result (λ r. EveryMergingRuns r.0 (log_in r.0.homes)) }
     {

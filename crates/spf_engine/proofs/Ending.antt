@@ -4,11 +4,11 @@ use Rattle.std.specs.Prelude.{◌^◌, Some}
 use Rattle.spf_ast.specs.Syntax.{Block, end, on_line, Program}
 use Rattle.spf_ast.specs.Construct.{Construct, is_construct, constructs_in}
 use Rattle.spf_ast.specs.Pieces.{rest_from, from_construct, construct_first, statement_count}
-use Rattle.spf_exec.specs.Pieces.{Stand, ahead}
+use Rattle.spf_exec.specs.Pieces.{RunState, ahead}
 use Rattle.spf_guess_statistics.specs.declared.stats.Stats.{Stats}
 use Rattle.spf_guess_statistics.specs.Statistics.{none, plus}
 use Rattle.spf_engine_construct.specs.Guesses.{AreAtMost}
-use Rattle.spf_engine.specs.Runs.{AreFew}
+use Rattle.spf_engine.specs.Runs.{CountsAreBounded}
 use Rattle.spf_engine_laws.proofs.Fronts.{front-constructs}
 use Rattle.spf_engine_laws.proofs.Constructs.{stands-before, rest-next, counts-first}
 
@@ -22,15 +22,15 @@ front-counts (on_line line first rest) = go (is_construct first) refl (front-cou
     go true e h = rw e (omega arith)
     go false e h = rw e (omega (arith, h))
 
-pub advance-counts : (p : Program) (before after : Stand) → ahead p after ≡ from_construct (ahead p before) → statement_count (ahead p after) ≤ statement_count (ahead p before)
+pub advance-counts : (p : Program) (before after : RunState) → ahead p after ≡ from_construct (ahead p before) → statement_count (ahead p after) ≤ statement_count (ahead p before)
 advance-counts p before after e = let h = front-counts (ahead p before) in let same = ap statement_count e in omega (arith, h, same)
 
 -- a run that went past the construct that stood next
-pub record WentPast (p : Program) (s last : Stand) : Type 0 where
+pub record WentPast (p : Program) (s last : RunState) : Type 0 where
   pub statements : statement_count (ahead p last) < statement_count (ahead p s)
   pub constructs : length (constructs_in (ahead p s)) ≡ suc (length (constructs_in (ahead p last)))
 
-pub goes-past : (p : Program) (s last : Stand) → (c : Construct) → construct_first (ahead p s) ≡ Some c → last.place ≡ s.place + 1 → WentPast p s last
+pub goes-past : (p : Program) (s last : RunState) → (c : Construct) → construct_first (ahead p s) ≡ Some c → last.place ≡ s.place + 1 → WentPast p s last
 goes-past p s last c e place =
     let b = stands-before (ahead p s) c e in
     let rest : ahead p last ≡ b.rest = ap (λ n. rest_from n p.main) place ∙ rest-next s.place p.main b.line b.statement b.rest b.is in
@@ -46,12 +46,12 @@ goes-past p s last c e place =
 pub few-none : (most : ℕ) → AreAtMost none most
 few-none most = record { blocks = omega arith; hits = omega arith; misses = omega arith; blind = omega arith }
 
-pub few-advanced : (p : Program) (before after : Stand) (counted : Stats) → ahead p after ≡ from_construct (ahead p before) → AreFew p before counted → AreFew p after counted
+pub few-advanced : (p : Program) (before after : RunState) (counted : Stats) → ahead p after ≡ from_construct (ahead p before) → CountsAreBounded p before counted → CountsAreBounded p after counted
 few-advanced p before after counted e f =
     subst (λ n. AreAtMost counted (4096 * (length (constructs_in p.main) - n))) (sym (ap (λ (x : Block). length (constructs_in x)) e ∙ ap length (front-constructs (ahead p before)))) f
 
 -- within a step
-pub few-within : (p : Program) (s : Stand) (counted more : Stats) → length (constructs_in p.main) < 2 ^ 32 → AreFew p s counted → AreAtMost more 4096 → AreAtMost (plus counted more) (2 ^ 45)
+pub few-within : (p : Program) (s : RunState) (counted more : Stats) → length (constructs_in p.main) < 2 ^ 32 → CountsAreBounded p s counted → AreAtMost more 4096 → AreAtMost (plus counted more) (2 ^ 45)
 few-within p s counted more total f m =
     let b = f.blocks in let h = f.hits in let w = f.misses in let n = f.blind in
     let mb = m.blocks in let mh = m.hits in let mw = m.misses in let mn = m.blind in
@@ -62,7 +62,7 @@ few-within p s counted more total f m =
       blind = omega (arith, total, n, mn);
     }
 
-pub few-past : (p : Program) (s last : Stand) (counted more : Stats) → s.passed + length (constructs_in (ahead p s)) ≡ length (constructs_in p.main) → WentPast p s last → AreFew p s counted → AreAtMost more 4096 → AreFew p last (plus counted more)
+pub few-past : (p : Program) (s last : RunState) (counted more : Stats) → s.passed + length (constructs_in (ahead p s)) ≡ length (constructs_in p.main) → WentPast p s last → CountsAreBounded p s counted → AreAtMost more 4096 → CountsAreBounded p last (plus counted more)
 few-past p s last counted more count past f m =
     let one = past.constructs in
     let b = f.blocks in let h = f.hits in let w = f.misses in let n = f.blind in

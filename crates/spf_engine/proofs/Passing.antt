@@ -11,7 +11,7 @@ use Rattle.spf_ast.specs.Construct.{Construct, fold, pair, Header, header_means,
 use Rattle.spf_ast.specs.Silence.{FunctionsAreSilent}
 use Rattle.spf_check.specs.Plans.{AreBlocksOf}
 use Rattle.spf_exec.specs.declared.pieces.Header as code_header
-use Rattle.spf_exec.specs.Pieces.{Stand, refilled, seen_header}
+use Rattle.spf_exec.specs.Pieces.{RunState, refilled, seen_header}
 use Rattle.spf_check_rules.specs.Rules.{KeepsTheRules}
 use Rattle.spf_speculation_entry.specs.Entry.{Entry, plain_blocks}
 use Rattle.spf_ast_laws.specs.Chained.{chained, is_trap}
@@ -30,7 +30,7 @@ use Rattle.spf_engine_laws.specs.Passed.{PassedConstruct, where_blocks, passed_f
 use Rattle.spf_engine_laws.specs.Progress.{Progress, HasCome, BlocksComeTo, entry_there, entry_guess, with_construct, past_construct, HasEntered, IsLeftThere}
 use Rattle.spf_engine_laws.specs.Laws.{ConstructsSettle, ConstructsEndRuns}
 use Rattle.spf_engine.specs.declared.step.Step.{Step}
-use Rattle.spf_engine.specs.Runs.{IsThere, IsSettledSo}
+use Rattle.spf_engine.specs.Runs.{IsProgressAfter, IsSettledBy}
 
 -- ---- blocks of a header
 
@@ -47,23 +47,23 @@ has-its-blocks g (pair line head producer consumer) m h s e = let two : 2 ≡ h.
 
 -- A construct was entered, its blocks came to this, and the run was settled with it. Then the run goes on past it, or
 -- has reached its end, with what the construct adds to its progress.
-pub goes-past-blocks : ConstructsSettle → ConstructsEndRuns → (hosts : Hosts) (p : Program) (input : List ℕ) (after now last : Stand) (progress : Progress) (c : Construct) (h : Header) (settled : Settled) (taken : Step)
+pub goes-past-blocks : ConstructsSettle → ConstructsEndRuns → (hosts : Hosts) (p : Program) (input : List ℕ) (after now last : RunState) (progress : Progress) (c : Construct) (h : Header) (settled : Settled) (taken : Step)
     → HasEntered hosts p input c h after progress → FunctionsAreSilent p.functions → KeepsTheRules p c → IsLeftThere after now
-    → BlocksComeTo (entry_there p input c h after) (result_as settled) now.cells → IsSettledSo p c now last settled taken
-    → IsThere hosts p input taken last (past_construct hosts (entry_there p input c h after) progress)
+    → BlocksComeTo (entry_there p input c h after) (result_as settled) now.cells → IsSettledBy p c now last settled taken
+    → IsProgressAfter hosts p input taken last (past_construct hosts (entry_there p input c h after) progress)
 goes-past-blocks settle ends hosts p input after now last progress c h (Carried v) taken e silent keeps left came so =
-    subst (λ t. IsThere hosts p input t last (past_construct hosts (entry_there p input c h after) progress)) (sym so.0)
+    subst (λ t. IsProgressAfter hosts p input t last (past_construct hosts (entry_there p input c h after) progress)) (sym so.0)
     (settle hosts p input progress c h after now last v e silent keeps left came so.1)
 goes-past-blocks settle ends hosts p input after now last progress c h (Trapped t) taken e silent keeps left came so =
     let later = past_construct hosts (entry_there p input c h after) progress in
-    subst (λ x. IsThere hosts p input x last later) (sym so.0)
-    (subst (λ (x : Stand). HasCome hosts p input (Stopped t x.output) later) (sym so.1)
+    subst (λ x. IsProgressAfter hosts p input x last later) (sym so.0)
+    (subst (λ (x : RunState). HasCome hosts p input (Stopped t x.output) later) (sym so.1)
     (subst (λ out. HasCome hosts p input (Stopped t out) later) (sym left.output)
     (ends hosts p input progress c h after t now.cells e silent keeps came)))
 
 -- ---- without blocks
 
-no-blocks-come : (p : Program) (input : List ℕ) (c : Construct) (h : Header) (s : Stand) → h.blocks ≡ 0 → BlocksComeTo (entry_there p input c h s) (Ok h.start) s.cells
+no-blocks-come : (p : Program) (input : List ℕ) (c : Construct) (h : Header) (s : RunState) → h.blocks ≡ 0 → BlocksComeTo (entry_there p input c h s) (Ok h.start) s.cells
 no-blocks-come p input c h s none_there = record {
   result = ap (λ n. (chained (environment_of p input) c (main_slots p s.frame) 0 n h.low h.start s.cells).result) none_there;
   memory_is = λ v is. sym (ap (λ n. (chained (environment_of p input) c (main_slots p s.frame) 0 n h.low h.start s.cells).memory) none_there);
@@ -78,7 +78,7 @@ plus-none one =
     λ i. record { blocks = blocks i; hits = hits i; misses = misses i; blind = blind i }
 
 -- it adds nothing
-adds-nothing : (p : Program) (input : List ℕ) (c : Construct) (h : Header) (s : Stand) (guess : ℕ → Guess) (progress : Progress) → h.blocks ≡ 0
+adds-nothing : (p : Program) (input : List ℕ) (c : Construct) (h : Header) (s : RunState) (guess : ℕ → Guess) (progress : Progress) → h.blocks ≡ 0
     → with_construct (entry_there p input c h s) guess progress ≡ progress
 adds-nothing p input c h s guess progress none_there =
     let values : (plain_blocks (entry_there p input c h s)).values ≡ []
@@ -93,11 +93,11 @@ adds-nothing p input c h s guess progress none_there =
     λ i. record { stats = stats i; telling = told i; passed = all i }
 
 -- a construct without blocks is passed with its start row
-pub goes-past-none : ConstructsSettle → ConstructsEndRuns → (hosts : Hosts) (p : Program) (input : List ℕ) (after last : Stand) (progress : Progress) (c : Construct) (h : Header) (taken : Step)
+pub goes-past-none : ConstructsSettle → ConstructsEndRuns → (hosts : Hosts) (p : Program) (input : List ℕ) (after last : RunState) (progress : Progress) (c : Construct) (h : Header) (taken : Step)
     → HasEntered hosts p input c h after progress → FunctionsAreSilent p.functions → KeepsTheRules p c → h.blocks ≡ 0
-    → IsSettledSo p c after last (Carried h.start) taken → IsThere hosts p input taken last progress
+    → IsSettledBy p c after last (Carried h.start) taken → IsProgressAfter hosts p input taken last progress
 goes-past-none settle ends hosts p input after last progress c h taken e silent keeps none_there so =
-    subst (IsThere hosts p input taken last) (adds-nothing p input c h after (entry_guess hosts progress.telling (entry_there p input c h after)) progress none_there)
+    subst (IsProgressAfter hosts p input taken last) (adds-nothing p input c h after (entry_guess hosts progress.telling (entry_there p input c h after)) progress none_there)
     (goes-past-blocks settle ends hosts p input after after last progress c h (Carried h.start) taken e silent keeps
     (record { frame = refl; output = refl; place = refl }) (no-blocks-come p input c h after none_there) so)
 

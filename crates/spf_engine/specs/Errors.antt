@@ -26,7 +26,7 @@ WereToldNothing OutOfMemory before now = Unit {0}
 
 -- the cause of each error of a run with this number of cells, and this limit, and this host missing; after the first
 -- two, hosts were told nothing
-abbrev pub IsNotRun : (cells limit : ℕ) → Option ℕ → (before now : Hosts) → EngineError → Type 0
-IsNotRun cells limit missing before now (TooManyCells count) = (limit < cells) × (count ≡ counted cells) × WereTold before [] now
-IsNotRun cells limit missing before now (NoHost number) = (cells ≤ limit) × (missing ≡ Some number) × WereTold before [] now
-IsNotRun cells limit missing before now OutOfMemory = Unit {0}
+abbrev pub IsCauseOf : (cells limit : ℕ) → Option ℕ → (before now : Hosts) → EngineError → Type 0
+IsCauseOf cells limit missing before now (TooManyCells count) = (limit < cells) × (count ≡ counted cells) × WereTold before [] now
+IsCauseOf cells limit missing before now (NoHost number) = (cells ≤ limit) × (missing ≡ Some number) × WereTold before [] now
+IsCauseOf cells limit missing before now OutOfMemory = Unit {0}

@@ -8,7 +8,7 @@ use Rattle.spf_ast.specs.Program.{cell_count_of, max_cells}
 use Rattle.spf_ast.specs.Syntax.{Program}
 use Rattle.spf_cells.specs.declared.finish.Trace.{Trace}
 use Rattle.spf_exec.specs.declared.pieces.Header.{Header}
-use Rattle.spf_exec.specs.Pieces.{Stand, seen_header}
+use Rattle.spf_exec.specs.Pieces.{RunState, seen_header}
 use Rattle.spf_exec_instance.specs.Instance.{InstanceValue}
 use Rattle.spf_guess_statistics.specs.declared.stats.Stats.{Stats}
 use Rattle.spf_guess_statistics.specs.Guess.{Hosts}
@@ -20,9 +20,9 @@ use Rattle.spf_engine_laws.specs.Traces.{AreTraces}
 use Rattle.spf_engine.specs.declared.account.Account.{Account}
 use Rattle.spf_engine.specs.declared.error.EngineError.{EngineError}
 use Rattle.spf_engine.specs.declared.step.Step.{Step}
-use Rattle.spf_engine.specs.Accounts.{Steps, Passes, BlocksCome}
-use Rattle.spf_engine.specs.Errors.{AreTooMany, IsMissing, IsNotRun}
-use Rattle.spf_engine.specs.Runs.{WereToldFirst, BreaksOff, BreaksOffAt, RowsWereTold}
+use Rattle.spf_engine.specs.Accounts.{Steps, StepsPast, BlocksCome}
+use Rattle.spf_engine.specs.Errors.{AreTooMany, IsMissing, IsCauseOf}
+use Rattle.spf_engine.specs.Runs.{WereToldFirst, EndsWithoutMemory, EndsWithoutMemoryAt, RowsWereTold}
 
 -- ---- whole runs
 
@@ -38,37 +38,37 @@ AreTracesOf answer p input hosts traces = AreTraces (supplied answer hosts) p in
 abbrev pub WereToldAll : {Box : Type 0} → (Box → Answers) → Program → List ℕ → (before after : List Box) → Type 0
 WereToldAll answer p input before after = WereTold (supplied answer before) (tally (supplied answer before) p input).telling (supplied answer after)
 
--- they were told the first of it
+-- they were told a prefix of it
 abbrev pub WereToldSome : {Box : Type 0} → (Box → Answers) → Program → List ℕ → (before after : List Box) → Type 0
 WereToldSome answer p input before after = WereToldFirst (supplied answer before) p input (supplied answer after)
 
 -- ---- steps of a run
 
 -- a run took a step from where it stood; run, account and hosts before it and after it
-abbrev pub TakesStep : {Box : Type 0} → (Box → Answers) → InstanceValue → Stand → Account → Vec Box → Step → Stand → Account → Vec Box → Type 0
+abbrev pub TakesStep : {Box : Type 0} → (Box → Answers) → InstanceValue → RunState → Account → Vec Box → Step → RunState → Account → Vec Box → Type 0
 TakesStep answer i s account before taken later counted after = Steps i s account (supplied answer before.items) taken later counted (supplied answer after.items)
 
 -- it took the step from the blocks of a construct
-abbrev pub TakesStepAt : {Box : Type 0} → (Box → Answers) → InstanceValue → TopConstruct → Header → Stand → Account → Vec Box → Step → Stand → Account → Vec Box → Type 0
+abbrev pub TakesStepAt : {Box : Type 0} → (Box → Answers) → InstanceValue → TopConstruct → Header → RunState → Account → Vec Box → Step → RunState → Account → Vec Box → Type 0
 TakesStepAt answer i construct header s account before taken later counted after =
-    Passes i s account (supplied answer before.items) (seen_construct construct) (seen_header header) taken later counted (supplied answer after.items)
+    StepsPast i s account (supplied answer before.items) (seen_construct construct) (seen_header header) taken later counted (supplied answer after.items)
 
 -- the blocks of a construct at which a run stood came to this, and the run has the cells that they left
-abbrev pub BlocksGive : {Box : Type 0} → (Box → Answers) → InstanceValue → TopConstruct → Header → Stand → Vec Box → ConstructReport → Stand → Type 0
+abbrev pub BlocksGive : {Box : Type 0} → (Box → Answers) → InstanceValue → TopConstruct → Header → RunState → Vec Box → ConstructReport → RunState → Type 0
 BlocksGive answer i construct header s hosts report later = BlocksCome i s (supplied answer hosts.items) (seen_construct construct) (seen_header header) report later.cells
 
 -- the hosts were told the real rows of these blocks
-abbrev pub RowsTold : {Box : Type 0} → (Box → Answers) → InstanceValue → TopConstruct → Header → Stand → (before after : Vec Box) → Type 0
+abbrev pub RowsTold : {Box : Type 0} → (Box → Answers) → InstanceValue → TopConstruct → Header → RunState → (before after : Vec Box) → Type 0
 RowsTold answer i construct header s before after = RowsWereTold i s (supplied answer before.items) (seen_construct construct) (seen_header header) (supplied answer after.items)
 
--- a run that stood here found no memory, and the hosts were told the first of what they are told in the whole run
-abbrev pub Stops : {Box : Type 0} → (Box → Answers) → InstanceValue → Stand → (before after : Vec Box) → Type 0
-Stops answer i s before after = BreaksOff i s (supplied answer before.items) (supplied answer after.items)
+-- a run that stood here found no memory, and the hosts were told a prefix of what they are told in the whole run
+abbrev pub StopsWithoutMemory : {Box : Type 0} → (Box → Answers) → InstanceValue → RunState → (before after : Vec Box) → Type 0
+StopsWithoutMemory answer i s before after = EndsWithoutMemory i s (supplied answer before.items) (supplied answer after.items)
 
 -- so it is with one that stood at the blocks of a construct
-abbrev pub StopsAt : {Box : Type 0} → (Box → Answers) → InstanceValue → TopConstruct → Header → Stand → (before after : Vec Box) → Type 0
-StopsAt answer i construct header s before after =
-    BreaksOffAt i s (supplied answer before.items) (seen_construct construct) (seen_header header) (supplied answer after.items)
+abbrev pub StopsWithoutMemoryAt : {Box : Type 0} → (Box → Answers) → InstanceValue → TopConstruct → Header → RunState → (before after : Vec Box) → Type 0
+StopsWithoutMemoryAt answer i construct header s before after =
+    EndsWithoutMemoryAt i s (supplied answer before.items) (seen_construct construct) (seen_header header) (supplied answer after.items)
 
 -- ---- why a program isn't run
 
@@ -93,6 +93,6 @@ abbrev pub SaysHost : {Box : Type 0} → Program → List Box → EngineError �
 SaysHost p hosts error = SaysHostBeyond p (length hosts) error
 
 -- the error's cause holds; where it is one of the first two, the hosts were told nothing
-abbrev pub SaysWhy : {Box : Type 0} → (Box → Answers) → Program → List ℕ → (before after : List Box) → EngineError → Type 0
-SaysWhy answer p input before after error =
-    IsNotRun (cell_count_of p (length input)) (max_cells p) (missing_host (length before) (constructs_in p.main)) (supplied answer before) (supplied answer after) error
+abbrev pub HasItsCause : {Box : Type 0} → (Box → Answers) → Program → List ℕ → (before after : List Box) → EngineError → Type 0
+HasItsCause answer p input before after error =
+    IsCauseOf (cell_count_of p (length input)) (max_cells p) (missing_host (length before) (constructs_in p.main)) (supplied answer before) (supplied answer after) error

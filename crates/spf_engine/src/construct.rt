@@ -6,20 +6,20 @@ ghost use Rattle.spf_ast.specs.View.{program as seen_program};
 ghost use Rattle.spf_ast.specs.ConstructView.{construct as seen_construct};
 ghost use Rattle.spf_ast.specs.Construct.{constructs_in};
 ghost use Rattle.spf_check.specs.Plans.{AreBlocksOf};
-ghost use Rattle.spf_exec.specs.Pieces.{IsRunOf};
+ghost use Rattle.spf_exec.specs.Pieces.{IsStateOf};
 ghost use Rattle.spf_exec_instance.specs.Instance.{program_of};
 ghost use Rattle.spf_guess.specs.Answers.{supplied, WereToldNoMore};
 ghost use Rattle.spf_guess.specs.Missing.{missing_host};
 ghost use Rattle.spf_engine_construct.specs.Guesses.{AreAtMost, IsHandedIn};
-ghost use Rattle.spf_engine.specs.Runs.{AreFew, GoesFurther, IsReadyAt};
-ghost use Rattle.spf_engine.specs.Handed.{BlocksGive, RowsTold, TakesStepAt, StopsAt};
+ghost use Rattle.spf_engine.specs.Runs.{CountsAreBounded, ComesFurther, IsReadyAt};
+ghost use Rattle.spf_engine.specs.Handed.{BlocksGive, RowsTold, TakesStepAt, StopsWithoutMemoryAt};
 
 use crate::account::Account;
 use crate::runner::Runner;
 use crate::step::{Step, settle};
 use spf_ast::construct::TopConstruct;
 use spf_engine_construct::construct::{ConstructReport, run_blocks};
-use spf_engine_construct::guesses::Stand;
+use spf_engine_construct::guesses::ReachedConstruct;
 use spf_exec::pieces::{Header, Run};
 use spf_guess::Predictor;
 use spf_ticket_gate::Gate;
@@ -38,7 +38,7 @@ impl<'a, R: Threads + Wait + Sync, G: Gate + Sync> Runner<'a, R, G> {
         hosts: &mut Vec<Box<dyn Predictor>>,
     ) -> Result<ConstructReport, AllocError>
         requires program { program_of self.now.instance.now ≡ seen_program self.now.checked.now }
-        requires run { IsRunOf (program_of self.now.instance.now)
+        requires run { IsStateOf (program_of self.now.instance.now)
             (length self.now.instance.now.input) run.old }
         requires construct { slice_get (constructs_in (program_of self.now.instance.now).main)
             number ≡ Some (seen_construct construct) }
@@ -55,11 +55,11 @@ impl<'a, R: Threads + Wait + Sync, G: Gate + Sync> Runner<'a, R, G> {
             WereToldNoMore (supplied answer hosts.old.items) (supplied answer hosts.new.items)) }
         ensures count { length hosts.new.items ≡ length hosts.old.items }
         ensures few { IfOk result (λ r. AreAtMost r.stats max_blocks) }
-        ensures run { IsRunOf (program_of self.now.instance.now)
+        ensures run { IsStateOf (program_of self.now.instance.now)
             (length self.now.instance.now.input) run.new }
         ensures others { record run.new { cells = run.old.cells } ≡ run.old }
     {
-        let at = Stand {
+        let at = ReachedConstruct {
             instance: self.instance,
             construct,
             index: number,
@@ -70,7 +70,7 @@ impl<'a, R: Threads + Wait + Sync, G: Gate + Sync> Runner<'a, R, G> {
         Ok(blocks.write_back(run.cells_mut()))
     }
 
-    /// Passes the construct that stands next, whose header is done, and adds to the account what it
+    /// StepsPast the construct that stands next, whose header is done, and adds to the account what it
     /// counted and recorded.
     pub(crate) fn pass(
         &self,
@@ -84,21 +84,21 @@ impl<'a, R: Threads + Wait + Sync, G: Gate + Sync> Runner<'a, R, G> {
         requires program { program_of self.now.instance.now ≡ seen_program self.now.checked.now }
         requires hosts { missing_host (length hosts.old.items)
             (constructs_in (program_of self.now.instance.now).main) ≡ None }
-        requires run { IsRunOf (program_of self.now.instance.now)
+        requires run { IsStateOf (program_of self.now.instance.now)
             (length self.now.instance.now.input) run.old }
         requires ready { IsReadyAt (program_of self.now.instance.now) number
             (seen_construct construct) header.now run.old }
-        requires few { AreFew (program_of self.now.instance.now) run.old account.old.stats }
+        requires few { CountsAreBounded (program_of self.now.instance.now) run.old account.old.stats }
         ensures steps { IfOk result (λ s. TakesStepAt answer self.now.instance.now
             construct.entry header.now run.old account.old hosts.old
             s run.new account.new hosts.new) }
-        ensures told_first { IfErr result (λ why. StopsAt answer self.now.instance.now
+        ensures told_first { IfErr result (λ why. StopsWithoutMemoryAt answer self.now.instance.now
             construct.entry header.now run.old hosts.old hosts.new) }
         ensures count { length hosts.new.items ≡ length hosts.old.items }
-        ensures run { IsRunOf (program_of self.now.instance.now)
+        ensures run { IsStateOf (program_of self.now.instance.now)
             (length self.now.instance.now.input) run.new }
         ensures further { IfOk result (λ s.
-            GoesFurther (program_of self.now.instance.now) s run.old run.new account.new.stats) }
+            ComesFurther (program_of self.now.instance.now) s run.old run.new account.new.stats) }
     {
         // Law: a run in pieces goes on as the plain run does.
         spf_engine_laws::runs_in_pieces_go_on();

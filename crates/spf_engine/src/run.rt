@@ -13,7 +13,7 @@ ghost use Rattle.spf_engine.specs.Counts.{most_counted};
 ghost use Rattle.spf_engine.specs.Errors.{IsMissing, WereToldNothing};
 ghost use Rattle.spf_engine.specs.Handed.{run_counts, AreTracesOf, WereToldAll, WereToldSome};
 ghost use Rattle.spf_engine.specs.Handed.{HasTooManyCells, HasFewCells, SaysCells, SaysHost};
-ghost use Rattle.spf_engine.specs.Handed.{SaysHostBeyond, SaysWhy};
+ghost use Rattle.spf_engine.specs.Handed.{SaysHostBeyond, HasItsCause};
 
 use crate::account::Account;
 use crate::error::EngineError;
@@ -81,7 +81,7 @@ fn report_at_trap(run: Run, trap: Trap, account: Account) -> RunReport
 ///
 /// # Errors
 ///
-/// `AllocError` where there is no memory for the run; the hosts were told the first of what they
+/// `AllocError` where there is no memory for the run; the hosts were told a prefix of what they
 /// are told in the whole run.
 pub fn run_instance<R: Threads + Wait + Sync, G: Gate + Sync>(
     rt: &R,
@@ -205,7 +205,7 @@ pub fn set_up<'a>(
 ///
 /// `TooManyCells` where the arrays have more cells than a run of the program's version may have;
 /// `NoHost` where the program names a host that isn't supplied; and `OutOfMemory`. The hosts were
-/// told the first of what they are told in the whole run; after the first two errors nothing.
+/// told a prefix of what they are told in the whole run; after the first two errors nothing.
 pub fn run_whole<'a, R: Threads + Wait + Sync, G: Gate + Sync>(
     rt: &R,
     alloc: Global,
@@ -238,7 +238,7 @@ pub fn run_whole<'a, R: Threads + Wait + Sync, G: Gate + Sync>(
     ensures untold { IfErr result (λ why. WereToldNothing why
         (supplied answer hosts.old.items)
         (supplied answer hosts.new.items)) }
-    ensures not_run { IfErr result (SaysWhy answer (seen_program checked.now) input.now
+    ensures not_run { IfErr result (HasItsCause answer (seen_program checked.now) input.now
         hosts.old.items hosts.new.items) }
     ensures bounded { IfOk result (λ r. AreAtMost r.1.stats most_counted) }
     ensures count { length hosts.new.items ≡ length hosts.old.items }
@@ -284,7 +284,7 @@ pub fn run_program<R: Threads + Wait + Sync, G: Gate + Sync>(
     ensures untold { IfErr result (λ why. WereToldNothing why
         (supplied answer hosts.old.items)
         (supplied answer hosts.new.items)) }
-    ensures not_run { IfErr result (SaysWhy answer (seen_program checked.now) input.now
+    ensures not_run { IfErr result (HasItsCause answer (seen_program checked.now) input.now
         hosts.old.items hosts.new.items) }
     ensures bounded { IfOk result (λ r. AreAtMost r.stats most_counted) }
     ensures count { length hosts.new.items ≡ length hosts.old.items }

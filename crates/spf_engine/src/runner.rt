@@ -2,11 +2,11 @@
 ghost use Rattle.std.specs.Prelude.{◌≡◌, ◌<◌, length, None, IfOk, IfErr};
 ghost use Rattle.spf_ast.specs.View.{program as seen_program};
 ghost use Rattle.spf_ast.specs.Construct.{constructs_in};
-ghost use Rattle.spf_exec.specs.Pieces.{IsRunOf};
+ghost use Rattle.spf_exec.specs.Pieces.{IsStateOf};
 ghost use Rattle.spf_exec_instance.specs.Instance.{program_of};
 ghost use Rattle.spf_guess.specs.Missing.{missing_host};
-ghost use Rattle.spf_engine.specs.Runs.{AreFew, GoesFurther};
-ghost use Rattle.spf_engine.specs.Handed.{TakesStep, Stops};
+ghost use Rattle.spf_engine.specs.Runs.{CountsAreBounded, ComesFurther};
+ghost use Rattle.spf_engine.specs.Handed.{TakesStep, StopsWithoutMemory};
 
 use crate::account::Account;
 use crate::step::{Arrival, Step, arrive};
@@ -39,18 +39,18 @@ impl<'a, R: Threads + Wait + Sync, G: Gate + Sync> Runner<'a, R, G> {
         requires program { program_of self.now.instance.now ≡ seen_program self.now.checked.now }
         requires hosts { missing_host (length hosts.old.items)
             (constructs_in (program_of self.now.instance.now).main) ≡ None }
-        requires run { IsRunOf (program_of self.now.instance.now)
+        requires run { IsStateOf (program_of self.now.instance.now)
             (length self.now.instance.now.input) run.old }
-        requires few { AreFew (program_of self.now.instance.now) run.old account.old.stats }
+        requires few { CountsAreBounded (program_of self.now.instance.now) run.old account.old.stats }
         ensures steps { IfOk result (λ s. TakesStep answer self.now.instance.now
             run.old account.old hosts.old s run.new account.new hosts.new) }
-        ensures told_first { IfErr result (λ why. Stops answer self.now.instance.now run.old
+        ensures told_first { IfErr result (λ why. StopsWithoutMemory answer self.now.instance.now run.old
             hosts.old hosts.new) }
         ensures count { length hosts.new.items ≡ length hosts.old.items }
-        ensures run { IsRunOf (program_of self.now.instance.now)
+        ensures run { IsStateOf (program_of self.now.instance.now)
             (length self.now.instance.now.input) run.new }
         ensures further { IfOk result (λ s.
-            GoesFurther (program_of self.now.instance.now) s run.old run.new account.new.stats) }
+            ComesFurther (program_of self.now.instance.now) s run.old run.new account.new.stats) }
     {
         let arrival = match arrive(self.checked, self.instance, run) {
             Ok(arrival) => arrival,

@@ -5,9 +5,9 @@ ghost use Rattle.spf_ast.specs.View.{program as seen_program};
 ghost use Rattle.spf_ast.specs.ConstructView.{construct as seen_construct};
 ghost use Rattle.spf_ast.specs.Construct.{constructs_in};
 ghost use Rattle.spf_ast.specs.Pieces.{construct_first};
-ghost use Rattle.spf_exec.specs.Pieces.{IsRunOf, ahead};
+ghost use Rattle.spf_exec.specs.Pieces.{IsStateOf, ahead};
 ghost use Rattle.spf_exec_instance.specs.Instance.{program_of};
-ghost use Rattle.spf_engine.specs.Runs.{IsSettledSo, Arrives, CanBeRun, ComesNearer};
+ghost use Rattle.spf_engine.specs.Runs.{IsSettledBy, Arrives, CanBeRun, ComesNearer};
 
 use spf_ast::construct::TopConstruct;
 use spf_ast::outcome::Trap;
@@ -44,12 +44,12 @@ pub enum Arrival<'a> {
 
 /// Settles the construct that stands next with what its blocks came to.
 pub fn settle(run: &mut Run, instance: &Instance, construct: TopConstruct, settled: Settled) -> Step
-    requires run { IsRunOf (program_of instance.now) (length instance.now.input) run.old }
+    requires run { IsStateOf (program_of instance.now) (length instance.now.input) run.old }
     requires construct { construct_first (ahead (program_of instance.now) run.old)
         ≡ Some (seen_construct construct) }
-    ensures settled { IsSettledSo (program_of instance.now) (seen_construct construct.entry) run.old
+    ensures settled { IsSettledBy (program_of instance.now) (seen_construct construct.entry) run.old
         run.new settled result }
-    ensures run { IsRunOf (program_of instance.now) (length instance.now.input) run.new }
+    ensures run { IsStateOf (program_of instance.now) (length instance.now.input) run.new }
 {
     match settled {
         Settled::Carried(value) => {
@@ -70,7 +70,7 @@ fn enter<'a>(
     run: &mut Run,
 ) -> Arrival<'a>
     requires program { program_of instance.now ≡ seen_program checked.now }
-    requires run { IsRunOf (program_of instance.now) (length instance.now.input) run.old }
+    requires run { IsStateOf (program_of instance.now) (length instance.now.input) run.old }
     requires next { construct_first (ahead (program_of instance.now) run.old)
         ≡ Some (seen_construct construct) }
     requires construct { slice_get (constructs_in (program_of instance.now).main) number
@@ -78,7 +78,7 @@ fn enter<'a>(
     ensures arrived { Arrives instance.now run.old result run.new }
     ensures ready { CanBeRun (program_of instance.now) result run.new }
     ensures nearer { ComesNearer (program_of instance.now) run.old result run.new }
-    ensures run { IsRunOf (program_of instance.now) (length instance.now.input) run.new }
+    ensures run { IsStateOf (program_of instance.now) (length instance.now.input) run.new }
 {
     // Law: a run in pieces goes on as the plain run does.
     spf_engine_laws::runs_in_pieces_go_on();
@@ -112,12 +112,12 @@ pub fn arrive<'a>(
     run: &mut Run,
 ) -> Result<Arrival<'a>, AllocError>
     requires program { program_of instance.now ≡ seen_program checked.now }
-    requires run { IsRunOf (program_of instance.now) (length instance.now.input) run.old }
+    requires run { IsStateOf (program_of instance.now) (length instance.now.input) run.old }
     ensures arrived { IfOk result (λ a. Arrives instance.now run.old a run.new) }
     ensures ready { IfOk result (λ a. CanBeRun (program_of instance.now) a run.new) }
     ensures nearer { IfOk result
         (λ a. ComesNearer (program_of instance.now) run.old a run.new) }
-    ensures run { IsRunOf (program_of instance.now) (length instance.now.input) run.new }
+    ensures run { IsStateOf (program_of instance.now) (length instance.now.input) run.new }
 {
     // Law: a run in pieces goes on as the plain run does.
     spf_engine_laws::runs_in_pieces_go_on();

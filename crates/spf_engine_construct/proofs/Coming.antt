@@ -27,13 +27,13 @@ use Rattle.spf_chain.specs.Finishing.{result_as, IsFinished}
 use Rattle.spf_guess_statistics.specs.declared.stats.Stats.{Stats}
 use Rattle.spf_guess_statistics.specs.Guess.{Guess}
 use Rattle.spf_guess_statistics.specs.Statistics.{statistics_with}
-use Rattle.spf_engine_construct.specs.declared.guesses.Stand.{Stand}
+use Rattle.spf_engine_construct.specs.declared.guesses.ReachedConstruct.{ReachedConstruct}
 use Rattle.spf_engine_construct.specs.Guesses.{seen_guess, guesses_from, paired, counts_of, real_values}
 use Rattle.spf_engine_construct.specs.Coming.{IsAtConstruct, entry_of, ComesTo}
 use Rattle.spf_engine_construct.proofs.Counting.{counts-are, row-at}
 
 -- the entry of the chain's site is the construct's
-pub entry-is : (at : Stand) (h : Header) (guesses : List code_guess.Guess) → slice_get (constructs_in (program_of at.instance.now).main) at.index ≡ Some (seen_construct at.construct)
+pub entry-is : (at : ReachedConstruct) (h : Header) (guesses : List code_guess.Guess) → slice_get (constructs_in (program_of at.instance.now).main) at.index ≡ Some (seen_construct at.construct)
     → entry_at (site_of at.instance.now at.index h at.frame.now at.cells.now guesses) ≡ entry_of at h
 entry-is at h guesses is = λ i. record {
   program = program_of at.instance.now;
@@ -49,14 +49,14 @@ pub row-count : (rows : List Carried) (history : List ChainBlock) → rows ≡ r
 row-count rows history is = ap length is ∙ length-map history (λ (b : ChainBlock). b.row)
 
 -- the guesses of the site are those that were taken
-same-guesses : (guess : ℕ → Guess) (at : Stand) (h : Header) (guesses : List code_guess.Guess) → map seen_guess guesses ≡ guesses_from guess 1 (h.blocks - 1)
+same-guesses : (guess : ℕ → Guess) (at : ReachedConstruct) (h : Header) (guesses : List code_guess.Guess) → map seen_guess guesses ≡ guesses_from guess 1 (h.blocks - 1)
     → (n : ℕ) → 0 < n → n < h.blocks → guess_at (site_of at.instance.now at.index h at.frame.now at.cells.now guesses) n ≡ (guess n).value
 same-guesses guess at h guesses taken zero above below = absurd (omega (arith, above))
 same-guesses guess at h guesses taken (suc n) above below =
     let one_more : 1 + n ≡ suc n = omega arith in
     row-at guesses guess 1 (h.blocks - 1) n taken (omega (arith, below)) ∙ ap (λ k. (guess k).value) one_more
 
-pub comes : (guess : ℕ → Guess) (p : Program) (at : Stand) (h : Header) (guesses : List code_guess.Guess) → IsAtConstruct p at h
+pub comes : (guess : ℕ → Guess) (p : Program) (at : ReachedConstruct) (h : Header) (guesses : List code_guess.Guess) → IsAtConstruct p at h
     → (c : ChainValue) → c.site ≡ site_of at.instance.now at.index h at.frame.now at.cells.now guesses
     → map seen_guess guesses ≡ guesses_from guess 1 (h.blocks - 1) → RunsSeeTheGuessesOfTheirBlocks
     → (settled : Settled) (trace : List (List LogEntry)) (before after : List ℤ) → IsFinished c settled trace before after → before ≡ at.cells.now

@@ -8,7 +8,7 @@ use Rattle.std.proofs.Crossing.{crosses}
 use Rattle.std.specs.Prelude.{IfOk, IfSome, slice_get, slice_index_or}
 use Rattle.spf_exec.specs.contracts.frame.Frame
 use Rattle.spf_exec.specs.contracts.pieces.Header
-use Rattle.spf_engine_construct.specs.contracts.guesses.Stand
+use Rattle.spf_engine_construct.specs.contracts.guesses.ReachedConstruct
 use Rattle.spf_exec_instance.proofs.Crossing.{instance_sync, top_construct_field_sync}
 
 pub frame_sync : IsSync Frame.the_row
@@ -17,8 +17,8 @@ frame_sync = search (crosses, view_sync, declared_sync, sendable) depth 20
 pub header_sync : IsSync Header.the_row
 header_sync = search (crosses, declared_sync, sendable) depth 20
 
-pub stand_sync : (κ : NamedLft) → IsSync (as_row (Stand.the_field κ))
-stand_sync κ = declared_sync (Stand.the_type κ) (search (instance_sync, top_construct_field_sync, frame_sync, sendable))
+pub stand_sync : (κ : NamedLft) → IsSync (as_row (ReachedConstruct.the_field κ))
+stand_sync κ = declared_sync (ReachedConstruct.the_type κ) (search (instance_sync, top_construct_field_sync, frame_sync, sendable))
 
 -- what holds for each element below the length holds for each element that is there
 pub each_given : {A : Type 0} (P : ℕ → A → Type 0) (xs : List A) → ((i : ℕ) (d : A) → i < length xs → P i (slice_index_or xs i d)) → (i : ℕ) → IfSome (slice_get xs i) (P i)

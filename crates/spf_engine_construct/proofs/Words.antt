@@ -16,7 +16,7 @@ use Rattle.spf_exec_instance.specs.Frame.{main_slots}
 use Rattle.spf_exec_instance.specs.Instance.{program_of}
 use Rattle.spf_guess_statistics.specs.Guess.{Guess, no_hosts, PartGuess, part_of_result, part_by, parts_from, guess_of}
 use Rattle.spf_guess.specs.Missing.{AreAllHandedIn}
-use Rattle.spf_engine_construct.specs.declared.guesses.Stand.{Stand}
+use Rattle.spf_engine_construct.specs.declared.guesses.ReachedConstruct.{ReachedConstruct}
 use Rattle.spf_engine_construct.specs.Guesses.{predicted, answered, Results}
 
 -- ---- rows
@@ -99,7 +99,7 @@ expression-part answer zeros p input c slots memory number n (Host host) at =
     (λ i. record { word = zeros host i; traps = false }) ∙ sym (ap part_of_result (comes-host p input c slots memory number n host at))
 
 -- the parts of the guess of the expressions where a run stands
-abbrev pub parts_there : Stand → ℤ → List PartGuess
+abbrev pub parts_there : ReachedConstruct → ℤ → List PartGuess
 parts_there at number = parts_from (answered no_hosts [] number)
     (predicts (program_of at.instance.now) at.instance.now.input (seen_construct at.construct) (main_slots (program_of at.instance.now) at.frame.now) at.cells.now number)
     0 (predictors_of (seen_construct at.construct))
@@ -113,7 +113,7 @@ abbrev pub trapped_in : List PartGuess → Bool
 trapped_in parts = list_any (λ part. part.traps) parts
 
 -- what the expression of a part comes to there
-abbrev pub comes_there : Stand → ℤ → Results
+abbrev pub comes_there : ReachedConstruct → ℤ → Results
 comes_there at number = predicts (program_of at.instance.now) at.instance.now.input (seen_construct at.construct) (main_slots (program_of at.instance.now) at.frame.now) at.cells.now number
 
 found : {A : Type 0} (xs : List A) (n : ℕ) → n < length xs → (x : A) × (slice_get xs n ≡ Some x)
@@ -122,7 +122,7 @@ found (x ∷ xs) zero h = (x, refl)
 found (x ∷ xs) (suc n) h = found xs n (omega (arith, h))
 
 -- a part's word is what its expression comes to, or 0
-pub word-there : (at : Stand) (number : ℤ) (n : ℕ) (d : ℤ) → n < length (predictors_of (seen_construct at.construct)) → slice_index_or (words_of (parts_there at number)) n d ≡ (part_of_result (comes_there at number n)).word
+pub word-there : (at : ReachedConstruct) (number : ℤ) (n : ℕ) (d : ℤ) → n < length (predictors_of (seen_construct at.construct)) → slice_index_or (words_of (parts_there at number)) n d ≡ (part_of_result (comes_there at number n)).word
 word-there at number n d h =
     let ps = predictors_of (seen_construct at.construct) in
     let one = found ps n h in
@@ -133,7 +133,7 @@ word-there at number n d h =
     (main_slots (program_of at.instance.now) at.frame.now) at.cells.now number n one.0 one.1)
 
 -- one more word
-pub next-word : (at : Stand) (number : ℤ) (n : ℕ) (words : List ℤ) (w : ℤ) → n < length words → n < length (predictors_of (seen_construct at.construct))
+pub next-word : (at : ReachedConstruct) (number : ℤ) (n : ℕ) (words : List ℤ) (w : ℤ) → n < length words → n < length (predictors_of (seen_construct at.construct))
     → take n words ≡ take n (words_of (parts_there at number)) → w ≡ (part_of_result (comes_there at number n)).word
     → take (suc n) (slice_set words n w) ≡ take (suc n) (words_of (parts_there at number))
 next-word at number n words w h below same is =
@@ -142,7 +142,7 @@ next-word at number n words w h below same is =
     set-next words (words_of (parts_there at number)) n w h (omega (arith, below, long, long_words)) same (is ∙ sym (word-there at number n w below))
 
 -- and it trapped where its expression did
-pub traps-there : (at : Stand) (number : ℤ) (n : ℕ) → n < length (predictors_of (seen_construct at.construct))
+pub traps-there : (at : ReachedConstruct) (number : ℤ) (n : ℕ) → n < length (predictors_of (seen_construct at.construct))
     → trapped_in (take (suc n) (parts_there at number)) ≡ (trapped_in (take n (parts_there at number)) || (part_of_result (comes_there at number n)).traps)
 traps-there at number n h =
     let ps = predictors_of (seen_construct at.construct) in
@@ -163,7 +163,7 @@ err-traps (Ok word) = refl
 err-traps (Err trap) = refl
 
 -- when all parts are guessed, the guess is
-pub all-predicted : (at : Stand) (number : ℤ) (width n : ℕ) (words row : List ℤ) (blind : Bool) → width ≡ length (predictors_of (seen_construct at.construct)) → width ≤ n → n ≤ width
+pub all-predicted : (at : ReachedConstruct) (number : ℤ) (width n : ℕ) (words row : List ℤ) (blind : Bool) → width ≡ length (predictors_of (seen_construct at.construct)) → width ≤ n → n ≤ width
     → take n words ≡ take n (words_of (parts_there at number)) → blind ≡ trapped_in (take n (parts_there at number)) → row ≡ take width words
     → record { value = row; blind = blind } ≡ predicted at number
 all-predicted at number width n words row blind all done inside same trapped is =

@@ -18,16 +18,16 @@ use Rattle.spf_speculation_lanes.specs.Lanes.{logs_in}
 use Rattle.spf_chain.specs.declared.block.Settled.TheVariants.{Carried}
 use Rattle.spf_cells.specs.declared.view.LogEntry.{LogEntry}
 use Rattle.spf_chain.specs.declared.block.Settled.{Settled}
-use Rattle.spf_chain.specs.Chains.{cells_of, HasEnded}
+use Rattle.spf_chain.specs.Chains.{chain_cells, HasEnded}
 use Rattle.spf_chain.specs.Finishing.{result_as, IsFinished}
 use Rattle.spf_guess_statistics.specs.Guess.{Guess}
 use Rattle.spf_guess_statistics.specs.Statistics.{statistics_with}
-use Rattle.spf_engine_construct.specs.declared.guesses.Stand.{Stand}
+use Rattle.spf_engine_construct.specs.declared.guesses.ReachedConstruct.{ReachedConstruct}
 use Rattle.spf_engine_construct.specs.declared.construct.Blocks.{Blocks}
 use Rattle.spf_engine_construct.specs.declared.construct.ConstructReport.{ConstructReport}
 
 -- a run of this program stands at one of its top constructs, the one at its index, whose header is done: frame and cells are the program's
-pub record IsAtConstruct (p : Program) (at : Stand) (header : Header) : Type 0 where
+pub record IsAtConstruct (p : Program) (at : ReachedConstruct) (header : Header) : Type 0 where
   pub program : program_of at.instance.now ≡ p
   pub construct : slice_get (constructs_in (program_of at.instance.now).main) at.index ≡ Some (seen_construct at.construct)
   pub blocks : AreBlocksOf (seen_construct at.construct) header.blocks
@@ -37,7 +37,7 @@ pub record IsAtConstruct (p : Program) (at : Stand) (header : Header) : Type 0 w
   pub cells : length at.cells.now ≡ cell_count_of (program_of at.instance.now) (length at.instance.now.input)
 
 -- the entry of the construct at which a run stands
-abbrev pub entry_of : Stand → Header → Entry
+abbrev pub entry_of : ReachedConstruct → Header → Entry
 entry_of at header = record {
   program = program_of at.instance.now;
   construct = seen_construct at.construct;
@@ -59,9 +59,9 @@ pub record ComesTo (e : Entry) (guess : ℕ → Guess) (report : ConstructReport
       → IsSpeculativeRun e (λ n. (guess n).value) steps (plain_blocks e).values (result_as report.settled)
 
 -- the blocks can be written back: their chain has ended, and the cells are its own
-pub record IsReady (b : Blocks) : Type 0 where
+pub record CanBeWrittenBack (b : Blocks) : Type 0 where
   pub ended : HasEnded b.chain
-  pub own : b.cells ≡ cells_of b.chain
+  pub own : b.cells ≡ chain_cells b.chain
 
 -- whatever these blocks give when they are written back to the entry's memory, the blocks come to it
 abbrev pub ComeTo : Entry → (ℕ → Guess) → Blocks → Type 0

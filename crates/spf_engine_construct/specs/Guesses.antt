@@ -13,27 +13,27 @@ use Rattle.spf_guess_statistics.specs.declared.stats.Stats.{Stats}
 use Rattle.spf_guess_statistics.specs.Guess.{Guess, Hosts, no_hosts, Telling, told_to, guess_for}
 use Rattle.spf_guess_statistics.specs.Statistics.{Guessed, is_hit, how_many}
 use Rattle.spf_guess.specs.Missing.{AreAllHandedIn}
-use Rattle.spf_engine_construct.specs.declared.guesses.Stand.{Stand}
+use Rattle.spf_engine_construct.specs.declared.guesses.ReachedConstruct.{ReachedConstruct}
 
 -- a guess, as definitions see it
 abbrev pub seen_guess : code_guess.Guess → Guess
 seen_guess guess = record { value = guess.value; blind = guess.blind }
 
 -- the guess there for a block number, where these hosts were told these pairs
-abbrev pub guess_there : Hosts → List Telling → Stand → ℤ → Guess
+abbrev pub guess_there : Hosts → List Telling → ReachedConstruct → ℤ → Guess
 guess_there hosts telling at number = guess_for hosts telling (program_of at.instance.now) at.instance.now.input
     (seen_construct at.construct) (main_slots (program_of at.instance.now) at.frame.now) at.cells.now number
 
 -- the same for a block of a construct with this header, by the block's index
-abbrev pub block_guess : Hosts → List Telling → Stand → Header → ℕ → Guess
+abbrev pub block_guess : Hosts → List Telling → ReachedConstruct → Header → ℕ → Guess
 block_guess hosts telling at header n = guess_there hosts telling at (header.low +ℤ pos n)
 
 -- the guess there of the expressions alone: a part that a host guesses is 0
-abbrev pub predicted : Stand → ℤ → Guess
+abbrev pub predicted : ReachedConstruct → ℤ → Guess
 predicted at number = guess_there no_hosts [] at number
 
 -- the same for a block of a construct with this header, by the block's index
-abbrev pub predicted_at : Stand → Header → ℕ → Guess
+abbrev pub predicted_at : ReachedConstruct → Header → ℕ → Guess
 predicted_at at header n = predicted at (header.low +ℤ pos n)
 
 -- the word that a host answers for a block number, where these hosts were told these pairs

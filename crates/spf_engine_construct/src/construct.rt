@@ -4,7 +4,7 @@ ghost use Rattle.std.specs.Prelude.{IfOk, IfErr};
 ghost use Rattle.spf_ast.specs.Meaning.{max_blocks};
 ghost use Rattle.spf_ast.specs.View.{program as seen_program};
 ghost use Rattle.spf_chain.specs.Beginning.{site_of};
-ghost use Rattle.spf_chain.specs.Chains.{cells_of, HasEnded};
+ghost use Rattle.spf_chain.specs.Chains.{chain_cells, HasEnded};
 ghost use Rattle.spf_ast.specs.ConstructView.{construct as seen_construct};
 ghost use Rattle.spf_speculation_entry.specs.Entry.{plain_blocks};
 ghost use Rattle.spf_exec.specs.Pieces.{seen_header};
@@ -13,10 +13,10 @@ ghost use Rattle.spf_guess.specs.Answers.{WereTold, supplied, WereToldNoMore};
 ghost use Rattle.spf_engine_construct.specs.Guesses.{block_guess, AreAtMost, IsHandedIn};
 ghost use Rattle.spf_engine_construct.specs.Guesses.{real_values};
 ghost use Rattle.spf_chain.specs.Finishing.{IsFinished};
-ghost use Rattle.spf_engine_construct.specs.Coming.{IsAtConstruct, IsReady, entry_of, ComeTo};
+ghost use Rattle.spf_engine_construct.specs.Coming.{IsAtConstruct, CanBeWrittenBack, entry_of, ComeTo};
 
 use crate::counts::count_blocks;
-use crate::guesses::{Stand, take_guesses};
+use crate::guesses::{ReachedConstruct, take_guesses};
 use crate::telling::tell_history;
 use spf_ast::row::Row;
 use spf_cells::cells::Cells;
@@ -63,7 +63,7 @@ pub struct Blocks {
 fn run_from<R: Threads + Wait + Sync, G: Gate + Sync>(
     workers: &Workers<R, G>,
     checked: &Checked,
-    at: Stand,
+    at: ReachedConstruct,
     header: &Header,
     guesses: &[Guess],
 ) -> Result<(Chain, Cells), AllocError>
@@ -74,7 +74,7 @@ fn run_from<R: Threads + Wait + Sync, G: Gate + Sync>(
         ≡ site_of at.entry.instance.now at.entry.index header.now at.entry.frame.now
         at.entry.cells.now guesses.now) }
     ensures ended { IfOk result (λ r. HasEnded r.0) }
-    ensures own { IfOk result (λ r. r.1 ≡ cells_of r.0) }
+    ensures own { IfOk result (λ r. r.1 ≡ chain_cells r.0) }
 {
     // Law: the blocks of an accepted program's constructs can be run as attempts.
     spf_chain::laws::accepted_constructs_can_run();
@@ -121,14 +121,14 @@ fn real_rows(alloc: Global, history: &[ChainBlock]) -> Result<Vec<Row>, AllocErr
 pub fn run_blocks<R: Threads + Wait + Sync, G: Gate + Sync>(
     workers: &Workers<R, G>,
     checked: &Checked,
-    at: Stand,
+    at: ReachedConstruct,
     header: &Header,
     hosts: &mut Vec<Box<dyn Predictor>>,
 ) -> Result<Blocks, AllocError>
     requires there { IsAtConstruct (seen_program checked.now) at header.now }
     requires fits { (header.now.low +ℤ pos header.now.blocks) ≤ℤ i64.MAX }
     requires host { IsHandedIn (length hosts.old.items) (seen_construct at.construct) }
-    ensures ready { IfOk result IsReady }
+    ensures ready { IfOk result CanBeWrittenBack }
     ensures size { IfOk result (λ b. length b.chain.site.memory ≡ length at.entry.cells.now) }
     ensures came { IfOk result (λ b. (before : Hosts) (telling : List Telling)
         → WereTold before telling (supplied answer hosts.old.items)
@@ -170,7 +170,7 @@ impl Blocks {
     /// Writes the blocks' cells back to the run's. Where no block trapped, these are then the
     /// memory after the blocks.
     pub fn write_back(self, into: &mut [i64]) -> ConstructReport
-        requires ready { IsReady self }
+        requires ready { CanBeWrittenBack self }
         requires size { length into.old ≡ length self.chain.site.memory }
         ensures finished { IsFinished self.chain result.settled result.trace into.old into.new }
         ensures stats { result.stats ≡ self.stats }

@@ -32,9 +32,9 @@ use spf_guess_statistics::guess::Guess;
 use std::alloc::{AllocError, Global};
 use std::thread::Threads;
 
-/// Where a run stands once it has reached a top construct and done its header.
+/// A top construct that a run has reached, with its header done, and what its guesses depend on.
 #[derive(Clone, Copy)]
-pub struct Stand<'a> {
+pub struct ReachedConstruct<'a> {
     /// The program with its input.
     pub instance: &'a Instance<'a>,
     /// The construct.
@@ -49,7 +49,7 @@ pub struct Stand<'a> {
 
 /// The guess of the construct's expressions for a block number where the run stands; a part that a
 /// host guesses is 0. `frame` is a frame to run them in.
-pub(crate) fn predict(at: Stand, number: i64, frame: &mut Frame) -> Guess
+pub(crate) fn predict(at: ReachedConstruct, number: i64, frame: &mut Frame) -> Guess
     requires construct { slice_get (constructs_in (program_of at.instance.now).main) at.index
         ≡ Some (seen_construct at.construct) }
     requires width { IsWidth (length (predictors_of (seen_construct at.construct))) }
@@ -151,7 +151,7 @@ pub(crate) fn number_at(header: &Header, n: u64) -> i64
 /// once for each part. The guesses of expressions are those for all blocks but the first.
 fn ask_all(
     alloc: Global,
-    at: Stand,
+    at: ReachedConstruct,
     header: &Header,
     predicted: &[Guess],
     hosts: &mut Vec<Box<dyn Predictor>>,
@@ -206,7 +206,7 @@ fn helpers(construct: TopConstruct, workers: u64) -> u64
 pub(crate) fn take_guesses<R: Threads + Sync>(
     rt: &R,
     alloc: Global,
-    at: Stand,
+    at: ReachedConstruct,
     header: &Header,
     workers: u64,
     hosts: &mut Vec<Box<dyn Predictor>>,
@@ -245,7 +245,7 @@ pub(crate) fn take_guesses<R: Threads + Sync>(
 /// `AllocError` where there is no memory for the guesses.
 pub fn take_guesses_alone(
     alloc: Global,
-    at: Stand,
+    at: ReachedConstruct,
     header: &Header,
     hosts: &mut Vec<Box<dyn Predictor>>,
 ) -> Result<Vec<Guess>, AllocError>

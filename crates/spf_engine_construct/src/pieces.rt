@@ -12,7 +12,7 @@ ghost use Rattle.spf_exec_instance.specs.Instance.{program_of};
 ghost use Rattle.spf_engine_construct.specs.Guesses.{Guesses, seen_guess, predicted_at};
 ghost use Rattle.spf_engine_construct.specs.Guesses.{guesses_from, piece_of};
 
-use crate::guesses::{Stand, number_at, predict};
+use crate::guesses::{ReachedConstruct, number_at, predict};
 use spf_exec::pieces::Header;
 use spf_guess_statistics::guess::Guess;
 use std::alloc::{AllocError, Global};
@@ -44,7 +44,7 @@ fn piece_count(guesses: u64, size: u64) -> u64
 /// The guesses of expressions for `count` blocks from an index on, in order.
 pub(crate) fn predict_piece(
     alloc: Global,
-    at: Stand,
+    at: ReachedConstruct,
     header: &Header,
     from: u64,
     count: u64,
@@ -75,7 +75,7 @@ pub(crate) fn predict_piece(
 fn predict_pieces<R: Threads + Sync>(
     rt: &R,
     alloc: Global,
-    at: Stand,
+    at: ReachedConstruct,
     header: &Header,
     size: u64,
 ) -> Result<Vec<Result<Vec<Guess>, AllocError>>, AllocError>
@@ -156,7 +156,7 @@ fn join_pieces(
 pub(crate) fn predict_all<R: Threads + Sync>(
     rt: &R,
     alloc: Global,
-    at: Stand,
+    at: ReachedConstruct,
     header: &Header,
     workers: u64,
 ) -> Result<Vec<Guess>, AllocError>

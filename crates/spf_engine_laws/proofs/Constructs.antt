@@ -14,7 +14,7 @@ use Rattle.spf_ast.specs.Silence.{FunctionsAreSilent}
 use Rattle.spf_ast.specs.Carried.{Carried, with_carried}
 use Rattle.spf_ast.specs.Lawful.{Scope, names_at, IsLawfulStatement, IsLawfulBlock, scope_after}
 use Rattle.spf_exec_instance.specs.Frame.{main_slots}
-use Rattle.spf_exec.specs.Pieces.{Stand, EndsAt, TrapsAt, moment_of, ahead}
+use Rattle.spf_exec.specs.Pieces.{RunState, RunsTo, TrapsIn, moment_of, ahead}
 use Rattle.spf_ast_laws.specs.Agreement.{LookAlike}
 use Rattle.spf_ast_laws.specs.Keeping.{IsSelfContained}
 use Rattle.spf_ast_laws.specs.Chained.{chained, is_trap, IsSettledAs, IsItsBlocks}
@@ -72,13 +72,13 @@ rest-next index b line s rest e = ap (λ n. rest_from n b) (add-one index) ∙ g
 -- ---- entering a construct
 
 -- the header of the construct that stands next was done
-pub record Entered (hosts : Hosts) (p : Program) (input : List ℕ) (before after : Stand) (progress : Progress) (c : Construct) (h : Header) : Type 0 where
+pub record Entered (hosts : Hosts) (p : Program) (input : List ℕ) (before after : RunState) (progress : Progress) (c : Construct) (h : Header) : Type 0 where
   pub goes : GoesOn hosts p input before progress
   pub stands : StandsBefore (ahead p before) c
   pub header : Follows (LookAlike goes.scope.visible) (header_means (environment_of p input) c) goes.moment h (moment_of p after).state after.cells
 
 -- the statement that stands next is lawful
-first-lawful : (hosts : Hosts) (p : Program) (input : List ℕ) (s : Stand) (progress : Progress) (h : GoesOn hosts p input s progress) (c : Construct) (b : StandsBefore (ahead p s) c)
+first-lawful : (hosts : Hosts) (p : Program) (input : List ℕ) (s : RunState) (progress : Progress) (h : GoesOn hosts p input s progress) (c : Construct) (b : StandsBefore (ahead p s) c)
     → IsLawfulBlock (names_at p (length p.functions) p.slots) true h.scope (on_line b.line b.statement b.rest)
 first-lawful hosts p input s progress h c b = subst (IsLawfulBlock (names_at p (length p.functions) p.slots) true h.scope) b.is h.lawful
 
@@ -88,8 +88,8 @@ header-sees : Laws → (p : Program) (input : List ℕ) (scope : Scope) (line : 
 header-sees laws p input scope line s c is l =
     record { relates = laws.headers_see (names_at p (length p.functions) p.slots) scope line s c is l input (extents_of p (length input)) p.functions (length p.functions) }
 
-enters : Laws → (hosts : Hosts) (p : Program) (input : List ℕ) (before after : Stand) (progress : Progress) (c : Construct) (h : Header) → GoesOn hosts p input before progress → construct_first (ahead p before) ≡ Some c
-    → EndsAt p (header_means (environment_of p input) c) before after h → Entered hosts p input before after progress c h
+enters : Laws → (hosts : Hosts) (p : Program) (input : List ℕ) (before after : RunState) (progress : Progress) (c : Construct) (h : Header) → GoesOn hosts p input before progress → construct_first (ahead p before) ≡ Some c
+    → RunsTo p (header_means (environment_of p input) c) before after h → Entered hosts p input before after progress c h
 enters laws hosts p input before after progress c h goes first went =
     let b = stands-before (ahead p before) c first in
     let g = environment_of p input in
@@ -117,8 +117,8 @@ reaches-not g line s rest c m t o is e f =
     ∙ ap (λ d. unless_trapped d (λ state. reached_from g rest (moment_after (statement_means g line s) m state))) f
 
 -- its header trapped
-pub header-traps-run : Laws → (hosts : Hosts) (p : Program) (input : List ℕ) (before after : Stand) (progress : Progress) (c : Construct) (t : Trap) → GoesOn hosts p input before progress → construct_first (ahead p before) ≡ Some c
-    → TrapsAt p (header_means (environment_of p input) c) before after t → HasCome hosts p input (Stopped t after.output) progress
+pub header-traps-run : Laws → (hosts : Hosts) (p : Program) (input : List ℕ) (before after : RunState) (progress : Progress) (c : Construct) (t : Trap) → GoesOn hosts p input before progress → construct_first (ahead p before) ≡ Some c
+    → TrapsIn p (header_means (environment_of p input) c) before after t → HasCome hosts p input (Stopped t after.output) progress
 header-traps-run laws hosts p input before after progress c t goes first trapped =
     let b = stands-before (ahead p before) c first in
     let g = environment_of p input in
@@ -144,7 +144,7 @@ counts-first line s rest c e =
     is-statement line s c (λ t k. constructs_in (on_line line t rest) ≡ k ∷ constructs_in rest) (λ head body. refl) (λ head producer consumer. refl) e
 
 -- what is known of a construct that was entered, by the law on block runs
-is-its-blocks : Laws → (hosts : Hosts) (p : Program) (input : List ℕ) (before after : Stand) (progress : Progress) (c : Construct) (h : Header) (e : Entered hosts p input before after progress c h)
+is-its-blocks : Laws → (hosts : Hosts) (p : Program) (input : List ℕ) (before after : RunState) (progress : Progress) (c : Construct) (h : Header) (e : Entered hosts p input before after progress c h)
     → FunctionsAreSilent p.functions → IsSelfContained e.goes.scope.visible c
     → IsItsBlocks (environment_of p input) e.goes.scope.visible e.stands.line e.stands.statement c e.goes.moment h e.header.state (moment_of p after).state
 is-its-blocks laws hosts p input before after progress c h e silent own =
@@ -164,7 +164,7 @@ reached_as g c m h entered = record {
 -- ---- guesses
 
 -- where the construct stands in `main`
-abbrev stands-at : (hosts : Hosts) (p : Program) (input : List ℕ) (before after : Stand) (progress : Progress) (c : Construct) (h : Header) (e : Entered hosts p input before after progress c h) → StandsInMain p c
+abbrev stands-at : (hosts : Hosts) (p : Program) (input : List ℕ) (before after : RunState) (progress : Progress) (c : Construct) (h : Header) (e : Entered hosts p input before after progress c h) → StandsInMain p c
 stands-at hosts p input before after progress c h e = record {
   scope = e.goes.scope;
   line = e.stands.line;
@@ -175,7 +175,7 @@ stands-at hosts p input before after progress c h e = record {
 }
 
 -- the guesses are those at the entry of the run
-guesses-alike : Laws → (hosts : Hosts) (p : Program) (input : List ℕ) (before after : Stand) (progress : Progress) (c : Construct) (h : Header) (e : Entered hosts p input before after progress c h) (n : ℕ)
+guesses-alike : Laws → (hosts : Hosts) (p : Program) (input : List ℕ) (before after : RunState) (progress : Progress) (c : Construct) (h : Header) (e : Entered hosts p input before after progress c h) (n : ℕ)
     → guess_at hosts progress.telling p input c (reached_as (environment_of p input) c e.goes.moment h e.header.state) n ≡ entry_guess hosts progress.telling (entry_there p input c h after) n
 guesses-alike laws hosts p input before after progress c h e n =
     let x = plain_memory (header_means (environment_of p input) c e.goes.moment.state) e.goes.moment.memory in
@@ -206,7 +206,7 @@ emits-none p (fold line head body) k Predictor = refl
 emits-none p (pair line head producer consumer) k Body = refl
 emits-none p (pair line head producer consumer) k Predictor = refl
 
-contained-here : Laws → (hosts : Hosts) (p : Program) (input : List ℕ) (before after : Stand) (progress : Progress) (c : Construct) (h : Header) (e : Entered hosts p input before after progress c h) → KeepsTheRules p c → IsSelfContained e.goes.scope.visible c
+contained-here : Laws → (hosts : Hosts) (p : Program) (input : List ℕ) (before after : RunState) (progress : Progress) (c : Construct) (h : Header) (e : Entered hosts p input before after progress c h) → KeepsTheRules p c → IsSelfContained e.goes.scope.visible c
 contained-here laws hosts p input before after progress c h e keeps =
     laws.contained (names_at p (length p.functions) p.slots) e.goes.scope e.stands.line e.stands.statement c e.stands.construct
     (first-lawful hosts p input before progress e.goes c e.stands).0 e.goes.declared (assigns-none p c keeps) (emits-none p c keeps)
@@ -217,7 +217,7 @@ record IsReachedSo (hosts : Hosts) (p : Program) (input : List ℕ) (telling : L
   values_are : there.reals.values ≡ values
   alike : OneByOne PassedAlike passed (where_blocks there.header.blocks (passed_plainly hosts telling p input c there))
 
-is-reached-so : (laws : Laws) (hosts : Hosts) (p : Program) (input : List ℕ) (before after : Stand) (progress : Progress) (c : Construct) (h : Header) (e : Entered hosts p input before after progress c h)
+is-reached-so : (laws : Laws) (hosts : Hosts) (p : Program) (input : List ℕ) (before after : RunState) (progress : Progress) (c : Construct) (h : Header) (e : Entered hosts p input before after progress c h)
     → FunctionsAreSilent p.functions → KeepsTheRules p c
     → IsReachedSo hosts p input progress.telling c (reached_as (environment_of p input) c e.goes.moment h e.header.state) (entry_guess hosts progress.telling (entry_there p input c h after))
     (plain_blocks (entry_there p input c h after)).values (passed_from (entry_there p input c h after) (entry_guess hosts progress.telling (entry_there p input c h after)))
@@ -270,7 +270,7 @@ settles-trap visible entry carried t (Trapped u o) h = ap (λ w. Trapped w o) h.
 abbrev later-from : Environment → Block → List ℤ → Ending Flow → List Reached
 later-from g rest memory ending = unless_trapped ending (λ state. reached_from g rest (record { state = state; memory = memory }))
 
-reached-before : (hosts : Hosts) (p : Program) (input : List ℕ) (before after : Stand) (progress : Progress) (c : Construct) (h : Header) (e : Entered hosts p input before after progress c h) (ending : Ending Flow) (memory : List ℤ)
+reached-before : (hosts : Hosts) (p : Program) (input : List ℕ) (before after : RunState) (progress : Progress) (c : Construct) (h : Header) (e : Entered hosts p input before after progress c h) (ending : Ending Flow) (memory : List ℤ)
     → plainly (statement_means (environment_of p input) e.stands.line e.stands.statement) e.goes.moment ≡ ending
     → plain_memory (statement_means (environment_of p input) e.stands.line e.stands.statement e.goes.moment.state) e.goes.moment.memory ≡ memory
     → IsCompletedBy hosts p input (c ∷ constructs_in e.stands.rest) (reached_as (environment_of p input) c e.goes.moment h e.header.state ∷ later-from (environment_of p input) e.stands.rest memory ending) progress
@@ -285,7 +285,7 @@ reached-before hosts p input before after progress c h e ending memory ended lef
     (subst (λ d. IsCompletedBy hosts p input (c ∷ constructs_in b.rest) (reached_as g c m h e.header.state ∷ later-from g b.rest (plain_memory (statement_means g b.line b.statement m.state) m.memory) d) progress) ended there)
 
 -- where its blocks gave a row, the run goes on after it with this row and their memory
-pub settles-so : Laws → (hosts : Hosts) (p : Program) (input : List ℕ) (before after : Stand) (progress : Progress) (last : Stand) (c : Construct) (h : Header) (e : Entered hosts p input before after progress c h)
+pub settles-so : Laws → (hosts : Hosts) (p : Program) (input : List ℕ) (before after : RunState) (progress : Progress) (last : RunState) (c : Construct) (h : Header) (e : Entered hosts p input before after progress c h)
     → FunctionsAreSilent p.functions → KeepsTheRules p c → (v : Carried)
     → BlocksComeTo (entry_there p input c h after) (Ok v) last.cells
     → main_slots p last.frame ≡ with_carried (carried_of c) v (main_slots p after.frame) → last.output ≡ after.output → last.place ≡ before.place + 1
@@ -335,7 +335,7 @@ settles-so laws hosts p input before after progress last c h e silent keeps v ou
     }
 
 -- where one of its blocks trapped
-pub settles-to-trap : Laws → (hosts : Hosts) (p : Program) (input : List ℕ) (before after : Stand) (progress : Progress) (c : Construct) (h : Header) (e : Entered hosts p input before after progress c h)
+pub settles-to-trap : Laws → (hosts : Hosts) (p : Program) (input : List ℕ) (before after : RunState) (progress : Progress) (c : Construct) (h : Header) (e : Entered hosts p input before after progress c h)
     → FunctionsAreSilent p.functions → KeepsTheRules p c → (t : Trap) (memory : List ℤ)
     → BlocksComeTo (entry_there p input c h after) (Err t) memory
     → HasCome hosts p input (Stopped t after.output) (past_construct hosts (entry_there p input c h after) progress)

@@ -10,7 +10,7 @@ use Rattle.spf_ast.specs.Program.{environment_of, extents_of, start_of, zeros_of
 use Rattle.spf_ast.specs.Construct.{Moment, constructs_in, reached_from}
 use Rattle.spf_ast.specs.Pieces.{before_construct, from_construct, rest_from}
 use Rattle.spf_ast.specs.Lawful.{Scope, names_at, nothing_declared, IsLawful, IsLawfulBlock, scope_at_end}
-use Rattle.spf_exec.specs.Pieces.{Stand, HasBegun, EndsAt, TrapsAt, moment_of, ahead}
+use Rattle.spf_exec.specs.Pieces.{RunState, IsInitial, RunsTo, TrapsIn, moment_of, ahead}
 use Rattle.spf_ast_laws.specs.Agreement.{Relation, LookAlike, EndAlike, MainSeesVisibleSlots, HeadersSeeVisibleSlots}
 use Rattle.spf_ast_laws.specs.Chained.{ConstructsAreTheirBlocks, HeadersTrap}
 use Rattle.spf_ast_laws.specs.Keeping.{ConstructsAreSelfContained}
@@ -79,7 +79,7 @@ outcome-of {form} {s} {m} {x} {e} c = ap (λ d. outcome_from d (plain_memory (fo
 nothing-visible : (slot : ℕ) → Contains nothing_declared.visible slot → ⊥
 nothing-visible slot c = let wrong = c.1 in omega (arith, wrong)
 
-pub begins : (hosts : Hosts) (p : Program) (input : List ℕ) (s : Stand) → IsLawful p → HasBegun p (length input) s → GoesOn hosts p input s no_progress
+pub begins : (hosts : Hosts) (p : Program) (input : List ℕ) (s : RunState) → IsLawful p → IsInitial p (length input) s → GoesOn hosts p input s no_progress
 begins hosts p input s l b =
     let all : ahead p s ≡ p.main = ap (λ place. rest_from place p.main) b.place in
     let g = environment_of p input in
@@ -100,7 +100,7 @@ begins hosts p input s l b =
 -- ---- the end of a run
 
 -- no statement is left
-pub finishes : (hosts : Hosts) (p : Program) (input : List ℕ) (s : Stand) (progress : Progress) → GoesOn hosts p input s progress → ahead p s ≡ end → HasCome hosts p input (Done s.cells s.output) progress
+pub finishes : (hosts : Hosts) (p : Program) (input : List ℕ) (s : RunState) (progress : Progress) → GoesOn hosts p input s progress → ahead p s ≡ end → HasCome hosts p input (Done s.cells s.output) progress
 finishes hosts p input s progress h none_left =
     let g = environment_of p input in
     record {
@@ -111,7 +111,7 @@ finishes hosts p input s progress h none_left =
     }
 
 -- what is left traps and reaches no construct
-pub traps-here : (hosts : Hosts) (p : Program) (input : List ℕ) (s : Stand) (progress : Progress) (h : GoesOn hosts p input s progress) (t : Trap) (o : List ℕ) (x : List ℤ)
+pub traps-here : (hosts : Hosts) (p : Program) (input : List ℕ) (s : RunState) (progress : Progress) (h : GoesOn hosts p input s progress) (t : Trap) (o : List ℕ) (x : List ℤ)
     → Comes (main_means (environment_of p input) (ahead p s)) h.moment.state h.moment.memory (Trapped t o) x → reached_from (environment_of p input) (ahead p s) h.moment ≡ []
     → HasCome hosts p input (Stopped t o) progress
 traps-here hosts p input s progress h t o x c r =
@@ -129,8 +129,8 @@ main-follows laws p input scope b l outside =
     record { relates = laws.main_sees (names_at p (length p.functions) p.slots) scope b l outside input (extents_of p (length input)) p.functions (length p.functions) }
 
 -- the run went over them
-pub advances : Laws → (hosts : Hosts) (p : Program) (input : List ℕ) (before after : Stand) (progress : Progress) → GoesOn hosts p input before progress
-    → EndsAt p (main_means (environment_of p input) (before_construct (ahead p before))) before after tt → ahead p after ≡ from_construct (ahead p before)
+pub advances : Laws → (hosts : Hosts) (p : Program) (input : List ℕ) (before after : RunState) (progress : Progress) → GoesOn hosts p input before progress
+    → RunsTo p (main_means (environment_of p input) (before_construct (ahead p before))) before after tt → ahead p after ≡ from_construct (ahead p before)
     → GoesOn hosts p input after progress
 advances laws hosts p input before after progress h went at =
     let g = environment_of p input in
@@ -160,8 +160,8 @@ advances laws hosts p input before after progress h went at =
     }
 
 -- one of them trapped
-pub advances-to-trap : Laws → (hosts : Hosts) (p : Program) (input : List ℕ) (before after : Stand) (progress : Progress) (t : Trap) → GoesOn hosts p input before progress
-    → TrapsAt p (main_means (environment_of p input) (before_construct (ahead p before))) before after t → HasCome hosts p input (Stopped t after.output) progress
+pub advances-to-trap : Laws → (hosts : Hosts) (p : Program) (input : List ℕ) (before after : RunState) (progress : Progress) (t : Trap) → GoesOn hosts p input before progress
+    → TrapsIn p (main_means (environment_of p input) (before_construct (ahead p before))) before after t → HasCome hosts p input (Stopped t after.output) progress
 advances-to-trap laws hosts p input before after progress t h trapped =
     let g = environment_of p input in
     let front = before_construct (ahead p before) in

@@ -10,7 +10,7 @@ use Rattle.spf_ast.specs.Silence.{FunctionsAreSilent}
 use Rattle.spf_ast.specs.Lawful.{IsLawful}
 use Rattle.spf_exec.specs.declared.pieces.Pause.{Pause}
 use Rattle.spf_exec.specs.declared.pieces.Pause.TheVariants as pause
-use Rattle.spf_exec.specs.Pieces.{Stand, HasBegun, Advanced, TrapsAt, IsSettled, ahead}
+use Rattle.spf_exec.specs.Pieces.{RunState, IsInitial, Advanced, TrapsIn, IsSettled, ahead}
 use Rattle.spf_check_rules.specs.Rules.{KeepsTheRules}
 use Rattle.spf_guess_statistics.specs.Guess.{Hosts}
 use Rattle.spf_engine_laws.specs.Traces.{Trace, AreTraces}
@@ -19,10 +19,10 @@ use Rattle.spf_engine_laws.specs.Progress.{Progress, no_progress, GoesOn, IsWhol
 
 -- a run that begins goes on as the plain run of its program
 abbrev pub RunsBegin : Type 0
-RunsBegin = (hosts : Hosts) (p : Program) (input : List ℕ) (s : Stand) → IsLawful p → HasBegun p (length input) s → GoesOn hosts p input s no_progress
+RunsBegin = (hosts : Hosts) (p : Program) (input : List ℕ) (s : RunState) → IsLawful p → IsInitial p (length input) s → GoesOn hosts p input s no_progress
 
 -- a run that paused in this way goes on before a construct, or has reached its end
-abbrev pub IsPausedSo : Hosts → Program → List ℕ → Stand → Progress → Pause → Type 0
+abbrev pub IsPausedSo : Hosts → Program → List ℕ → RunState → Progress → Pause → Type 0
 IsPausedSo hosts p input s progress (pause.AtConstruct number construct) = GoesOn hosts p input s progress
 IsPausedSo hosts p input s progress pause.Finished = HasCome hosts p input (Done s.cells s.output) progress
 IsPausedSo hosts p input s progress (pause.Trapped trap) = HasCome hosts p input (Stopped trap s.output) progress
@@ -30,15 +30,15 @@ IsPausedSo hosts p input s progress (pause.Trapped trap) = HasCome hosts p input
 -- so it is after a run was advanced
 abbrev pub RunsAdvance : Type 0
 RunsAdvance =
-    (hosts : Hosts) (p : Program) (input : List ℕ) (before after : Stand) (progress : Progress) (paused : Pause)
+    (hosts : Hosts) (p : Program) (input : List ℕ) (before after : RunState) (progress : Progress) (paused : Pause)
     → GoesOn hosts p input before progress → Advanced p input before after paused → IsPausedSo hosts p input after progress paused
 
 -- a header that traps ends the run
 abbrev pub HeadersEndRuns : Type 0
 HeadersEndRuns =
-    (hosts : Hosts) (p : Program) (input : List ℕ) (before after : Stand) (progress : Progress) (construct : Construct) (trap : Trap)
+    (hosts : Hosts) (p : Program) (input : List ℕ) (before after : RunState) (progress : Progress) (construct : Construct) (trap : Trap)
     → GoesOn hosts p input before progress → construct_first (ahead p before) ≡ Some construct
-    → TrapsAt p (header_means (environment_of p input) construct) before after trap
+    → TrapsIn p (header_means (environment_of p input) construct) before after trap
     → HasCome hosts p input (Stopped trap after.output) progress
 
 -- A run has entered a construct that keeps the rules, its blocks came to a row in the run's cells, and it was settled
@@ -46,7 +46,7 @@ HeadersEndRuns =
 abbrev pub ConstructsSettle : Type 0
 ConstructsSettle =
     (hosts : Hosts) (p : Program) (input : List ℕ) (progress : Progress) (construct : Construct) (header : Header)
-    (after now last : Stand) (value : Carried)
+    (after now last : RunState) (value : Carried)
     → HasEntered hosts p input construct header after progress → FunctionsAreSilent p.functions → KeepsTheRules p construct
     → IsLeftThere after now → BlocksComeTo (entry_there p input construct header after) (Ok value) now.cells
     → IsSettled p construct now last value
@@ -56,7 +56,7 @@ ConstructsSettle =
 abbrev pub ConstructsEndRuns : Type 0
 ConstructsEndRuns =
     (hosts : Hosts) (p : Program) (input : List ℕ) (progress : Progress) (construct : Construct) (header : Header)
-    (after : Stand) (trap : Trap) (memory : List ℤ)
+    (after : RunState) (trap : Trap) (memory : List ℤ)
     → HasEntered hosts p input construct header after progress → FunctionsAreSilent p.functions → KeepsTheRules p construct
     → BlocksComeTo (entry_there p input construct header after) (Err trap) memory
     → HasCome hosts p input (Stopped trap after.output) (past_construct hosts (entry_there p input construct header after) progress)

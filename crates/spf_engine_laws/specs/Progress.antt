@@ -11,7 +11,7 @@ use Rattle.spf_ast.specs.Construct.{Moment, Construct, Header, header_means, con
 use Rattle.spf_ast.specs.Pieces.{construct_first}
 use Rattle.spf_ast.specs.Lawful.{Scope, names_at, IsLawfulBlock}
 use Rattle.spf_exec_instance.specs.Frame.{main_slots}
-use Rattle.spf_exec.specs.Pieces.{Stand, EndsAt, moment_of, ahead}
+use Rattle.spf_exec.specs.Pieces.{RunState, RunsTo, moment_of, ahead}
 use Rattle.spf_ast_laws.specs.Agreement.{LookAlike}
 use Rattle.spf_ast_laws.specs.Keeping.{AreDeclared}
 use Rattle.spf_speculation_entry.specs.Entry.{Entry, plain_blocks, number_of}
@@ -52,7 +52,7 @@ pub record IsCompletedBy (hosts : Hosts) (p : Program) (input : List ℕ) (const
 -- A run of a lawful program is where its plain run is at the same place: they agree on the slots that are visible
 -- there, on the output and on the memory. What the plain run does from this moment on gives the program's outcome,
 -- and completes the run's progress.
-pub record GoesOn (hosts : Hosts) (p : Program) (input : List ℕ) (s : Stand) (progress : Progress) : Type 0 where
+pub record GoesOn (hosts : Hosts) (p : Program) (input : List ℕ) (s : RunState) (progress : Progress) : Type 0 where
   pub scope : Scope
   pub moment : Moment
   pub there : IsAt p input (ahead p s) moment
@@ -69,7 +69,7 @@ pub record GoesOn (hosts : Hosts) (p : Program) (input : List ℕ) (s : Stand) (
 -- ---- constructs
 
 -- the entry of a construct at which a run stands, with this header
-abbrev pub entry_there : Program → List ℕ → Construct → Header → Stand → Entry
+abbrev pub entry_there : Program → List ℕ → Construct → Header → RunState → Entry
 entry_there p input c h s = record {
   program = p;
   construct = c;
@@ -101,15 +101,15 @@ abbrev pub past_construct : Hosts → Entry → Progress → Progress
 past_construct hosts e progress = with_construct e (entry_guess hosts progress.telling e) progress
 
 -- a run has reached a construct and done its header, which left it here
-pub record HasEntered (hosts : Hosts) (p : Program) (input : List ℕ) (c : Construct) (h : Header) (s : Stand) (progress : Progress) : Type 0 where
-  pub before : Stand
+pub record HasEntered (hosts : Hosts) (p : Program) (input : List ℕ) (c : Construct) (h : Header) (s : RunState) (progress : Progress) : Type 0 where
+  pub before : RunState
   pub goes : GoesOn hosts p input before progress
   pub first : construct_first (ahead p before) ≡ Some c
-  pub header : EndsAt p (header_means (environment_of p input) c) before s h
+  pub header : RunsTo p (header_means (environment_of p input) c) before s h
   pub place : s.place ≡ before.place
 
 -- the run was left where the header left it, but for its cells
-pub record IsLeftThere (after now : Stand) : Type 0 where
+pub record IsLeftThere (after now : RunState) : Type 0 where
   pub frame : now.frame ≡ after.frame
   pub output : now.output ≡ after.output
   pub place : now.place ≡ after.place

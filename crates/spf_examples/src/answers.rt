@@ -3,7 +3,7 @@
 use crate::table::{Reader, Row, words};
 use spf_apps_formats::toy::toy_machine;
 use spf_cli::run_file;
-use spf_cli_shell::answer;
+use spf_cli_shell::run_words;
 use spf_edge::{MemFiles, MemSink};
 use spf_guess::{Last, Predictor};
 use spf_ticket_gate::Open;
@@ -99,7 +99,7 @@ fn is_answered<R: Threads + Wait + Sync>(
     let mut files = files(alloc, reader, row)?;
     let mut out = sink(alloc, row.failing_put)?;
     let mut err = sink(alloc, row.failing_line)?;
-    let status = answer(rt, alloc, &words, &mut files, &mut out, &mut err);
+    let status = run_words(rt, alloc, &words, &mut files, &mut out, &mut err);
     Ok(is_wanted(row, status, &out, &err) && is_done_so(alloc, row, &files, &out)?)
 }
 

@@ -5,7 +5,7 @@
 //! is an output; and the lines of the error stream.
 
 use crate::table::words;
-use spf_cli_shell::answer;
+use spf_cli_shell::run_words;
 use spf_edge::{FetchError, Files, MemSink};
 use std::alloc::{AllocError, Global};
 use std::sync::Wait;
@@ -82,7 +82,7 @@ pub fn is_as_expected<R: Threads + Wait + Sync, F: Files>(
     };
     let mut out = MemSink::make(Vec::new(alloc), 0);
     let mut err = MemSink::make(Vec::new(alloc), 0);
-    let status = answer(rt, alloc, &words, files, &mut out, &mut err);
+    let status = run_words(rt, alloc, &words, files, &mut out, &mut err);
     let is_status = run
         .status
         .parse::<u8>()

@@ -14,7 +14,7 @@ use Rattle.spf_ast.specs.Carried.{Carried, with_carried}
 use Rattle.spf_ast.specs.Meaning.{main_means}
 use Rattle.spf_exec.specs.declared.pieces.Pause.{Pause}
 use Rattle.spf_exec.specs.declared.pieces.Pause.TheVariants as pause
-use Rattle.spf_exec.specs.Pieces.{Stand, EndsAt, Advanced, ahead}
+use Rattle.spf_exec.specs.Pieces.{RunState, RunsTo, Advanced, ahead}
 use Rattle.spf_exec.proofs.Constructs.{constructs_from}
 
 -- none of these first statements is a construct
@@ -104,8 +104,8 @@ count_is [] = refl
 count_is (x ∷ xs) = ap suc (count_is xs)
 
 -- a run that went on is where its pause says
-pub advanced_ok : (p : Program) (input : List ℕ) (before after : Stand) (number : ℕ) (o : Option code_top.TopConstruct) (at_ : Pause)
-    → EndsAt p (main_means (environment_of p input) (before_construct (ahead p before))) before after tt
+pub advanced_ok : (p : Program) (input : List ℕ) (before after : RunState) (number : ℕ) (o : Option code_top.TopConstruct) (at_ : Pause)
+    → RunsTo p (main_means (environment_of p input) (before_construct (ahead p before))) before after tt
     → ahead p after ≡ from_construct (ahead p before)
     → number + length (constructs_in (ahead p before)) ≡ length (constructs_in p.main)
     → MatchOption o (from_construct (ahead p before) ≡ end) (λ c. construct_first (from_construct (ahead p before)) ≡ Some (seen_construct c))

@@ -35,11 +35,11 @@ use Rattle.spf_exec_memory.specs.declared.memory.Halt.{Halt}
 use Rattle.spf_exec_memory.specs.declared.plain.Plain.{Plain}
 use Rattle.spf_exec_memory.specs.Performs.{Performs, state}
 use Rattle.spf_exec_memory.specs.PlainMemory.{IsPlainOutcome}
-use Rattle.spf_exec.specs.declared.block_run.Block as code_block
+use Rattle.spf_exec.specs.declared.block_run.BlockRun as code_block
 use Rattle.spf_exec.specs.declared.pieces.Header as code_header
 use Rattle.spf_exec.specs.declared.pieces.Pause.{Pause}
 use Rattle.spf_exec.specs.declared.tables.Arity.{Arity}
-use Rattle.spf_exec.specs.Pieces.{Stand, stand, Advanced, HeaderDone, IsHeaderAnswer, header_result}
+use Rattle.spf_exec.specs.Pieces.{RunState, run_state, Advanced, HeaderDone, IsHeaderAnswer, header_result}
 use Rattle.spf_exec.specs.Sources.{callable_of, construct_needs, RunsAs, GivesAs, reads_row, wholly}
 use Rattle.spf_exec.specs.Tables.{IsAnswer, arguments_at}
 
@@ -71,7 +71,7 @@ shown i registers output = state (main_slots (program_of i) registers) output
 
 -- the statements of `main` from one index up to another one
 abbrev pub statements_between : InstanceValue → ℕ → ℕ → Block
-statements_between i from to = seen_block (take (to - from) (drop from i.code.main.items))
+statements_between i from to = seen_block (take (to - from) (drop from i.source.main.items))
 
 -- before this statement of `main` stand so many top constructs
 abbrev pub HasPassed : InstanceValue → ℕ → ℕ → Type 0
@@ -89,11 +89,11 @@ abbrev pub pair_at : ℕ → code_pair.Pair → Construct
 pair_at line f = pair line (pair_head f) (seen_block (out-Pair f).producer.items) (seen_block (out-Pair f).consumer.items)
 
 -- a fold as the construct of a block
-abbrev pub fold_of : code_block.Block → code_fold.Fold → Construct
+abbrev pub fold_of : code_block.BlockRun → code_fold.Fold → Construct
 fold_of b f = fold_at b.construct.line f
 
 -- a pair as the construct of a block
-abbrev pub pair_of : code_block.Block → code_pair.Pair → Construct
+abbrev pub pair_of : code_block.BlockRun → code_pair.Pair → Construct
 pair_of b f = pair_at b.construct.line f
 
 -- the statements from the first top construct on
@@ -182,19 +182,19 @@ RowPerforms i leads stop may_lack output k registers after from to result =
 -- ---- blocks and guesses
 
 -- what the part of a block means
-abbrev pub block_part : code_block.Block → Environment → Meaning Carried
+abbrev pub block_part : code_block.BlockRun → Environment → Meaning Carried
 block_part b g = part_means g (seen_construct b.construct) b.part b.number b.value
 
 -- what the part of a block means, of this fold
-abbrev pub fold_part : code_block.Block → code_fold.Fold → Environment → Meaning Carried
+abbrev pub fold_part : code_block.BlockRun → code_fold.Fold → Environment → Meaning Carried
 fold_part b f g = part_means g (fold_of b f) b.part b.number b.value
 
 -- what the part of a block means, of this pair and with this block number
-abbrev pub pair_part : code_block.Block → code_pair.Pair → ℤ → Environment → Meaning Carried
+abbrev pub pair_part : code_block.BlockRun → code_pair.Pair → ℤ → Environment → Meaning Carried
 pair_part b f number g = part_means g (pair_of b f) b.part number b.value
 
 -- what a block asks of the memory when it is run on these registers, with an empty output
-abbrev pub block_asks : InstanceValue → code_block.Block → List ℤ → Interaction (Ending Carried)
+abbrev pub block_asks : InstanceValue → code_block.BlockRun → List ℤ → Interaction (Ending Carried)
 block_asks i b registers =
     part_asks (program_of i) (seen_construct b.construct) b.part (block_setup i.input (main_slots (program_of i) registers) b.number b.value)
 
@@ -216,8 +216,8 @@ RunsBetween i from to registers after before later result =
     before.cells.items later.cells.items (shown i after later.output.items)
 
 -- a run that stood here advanced to this place, and paused so
-abbrev pub AdvancedTo : InstanceValue → Stand → List ℤ → Plain → ℕ × Pause → Type 0
-AdvancedTo i before frame memory r = Advanced (program_of i) i.input before (stand frame memory r.0 before.passed) r.1
+abbrev pub AdvancedTo : InstanceValue → RunState → List ℤ → Plain → ℕ × Pause → Type 0
+AdvancedTo i before frame memory r = Advanced (program_of i) i.input before (run_state frame memory r.0 before.passed) r.1
 
 -- what the header of a fold asks of the memory
 abbrev pub header_asks : InstanceValue → ℕ → code_fold.Fold → List ℤ → Plain → Interaction (Ending Header)
@@ -241,4 +241,4 @@ HeaderAnswers i line f registers before result =
 -- wherever a run stands with this frame and memory, the header of a construct was performed there
 abbrev pub HeaderDoneAnywhere : InstanceValue → Construct → List ℤ → Plain → List ℤ → Plain → Result code_header.Header Trap → Type 0
 HeaderDoneAnywhere i construct frame memory after later result =
-    (place passed : ℕ) → HeaderDone (program_of i) i.input construct (stand frame memory place passed) (stand after later place passed) result
+    (place passed : ℕ) → HeaderDone (program_of i) i.input construct (run_state frame memory place passed) (run_state after later place passed) result

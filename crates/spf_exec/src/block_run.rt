@@ -40,7 +40,7 @@ use spf_exec_memory::quiet::{Quiet, ReadOnly};
 /// One block of a top construct: which part of the construct it runs, and with which block number
 /// and carried row.
 #[derive(Clone, Copy)]
-pub struct Block<'a> {
+pub struct BlockRun<'a> {
     pub construct: TopConstruct<'a>,
     /// Which of the program's top constructs it is, counted from 0.
     pub index: u32,
@@ -90,7 +90,7 @@ fn zeros(carried: &[u32]) -> Row
 fn perform_fold<M: Memory>(
     instance: &Instance,
     code: &ConstructCode,
-    block: &Block,
+    block: &BlockRun,
     fold: &Fold,
     registers: &mut [i64],
     memory: &mut M,
@@ -122,7 +122,7 @@ fn perform_fold<M: Memory>(
 fn perform_pair<M: Memory>(
     instance: &Instance,
     code: &ConstructCode,
-    block: &Block,
+    block: &BlockRun,
     pair: &Pair,
     registers: &mut [i64],
     memory: &mut M,
@@ -156,7 +156,7 @@ fn perform_pair<M: Memory>(
 fn perform_part<M: Memory>(
     instance: &Instance,
     code: &ConstructCode,
-    block: &Block,
+    block: &BlockRun,
     registers: &mut [i64],
     memory: &mut M,
 ) -> Result<Row, Halt>
@@ -181,7 +181,7 @@ fn perform_part<M: Memory>(
 /// Performs a part of a top construct over the slots of `main`.
 fn run_part<M: Memory>(
     instance: &Instance,
-    block: &Block,
+    block: &BlockRun,
     frame: &mut Frame,
     memory: &mut M,
 ) -> Result<Row, Halt>
@@ -204,7 +204,7 @@ fn run_part<M: Memory>(
 /// Performs a part of a top construct that holds no `emit`.
 fn run_quietly<M: Memory>(
     instance: &Instance,
-    block: &Block,
+    block: &BlockRun,
     frame: &mut Frame,
     quiet: &mut Quiet<M>,
 ) -> Result<Row, Halt>
@@ -234,7 +234,7 @@ fn run_quietly<M: Memory>(
 /// memory's output.
 pub fn exec_block<M: Memory>(
     instance: &Instance,
-    block: &Block,
+    block: &BlockRun,
     frame: &mut Frame,
     memory: &mut M,
 ) -> Stop

@@ -18,8 +18,8 @@ ghost use Rattle.spf_ast.specs.Silence.{FunctionsAreSilent};
 ghost use Rattle.spf_exec_instance.specs.Frame.{frame_size, main_slots};
 ghost use Rattle.spf_exec_instance.specs.Instance.{program_of};
 ghost use Rattle.spf_exec_memory.specs.Performs.{IsDecided};
-ghost use Rattle.spf_exec.specs.Pieces.{Stand, IsRunOf, refilled, HasBegun, Advanced};
-ghost use Rattle.spf_exec.specs.Pieces.{header_result, stand, HeaderDone};
+ghost use Rattle.spf_exec.specs.Pieces.{RunState, IsStateOf, refilled, IsInitial, Advanced};
+ghost use Rattle.spf_exec.specs.Pieces.{header_result, run_state, HeaderDone};
 ghost use Rattle.spf_exec.specs.Pieces.{IsSettled, ahead};
 ghost use Rattle.spf_code_lowering.specs.Adding.{fold_statement};
 ghost use Rattle.spf_exec.specs.Instances.{HasPassed, fold_at, from_first};
@@ -80,9 +80,9 @@ pub struct Run {
 }
 
 impl Model for Run {
-    ghost use Rattle.spf_exec.specs.Pieces.{Stand};
+    ghost use Rattle.spf_exec.specs.Pieces.{RunState};
 
-    ghost Value = { Stand };
+    ghost Value = { RunState };
 
     ghost view = { λ r. record {
       frame = r.frame;
@@ -154,7 +154,7 @@ fn perform_between(
         ≡ cell_count_of (program_of instance.now) (length instance.now.input) }
     requires frame { length frame.old ≡ frame_size (program_of instance.now) }
     requires order { from ≤ to }
-    requires within { to ≤ length instance.now.code.main.items }
+    requires within { to ≤ length instance.now.source.main.items }
     ensures outcome { RunsBetween instance.now from to frame.old frame.new memory.old memory.new
         result }
     ensures cells { length memory.new.cells.items ≡ length memory.old.cells.items }
@@ -175,12 +175,12 @@ fn advance_from<'a>(
     requires cells { length memory.old.cells.items
         ≡ cell_count_of (program_of instance.now) (length instance.now.input) }
     requires frame { length frame.old ≡ frame_size (program_of instance.now) }
-    requires within { place ≤ length instance.now.code.main.items }
+    requires within { place ≤ length instance.now.source.main.items }
     requires passed { HasPassed instance.now place passed }
     requires few_constructs { length (constructs_in (program_of instance.now).main) < 2 ^ 32 }
     ensures advanced { IfOk result
-        (AdvancedTo instance.now (stand frame.old memory.old place passed) frame.new memory.new) }
-    ensures place { IfOk result (λ r. r.0 ≤ length instance.now.code.main.items) }
+        (AdvancedTo instance.now (run_state frame.old memory.old place passed) frame.new memory.new) }
+    ensures place { IfOk result (λ r. r.0 ≤ length instance.now.source.main.items) }
     ensures passed { IfOk result (λ r. HasPassed instance.now r.0 passed) }
     ensures cells { length memory.new.cells.items ≡ length memory.old.cells.items }
     ensures size { length frame.new ≡ length frame.old }
@@ -361,9 +361,9 @@ impl Run {
     /// `AllocError` where there is no memory for it.
     pub fn start(alloc: Global, instance: &Instance) -> Result<Run, AllocError>
         ensures run { IfOk result
-            (λ r. IsRunOf (program_of instance.now) (length instance.now.input) r) }
+            (λ r. IsStateOf (program_of instance.now) (length instance.now.input) r) }
         ensures begins { IfOk result
-            (λ r. HasBegun (program_of instance.now) (length instance.now.input) r) }
+            (λ r. IsInitial (program_of instance.now) (length instance.now.input) r) }
     {
         let frame = Frame::make(alloc, instance)?;
         let cells = vec![in alloc; 0i64; instance.layout().cells() as usize]?;
@@ -386,11 +386,11 @@ impl Run {
     ///
     /// `AllocError` where there is no memory for the output.
     pub fn advance<'a>(&mut self, instance: &Instance<'a>) -> Result<Pause<'a>, AllocError>
-        requires run { IsRunOf (program_of instance.now) (length instance.now.input) self.old }
+        requires run { IsStateOf (program_of instance.now) (length instance.now.input) self.old }
         requires few_constructs { length (constructs_in (program_of instance.now).main) < 2 ^ 32 }
         ensures advanced { IfOk result (λ pause.
             Advanced (program_of instance.now) instance.now.input self.old self.new pause) }
-        ensures run { IsRunOf (program_of instance.now) (length instance.now.input) self.new }
+        ensures run { IsStateOf (program_of instance.now) (length instance.now.input) self.new }
     {
         let (place, pause) = advance_from(
             instance,
@@ -411,14 +411,14 @@ impl Run {
     /// The trap, where one comes, also where there are more than 4,096 blocks. The run is of no
     /// further use then, but for its output.
     pub fn header(&mut self, instance: &Instance, construct: TopConstruct) -> Result<Header, Trap>
-        requires run { IsRunOf (program_of instance.now) (length instance.now.input) self.old }
+        requires run { IsStateOf (program_of instance.now) (length instance.now.input) self.old }
         requires silent { FunctionsAreSilent (program_of instance.now).functions }
         requires construct { construct_first (ahead (program_of instance.now) self.old)
             ≡ Some (seen_construct construct) }
         ensures header { HeaderDone (program_of instance.now) instance.now.input
             (seen_construct construct.entry) self.old self.new result }
         ensures place { self.new.place ≡ self.old.place }
-        ensures run { IsRunOf (program_of instance.now) (length instance.now.input) self.new }
+        ensures run { IsStateOf (program_of instance.now) (length instance.now.input) self.new }
         ensures few { IfOk result (λ h. h.blocks ≤ max_blocks) }
         ensures numbers { IfOk result (λ h. (h.low +ℤ pos h.blocks) ≤ℤ i64.MAX) }
     {
@@ -434,12 +434,12 @@ impl Run {
     /// Settles the top construct that stands next: puts its row into its carried slots and goes
     /// past it.
     pub fn settle(&mut self, instance: &Instance, construct: TopConstruct, value: Row)
-        requires run { IsRunOf (program_of instance.now) (length instance.now.input) self.old }
+        requires run { IsStateOf (program_of instance.now) (length instance.now.input) self.old }
         requires construct { construct_first (ahead (program_of instance.now) self.old)
             ≡ Some (seen_construct construct) }
         ensures settled { IsSettled (program_of instance.now) (seen_construct construct.entry)
             self.old self.new value }
-        ensures run { IsRunOf (program_of instance.now) (length instance.now.input) self.new }
+        ensures run { IsStateOf (program_of instance.now) (length instance.now.input) self.new }
     {
         let statements = instance.program().main.len();
         prove!(self.place < statements);

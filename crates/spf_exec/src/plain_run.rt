@@ -36,7 +36,7 @@ fn perform_statements<M: Memory>(
         ≡ cell_count_of (program_of instance.now) (length instance.now.input) }
     requires frame { length registers.old ≡ frame_size (program_of instance.now) }
     requires order { from ≤ to }
-    requires within { to ≤ length instance.now.code.main.items }
+    requires within { to ≤ length instance.now.source.main.items }
     ensures performs { PerformsIn instance.now M.leads M.stop M.may_lack_memory M.output
         (λ g. main_means g (statements_between instance.now from to)) registers.old registers.new
         memory.old memory.new result }
@@ -61,7 +61,7 @@ pub(crate) fn run_main(
         ≡ cell_count_of (program_of instance.now) (length instance.now.input) }
     requires frame { length registers.old ≡ frame_size (program_of instance.now) }
     requires order { from ≤ to }
-    requires within { to ≤ length instance.now.code.main.items }
+    requires within { to ≤ length instance.now.source.main.items }
     ensures outcome { RunsBetween instance.now from to registers.old registers.new memory.old
         memory.new result }
     ensures cells { length memory.new.cells.items ≡ length memory.old.cells.items }

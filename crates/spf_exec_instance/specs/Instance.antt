@@ -13,12 +13,12 @@ use Rattle.spf_exec_instance.specs.Frame.{frame_size}
 
 -- the program and the input
 pub record InstanceValue : Type 0 where
-  pub code : code.Program
+  pub source : code.Program
   pub input : List ℕ
 
 -- the program as plain data
 abbrev pub program_of : InstanceValue → Program
-program_of i = program i.code
+program_of i = program i.source
 
 -- the program is orderly, the layout is that of the program for the input's length, the lowered code and the frame's size are the program's, the tables have the functions' answers, and the input's length is a word
 pub record IsInstance (p : Program) (input : List ℕ) (l : LayoutValue) (lowered : ProgramCode) (registers : ℕ) : Type 0 where

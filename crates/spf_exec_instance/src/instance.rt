@@ -44,7 +44,7 @@ impl<'a> Model for Instance<'a> {
 
     ghost Value = { InstanceValue };
 
-    ghost view = { λ i. record { code = i.program.now; input = i.input.now } };
+    ghost view = { λ i. record { source = i.program.now; input = i.input.now } };
 
     ghost invariant = { λ i.
         IsInstance (seen_program i.program.now) i.input.now i.layout i.code i.frame_size };
@@ -87,7 +87,7 @@ impl<'a> Instance<'a> {
 
     /// Returns the program.
     pub fn program(&self) -> &'a Program
-        ensures { result.now ≡ self.now.code }
+        ensures { result.now ≡ self.now.source }
     {
         self.program
     }

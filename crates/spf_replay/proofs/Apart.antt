@@ -11,7 +11,7 @@ use Rattle.spf_exec_instance.specs.Frame.{main_slots}
 use Rattle.spf_exec_instance.specs.Instance.{program_of}
 use Rattle.spf_exec_memory.specs.Performs.{performed_as, IsDecided, state}
 use Rattle.spf_exec.specs.BlockRuns.{stop_result}
-use Rattle.spf_exec.specs.declared.block_run.Block.{Block}
+use Rattle.spf_exec.specs.declared.block_run.BlockRun.{BlockRun}
 use Rattle.spf_exec.specs.declared.stop.Stop.{Stop}
 use Rattle.spf_region.specs.Cells.{in_spans}
 use Rattle.spf_speculation_entry.specs.Entry.{Entry, IsEntry, own, asks_at}
@@ -22,7 +22,7 @@ use Rattle.spf_replay.specs.Recording.{StoresWithin}
 use Rattle.spf_replay.proofs.Performing.{is-decided, reads-all}
 
 -- what a block asks in its context
-pub asks-in : (e : Entry) (n : ℕ) (context : BlockContext) (block : Block) → IsContextOf e n context block
+pub asks-in : (e : Entry) (n : ℕ) (context : BlockContext) (block : BlockRun) → IsContextOf e n context block
     → part_asks (program_of context.instance.now) (seen_construct block.construct) block.part
     (block_setup context.instance.now.input (main_slots (program_of context.instance.now) context.frame.now) block.number block.value)
     ≡ asks_at e n block.value
@@ -36,7 +36,7 @@ stores-within cells (Store c v ∷ es) h = (h c v (first-in (Store c v) es), sto
 stores-within cells (Turn k ∷ es) h = stores-within cells es (λ d w i. h d w (later-in (Turn k) (Store d w) es i))
 
 -- an attempt that was performed stores only cells of its block
-pub recorded-within : (e : Entry) (n : ℕ) (context : BlockContext) (block : Block) (t : Interaction (Ending Carried)) (s : Stop) (es : List Event) (slots : List ℤ)
+pub recorded-within : (e : Entry) (n : ℕ) (context : BlockContext) (block : BlockRun) (t : Interaction (Ending Carried)) (s : Stop) (es : List Event) (slots : List ℤ)
     → IsEntry e → IsContextOf e n context block → t ≡ asks_at e n block.value
     → (IsDecided (stop_result s) → (rest : List Event) → perform every_cell [] (Some 1) t (es ++ rest) ≡ performed_as (stop_result s) (state slots []) rest)
     → StoresWithin (in_spans context.spans.now) es

@@ -20,7 +20,7 @@ use Rattle.spf_replay_log.specs.declared.log.Event as logged
 use Rattle.spf_speculation_entry.specs.Entry.{Entry, own, asks_at, begins_at}
 use Rattle.spf_speculation_entry.specs.Attempts.{attempted}
 use Rattle.spf_speculation.specs.Runs.{IsRealLog, at_once, again}
-use Rattle.spf_exec.specs.declared.block_run.Block.{Block}
+use Rattle.spf_exec.specs.declared.block_run.BlockRun.{BlockRun}
 use Rattle.spf_replay.specs.declared.context.BlockContext.{BlockContext}
 use Rattle.spf_replay.specs.Reading.{event_of}
 use Rattle.spf_replay.specs.Attempts.{ComesTo}
@@ -32,7 +32,7 @@ use Rattle.spf_replay.proofs.Cutting.{left_by, grown, cut}
 -- ---- contexts
 
 -- an attempt at a context is one of the entry's block
-pub attempt-at : (e : Entry) (n : ℕ) (context : BlockContext) (block : Block) (value : Carried) (a : ℕ) (es : List Event) → IsContextOf e n context block
+pub attempt-at : (e : Entry) (n : ℕ) (context : BlockContext) (block : BlockRun) (value : Carried) (a : ℕ) (es : List Event) → IsContextOf e n context block
     → perform (in_spans context.spans.now) context.entry.now (Some a)
     (part_asks (program_of context.instance.now) (seen_construct block.construct) block.part
     (block_setup context.instance.now.input (main_slots (program_of context.instance.now) context.frame.now) block.number value)) es
@@ -162,7 +162,7 @@ left-at came log (stop.Cancelled seen) at h = ap left_by h.1
 -- ---- what the code finds
 
 -- an attempt that was read in a context, as one of the entry's block
-pub comes-at : (e : Entry) (n : ℕ) (context : BlockContext) (block : Block) (other : Carried) (a : ℕ) (log : List logged.Event) (at : ℕ) (end : Option (Stop × ℕ)) → IsContextOf e n context block
+pub comes-at : (e : Entry) (n : ℕ) (context : BlockContext) (block : BlockRun) (other : Carried) (a : ℕ) (log : List logged.Event) (at : ℕ) (end : Option (Stop × ℕ)) → IsContextOf e n context block
     → block.value ≡ other
     → ComesTo (perform (in_spans context.spans.now) context.entry.now (Some a)
     (part_asks (program_of context.instance.now) (seen_construct block.construct) block.part
@@ -172,7 +172,7 @@ comes-at e n context block other a log at end s same h =
     subst (λ x. ComesTo x log end) (attempt-at e n context block block.value a (map event_of (drop at log)) s ∙ ap (λ v. attempted e n v a (map event_of (drop at log))) same) h
 
 -- a block that differs from another one in its row alone
-pub moved : (e : Entry) (n : ℕ) (context : BlockContext) (block other : Block) → other.construct ≡ block.construct → other.part ≡ block.part → other.number ≡ block.number
+pub moved : (e : Entry) (n : ℕ) (context : BlockContext) (block other : BlockRun) → other.construct ≡ block.construct → other.part ≡ block.part → other.number ≡ block.number
     → IsContextOf e n context block → IsContextOf e n context other
 moved e n context block other same part number h = record {
   program = h.program;
@@ -185,7 +185,7 @@ moved e n context block other same part number h = record {
   number = number ∙ h.number;
 }
 
-pub still-runs : (context : BlockContext) (block other : Block) → other.construct ≡ block.construct → other.index ≡ block.index → other.part ≡ block.part
+pub still-runs : (context : BlockContext) (block other : BlockRun) → other.construct ≡ block.construct → other.index ≡ block.index → other.part ≡ block.part
     → CanRun context block → CanRun context other
 still-runs context block other same index part h = record {
   top = ap (slice_get (constructs_in (program_of context.instance.now).main)) index ∙ h.top ∙ ap (λ k. Some (seen_construct k)) (sym same);

@@ -10,7 +10,7 @@ use Rattle.spf_ast.specs.Program.{cell_count_of}
 use Rattle.spf_ast.specs.Silence.{FunctionsAreSilent, PartIsSilent}
 use Rattle.spf_exec_instance.specs.Frame.{frame_size, main_slots}
 use Rattle.spf_exec_instance.specs.Instance.{InstanceValue, program_of}
-use Rattle.spf_exec.specs.declared.block_run.Block.{Block}
+use Rattle.spf_exec.specs.declared.block_run.BlockRun.{BlockRun}
 use Rattle.spf_region.specs.Cells.{in_spans}
 use Rattle.spf_speculation_entry.specs.Entry.{own, number_of}
 use Rattle.spf_replay.specs.declared.context.BlockContext.{BlockContext}
@@ -25,7 +25,7 @@ no-predictor (pair line head producer consumer) zero is = cc
 no-predictor (pair line head producer consumer) (suc n) is = cc
 
 -- the blocks of a construct can be run
-pub can-run : (c : EnteredConstruct) (n : ℕ) (context : BlockContext) (block : Block) → IsEntered c
+pub can-run : (c : EnteredConstruct) (n : ℕ) (context : BlockContext) (block : BlockRun) → IsEntered c
     → context.instance.now ≡ c.instance.now → context.frame.now ≡ c.frame.now → context.entry.now ≡ c.cells.now
     → block.construct ≡ c.construct → block.index ≡ c.index → block.part ≡ part_of (seen_construct c.construct) n → CanRun context block
 can-run c n context block h instance frame entry same index part = record {
@@ -38,7 +38,7 @@ can-run c n context block h instance frame entry same index part = record {
 }
 
 -- they are those of its entry
-pub context-of : (c : EnteredConstruct) (n : ℕ) (context : BlockContext) (block : Block)
+pub context-of : (c : EnteredConstruct) (n : ℕ) (context : BlockContext) (block : BlockRun)
     → context.instance.now ≡ c.instance.now → context.frame.now ≡ c.frame.now → context.entry.now ≡ c.cells.now
     → ((cell : ℕ) → in_spans context.spans.now cell ≡ own (entry_of c) n cell)
     → block.construct ≡ c.construct → block.part ≡ part_of (seen_construct c.construct) n → block.number ≡ number_of (entry_of c) n

@@ -18,7 +18,7 @@ use Rattle.spf_ast.specs.ConstructView.{construct}
 use Rattle.spf_ast.specs.declared.construct.TopConstruct.{TopConstruct}
 use Rattle.spf_exec_instance.specs.Frame.{main_slots}
 use Rattle.spf_exec_instance.specs.Instance.{InstanceValue, program_of}
-use Rattle.spf_exec.specs.declared.block_run.Block.{Block}
+use Rattle.spf_exec.specs.declared.block_run.BlockRun.{BlockRun}
 use Rattle.spf_exec.specs.declared.pieces.Header.{Header}
 use Rattle.spf_replay.specs.Plainly.{BlockGives, AreRunPlainly, entry_from}
 
@@ -82,7 +82,7 @@ rest-traps e values new n left less v trap m now size is h k =
     }
 
 -- what the code's block gives is what the entry's block does
-pub gives-at : (i : InstanceValue) (k : TopConstruct) (h : Header) (frame memory : List ℤ) (n : ℕ) (v : Carried) (b : Block) (m now : List ℤ) (r : Result Carried Trap)
+pub gives-at : (i : InstanceValue) (k : TopConstruct) (h : Header) (frame memory : List ℤ) (n : ℕ) (v : Carried) (b : BlockRun) (m now : List ℤ) (r : Result Carried Trap)
     → b.construct ≡ k → b.part ≡ part_of (construct k) n → b.number ≡ h.low +ℤ pos n → b.value ≡ v
     → BlockGives (part_asks (program_of i) (construct b.construct) b.part (block_setup i.input (main_slots (program_of i) frame) b.number b.value)) m r now
     → BlockGives (asks_at (entry_from i k h frame memory) n v) m r now

@@ -3,7 +3,7 @@ use Rattle.std.specs.Prelude.{◌≡◌, ℕ, Bool, false, List, [], length, map
 use Rattle.std.specs.Global.{Vec}
 use Rattle.spf_ast.specs.Event.{Event, word_at}
 use Rattle.spf_region.specs.Cells.{in_spans}
-use Rattle.spf_exec.specs.declared.block_run.Block.{Block}
+use Rattle.spf_exec.specs.declared.block_run.BlockRun.{BlockRun}
 use Rattle.spf_speculation_entry.specs.Entry.{Entry, IsEntry}
 use Rattle.spf_replay_log.specs.declared.log.Event as logged
 use Rattle.spf_replay.specs.declared.context.BlockContext.{BlockContext}
@@ -30,10 +30,10 @@ abbrev pub Records : List Event → (room : ℕ) → Record → Type 0
 Records events room made = IsRecordOf events room made.full (events_in made)
 
 -- the record, with this much room, is of the block's attempt; of whichever entry it is a block
-abbrev pub RecordsAttempt : BlockContext → Block → (room : ℕ) → Record → Type 0
+abbrev pub RecordsAttempt : BlockContext → BlockRun → (room : ℕ) → Record → Type 0
 RecordsAttempt context block room made = (e : Entry) (n : ℕ) → IsEntry e → IsContextOf e n context block → Records (attempt_events e n block.value []) room made
 
 -- the cells that aren't the block's keep their words; of whichever entry it is a block
-abbrev pub KeepsOthers : BlockContext → Block → (before after : List ℤ) → Type 0
+abbrev pub KeepsOthers : BlockContext → BlockRun → (before after : List ℤ) → Type 0
 KeepsOthers context block before after = (e : Entry) (n : ℕ) → IsEntry e → IsContextOf e n context block
     → (cell : ℕ) → in_spans context.spans.now cell ≡ false → word_at after cell ≡ word_at before cell

@@ -5,7 +5,7 @@ use Rattle.spf_ast.specs.Carried.{Carried}
 use Rattle.spf_ast.specs.Event.{Event, IsConsistent}
 use Rattle.spf_ast.specs.Interaction.{Performed, Ending, perform}
 use Rattle.spf_region.specs.Cells.{in_spans}
-use Rattle.spf_exec.specs.declared.block_run.Block.{Block}
+use Rattle.spf_exec.specs.declared.block_run.BlockRun.{BlockRun}
 use Rattle.spf_exec.specs.Instances.{block_asks}
 use Rattle.spf_speculation_entry.specs.Entry.{Entry, begins_at}
 use Rattle.spf_replay_log.specs.declared.log.Event as logged
@@ -19,12 +19,12 @@ use Rattle.spf_replay.specs.Deciding.{IsLogAt, IsRun}
 use Rattle.spf_replay.specs.Entered.{entry_of}
 
 -- what comes of a block's attempt that is read from its log, from this index on
-abbrev pub attempt_read : BlockContext → Block → (attempt : ℕ) → List logged.Event → (at : ℕ) → Performed (Ending Carried)
+abbrev pub attempt_read : BlockContext → BlockRun → (attempt : ℕ) → List logged.Event → (at : ℕ) → Performed (Ending Carried)
 attempt_read context block attempt log at =
     perform (in_spans context.spans.now) context.entry.now (Some attempt) (block_asks context.instance.now block context.frame.now) (map event_of (drop at log))
 
 -- the answer is whether the log is one of the block, whose real row is this, where it has one; of whichever entry it is a block
-abbrev pub TellsLog : BlockContext → Block → (real : Option Carried) → List logged.Event → Bool → Type 0
+abbrev pub TellsLog : BlockContext → BlockRun → (real : Option Carried) → List logged.Event → Bool → Type 0
 TellsLog context block real log answer = (e : Entry) (guess : ℕ → Carried) (n : ℕ) → IsContextOf e n context block → block.value ≡ begins_at e guess n
     → IsTrue answer ↔ IsLogAt e guess real n (map event_of log)
 

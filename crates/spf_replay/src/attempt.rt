@@ -6,7 +6,7 @@ ghost use Rattle.spf_replay.specs.Sections.{attempt_read};
 
 use crate::context::BlockContext;
 use crate::memory::LogMemory;
-use spf_exec::block_run::{Block, exec_block};
+use spf_exec::block_run::{BlockRun, exec_block};
 use spf_exec::frame::Frame;
 use spf_exec::stop::Stop;
 use spf_replay_log::log::Event;
@@ -16,7 +16,7 @@ use spf_replay_log::log::Event;
 /// no difference.
 pub(crate) fn read_attempt(
     context: BlockContext,
-    block: &Block,
+    block: &BlockRun,
     attempt: u64,
     log: &[Event],
     at: usize,

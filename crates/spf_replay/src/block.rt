@@ -7,7 +7,7 @@ ghost use Rattle.spf_replay.specs.Sections.{TellsLog};
 use crate::attempt::read_attempt;
 use crate::context::BlockContext;
 use spf_ast::row::Row;
-use spf_exec::block_run::Block;
+use spf_exec::block_run::BlockRun;
 use spf_exec::frame::Frame;
 use spf_exec::stop::Stop;
 use spf_replay_log::log::Event;
@@ -38,7 +38,7 @@ fn is_read(end: &Option<(Stop, usize)>, size: usize) -> bool
 /// or chopped.
 pub(crate) fn is_guessed_log(
     context: BlockContext,
-    block: &Block,
+    block: &BlockRun,
     log: &[Event],
     work: &mut Frame,
 ) -> bool
@@ -55,7 +55,7 @@ pub(crate) fn is_guessed_log(
 /// the block's row, began there; otherwise a first attempt, whole or chopped, and then a whole one.
 pub(crate) fn is_real_log(
     context: BlockContext,
-    block: &Block,
+    block: &BlockRun,
     real: &Row,
     log: &[Event],
     work: &mut Frame,
@@ -71,7 +71,7 @@ pub(crate) fn is_real_log(
     }
     match end {
         Some((_, at)) => {
-            let second = Block {
+            let second = BlockRun {
                 construct: block.construct,
                 index: block.index,
                 part: block.part,

@@ -16,7 +16,7 @@ use crate::entered::number_at;
 use spf_ast::construct::TopConstruct;
 use spf_ast::outcome::Trap;
 use spf_ast::row::Row;
-use spf_exec::block_run::{Block, exec_block};
+use spf_exec::block_run::{BlockRun, exec_block};
 use spf_exec::frame::Frame;
 use spf_exec::pieces::Header;
 use spf_exec::stop::Stop;
@@ -28,7 +28,7 @@ use std::alloc::{AllocError, Global};
 /// difference.
 fn run_block(
     instance: &Instance,
-    block: &Block,
+    block: &BlockRun,
     frame: &Frame,
     memory: &mut Plain,
     work: &mut Frame,
@@ -55,14 +55,14 @@ fn run_block(
     }
 }
 
-/// Block n of a construct, at a row.
+/// BlockRun n of a construct, at a row.
 fn block_at<'a>(
     construct: TopConstruct<'a>,
     index: u32,
     header: &Header,
     n: u64,
     row: Row,
-) -> Block<'a>
+) -> BlockRun<'a>
     requires few { n ≤ max_blocks }
     requires fits { (header.now.low +ℤ pos n) ≤ℤ i64.MAX }
     ensures same_construct { result.construct ≡ construct.entry }
@@ -71,7 +71,7 @@ fn block_at<'a>(
     ensures number { result.number ≡ header.now.low +ℤ pos n }
     ensures row { result.value ≡ row }
 {
-    Block {
+    BlockRun {
         construct,
         index,
         part: construct.part_of(n),

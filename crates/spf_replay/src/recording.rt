@@ -7,7 +7,7 @@ ghost use Rattle.spf_replay.specs.Records.{RecordsAttempt, KeepsOthers};
 
 use crate::context::BlockContext;
 use crate::record::RecordMemory;
-use spf_exec::block_run::{Block, exec_block};
+use spf_exec::block_run::{BlockRun, exec_block};
 use spf_exec::frame::Frame;
 use spf_replay_log::log::Event;
 
@@ -29,7 +29,7 @@ pub(crate) struct Record {
 /// makes no difference.
 pub(crate) fn record_attempt(
     context: BlockContext,
-    block: &Block,
+    block: &BlockRun,
     cells: Vec<i64>,
     room: Vec<Event>,
     work: &mut Frame,

@@ -14,7 +14,7 @@ use crate::entered::{EnteredConstruct, context_of, number_at};
 use crate::piece::{piece_end, push_piece};
 use crate::recording::{Record, record_attempt};
 use spf_ast::row::Row;
-use spf_exec::block_run::Block;
+use spf_exec::block_run::BlockRun;
 use spf_exec::frame::Frame;
 use spf_replay_log::log::{Event, Step};
 use std::alloc::{AllocError, Global};
@@ -66,7 +66,7 @@ pub(crate) fn record_block(
     ensures work { length work.new ≡ length work.old }
 {
     let context = context_of(entered, n);
-    let block = Block {
+    let block = BlockRun {
         construct: entered.construct,
         index: entered.index,
         part: entered.construct.part_of(n),

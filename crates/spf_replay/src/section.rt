@@ -11,7 +11,7 @@ use crate::laws::runs_have_their_logs;
 use crate::logs::{log_in, logs_of};
 use crate::scratch::Scratch;
 use crate::steps::{are_below, are_consistent};
-use spf_exec::block_run::Block;
+use spf_exec::block_run::BlockRun;
 use spf_exec::frame::Frame;
 use spf_replay_log::log::{Event, Step};
 use std::alloc::{AllocError, Global};
@@ -26,7 +26,7 @@ fn is_log(entered: &EnteredConstruct, n: u64, log: &[Event], work: &mut Frame) -
     ensures work { length work.new ≡ length work.old }
 {
     let context = context_of(entered, n);
-    let block = Block {
+    let block = BlockRun {
         construct: entered.construct,
         index: entered.index,
         part: entered.construct.part_of(n),

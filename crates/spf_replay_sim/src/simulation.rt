@@ -73,7 +73,7 @@ fn report_of(walked: Walked, drawn: Drawn) -> Option<Simulated>
 ///
 /// # Errors
 ///
-/// `AllocError` where there is no memory for the run; the hosts were told the first of what they
+/// `AllocError` where there is no memory for the run; the hosts were told a prefix of what they
 /// are told in the whole run.
 pub fn simulate_instance(
     alloc: Global,

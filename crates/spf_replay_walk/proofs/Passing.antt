@@ -17,7 +17,7 @@ use Rattle.spf_ast_laws.specs.Chained.{Chained, chained, chained_on, block_asks}
 use Rattle.spf_exec_instance.specs.Instance.{program_of}
 use Rattle.spf_exec_instance.specs.Layout.{LayoutValue, IsLayoutOf}
 use Rattle.spf_exec.specs.declared.pieces.Header as code_header
-use Rattle.spf_exec.specs.Pieces.{Stand, IsRunOf, seen_header}
+use Rattle.spf_exec.specs.Pieces.{RunState, IsStateOf, seen_header}
 use Rattle.spf_chain.specs.declared.block.Settled.{Settled}
 use Rattle.spf_chain.specs.Finishing.{result_as}
 use Rattle.spf_engine_laws.specs.Passed.{PassedConstruct, where_blocks}
@@ -132,8 +132,8 @@ pub plain-come : (e : Entry) (reals : List Carried) (settled : Settled) (cells m
 plain-come e reals settled cells memory came is = record { result = sym came.result_is; memory_is = λ v ok. is ∙ came.memory_is }
 
 -- a run whose cells were changed is one yet
-pub put-run : (p : Program) (size : ℕ) (s now : Stand) (cells : List ℤ) → IsRunOf p size s → now ≡ record s { cells = cells } → length cells ≡ length s.cells → IsRunOf p size now
-put-run p size s now cells r is same = subst (IsRunOf p size) (sym is) (record { frame = r.frame; cells = same ∙ r.cells; place = r.place; passed = r.passed })
+pub put-run : (p : Program) (size : ℕ) (s now : RunState) (cells : List ℤ) → IsStateOf p size s → now ≡ record s { cells = cells } → length cells ≡ length s.cells → IsStateOf p size now
+put-run p size s now cells r is same = subst (IsStateOf p size) (sym is) (record { frame = r.frame; cells = same ∙ r.cells; place = r.place; passed = r.passed })
 
 -- a construct that has blocks is one that was passed
 pub some-blocks : (blocks : ℕ) (x : PassedConstruct) → 1 ≤ blocks → x ∷ [] ≡ where_blocks blocks x

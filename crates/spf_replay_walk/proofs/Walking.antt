@@ -3,7 +3,7 @@ use Rattle.std.proofs.Common.{◌≡◌, ◌↔◌, ℕ, zero, suc, List, [], �
 use Rattle.std.specs.Prelude.{slice_get}
 use Rattle.spf_ast.specs.Syntax.{Program}
 use Rattle.spf_ast.specs.Construct.{Construct, constructs_in, Reached, reals}
-use Rattle.spf_exec.specs.Pieces.{Stand}
+use Rattle.spf_exec.specs.Pieces.{RunState}
 use Rattle.spf_speculation.specs.Steps.{Step}
 use Rattle.spf_guess_statistics.specs.Guess.{Hosts, Telling, tells}
 use Rattle.spf_guess_statistics.specs.Statistics.{tally}
@@ -15,7 +15,7 @@ use Rattle.spf_guess_statistics.specs.declared.stats.Stats.{Stats}
 use Rattle.spf_ast.specs.declared.outcome.Trap.{Trap}
 use Rattle.spf_engine.specs.declared.step.Step as taken
 use Rattle.spf_engine.specs.declared.step.Step.TheVariants as step
-use Rattle.spf_engine.specs.Runs.{IsThere}
+use Rattle.spf_engine.specs.Runs.{IsProgressAfter}
 use Rattle.spf_replay.specs.Deciding.{IsRun, RunsLookAlike}
 use Rattle.spf_replay.specs.declared.verdict.Verdict.{Verdict}
 use Rattle.spf_replay.specs.Verdicts.{Expected, Fits, IsVerdict, HaveSameRuns, VerdictsSeeRuns}
@@ -87,19 +87,19 @@ has-walked has_visited first last hosts p input o stats now later visited stats_
   told = subst (λ telling. WereTold hosts telling now) come.whole.telling_is told;
 }
 
-pub walk-finishes : {V : Type 0} (has_visited : Visits V) (first mid last : V) (hosts : Hosts) (p : Program) (input : List ℕ) (passed : List PassedConstruct) (t : taken.Step) (s : Stand) (stats : Stats) (now : Hosts)
+pub walk-finishes : {V : Type 0} (has_visited : Visits V) (first mid last : V) (hosts : Hosts) (p : Program) (input : List ℕ) (passed : List PassedConstruct) (t : taken.Step) (s : RunState) (stats : Stats) (now : Hosts)
     → VisitsFrom has_visited [] first passed mid → WalksTo has_visited hosts p input passed mid t s last stats now → t ≡ step.Finished
     → HasWalked has_visited first last hosts p input (Done s.cells s.output) stats now
 walk-finishes has_visited first mid last hosts p input passed t s stats now visited to is =
     has-walked has_visited first last hosts p input (Done s.cells s.output) stats now to.later (λ x h. to.visited x (visited x h)) to.stats_are to.told
-    (subst (λ x. IsThere hosts p input x s to.later) is to.there)
+    (subst (λ x. IsProgressAfter hosts p input x s to.later) is to.there)
 
-pub walk-traps : {V : Type 0} (has_visited : Visits V) (first mid last : V) (hosts : Hosts) (p : Program) (input : List ℕ) (passed : List PassedConstruct) (t : taken.Step) (trap : Trap) (s : Stand) (stats : Stats) (now : Hosts)
+pub walk-traps : {V : Type 0} (has_visited : Visits V) (first mid last : V) (hosts : Hosts) (p : Program) (input : List ℕ) (passed : List PassedConstruct) (t : taken.Step) (trap : Trap) (s : RunState) (stats : Stats) (now : Hosts)
     → VisitsFrom has_visited [] first passed mid → WalksTo has_visited hosts p input passed mid t s last stats now → t ≡ step.Trapped trap
     → HasWalked has_visited first last hosts p input (Stopped trap s.output) stats now
 walk-traps has_visited first mid last hosts p input passed t trap s stats now visited to is =
     has-walked has_visited first last hosts p input (Stopped trap s.output) stats now to.later (λ x h. to.visited x (visited x h)) to.stats_are to.told
-    (subst (λ x. IsThere hosts p input x s to.later) is to.there)
+    (subst (λ x. IsProgressAfter hosts p input x s to.later) is to.there)
 
 -- ---- the verdict on a log
 

@@ -7,7 +7,7 @@ ghost use Rattle.spf_guess.specs.Answers.{supplied};
 ghost use Rattle.spf_guess.specs.Missing.{missing_host};
 ghost use Rattle.spf_engine.specs.Errors.{WereToldNothing};
 ghost use Rattle.spf_engine.specs.Handed.{WereToldAll, WereToldSome, HasTooManyCells};
-ghost use Rattle.spf_engine.specs.Handed.{HasFewCells, SaysCells, SaysHost, SaysWhy};
+ghost use Rattle.spf_engine.specs.Handed.{HasFewCells, SaysCells, SaysHost, HasItsCause};
 ghost use Rattle.spf_replay_walk.specs.Judging.{IsVerdictOn};
 
 use crate::judging::Judge;
@@ -26,7 +26,7 @@ use std::alloc::{AllocError, Global};
 ///
 /// # Errors
 ///
-/// `AllocError` where there is no memory for the run; the hosts were told the first of what they
+/// `AllocError` where there is no memory for the run; the hosts were told a prefix of what they
 /// are told in the whole run.
 pub fn replay_instance(
     alloc: Global,
@@ -67,7 +67,7 @@ pub fn replay_instance(
 ///
 /// `TooManyCells` where the arrays have more cells than a run of the program's version may have;
 /// `NoHost` where the program names a host that isn't supplied; and `OutOfMemory`. The hosts were
-/// told the first of what they are told in the whole run; after the first two errors nothing.
+/// told a prefix of what they are told in the whole run; after the first two errors nothing.
 pub fn replay(
     alloc: Global,
     checked: &Checked,
@@ -91,7 +91,7 @@ pub fn replay(
     ensures untold { IfErr result (λ why. WereToldNothing why
         (supplied answer hosts.old.items)
         (supplied answer hosts.new.items)) }
-    ensures not_run { IfErr result (SaysWhy answer (seen_program checked.now) input.now
+    ensures not_run { IfErr result (HasItsCause answer (seen_program checked.now) input.now
         hosts.old.items hosts.new.items) }
     ensures count { length hosts.new.items ≡ length hosts.old.items }
 {

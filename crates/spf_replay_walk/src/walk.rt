@@ -74,7 +74,7 @@ fn spare_for(alloc: Global, instance: &Instance) -> Result<Spare, AllocError>
 ///
 /// # Errors
 ///
-/// `AllocError` where there is no memory for the walk; the hosts were told the first of what they
+/// `AllocError` where there is no memory for the walk; the hosts were told a prefix of what they
 /// are told in the whole run.
 pub fn walk<V: Visitor>(
     alloc: Global,

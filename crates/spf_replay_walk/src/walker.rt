@@ -6,14 +6,14 @@ ghost use Rattle.spf_ast.specs.Meaning.{max_blocks};
 ghost use Rattle.spf_ast.specs.View.{program as seen_program};
 ghost use Rattle.spf_ast.specs.ConstructView.{construct as seen_construct};
 ghost use Rattle.spf_ast.specs.Construct.{constructs_in};
-ghost use Rattle.spf_exec.specs.Pieces.{IsRunOf, seen_header};
+ghost use Rattle.spf_exec.specs.Pieces.{IsStateOf, seen_header};
 ghost use Rattle.spf_exec_instance.specs.Instance.{program_of};
 ghost use Rattle.spf_guess.specs.Answers.{supplied, WereToldNoMore};
 ghost use Rattle.spf_guess.specs.Missing.{missing_host};
 ghost use Rattle.spf_speculation_entry.specs.Entry.{IsEntry};
 ghost use Rattle.spf_engine_construct.specs.Guesses.{AreAtMost, IsHandedIn};
-ghost use Rattle.spf_engine.specs.Handed.{Stops, StopsAt};
-ghost use Rattle.spf_engine.specs.Runs.{AreFew, GoesFurther, IsReadyAt};
+ghost use Rattle.spf_engine.specs.Handed.{StopsWithoutMemory, StopsWithoutMemoryAt};
+ghost use Rattle.spf_engine.specs.Runs.{CountsAreBounded, ComesFurther, IsReadyAt};
 ghost use Rattle.spf_replay.specs.Copying.{HasOwnSpans};
 ghost use Rattle.spf_replay_walk.specs.Positions.{entry_at, spans_of, IsAtConstruct, IsSpare};
 ghost use Rattle.spf_replay_walk.specs.Examining.{ComePlainlyTo, VisitsAt, CountsAt, TellsAt};
@@ -27,7 +27,7 @@ use spf_chain::block::Settled;
 use spf_check::checked::Checked;
 use spf_engine::step::{Arrival, Step, arrive, settle};
 use spf_engine_construct::counts::count_blocks;
-use spf_engine_construct::guesses::{Stand, take_guesses_alone};
+use spf_engine_construct::guesses::{ReachedConstruct, take_guesses_alone};
 use spf_engine_construct::telling::tell_history;
 use spf_exec::pieces::{Header, Run};
 use spf_exec_instance::instance::Instance;
@@ -149,7 +149,7 @@ impl<'a> Walker<'a> {
         // Law: a block overwrites its cells, whatever they held.
         spf_check_rules::laws::blocks_overwrite();
         let _program = self.checked.program();
-        let stand = Stand {
+        let stand = ReachedConstruct {
             instance: position.instance,
             construct: position.construct,
             index: position.index,
@@ -204,23 +204,23 @@ impl<'a> Walker<'a> {
         requires program { program_of self.now.instance.now ≡ seen_program self.now.checked.now }
         requires hosts { missing_host (length hosts.old.items)
             (constructs_in (program_of self.now.instance.now).main) ≡ None }
-        requires run { IsRunOf (program_of self.now.instance.now)
+        requires run { IsStateOf (program_of self.now.instance.now)
             (length self.now.instance.now.input) run.old }
         requires ready { IsReadyAt (program_of self.now.instance.now) site.now.number
             (seen_construct site.now.construct) site.now.header run.old }
-        requires few { AreFew (program_of self.now.instance.now) run.old stats.old }
+        requires few { CountsAreBounded (program_of self.now.instance.now) run.old stats.old }
         requires spare { IsSpare self.now.instance.now spare.old }
         ensures steps { IfOk result (λ s. TakesStepAt V.has_visited answer
             self.now.instance.now site.now run.old visitor.old stats.old hosts.old.items
             s run.new visitor.new stats.new hosts.new.items) }
-        ensures told_first { IfErr result (λ why. StopsAt answer self.now.instance.now
+        ensures told_first { IfErr result (λ why. StopsWithoutMemoryAt answer self.now.instance.now
             site.now.construct site.now.header run.old hosts.old hosts.new) }
         ensures count { length hosts.new.items ≡ length hosts.old.items }
-        ensures run { OnOk result (IsRunOf (program_of self.now.instance.now)
+        ensures run { OnOk result (IsStateOf (program_of self.now.instance.now)
             (length self.now.instance.now.input) run.new) }
         ensures spare { IsSpare self.now.instance.now spare.new }
         ensures further { IfOk result (λ s.
-            GoesFurther (program_of self.now.instance.now) s run.old run.new stats.new) }
+            ComesFurther (program_of self.now.instance.now) s run.old run.new stats.new) }
     {
         // Law: a run in pieces goes on as the plain run does.
         spf_engine_laws::runs_in_pieces_go_on();
@@ -254,21 +254,21 @@ impl<'a> Walker<'a> {
         requires program { program_of self.now.instance.now ≡ seen_program self.now.checked.now }
         requires hosts { missing_host (length hosts.old.items)
             (constructs_in (program_of self.now.instance.now).main) ≡ None }
-        requires run { IsRunOf (program_of self.now.instance.now)
+        requires run { IsStateOf (program_of self.now.instance.now)
             (length self.now.instance.now.input) run.old }
-        requires few { AreFew (program_of self.now.instance.now) run.old stats.old }
+        requires few { CountsAreBounded (program_of self.now.instance.now) run.old stats.old }
         requires spare { IsSpare self.now.instance.now spare.old }
         ensures steps { IfOk result (λ s. TakesStep V.has_visited answer
             self.now.instance.now run.old visitor.old stats.old hosts.old.items
             s run.new visitor.new stats.new hosts.new.items) }
-        ensures told_first { IfErr result (λ why. Stops answer self.now.instance.now run.old
+        ensures told_first { IfErr result (λ why. StopsWithoutMemory answer self.now.instance.now run.old
             hosts.old hosts.new) }
         ensures count { length hosts.new.items ≡ length hosts.old.items }
-        ensures run { OnOk result (IsRunOf (program_of self.now.instance.now)
+        ensures run { OnOk result (IsStateOf (program_of self.now.instance.now)
             (length self.now.instance.now.input) run.new) }
         ensures spare { IsSpare self.now.instance.now spare.new }
         ensures further { IfOk result (λ s.
-            GoesFurther (program_of self.now.instance.now) s run.old run.new stats.new) }
+            ComesFurther (program_of self.now.instance.now) s run.old run.new stats.new) }
     {
         let arrival = match arrive(self.checked, self.instance, run) {
             Ok(arrival) => arrival,

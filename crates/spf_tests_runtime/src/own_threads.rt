@@ -3,7 +3,7 @@ ghost use Rattle.std.specs.Prelude.{◌≡◌, ◌<◌, ◌≤◌, ℕ, IfOk, le
 ghost use Rattle.spf_ast_lemmas.specs.Limits.{max_workers};
 ghost use Rattle.std.specs.List.{All};
 ghost use Rattle.spf_chain.specs.Beginning.{IsStarted};
-ghost use Rattle.spf_chain.specs.Chains.{cells_of, HasEnded};
+ghost use Rattle.spf_chain.specs.Chains.{chain_cells, HasEnded};
 ghost use Rattle.spf_chain.specs.Jobs.{CanRun};
 ghost use Rattle.spf_crew.specs.Mates.{MateValue, IsMateOf};
 ghost use Rattle.spf_crew_threads.specs.Driving.{HasReadAt, MakesAttempts};
@@ -130,7 +130,7 @@ pub(crate) fn run_on_threads<R: Threads + Wait + Sync>(
     requires entry { IsJobOf (entry_at chain.site) job }
     ensures ended { IfOk result (λ r. HasEnded r.0) }
     ensures site { IfOk result (λ r. r.0.site ≡ chain.site) }
-    ensures own { IfOk result (λ r. r.1 ≡ cells_of r.0) }
+    ensures own { IfOk result (λ r. r.1 ≡ chain_cells r.0) }
 {
     let (crew, mut mates) = Crew::make(alloc, chain, cells, tickets, workers)?;
     attempt_all(rt, &crew, job, mates.as_mut_slice());

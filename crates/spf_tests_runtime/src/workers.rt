@@ -6,7 +6,7 @@ ghost use Rattle.spf_ast.specs.Construct.{constructs_in};
 ghost use Rattle.spf_ast.specs.ConstructView.{construct as seen_construct};
 ghost use Rattle.spf_ast.specs.Program.{cell_count_of};
 ghost use Rattle.spf_chain.specs.Beginning.{IsStarted};
-ghost use Rattle.spf_chain.specs.Chains.{cells_of, HasEnded};
+ghost use Rattle.spf_chain.specs.Chains.{chain_cells, HasEnded};
 ghost use Rattle.spf_chain.specs.Jobs.{CanRun};
 ghost use Rattle.spf_speculation_entry.specs.Sites.{entry_at};
 ghost use Rattle.spf_exec_instance.specs.Instance.{program_of};
@@ -87,7 +87,7 @@ fn word_of(row: Row) -> i64 {
 /// What an ended chain came to, with its cells.
 fn finish(alloc: Global, chain: Chain, cells: Cells, size: usize) -> Result<Came, AllocError>
     requires ended { HasEnded chain }
-    requires own { cells ≡ cells_of chain }
+    requires own { cells ≡ chain_cells chain }
     requires size { size ≡ length chain.site.memory }
 {
     let mut values = Vec::new(alloc);
@@ -118,7 +118,7 @@ fn attempt_all<R: Threads + Wait + Sync>(
     requires entry { IsJobOf (entry_at started.0.site) job }
     ensures ended { IfOk result (λ r. HasEnded r.0) }
     ensures site { IfOk result (λ r. r.0.site ≡ started.0.site) }
-    ensures own { IfOk result (λ r. r.1 ≡ cells_of r.0) }
+    ensures own { IfOk result (λ r. r.1 ≡ chain_cells r.0) }
 {
     let (chain, cells, tickets) = started;
     match by {

@@ -31,7 +31,7 @@ use Rattle.spf_speculation_entry.specs.Attempts.{attempted, on_cells, OthersAreO
 use Rattle.spf_speculation_entry.specs.Sites.{AreMadeFor}
 use Rattle.spf_speculation.specs.Laws.{BlockRunsAreAttempts}
 use Rattle.spf_ticket.specs.InLane.{own_events, is_in, InLane, in_lane, LeadsInLane}
-use Rattle.spf_ticket.specs.Tickets.{EndsAs, Ran, IsReady, IsFresh, IsLawfulReport, IsTicketAt, IsSameTicket}
+use Rattle.spf_ticket.specs.Tickets.{EndsAs, Ran, CanBeAttempted, IsFresh, IsLawfulReport, IsTicketAt, IsSameTicket}
 use Rattle.spf_ticket.specs.declared.ticket.Ticket.{Ticket}
 use Rattle.spf_ticket.specs.declared.ticket.Report.{Report}
 use Rattle.spf_ticket.proofs.Leading.{chosen}
@@ -197,7 +197,7 @@ fresh-ran e guess c p k t r program same_construct same h ran = record {
   at = still-at e c p k t r.ticket program same_construct h.at same;
   before = events t.lane.log;
   log = ran.log;
-  ready = subst (λ (x : (ℕ × ℕ) × Carried). IsReady e guess x.0.0 x.0.1 x.1 (events t.lane.log)) (λ i. ((sym same.block i, sym same.attempt i), sym same.carried i)) h.ready;
+  ready = subst (λ (x : (ℕ × ℕ) × Carried). CanBeAttempted e guess x.0.0 x.0.1 x.1 (events t.lane.log)) (λ i. ((sym same.block i, sym same.attempt i), sym same.carried i)) h.ready;
   grown = ran.grown;
   stopped = subst (λ (x : (ℕ × ℕ) × Carried). EndsAs (attempted e x.0.0 x.1 x.0.1 ran.log) r.stop) (λ i. ((sym same.block i, sym same.attempt i), sym same.carried i)) ran.stopped;
 }

@@ -66,18 +66,18 @@ pub record Ran (e : Entry) (t : Ticket) (r : Report) : Type 0 where
 
 -- ---- fresh and lawful
 
--- What a lane has logged before an attempt of block n at a carried row. A first attempt begins at the block's
--- guess, block 0 at the start, and nothing is logged before it. A second one begins at the real row where that
--- isn't the first one's, and the log of the first one is before it.
-pub data IsReady (e : Entry) (guess : ℕ → Carried) (n attempt : ℕ) (carried : Carried) (before : List Event) : Type 0 where
-  first : attempt ≡ 1 → carried ≡ begins_at e guess n → before ≡ [] → IsReady e guess n attempt carried before
+-- An attempt of block n with this number, at this carried row, can be made over a lane with this log. A first one
+-- begins at the block's guess, block 0 at the start row, over an empty log. A second one begins at the real row,
+-- which isn't the row of the first one, over the log of the first one.
+pub data CanBeAttempted (e : Entry) (guess : ℕ → Carried) (n attempt : ℕ) (carried : Carried) (before : List Event) : Type 0 where
+  first : attempt ≡ 1 → carried ≡ begins_at e guess n → before ≡ [] → CanBeAttempted e guess n attempt carried before
   second : attempt ≡ 2 → begins_at e guess n ≢ carried → slice_get (plain_blocks e).values n ≡ Some carried
-      → IsAttempt e n (begins_at e guess n) 1 before → IsReady e guess n attempt carried before
+      → IsAttempt e n (begins_at e guess n) 1 before → CanBeAttempted e guess n attempt carried before
 
 -- the ticket is fresh: its attempt can be made
 pub record IsFresh (e : Entry) (guess : ℕ → Carried) (c : CellsValue) (t : Ticket) : Type 0 where
   pub at : IsTicketAt e c t
-  pub ready : IsReady e guess t.block t.attempt t.carried (events t.lane.log)
+  pub ready : CanBeAttempted e guess t.block t.attempt t.carried (events t.lane.log)
 
 -- the report is lawful: its ticket was fresh, the lane's log went on with the log of one attempt, at the ticket's
 -- carried row and with its number, and the stop is what this attempt came to
@@ -85,6 +85,6 @@ pub record IsLawfulReport (e : Entry) (guess : ℕ → Carried) (c : CellsValue)
   pub at : IsTicketAt e c r.ticket
   pub before : List Event
   pub log : List Event
-  pub ready : IsReady e guess r.ticket.block r.ticket.attempt r.ticket.carried before
+  pub ready : CanBeAttempted e guess r.ticket.block r.ticket.attempt r.ticket.carried before
   pub grown : events r.ticket.lane.log ≡ before ++ log
   pub stopped : EndsAs (attempted e r.ticket.block r.ticket.carried r.ticket.attempt log) r.stop

@@ -19,7 +19,7 @@ use crate::memory::LaneMemory;
 use crate::ticket::{Report, Ticket};
 use spf_ast::construct::TopConstruct;
 use spf_cells::cells::Cells;
-use spf_exec::block_run::{Block, exec_block};
+use spf_exec::block_run::{BlockRun, exec_block};
 use spf_exec_instance::instance::Instance;
 use spf_ticket_gate::{Gate, Place};
 
@@ -89,7 +89,7 @@ impl Ticket {
             mut frame,
         } = self;
         let entry = job.entry;
-        let run = Block {
+        let run = BlockRun {
             construct: job.construct,
             index: job.index,
             part: job.construct.part_of(block),

@@ -12,7 +12,7 @@ use Rattle.spf_replay.specs.Expecting.{expected}
 use Rattle.spf_replay.specs.Verdicts.{IsVerdict}
 use Rattle.spf_replay_walk.specs.Judging.{seen_log}
 use Rattle.spf_cli_words.specs.Only.{IsOnly}
-use Rattle.spf_cli_answers.specs.Answering.{seen_answer, SaysWhy}
+use Rattle.spf_cli_answers.specs.Answering.{seen_answer, IsAnswerToError}
 use Rattle.spf_cli_answers.specs.Whole.{Handed, handed, Ruled, Replays}
 use Rattle.spf_cli_answers.proofs.Steps.{not_above, started_done, started_left, answers_with}
 use Rattle.spf_cli_answers.proofs.Logs.{ruled_so}
@@ -26,9 +26,9 @@ returns-in-Err g c =
     let count : c.len.result ≡ given.count = sym (length-map c.args.hosts.now.items (λ h. (goal.Predictor-dyn g (h.vtable, h.value)).answer h.value) ∙ len) in
     let missing : cell_count_of p (length c.args.input.now) ≤ max_cells p → IsMissing (missing_host given.count (constructs_in p.main)) c.in-Err.error =
     λ fits. subst (λ n. IsMissing (missing_host n (constructs_in p.main)) c.in-Err.error) count (c.in-Err.ensures.missing fits) in
-    answers_with (IsOnly (Replays given p c.args.input.now (sections_of c.args.log.now))) (SaysWhy (seen_program c.program.result.now) c.in-Err.error) c.answer_of_error.result c.answer_of_error.ensures
+    answers_with (IsOnly (Replays given p c.args.input.now (sections_of c.args.log.now))) (IsAnswerToError (seen_program c.program.result.now) c.in-Err.error) c.answer_of_error.result c.answer_of_error.ensures
     (λ a says. started_left (missing_host given.count (constructs_in p.main)) p c.args.input.now (Ruled given.hosts p c.args.input.now (sections_of c.args.log.now)) c.in-Err.error a (λ over. c.in-Err.ensures.too_many over) missing
-    (subst (λ q. SaysWhy (seen_program q) c.in-Err.error a) c.program.ensures.program says))
+    (subst (λ q. IsAnswerToError (seen_program q) c.in-Err.error a) c.program.ensures.program says))
 
 pub returns : goal.returns
 returns g c =

@@ -8,7 +8,8 @@ use Rattle.spf_replay_log.specs.Log.{sections_of}
 use Rattle.spf_cli_words.specs.Only.{IsOnly}
 use Rattle.spf_cli_answers.specs.Answering.{AnswersWith}
 use Rattle.spf_cli_answers.specs.Course.{Ends, Fetches}
-use Rattle.spf_cli_answers.specs.Whole.{Handed, handed, AcceptedIn, WithLog, Replays, max_input, max_log}
+use Rattle.spf_batch.specs.Batch.{max_input}
+use Rattle.spf_cli_answers.specs.Whole.{Handed, handed, AcceptedIn, WithLog, Replays, max_log}
 use Rattle.spf_cli_answers.proofs.Steps.{answers_fetch, fetch_left, answers_end}
 use Rattle.spf_cli_answers.proofs.Logs.{LogLaws, answers_on, answers_log, accepted_leads, accepted_left, no_log_left}
 use Rattle.spf_cli_answers.proofs.replaying.replay_files.Goals as goal

@@ -6,7 +6,8 @@ use Rattle.spf_ast.specs.View.{program}
 use Rattle.spf_cli_words.specs.Only.{IsOnly}
 use Rattle.spf_cli_answers.specs.Answering.{AnswersWith}
 use Rattle.spf_cli_answers.specs.Course.{Ends, Fetches}
-use Rattle.spf_cli_answers.specs.Whole.{Handed, handed, AcceptedIn, Simulates, max_input}
+use Rattle.spf_batch.specs.Batch.{max_input}
+use Rattle.spf_cli_answers.specs.Whole.{Handed, handed, AcceptedIn, Simulates}
 use Rattle.spf_cli_answers.proofs.Steps.{answers_fetch, fetch_left, answers_end}
 use Rattle.spf_cli_answers.proofs.Logs.{answers_on, accepted_leads, accepted_left}
 use Rattle.spf_cli_answers.proofs.replaying.sim_files.Goals as goal

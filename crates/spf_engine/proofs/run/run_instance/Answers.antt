@@ -6,7 +6,7 @@ use Rattle.spf_guess.specs.Answers.{handed_in}
 use Rattle.spf_engine_laws.specs.Progress.{no_progress}
 use Rattle.spf_engine_laws.specs.Traces.{AreTraces}
 use Rattle.spf_engine_laws.specs.Passed.{OneByOne, IsItsTrace}
-use Rattle.spf_engine.specs.Runs.{AreFew, GoesFurther}
+use Rattle.spf_engine.specs.Runs.{CountsAreBounded, ComesFurther}
 use Rattle.spf_engine.proofs.Ending.{few-none}
 use Rattle.spf_engine.proofs.Stepping.{if-err, told-nothing, finishes-so, traps-so, goes-on-so}
 use Rattle.spf_engine.proofs.run.run_instance.Goals as goal
@@ -19,7 +19,7 @@ loop-account-init g c = record {
   agrees = record { stats = c.new-account.ensures.stats; traces = subst (OneByOne IsItsTrace []) (sym c.new-account.ensures.traces) tt };
   told = λ host pairs block. refl;
   goes = c.runs_in_pieces_go_on.ensures.begin _ (program_of c.args.instance.now) c.args.instance.now.input c.in_ok-run.run' (subst IsLawful (sym c.requires.program) c.program-program.ensures.lawful) c.in_ok-run.ensures.begins;
-  few = subst (λ s. AreFew (program_of c.args.instance.now) c.in_ok-run.run' s) (sym c.new-account.ensures.stats) (few-none _);
+  few = subst (λ s. CountsAreBounded (program_of c.args.instance.now) c.in_ok-run.run' s) (sym c.new-account.ensures.stats) (few-none _);
 }
 
 pub returns-in_err-run-clause-told_first : goal.returns-in_err-run-clause-told_first
@@ -34,7 +34,7 @@ pub loop-account-preserved : goal.loop-account-preserved
 loop-account-preserved g c =
     let i = c.loop-account.invariant in
     let to = c.in_ok-take_step.ensures.steps _ i.progress i.agrees i.told i.goes in
-    let further = subst (λ t. GoesFurther (program_of c.args.instance.now) t c.loop-account.run c.take_step.new.run c.take_step.new.account.stats) c.in-Next.is c.in_ok-take_step.ensures.further in
+    let further = subst (λ t. ComesFurther (program_of c.args.instance.now) t c.loop-account.run c.take_step.new.run c.take_step.new.account.stats) c.in-Next.is c.in_ok-take_step.ensures.further in
     record {
       run = c.take_step.ensures.run;
       count = c.take_step.ensures.count ∙ i.count;

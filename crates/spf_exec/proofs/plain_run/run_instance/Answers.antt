@@ -12,7 +12,7 @@ use Rattle.spf_exec.proofs.plain_run.run_instance.Goals as goal
 pub returns-in-Ok : goal.returns-in-Ok
 returns-in-Ok c =
     let p = program_of c.args.instance.now in
-    let xs = c.args.instance.now.code.main.items in
+    let xs = c.args.instance.now.source.main.items in
     let whole : c.len-count.result ≡ length xs = search rules in
     let main : block (take (c.len-count.result - 0) (drop 0 xs)) ≡ p.main = ap block (all_of xs c.len-count.result whole) in
     let zeros = c.deref_mut.ensures.value ∙ c.frame.view_is ∙ c.in_ok-frame.ensures.zeros in
@@ -23,7 +23,7 @@ returns-in-Ok c =
 pub returns-in-Err-Trapped : goal.returns-in-Err-Trapped
 returns-in-Err-Trapped c =
     let p = program_of c.args.instance.now in
-    let xs = c.args.instance.now.code.main.items in
+    let xs = c.args.instance.now.source.main.items in
     let whole : c.len-count.result ≡ length xs = search rules in
     let main : block (take (c.len-count.result - 0) (drop 0 xs)) ≡ p.main = ap block (all_of xs c.len-count.result whole) in
     let zeros = c.deref_mut.ensures.value ∙ c.frame.view_is ∙ c.in_ok-frame.ensures.zeros in

@@ -3,7 +3,7 @@ use Rattle.std.proofs.lemmas.Int.{to_z-of_z}
 use mir.Syntax.{w64}
 use mir.Val.{to_z, of_z}
 use Rattle.spf_ast.specs.Carried.{same_carried}
-use Rattle.spf_exec.specs.declared.block_run.Block.{Block}
+use Rattle.spf_exec.specs.declared.block_run.BlockRun.{BlockRun}
 use Rattle.spf_speculation_entry.specs.Entry.{begins_at}
 use Rattle.spf_speculation_entry.specs.Attempts.{attempted}
 use Rattle.spf_speculation_entry.proofs.Rows.{Decides-same_carried}
@@ -33,7 +33,7 @@ returns-in-Some-clause-real c e guess n context same =
     let log = c.args.log.now in
     let at = c.in-Some.at in
     let number : to_z w64 (of_z w64 b.number) ≡ b.number = grind (arith, to_z-of_z) in
-    let again : Block = record { construct = b.construct; index = b.index; part = b.part; number = to_z w64 (of_z w64 b.number); value = c.args.real.now } in
+    let again : BlockRun = record { construct = b.construct; index = b.index; part = b.part; number = to_z w64 (of_z w64 b.number); value = c.args.real.now } in
     let other : begins_at e guess n ≢ c.args.real.now = λ eq. not-both (same_carried b.value c.args.real.now)
     ((Decides-same_carried b.value c.args.real.now).1 (same ∙ eq)) (sym c.is_same.ensures ∙ c.if-is_same.false) in
     let first : ComesTo (attempted e n (begins_at e guess n) 1 (map event_of log)) log (Some (c.in-Some.field-0-0, at)) =

@@ -2,7 +2,7 @@ use Rattle.std.proofs.Common.{◌∙◌, sym, subst, refl}
 use Rattle.spf_ast.specs.Lawful.{IsLawful}
 use Rattle.spf_exec_instance.specs.Instance.{program_of}
 use Rattle.spf_engine_laws.specs.Progress.{no_progress}
-use Rattle.spf_engine.specs.Runs.{AreFew, GoesFurther}
+use Rattle.spf_engine.specs.Runs.{CountsAreBounded, ComesFurther}
 use Rattle.spf_engine.proofs.Ending.{few-none}
 use Rattle.spf_engine.proofs.Stepping.{if-err, told-nothing, goes-on-so}
 use Rattle.spf_replay_walk.proofs.Walking.{walk-finishes, walk-traps}
@@ -18,7 +18,7 @@ loop-spare-init g c = record {
   stats_are = c.none-stats.ensures;
   told = λ host pairs block. refl;
   goes = c.runs_in_pieces_go_on.ensures.begin _ (program_of c.args.instance.now) c.args.instance.now.input c.in_ok-run.run' (subst IsLawful (sym c.requires.program) c.program-program.ensures.lawful) c.in_ok-run.ensures.begins;
-  few = subst (λ s. AreFew (program_of c.args.instance.now) c.in_ok-run.run' s) (sym c.none-stats.ensures) (few-none _);
+  few = subst (λ s. CountsAreBounded (program_of c.args.instance.now) c.in_ok-run.run' s) (sym c.none-stats.ensures) (few-none _);
 }
 
 pub returns-in_err-run-clause-told_first : goal.returns-in_err-run-clause-told_first
@@ -33,7 +33,7 @@ pub loop-spare-preserved : goal.loop-spare-preserved
 loop-spare-preserved g c =
     let i = c.loop-spare.invariant in
     let to = c.in_ok-take_step.ensures.steps _ i.progress i.stats_are i.told i.goes in
-    let further = subst (λ t. GoesFurther (program_of c.args.instance.now) t c.loop-spare.run c.take_step.new.run c.take_step.new.stats) c.in-Next.is c.in_ok-take_step.ensures.further in
+    let further = subst (λ t. ComesFurther (program_of c.args.instance.now) t c.loop-spare.run c.take_step.new.run c.take_step.new.stats) c.in-Next.is c.in_ok-take_step.ensures.further in
     record {
       run = c.in_ok-take_step.ensures.run;
       spare = c.take_step.ensures.spare;

@@ -12,7 +12,7 @@ use Rattle.spf_ticket.specs.declared.ticket.Ticket.{Ticket}
 use Rattle.spf_ticket.specs.Tickets.{IsFresh}
 use Rattle.spf_speculation_entry.specs.Sites.{entry_at, guess_at}
 use Rattle.spf_chain.specs.Homes.{known_in, IsHome, AreHomes}
-use Rattle.spf_chain.specs.Chains.{ChainValue, cells_of, next_block, NeedsRerun, IsAgain, sent_again}
+use Rattle.spf_chain.specs.Chains.{ChainValue, chain_cells, next_block, NeedsRerun, IsAgain, sent_again}
 use Rattle.spf_chain.specs.Kept.{chain_value, cells_inside, IsKept}
 use Rattle.spf_chain.specs.declared.chain.Chain.TheInside.{Inside}
 use Rattle.spf_chain.proofs.Keeping.{over-set, homes-set-none, next-is, next-value, wrong-home, first-home, IsFirstAt, again-fresh, ended-all, home_value}
@@ -51,7 +51,7 @@ needs-rerun a v real r h is f = subst (λ w. NeedsRerun w real r) is (
 is-again : (a : Inside) (v : ChainValue) (real : List ℤ) (r : Report) (t : Ticket) → IsKept a → chain_value a ≡ v → AtNext a real r
     → t.block ≡ r.ticket.block → t.number ≡ r.ticket.number → t.attempt ≡ 2 → t.carried ≡ real → t.lane ≡ r.ticket.lane → t.frame ≡ r.ticket.frame → IsAgain v real t
 is-again a v real r t h is f block number attempt carried lane frame = record {
-  fresh = subst (λ (w : ChainValue). IsFresh (entry_at w.site) (guess_at w.site) (cells_of w) t) is
+  fresh = subst (λ (w : ChainValue). IsFresh (entry_at w.site) (guess_at w.site) (chain_cells w) t) is
       (again-fresh (entry_at a.site.value) (guess_at a.site.value) (cells_inside a) a.validation.count real r t f.home f.first f.value f.wrong block number attempt carried lane frame);
   block = block ∙ f.home.block ∙ sym (next-is a v h is);
   attempt = attempt;

@@ -5,7 +5,7 @@ use Rattle.spf_chain.proofs.Lists.{set_other}
 use Rattle.spf_cells.specs.Values.{CellsValue}
 use Rattle.spf_speculation_entry.specs.Sites.{entry_at, guess_at}
 use Rattle.spf_chain.specs.Homes.{IsHome}
-use Rattle.spf_chain.specs.Chains.{ChainValue, cells_of}
+use Rattle.spf_chain.specs.Chains.{ChainValue, chain_cells}
 use Rattle.spf_chain.specs.Kept.{cells_inside}
 use Rattle.spf_chain.proofs.Lists.{set-set}
 use Rattle.spf_chain.proofs.Keeping.{over-set, homes-set, out-above, home-of, never, lawful-inside, next-is}
@@ -14,7 +14,7 @@ use Rattle.std.proofs.lemmas.Bool.Decides.{Decides-eqb}
 use Rattle.spf_cells.specs.Values.{LaneValue}
 use Rattle.spf_chain.proofs.Lists.{not-both}
 use Rattle.spf_chain.specs.Homes.{AreHomes}
-use Rattle.spf_chain.specs.Standing.{StandsOver}
+use Rattle.spf_chain.specs.Standing.{IsValidationOf}
 use Rattle.spf_chain.specs.Chains.{next_block, came_home}
 use Rattle.spf_chain.specs.Kept.{chain_value}
 use Rattle.spf_chain.proofs.Lists.{still}
@@ -30,7 +30,7 @@ take-requires-in-Some-clause-lane c =
     let at : slice_get a.homes.items c.block-block.result ≡ Some (Some c.in-Some.other) =
     slice_get_read a.homes.items (length a.homes.items) c.block-block.result c.index_mut.result.now refl low c.index_mut.ensures.value ∙ ap (λ x. Some x) (sym c.take.ensures.value ∙ c.in-Some.is) in
     let of = (h.homes c.block-block.result c.in-Some.other at).lawful.at.lane in
-    let mine : cells_inside a ≡ c.args.cells.now = ap cells_of c.self.view_is ∙ sym c.requires.own in (
+    let mine : cells_inside a ≡ c.args.cells.now = ap chain_cells c.self.view_is ∙ sym c.requires.own in (
       ap (λ (x : LaneValue). x.table) c.into_lane.ensures.lane ∙ of.0 ∙ ap (λ (x : CellsValue). x.table) mine,
       ap (λ (x : LaneValue). x.setting) c.into_lane.ensures.lane ∙ of.1 ∙ ap (λ (x : CellsValue). x.setting) mine,
     )
@@ -69,7 +69,7 @@ invariant_of-self c =
       size = h.size ∙ sym size;
       within = subst (λ m. a.validation.count ≤ m) (sym size) h.within;
       homes = subst (AreHomes e g (cells_inside a)) (sym same) (homes-set e g (cells_inside a) a.homes.items n c.args.report h.homes home);
-      stands = subst (λ x. StandsOver e g x a.validation) (sym same) (over-set c.prefixes_grow.ensures.earlier e g a.homes.items a.validation n (Some c.args.report) h.stands (out-above e g a.homes.items a.validation n h.stands at));
+      stands = subst (λ x. IsValidationOf e g x a.validation) (sym same) (over-set c.prefixes_grow.ensures.earlier e g a.homes.items a.validation n (Some c.args.report) h.stands (out-above e g a.homes.items a.validation n h.stands at));
       listed = h.listed;
       second = λ on.
           let x = still (n == a.validation.count) a.again (sym c.still_again-self-inside.ensures ∙ on) in

@@ -2,7 +2,7 @@ use Rattle.std.proofs.Common.{◌≡◌, ◌∙◌, ◌≤◌, ◌++◌, arith, 
 use Rattle.std.proofs.lemmas.List.{length-take-le}
 use Rattle.spf_speculation_entry.specs.Sites.{entry_at, guess_at}
 use Rattle.spf_chain.specs.Homes.{AreHomes, known_in, log_in}
-use Rattle.spf_chain.specs.Standing.{reals, StandsAt, StandsOver, history_of}
+use Rattle.spf_chain.specs.Standing.{validated_rows, HasValidated, IsValidationOf, history_of}
 use Rattle.spf_chain.specs.Chains.{ChainValue}
 use Rattle.spf_chain.specs.Kept.{cells_inside}
 use Rattle.spf_chain.proofs.Lists.{take-grown}
@@ -29,8 +29,8 @@ invariant_of-self c =
     let g = guess_at a.site.value in
     let x = c.advance.new.self in
     let homes : c.deref.result.now ≡ a.homes.items = c.deref.ensures.value in
-    let stands : StandsOver e g a.homes.items x =
-    subst (λ l. AreHomes e g (cells_inside a) l → StandsOver e g l a.validation → StandsOver e g l x) homes (c.advance.ensures.stands e g (cells_inside a) h.ground.entry) h.homes h.stands in
+    let stands : IsValidationOf e g a.homes.items x =
+    subst (λ l. AreHomes e g (cells_inside a) l → IsValidationOf e g l a.validation → IsValidationOf e g l x) homes (c.advance.ensures.stands e g (cells_inside a) h.ground.entry) h.homes h.stands in
     let grown = c.advance.ensures.grown in
     record {
       ground = h.ground;
@@ -70,13 +70,13 @@ returns-clause-validates c =
     let e = entry_at a.site.value in
     let g = guess_at a.site.value in
     let homes : c.deref.result.now ≡ a.homes.items = c.deref.ensures.value in
-    let stands : StandsOver e g a.homes.items x =
-    subst (λ l. AreHomes e g (cells_inside a) l → StandsOver e g l a.validation → StandsOver e g l x) homes (c.advance.ensures.stands e g (cells_inside a) h.ground.entry) h.homes h.stands in
+    let stands : IsValidationOf e g a.homes.items x =
+    subst (λ l. AreHomes e g (cells_inside a) l → IsValidationOf e g l a.validation → IsValidationOf e g l x) homes (c.advance.ensures.stands e g (cells_inside a) h.ground.entry) h.homes h.stands in
     record {
       same = ap (λ (w : ChainValue). let v : ChainValue = record w { history = history_of x; settled = x.settled } in v) c.self.view_is;
       more = more.0;
       grown = more.1 ∙ ap (λ (w : ChainValue). w.history ++ more.0) c.self.view_is;
-      prefix = subst (λ (n : ℕ). StandsAt e g (log_in a.homes.items) n (reals x.count x.blocks.items) x.settled) (sym count) stands.stands;
+      prefix = subst (λ (n : ℕ). HasValidated e g (log_in a.homes.items) n (validated_rows x.count x.blocks.items) x.settled) (sym count) stands.stands;
       done = λ v is. ap (λ n. known_in v (slice_get a.homes.items n)) count ∙ ap (λ l. known_in v (slice_get l x.count)) (sym c.deref.ensures.value) ∙ c.advance.ensures.done v is;
     }
 

@@ -7,7 +7,7 @@ use Rattle.spf_guess_statistics.specs.Statistics.{tally}
 use Rattle.spf_guess.specs.Missing.{missing_host}
 use Rattle.spf_engine.specs.Errors.{IsMissing}
 use Rattle.spf_cli_answers.specs.Answer.{shown}
-use Rattle.spf_cli_answers.specs.Answering.{SaysWhy}
+use Rattle.spf_cli_answers.specs.Answering.{IsAnswerToError}
 use Rattle.spf_cli_answers.specs.Whole.{Handed, handed, by_blocks, stats_of, RunsTo}
 use Rattle.spf_cli_words.specs.Only.{IsOnly}
 use Rattle.spf_cli_answers.proofs.Steps.{run_done, unfinished, answers_with}
@@ -20,9 +20,9 @@ returns-in-Err g c =
     let given : Handed = handed [] in
     let missing : cell_count_of p (length c.args.input.now) ≤ max_cells p → IsMissing (missing_host 0 (constructs_in p.main)) c.in-Err.error =
     λ fits. subst (λ hosts. IsMissing (missing_host (length hosts) (constructs_in p.main)) c.in-Err.error) c.new-hosts.ensures.items (c.in-Err.ensures.few fits) in
-    answers_with (IsOnly (RunsTo shown by_blocks given p c.args.input.now)) (SaysWhy (seen_program c.program.result.now) c.in-Err.error) c.answer_of_error.result c.answer_of_error.ensures
+    answers_with (IsOnly (RunsTo shown by_blocks given p c.args.input.now)) (IsAnswerToError (seen_program c.program.result.now) c.in-Err.error) c.answer_of_error.result c.answer_of_error.ensures
     (λ a says. unfinished shown by_blocks given p c.args.input.now c.in-Err.error a (λ over. c.in-Err.ensures.too_many over) missing
-    (subst (λ q. SaysWhy (seen_program q) c.in-Err.error a) c.program.ensures.program says))
+    (subst (λ q. IsAnswerToError (seen_program q) c.in-Err.error a) c.program.ensures.program says))
 
 pub returns : goal.returns
 returns g c =

@@ -5,7 +5,8 @@ use Rattle.spf_apps_formats.specs.Lex1.{IsLex1, IsNoLex1At}
 use Rattle.spf_cli_words.specs.Asked.{seen_decode_options}
 use Rattle.spf_cli_answers.specs.Answering.{seen_answer, IsFollowed, AnswersWith}
 use Rattle.spf_cli_answers.specs.Course.{Fetches, Ends}
-use Rattle.spf_cli_answers.specs.Whole.{Lexing, WithLex1, max_machine, max_input}
+use Rattle.spf_batch.specs.Batch.{max_input}
+use Rattle.spf_cli_answers.specs.Whole.{Lexing, WithLex1, max_machine}
 use Rattle.spf_cli_answers.proofs.Steps.{answers_fetch, fetch_left}
 use Rattle.spf_cli_answers.proofs.Decoders.{answers_lex1, lex1_left}
 use Rattle.spf_cli_answers.proofs.context.Context.lex_files.Goals as goal

@@ -8,7 +8,7 @@ use Rattle.spf_guess_statistics.specs.Statistics.{none, tally}
 use Rattle.spf_guess.specs.Missing.{missing_host}
 use Rattle.spf_engine.specs.Errors.{IsMissing}
 use Rattle.spf_cli_answers.specs.Answer.{ran}
-use Rattle.spf_cli_answers.specs.Answering.{SaysWhy}
+use Rattle.spf_cli_answers.specs.Answering.{IsAnswerToError}
 use Rattle.spf_cli_answers.specs.Whole.{Handed, handed, stats_of, host_wanted, Runs}
 use Rattle.spf_cli_words.specs.Asked.{seen_options}
 use Rattle.spf_cli_words.specs.Only.{IsOnly}
@@ -27,9 +27,9 @@ returns-in-Err-clause-answer g c =
     ∙ ap (λ n. missing_host n (constructs_in p.main)) (sym counted) in
     let missing : cell_count_of p (length c.args.input.now) ≤ max_cells p → IsMissing (host_wanted options given p) c.in-Err.error =
     λ fits. subst (λ m. IsMissing m c.in-Err.error) (sym wanted) (c.in-Err.ensures.few fits) in
-    answers_with (IsOnly (Runs options given p c.args.input.now)) (SaysWhy (seen_program c.program.result.now) c.in-Err.error) c.answer_of_error.result c.answer_of_error.ensures
+    answers_with (IsOnly (Runs options given p c.args.input.now)) (IsAnswerToError (seen_program c.program.result.now) c.in-Err.error) c.answer_of_error.result c.answer_of_error.ensures
     (λ a says. unfinished (ran options p (length c.args.input.now)) options given p c.args.input.now c.in-Err.error a (λ over. c.in-Err.ensures.too_many over) missing
-    (subst (λ q. SaysWhy (seen_program q) c.in-Err.error a) c.program.ensures.program says))
+    (subst (λ q. IsAnswerToError (seen_program q) c.in-Err.error a) c.program.ensures.program says))
 
 pub returns-in-Err-clause-told_first : goal.returns-in-Err-clause-told_first
 returns-in-Err-clause-told_first g c = c.in-Err.ensures.told_first

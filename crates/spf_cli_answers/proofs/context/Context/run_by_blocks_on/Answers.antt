@@ -5,7 +5,8 @@ use Rattle.spf_cli_words.specs.Asked.{seen_options}
 use Rattle.spf_cli_words.specs.Only.{IsOnly}
 use Rattle.spf_cli_answers.specs.Answering.{AnswersWith}
 use Rattle.spf_cli_answers.specs.Course.{Ends}
-use Rattle.spf_cli_answers.specs.Whole.{handed, Runs, max_input}
+use Rattle.spf_batch.specs.Batch.{max_input}
+use Rattle.spf_cli_answers.specs.Whole.{handed, Runs}
 use Rattle.spf_cli_answers.proofs.Steps.{answers_fetch, fetch_left, answers_end}
 use Rattle.spf_cli_answers.proofs.context.Context.run_by_blocks_on.Goals as goal
 

@@ -8,7 +8,8 @@ use Rattle.spf_cli_words.specs.Only.{IsOnly}
 use Rattle.spf_cli_answers.specs.Answering.{seen_answer, AnswersWith}
 use Rattle.spf_cli_answers.specs.Course.{Ends}
 use Rattle.spf_cli_answers.specs.Decoded.{Unhuffed}
-use Rattle.spf_cli_answers.specs.Whole.{Decodes, Unhuffing, WithHuf1, block_of, max_input}
+use Rattle.spf_batch.specs.Batch.{max_input}
+use Rattle.spf_cli_answers.specs.Whole.{Decodes, Unhuffing, WithHuf1, block_of}
 use Rattle.spf_cli_answers.proofs.Steps.{answers_with, answers_fetch, fetch_left, answers_end}
 use Rattle.spf_cli_answers.proofs.Decoders.{answers_huf1, huf1_left}
 use Rattle.spf_cli_answers.proofs.Meanings.{both}

@@ -6,7 +6,8 @@ use Rattle.spf_cli_words.specs.Only.{IsOnly}
 use Rattle.spf_cli_answers.specs.Answering.{AnswersWith}
 use Rattle.spf_cli_answers.specs.Course.{Ends}
 use Rattle.spf_cli_answers.specs.Decoded.{Unpacked}
-use Rattle.spf_cli_answers.specs.Whole.{Decodes, Unpacking, block_of, max_input}
+use Rattle.spf_batch.specs.Batch.{max_input}
+use Rattle.spf_cli_answers.specs.Whole.{Decodes, Unpacking, block_of}
 use Rattle.spf_cli_answers.proofs.Steps.{answers_with, answers_fetch, fetch_left, answers_end}
 use Rattle.spf_cli_answers.proofs.Meanings.{both}
 use Rattle.spf_cli_answers.proofs.context.Context.unpack_file.Goals as goal

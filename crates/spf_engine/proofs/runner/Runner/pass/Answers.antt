@@ -4,7 +4,7 @@ use Rattle.spf_ast.specs.Construct.{constructs_in}
 use Rattle.spf_ast.specs.Lawful.{IsLawful}
 use Rattle.spf_ast.specs.Pieces.{construct_first, rest_from}
 use Rattle.spf_check.specs.Accepting.{IsAccepted}
-use Rattle.spf_exec.specs.Pieces.{Stand, seen_header}
+use Rattle.spf_exec.specs.Pieces.{RunState, seen_header}
 use Rattle.spf_exec_instance.specs.Instance.{program_of}
 use Rattle.spf_guess_statistics.specs.declared.stats.Stats.{Stats}
 use Rattle.spf_guess_statistics.specs.Statistics.{plus}
@@ -12,7 +12,7 @@ use Rattle.spf_guess.specs.Answers.{handed_in}
 use Rattle.spf_engine_laws.specs.Passed.{passed_from, OneByOne, IsItsTrace}
 use Rattle.spf_engine_laws.specs.Progress.{entry_there, entry_guess, with_construct, past_construct}
 use Rattle.spf_engine_laws.proofs.Passed.{one-by-one-append}
-use Rattle.spf_engine.specs.Runs.{GoesFurther}
+use Rattle.spf_engine.specs.Runs.{ComesFurther}
 use Rattle.spf_engine.proofs.Ending.{few-within}
 use Rattle.spf_engine.proofs.Missing.{handed-in}
 use Rattle.spf_engine.proofs.Passing.{goes-past-blocks, blocks-come, its-trace}
@@ -26,7 +26,7 @@ run_at-requires-clause-host g c κs within =
 pub settle-step-requires-clause-construct : goal.settle-step-requires-clause-construct
 settle-step-requires-clause-construct g c =
     let p = program_of c.args.self.now.instance.now in
-    ap (λ (s : Stand). construct_first (rest_from s.place p.main)) c.run_at.ensures.others ∙ c.requires.ready.next
+    ap (λ (s : RunState). construct_first (rest_from s.place p.main)) c.run_at.ensures.others ∙ c.requires.ready.next
 
 pub returns-in_err-report-clause-told_first : goal.returns-in_err-report-clause-told_first
 returns-in_err-report-clause-told_first g c = if-err _
@@ -56,7 +56,7 @@ returns-in_err-add-clause-told_first g c =
           c.in_ok-report.report.settled c.settle-step.result entered
           (c.lawful_programs_are_quiet_and_small.ensures.functions p (subst IsLawful (sym c.requires.program) c.program-program.ensures.lawful))
           (subst IsAccepted (sym c.requires.program) c.program-program.ensures.accepted c.args.number construct c.requires.ready.construct)
-          (record { frame = ap (λ (s : Stand). s.frame) left; output = ap (λ (s : Stand). s.output) left; place = ap (λ (s : Stand). s.place) left })
+          (record { frame = ap (λ (s : RunState). s.frame) left; output = ap (λ (s : RunState). s.output) left; place = ap (λ (s : RunState). s.place) left })
           (blocks-come e (entry_guess before progress.telling e) c.in_ok-report.report c.run_at.new.run.cells (c.in_ok-report.ensures.came before progress.telling were)) c.settle-step.ensures.settled,
       c.in_ok-report.ensures.told before progress.telling were,
     )))
@@ -85,12 +85,12 @@ returns-clause-steps g c = λ before progress agrees were entered.
           report.settled c.settle-step.result entered
           (c.lawful_programs_are_quiet_and_small.ensures.functions p (subst IsLawful (sym c.requires.program) c.program-program.ensures.lawful))
           (subst IsAccepted (sym c.requires.program) c.program-program.ensures.accepted c.args.number construct c.requires.ready.construct)
-          (record { frame = ap (λ (s : Stand). s.frame) left; output = ap (λ (s : Stand). s.output) left; place = ap (λ (s : Stand). s.place) left })
+          (record { frame = ap (λ (s : RunState). s.frame) left; output = ap (λ (s : RunState). s.output) left; place = ap (λ (s : RunState). s.place) left })
           (blocks-come e guess report c.run_at.new.run.cells came) c.settle-step.ensures.settled;
     }
 
 pub returns-clause-further : goal.returns-clause-further
 returns-clause-further g c =
-    subst (λ (s : Stats). GoesFurther (program_of c.args.self.now.instance.now) c.settle-step.result c.args.run.now c.settle-step.new.run s) (sym c.in_ok-add.ensures.stats)
+    subst (λ (s : Stats). ComesFurther (program_of c.args.self.now.instance.now) c.settle-step.result c.args.run.now c.settle-step.new.run s) (sym c.in_ok-add.ensures.stats)
     (further-after (program_of c.args.self.now.instance.now) c.args.run.now c.run_at.new.run c.settle-step.new.run (seen_construct c.args.construct) c.in_ok-report.report.settled c.settle-step.result
-    c.args.account.now.stats c.in_ok-report.report.stats c.requires.ready.next (ap (λ (s : Stand). s.place) c.run_at.ensures.others) c.settle-step.ensures.settled c.run_at.ensures.run.passed c.requires.few c.in_ok-report.ensures.few)
+    c.args.account.now.stats c.in_ok-report.report.stats c.requires.ready.next (ap (λ (s : RunState). s.place) c.run_at.ensures.others) c.settle-step.ensures.settled c.run_at.ensures.run.passed c.requires.few c.in_ok-report.ensures.few)

@@ -1,6 +1,6 @@
 use Rattle.std.proofs.Common.{subst}
 use Rattle.spf_exec_instance.specs.Instance.{program_of}
-use Rattle.spf_engine.specs.Runs.{IsArrived, CanBeRun, ComesNearer}
+use Rattle.spf_engine.specs.Runs.{IsProgressOnArrival, CanBeRun, ComesNearer}
 use Rattle.spf_engine.proofs.Stepping.{same-told-first, over-ok, over-err, further-from}
 use Rattle.spf_engine.proofs.runner.Runner.take_step.Goals as goal
 
@@ -19,14 +19,14 @@ pass-requires-clause-few g c κs within =
 pub returns-in-AtBlocks-clause-steps : goal.returns-in-AtBlocks-clause-steps
 returns-in-AtBlocks-clause-steps g c = over-ok _ _ (λ s steps before progress agrees were goes.
     steps before progress agrees were
-    (subst (λ a. IsArrived before (program_of c.args.self.now.instance.now) c.args.self.now.instance.now.input a c.arrive.new.run progress) c.in-AtBlocks.is
+    (subst (λ a. IsProgressOnArrival before (program_of c.args.self.now.instance.now) c.args.self.now.instance.now.input a c.arrive.new.run progress) c.in-AtBlocks.is
     (c.in-Ok.ensures.arrived before progress goes)))
     c.pass.result c.pass.ensures.steps
 
 pub returns-in-AtBlocks-clause-told_first : goal.returns-in-AtBlocks-clause-told_first
 returns-in-AtBlocks-clause-told_first g c = over-err _ _ (λ why first before progress were goes.
     first before progress were
-    (subst (λ a. IsArrived before (program_of c.args.self.now.instance.now) c.args.self.now.instance.now.input a c.arrive.new.run progress) c.in-AtBlocks.is
+    (subst (λ a. IsProgressOnArrival before (program_of c.args.self.now.instance.now) c.args.self.now.instance.now.input a c.arrive.new.run progress) c.in-AtBlocks.is
     (c.in-Ok.ensures.arrived before progress goes)))
     c.pass.result c.pass.ensures.told_first
 
@@ -41,7 +41,7 @@ returns-in-Over-clause-steps g c = λ before progress agrees were goes. record {
   later = progress;
   agrees = agrees;
   told = were;
-  there = subst (λ a. IsArrived before (program_of c.args.self.now.instance.now) c.args.self.now.instance.now.input a c.arrive.new.run progress) c.in-Over.is
+  there = subst (λ a. IsProgressOnArrival before (program_of c.args.self.now.instance.now) c.args.self.now.instance.now.input a c.arrive.new.run progress) c.in-Over.is
       (c.in-Ok.ensures.arrived before progress goes);
 }
 

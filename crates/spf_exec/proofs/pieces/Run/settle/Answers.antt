@@ -10,7 +10,7 @@ use Rattle.spf_exec.proofs.pieces.Run.settle.Goals as goal
 pub prove-unreachable-requires : goal.prove-unreachable-requires
 prove-unreachable-requires c =
     let p = program_of c.args.instance.now in
-    let xs = c.args.instance.now.code.main.items in
+    let xs = c.args.instance.now.source.main.items in
     let w = within p.main c.self.inside.place (construct c.args.construct) (rw (← c.self.view_is) at c.requires.construct) in
     let long : c.len-statements.result ≡ length xs = search rules in
     omega (arith, w, long, count_is xs, c.if-prove.true)
@@ -18,7 +18,7 @@ prove-unreachable-requires c =
 pub overflow_add-self-2 : goal.overflow_add-self-2
 overflow_add-self-2 c =
     let p = program_of c.args.instance.now in
-    let xs = c.args.instance.now.code.main.items in
+    let xs = c.args.instance.now.source.main.items in
     let r = rw (← c.self.view_is) at c.requires.run in
     let less = one_less p.main c.self.inside.place (construct c.args.construct) (rw (← c.self.view_is) at c.requires.construct) in
     let long : c.len-statements.result ≡ length xs = search rules in

@@ -3,7 +3,7 @@ use Rattle.spf_ast.specs.ConstructView.{construct as seen_construct}
 use Rattle.spf_ast.specs.Construct.{constructs_in}
 use Rattle.spf_ast.specs.Lawful.{IsLawful}
 use Rattle.spf_check.specs.Accepting.{IsAccepted}
-use Rattle.spf_exec.specs.Pieces.{Stand, seen_header}
+use Rattle.spf_exec.specs.Pieces.{RunState, seen_header}
 use Rattle.spf_exec_instance.specs.Instance.{program_of}
 use Rattle.spf_guess_statistics.specs.declared.stats.Stats.{Stats}
 use Rattle.spf_guess_statistics.specs.Statistics.{plus, statistics_with}
@@ -13,7 +13,7 @@ use Rattle.spf_speculation_entry.specs.Entry.{Entry, plain_blocks}
 use Rattle.spf_engine_laws.specs.Passed.{PassedConstruct, passed_from}
 use Rattle.spf_engine_laws.specs.Progress.{entry_there, entry_guess, past_construct}
 use Rattle.spf_replay.specs.Plainly.{AreRunPlainly}
-use Rattle.spf_engine.specs.Runs.{GoesFurther}
+use Rattle.spf_engine.specs.Runs.{ComesFurther}
 use Rattle.spf_replay_walk.specs.Visiting.{VisitsFrom}
 use Rattle.spf_engine.proofs.Ending.{few-within}
 use Rattle.spf_engine.proofs.Missing.{handed-in}
@@ -47,8 +47,8 @@ returns-clause-steps g c = λ before progress counted were entered.
     let e = entry_there p i construct header c.args.run.now in
     let blocks = c.in_ok-examined.examined in
     let put : c.swap_cells-2.new.self ≡ record c.args.run.now { cells = blocks.cells.items } =
-    c.swap_cells-2.ensures.run ∙ ap (λ (s : Stand). let t : Stand = record s { cells = blocks.cells.items } in t) c.swap_cells.ensures.run in
-    let frame = c.frame.ensures ∙ ap (λ (s : Stand). s.frame) c.swap_cells.ensures.run in
+    c.swap_cells-2.ensures.run ∙ ap (λ (s : RunState). let t : RunState = record s { cells = blocks.cells.items } in t) c.swap_cells.ensures.run in
+    let frame = c.frame.ensures ∙ ap (λ (s : RunState). s.frame) c.swap_cells.ensures.run in
     let cells = c.swap_cells.ensures.cells in
     let came = subst (λ (x : Entry). AreRunPlainly x (plain_blocks x).values (result_as blocks.settled) blocks.cells.items) (λ k. entry_with p i construct header (frame k) (cells k)) c.in_ok-examined.ensures.plain in
     record {
@@ -65,8 +65,8 @@ returns-clause-steps g c = λ before progress counted were entered.
           blocks.settled c.settle.result entered
           (c.lawful_programs_are_quiet_and_small.ensures.functions p (subst IsLawful (sym c.requires.program) c.program-program.ensures.lawful))
           (subst IsAccepted (sym c.requires.program) c.program-program.ensures.accepted c.args.site.now.number construct c.requires.ready.construct)
-          (record { frame = ap (λ (s : Stand). s.frame) put; output = ap (λ (s : Stand). s.output) put; place = ap (λ (s : Stand). s.place) put })
-          (plain-come e (plain_blocks e).values blocks.settled blocks.cells.items c.swap_cells-2.new.self.cells came (ap (λ (s : Stand). s.cells) put)) c.settle.ensures.settled;
+          (record { frame = ap (λ (s : RunState). s.frame) put; output = ap (λ (s : RunState). s.output) put; place = ap (λ (s : RunState). s.place) put })
+          (plain-come e (plain_blocks e).values blocks.settled blocks.cells.items c.swap_cells-2.new.self.cells came (ap (λ (s : RunState). s.cells) put)) c.settle.ensures.settled;
     }
 
 pub returns-clause-further : goal.returns-clause-further
@@ -74,9 +74,9 @@ returns-clause-further g c =
     let p = program_of c.args.self.now.instance.now in
     let blocks = c.in_ok-examined.examined in
     let put : c.swap_cells-2.new.self ≡ record c.args.run.now { cells = blocks.cells.items } =
-    c.swap_cells-2.ensures.run ∙ ap (λ (s : Stand). let t : Stand = record s { cells = blocks.cells.items } in t) c.swap_cells.ensures.run in
+    c.swap_cells-2.ensures.run ∙ ap (λ (s : RunState). let t : RunState = record s { cells = blocks.cells.items } in t) c.swap_cells.ensures.run in
     let run = put-run p (length c.args.self.now.instance.now.input) c.args.run.now c.swap_cells-2.new.self blocks.cells.items c.requires.run put
     (c.in_ok-examined.ensures.size ∙ ap length c.swap_cells.ensures.cells) in
-    subst (λ (s : Stats). GoesFurther p c.settle.result c.args.run.now c.settle.new.run s) (sym c.plus.ensures)
+    subst (λ (s : Stats). ComesFurther p c.settle.result c.args.run.now c.settle.new.run s) (sym c.plus.ensures)
     (further-after p c.args.run.now c.swap_cells-2.new.self c.settle.new.run (seen_construct c.args.site.now.construct) blocks.settled c.settle.result
-    c.args.stats.now blocks.stats c.requires.ready.next (ap (λ (s : Stand). s.place) put) c.settle.ensures.settled run.passed c.requires.few c.in_ok-examined.ensures.few)
+    c.args.stats.now blocks.stats c.requires.ready.next (ap (λ (s : RunState). s.place) put) c.settle.ensures.settled run.passed c.requires.few c.in_ok-examined.ensures.few)

@@ -1,6 +1,6 @@
 use Rattle.std.proofs.Common.{◌∙◌, ap}
 use Rattle.std.specs.Prelude.{Err}
-use Rattle.spf_cli_shell.proofs.answer.Goals as goal
+use Rattle.spf_cli_shell.proofs.run_words.Goals as goal
 
 pub returns-in-Ok-clause-shown : goal.returns-in-Ok-clause-shown
 returns-in-Ok-clause-shown g c text a = absurd (c.in_default.ensures text a)
