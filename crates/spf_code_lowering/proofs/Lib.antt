@@ -5,12 +5,6 @@ pub mod Expressions
 pub mod Conditions
 pub mod Statements
 pub mod Calls
-pub mod Shifts
-pub mod Moved
-pub mod InPlace
-pub mod Placed
-pub mod Answered
-pub mod Inlined
 pub mod Functions
 pub mod Weight
 pub mod Fitting
@@ -25,4 +19,3 @@ pub mod Parts
 pub mod Settings
 pub mod Fitted
 pub mod Rows
-pub mod Folds

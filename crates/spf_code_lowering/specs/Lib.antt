@@ -2,5 +2,4 @@ pub mod Adding
 pub mod Computes
 pub mod Flat
 pub mod Lowering
-pub mod Shifted
 pub mod Tables

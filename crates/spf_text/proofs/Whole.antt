@@ -9,8 +9,8 @@ use Rattle.spf_text.specs.declared.token.Sign.{Sign}
 use Rattle.spf_text.specs.declared.token.Sign.TheVariants as sign
 use Rattle.spf_text.specs.declared.token.Token.{Token}
 use Rattle.spf_text.specs.declared.token.TokenKind.TheVariants as kind
-use Rattle.spf_text.specs.Tokens.{keywords, IsBlank, IsDigit, IsLetter, IsWordByte, EndsBefore, BeginsWith, BeginsNothing, BeginsTooLarge, Piece, Blank, Comment, Lexeme, bytes_of, IsPiece, IsCut, IsFaultyAt, AreTokensOf, tokens_at, number_from, max_number, word_spelling, sign_spelling}
-use Rattle.spf_text.proofs.Spellings.{spelled_so, signs, word_again, sign_again, sign-first}
+use Rattle.spf_text.specs.Tokens.{IsBlank, IsDigit, IsLetter, IsWordByte, EndsBefore, BeginsWith, BeginsNothing, BeginsTooLarge, Piece, Blank, Comment, Lexeme, bytes_of, IsPiece, IsCut, IsFaultyAt, AreTokensOf, tokens_at, number_from, max_number, word_spelling, sign_spelling}
+use Rattle.spf_text.proofs.Spellings.{spelled_so, words, signs, word_again, sign_again, sign-first}
 use Rattle.spf_text.proofs.Pieces.{line_ends}
 use Rattle.spf_text.proofs.Cuts.{first_byte}
 
@@ -135,7 +135,7 @@ sign_so : (xs : List ℕ) → ((s : Sign) × (xs ≡ sign_spelling s)) ⊎ ((s :
 sign_so xs = spelled sign_spelling sign.Plus signs sign_again xs
 
 word_so : (xs : List ℕ) → ((w : Keyword) × (xs ≡ word_spelling w)) ⊎ ((w : Keyword) → xs ≡ word_spelling w → ⊥)
-word_so xs = spelled word_spelling word.Array keywords word_again xs
+word_so xs = spelled word_spelling word.Array words word_again xs
 
 no_sign : (s : Sign) (rest : List ℕ) → [] ≡ sign_spelling s ++ rest → ⊥
 no_sign s rest e =

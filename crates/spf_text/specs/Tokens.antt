@@ -49,11 +49,6 @@ number_from so_far (d ∷ ds) = number_from (10 * so_far + (d - 48)) ds
 
 -- ---- spellings
 
--- all reserved words
-abbrev pub keywords : List Keyword
-keywords =
-    word.Array ∷ word.Fn ∷ word.Main ∷ word.Let ∷ word.Fill ∷ word.Emit ∷ word.Fail ∷ word.If ∷ word.Else ∷ word.For ∷ word.In ∷ word.While ∷ word.Max ∷ word.Specfold ∷ word.Spec ∷ word.Predict ∷ word.Host ∷ word.Give ∷ word.Next ∷ word.Return ∷ word.Len ∷ word.Input ∷ word.Break ∷ word.Version ∷ []
-
 -- how a reserved word is spelled
 abbrev pub word_spelling : Keyword → List ℕ
 word_spelling word.Array = codes "array"

@@ -1,77 +1,10 @@
 //! Reserved words and numbers.
 
-ghost use Rattle.std.specs.Prelude.{◌≡◌, ◌<◌, ◌≤◌, MatchOption, pos, All, find, bytes_eq};
+ghost use Rattle.std.specs.Prelude.{◌≡◌, ◌<◌, ◌≤◌, MatchOption, pos, All};
 ghost use Rattle.spf_text.specs.declared.token.Keyword.{Keyword};
-ghost use Rattle.spf_text.specs.Tokens.{keywords, word_spelling, IsDigit, number_from, max_number};
+ghost use Rattle.spf_text.specs.Tokens.{word_spelling, IsDigit, number_from, max_number};
 
 use crate::token::Keyword;
-
-/// All reserved words.
-const KEYWORDS: [Keyword; 24] = [
-    Keyword::Array,
-    Keyword::Fn,
-    Keyword::Main,
-    Keyword::Let,
-    Keyword::Fill,
-    Keyword::Emit,
-    Keyword::Fail,
-    Keyword::If,
-    Keyword::Else,
-    Keyword::For,
-    Keyword::In,
-    Keyword::While,
-    Keyword::Max,
-    Keyword::Specfold,
-    Keyword::Spec,
-    Keyword::Predict,
-    Keyword::Host,
-    Keyword::Give,
-    Keyword::Next,
-    Keyword::Return,
-    Keyword::Len,
-    Keyword::Input,
-    Keyword::Break,
-    Keyword::Version,
-];
-
-/// Returns how a reserved word is spelled.
-fn spelling(word: Keyword) -> &'static [u8]
-    ensures { result.now ≡ word_spelling word }
-{
-    match word {
-        Keyword::Array => b"array",
-        Keyword::Fn => b"fn",
-        Keyword::Main => b"main",
-        Keyword::Let => b"let",
-        Keyword::Fill => b"fill",
-        Keyword::Emit => b"emit",
-        Keyword::Fail => b"fail",
-        Keyword::If => b"if",
-        Keyword::Else => b"else",
-        Keyword::For => b"for",
-        Keyword::In => b"in",
-        Keyword::While => b"while",
-        Keyword::Max => b"max",
-        Keyword::Specfold => b"specfold",
-        Keyword::Spec => b"spec",
-        Keyword::Predict => b"predict",
-        Keyword::Host => b"host",
-        Keyword::Give => b"give",
-        Keyword::Next => b"next",
-        Keyword::Return => b"return",
-        Keyword::Len => b"len",
-        Keyword::Input => b"input",
-        Keyword::Break => b"break",
-        Keyword::Version => b"version",
-    }
-}
-
-/// Returns the first reserved word that is spelled so.
-fn first_keyword(word: &[u8]) -> Option<Keyword>
-    ensures { result ≡ find (λ w. bytes_eq (word_spelling w) word.now) keywords }
-{
-    KEYWORDS.iter().copied().find(|it| spelling(*it) == word)
-}
 
 /// Returns the reserved word that is spelled so, if one is.
 pub fn keyword_of(word: &[u8]) -> Option<Keyword>
@@ -79,7 +12,33 @@ pub fn keyword_of(word: &[u8]) -> Option<Keyword>
         ((w : Keyword) → word.now ≡ word_spelling w → ⊥)
         (λ w. word.now ≡ word_spelling w) }
 {
-    first_keyword(word)
+    match word {
+        b"array" => Some(Keyword::Array),
+        b"fn" => Some(Keyword::Fn),
+        b"main" => Some(Keyword::Main),
+        b"let" => Some(Keyword::Let),
+        b"fill" => Some(Keyword::Fill),
+        b"emit" => Some(Keyword::Emit),
+        b"fail" => Some(Keyword::Fail),
+        b"if" => Some(Keyword::If),
+        b"else" => Some(Keyword::Else),
+        b"for" => Some(Keyword::For),
+        b"in" => Some(Keyword::In),
+        b"while" => Some(Keyword::While),
+        b"max" => Some(Keyword::Max),
+        b"specfold" => Some(Keyword::Specfold),
+        b"spec" => Some(Keyword::Spec),
+        b"predict" => Some(Keyword::Predict),
+        b"host" => Some(Keyword::Host),
+        b"give" => Some(Keyword::Give),
+        b"next" => Some(Keyword::Next),
+        b"return" => Some(Keyword::Return),
+        b"len" => Some(Keyword::Len),
+        b"input" => Some(Keyword::Input),
+        b"break" => Some(Keyword::Break),
+        b"version" => Some(Keyword::Version),
+        _ => None,
+    }
 }
 
 /// Returns the number that digits spell, if it is not over `i64::MAX`.
