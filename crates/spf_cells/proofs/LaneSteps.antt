@@ -49,6 +49,7 @@ grows a h e p table one fits turn =
       small = subst (λ z. z < 2 ^ 63) (ap (λ z. z.words) (sym table)) h.small;
       segments = subst (λ (z : Setting). AreSegmentsOf a.segments.items (cells_of (get_or z.plan a.block [])) (first_word z a.block)) (sym setting) h.segments;
       order = h.order;
+      first = h.first;
       inside = subst (λ (z : Setting). (c : ℕ) → Covers (get_or z.plan a.block []) c → c < length z.entry) (sym setting) h.inside;
       log = subst (λ (z : List LogEntry × Setting). IsLogOf z.1 a.block z.0) (λ t. (sym log' t, sym setting t))
           record { consistent = consistent-append log e k.entry h.log.consistent fits; turns = turns-append k a.block log e h.log.turns turn };

@@ -15,7 +15,7 @@ use Rattle.spf_cells.specs.declared.lane.Lane.TheInside as L
 use Rattle.spf_cells.specs.Lane.{IsLane, setting_of}
 use Rattle.spf_cells.specs.Log.{IsLogOf}
 use Rattle.spf_cells.specs.Spans.{cells_with_blocks, cells_of, Covers, IsDisjointWithin}
-use Rattle.spf_cells.specs.Segments.{AreSegmentsOf, IsSearchable, first_word}
+use Rattle.spf_cells.specs.Segments.{AreSegmentsOf, IsOneOf, IsSearchable, first_word}
 use Rattle.spf_cells.proofs.WritingBack.{cells_inside}
 use Rattle.spf_cells.proofs.WardenRule.{raises, joins, reads_back, splits}
 
@@ -50,8 +50,8 @@ may_split a h key room = let P : Me ℕ View → Type 0 = λ m. Splits (IsConsis
 
 -- the lane that is handed out
 pub new_lane_ok : (l : L.Inside) (k : Setting) (b : ℕ) → l.seat.me ≡ (lane_view k b [], []) → l.block ≡ b → b < blocks k → l.seat.table_id.words ≡ blocks k + length (cells_with_blocks k.plan)
-    → l.seat.table_id.words < 2 ^ 63 → IsDisjointWithin k.plan (length k.entry) → AreSegmentsOf l.segments.items (cells_of (get_or k.plan b [])) (first_word k b) → IsSearchable l.segments.items → IsLane l
-new_lane_ok l k b is block room words small apart segments order =
+    → l.seat.table_id.words < 2 ^ 63 → IsDisjointWithin k.plan (length k.entry) → AreSegmentsOf l.segments.items (cells_of (get_or k.plan b [])) (first_word k b) → IsSearchable l.segments.items → IsOneOf l.first l.segments.items → IsLane l
+new_lane_ok l k b is block room words small apart segments order first =
     let z : setting_of l ≡ k = ap (λ m. m.0.setting) is in
     let log : log_of l.seat.me.0.role ≡ [] = ap (λ m. log_of m.0.role) is in
     let mine : (k, b) ≡ (setting_of l, l.block) = λ t. (sym z t, sym block t) in record {
@@ -61,6 +61,7 @@ new_lane_ok l k b is block room words small apart segments order =
       small = small;
       segments = subst (λ (y : Setting × ℕ). AreSegmentsOf l.segments.items (cells_of (get_or y.0.plan y.1 [])) (first_word y.0 y.1)) mine segments;
       order = order;
+      first = first;
       inside = subst (λ (y : Setting × ℕ). (c : ℕ) → Covers (get_or y.0.plan y.1 []) c → c < length y.0.entry) mine (λ c there. cells_inside k b (length k.entry) apart room there.0 c there.1);
       log = subst (λ (x : List LogEntry). IsLogOf (setting_of l) l.block x) (sym log) record { consistent = tt; turns = tt };
     }

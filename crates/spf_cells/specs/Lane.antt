@@ -5,7 +5,7 @@ use Rattle.spf_cells.specs.declared.lane.Lane.TheInside.{Inside}
 use Rattle.spf_cells.specs.Log.{IsLogOf}
 use Rattle.spf_cells.specs.Spans.{cells_with_blocks, cells_of, Covers}
 use Rattle.spf_cells.specs.Rule.{blocks, lane_view, log_of}
-use Rattle.spf_cells.specs.Segments.{AreSegmentsOf, IsSearchable, first_word}
+use Rattle.spf_cells.specs.Segments.{AreSegmentsOf, IsOneOf, IsSearchable, first_word}
 use Rattle.spf_cells.specs.Values.{LaneValue, spans_of}
 
 -- the setting that a lane's view has
@@ -27,6 +27,8 @@ pub record IsLane (a : Inside) : Type 0 where
   -- its segments hold the cells of its block's spans, in the words after those of the blocks before, and can be searched
   pub segments : AreSegmentsOf a.segments.items (cells_of (spans_of (lane_value a))) (first_word (setting_of a) a.block)
   pub order : IsSearchable a.segments.items
+  -- the one that is tried first is one of them
+  pub first : IsOneOf a.first a.segments.items
   -- its cells lie in the entry
   pub inside : (c : ℕ) → Covers (spans_of (lane_value a)) c → c < length (setting_of a).entry
   -- each load of its log gave its own content, and each turn a possible flag

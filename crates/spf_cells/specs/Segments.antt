@@ -20,6 +20,10 @@ HasNoCellTwice cells = (i j c : ℕ) → get_elem? cells i ≡ some c → get_el
 abbrev pub Holds : Segment → ℕ → ℕ → Type 0
 Holds s cell word = (s.span.from ≤ cell) × (cell < s.span.to) × (word ≡ s.word + (cell - s.span.from))
 
+-- a segment is one of these, unless it holds no cell
+abbrev pub IsOneOf : Segment → List Segment → Type 0
+IsOneOf first ss = first.span.from < first.span.to → Contains ss first
+
 -- the segments hold these cells and no others, each in the word that is as far after `first` as the cell's index in the list
 pub record AreSegmentsOf (ss : List Segment) (cells : List ℕ) (first : ℕ) : Type 0 where
   pub laid : (s : Segment) (cell word : ℕ) → Contains ss s → Holds s cell word → (k : ℕ) × (word ≡ first + k) × (get_elem? cells k ≡ some cell)

@@ -22,6 +22,8 @@ use std::marker::Model;
 pub struct Lane {
     /// The lane's block, which is also the number of its flag's word.
     pub(crate) block: usize,
+    /// The segment that is tried first: most lanes have one.
+    pub(crate) first: Segment,
     /// The spans of the block, in ascending order, with their words.
     pub(crate) segments: Vec<Segment>,
     /// The seat on the table, whose view has the log.
@@ -55,6 +57,7 @@ impl Lane {
     {
         let Lane {
             block: _,
+            first: _,
             segments: _,
             seat,
         } = self;
@@ -75,6 +78,7 @@ impl Lane {
     {
         let Lane {
             block: _,
+            first: _,
             segments,
             seat,
         } = self;
@@ -95,7 +99,7 @@ impl Lane {
             × IsWordOf self.now cell word × (word < self.now.table.words)) }
         ensures outside { IfNone result (in_spans (spans_of self.now) cell ≡ false) }
     {
-        find_word(self.segments.as_slice(), cell)
+        find_word(&self.first, self.segments.as_slice(), cell)
     }
 
     /// Returns whether the cell is in the lane's spans.

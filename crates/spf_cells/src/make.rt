@@ -16,7 +16,7 @@ ghost use Rattle.spf_cells.specs.Values.{IsWardenOf};
 use crate::cells::Cells;
 use crate::lane::Lane;
 use crate::rule::HandOut;
-use crate::segment::{Segment, segments_of};
+use crate::segment::{Segment, first_of, segments_of};
 use crate::view::Setting;
 use crate::warden::Warden;
 use atomic_table::Table;
@@ -197,6 +197,7 @@ impl Warden {
         let seat = shared.split_seat::<HandOut>(&mut self.seat);
         Lane {
             block,
+            first: first_of(segments.as_slice()),
             segments,
             seat,
         }

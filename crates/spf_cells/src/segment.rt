@@ -3,7 +3,7 @@ ghost use Rattle.std.specs.Prelude.{ℕ, ◌+◌, ◌-◌, ◌^◌, ◌<◌, IfS
 ghost use Rattle.std.specs.List.{Contains};
 ghost use mathlib.Core.Option.{some};
 ghost use Rattle.spf_cells.specs.Spans.{cells_of};
-ghost use Rattle.spf_cells.specs.Segments.{Holds, HasNoCellTwice, AreSegmentsOf, IsSearchable};
+ghost use Rattle.spf_cells.specs.Segments.{Holds, HasNoCellTwice, AreSegmentsOf, IsOneOf, IsSearchable};
 
 use spf_region::span::Span;
 use std::alloc::{AllocError, Global};
@@ -18,7 +18,8 @@ pub(crate) struct Segment {
 impl Segment {
     /// The word of a cell, if the cell is in the span.
     fn word_of(&self, cell: u64) -> Option<usize>
-        requires { self.now.word + (self.now.span.to - self.now.span.from) < 2 ^ 63 }
+        requires { self.now.span.from < self.now.span.to
+            → self.now.word + (self.now.span.to - self.now.span.from) < 2 ^ 63 }
         ensures some { IfSome result (λ w. Holds self.now cell w) }
         ensures none { IfNone result ((w : ℕ) → ¬ Holds self.now cell w) }
     {
@@ -30,9 +31,22 @@ impl Segment {
     }
 }
 
-/// The word of a cell, if it is in one of the segments. Where there is one segment there is nothing
-/// to search.
-pub(crate) fn find_word(segments: &[Segment], cell: u64) -> Option<usize>
+/// The segment to try first: the first one, if there is one.
+pub(crate) fn first_of(segments: &[Segment]) -> Segment
+    ensures { IsOneOf result segments.now }
+{
+    match segments.first() {
+        Some(segment) => *segment,
+        None => Segment {
+            span: Span { from: 0, to: 0 },
+            word: 0,
+        },
+    }
+}
+
+/// The word of a cell, if it is in one of the segments. One of them is tried first.
+pub(crate) fn find_word(first: &Segment, segments: &[Segment], cell: u64) -> Option<usize>
+    requires first { IsOneOf first.now segments.now }
     requires order { IsSearchable segments.now }
     requires small { (s : Segment) → Contains segments.now s
         → s.word + (s.span.to - s.span.from) < 2 ^ 63 }
@@ -40,8 +54,8 @@ pub(crate) fn find_word(segments: &[Segment], cell: u64) -> Option<usize>
     ensures none { IfNone result
         ((s : Segment) (w : ℕ) → Contains segments.now s → ¬ Holds s cell w) }
 {
-    if segments.len() == 1 {
-        return segments[0].word_of(cell);
+    if let Some(word) = first.word_of(cell) {
+        return Some(word);
     }
     let count = segments.partition_point(|segment| segment.span.from <= cell);
     if count == 0 {

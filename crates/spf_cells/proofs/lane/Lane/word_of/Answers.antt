@@ -13,6 +13,9 @@ use Rattle.spf_cells.proofs.lane.Lane.word_of.Goals as goal
 pub find_word-requires-clause-order : goal.find_word-requires-clause-order
 find_word-requires-clause-order c = rw c.as_slice.ensures.value c.self.invariant.order
 
+pub find_word-requires-clause-first : goal.find_word-requires-clause-first
+find_word-requires-clause-first c = rw c.as_slice.ensures.value c.self.invariant.first
+
 pub find_word-requires-clause-small : goal.find_word-requires-clause-small
 find_word-requires-clause-small c = rw c.as_slice.ensures.value (segment_fits c.self.inside c.self.invariant)
 

@@ -2,7 +2,7 @@ use Rattle.std.proofs.Common.{subst, ◌≡◌, ℕ, ◌<◌, length, ap, sym, �
 use Rattle.spf_cells.specs.declared.view.Setting.{Setting}
 use Rattle.spf_cells.specs.Rule.{blocks, handed_out}
 use Rattle.spf_cells.specs.Spans.{cells_of, IsDisjointWithin}
-use Rattle.spf_cells.specs.Segments.{AreSegmentsOf, first_word}
+use Rattle.spf_cells.specs.Segments.{AreSegmentsOf, IsOneOf, first_word}
 use Rattle.spf_cells.specs.Values.{CellsValue}
 use Rattle.spf_cells.specs.Warden.{warden_of}
 use Rattle.spf_cells.proofs.WardenSteps.{may_split, new_lane_ok}
@@ -37,3 +37,4 @@ invariant_of-result c =
     let apart : IsDisjointWithin k.plan (length k.entry) = subst (λ (z : Setting). IsDisjointWithin z.plan (length z.entry)) (ap (λ (w : CellsValue). w.setting) c.cells.view_is ∙ same) c.cells.invariant.disjoint in
     new_lane_ok _ k b (e.4 ∙ ap (λ m. (handed_out m.0, [])) i.seat) made room (omega arith) (omega arith) apart
     (subst (λ (y : Setting × ℕ). AreSegmentsOf c.args.segments.items (cells_of (get_or y.0.plan y.1 [])) (first_word y.0 y.1)) (λ t. (same t, made t)) c.requires.segments) c.requires.order
+    (subst (IsOneOf c.first_of.result) c.as_slice.ensures.value c.first_of.ensures)
