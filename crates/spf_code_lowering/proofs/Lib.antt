@@ -5,6 +5,13 @@ pub mod Expressions
 pub mod Conditions
 pub mod Statements
 pub mod Calls
+pub mod Shifts
+pub mod Moved
+pub mod InPlace
+pub mod Placed
+pub mod Answered
+pub mod Zeros
+pub mod Inlined
 pub mod Functions
 pub mod Weight
 pub mod Fitting
@@ -19,3 +26,4 @@ pub mod Parts
 pub mod Settings
 pub mod Fitted
 pub mod Rows
+pub mod Folds

@@ -2,4 +2,5 @@ pub mod Adding
 pub mod Computes
 pub mod Flat
 pub mod Lowering
+pub mod Shifted
 pub mod Tables

@@ -4,7 +4,7 @@ ghost use Rattle.std.specs.Prelude.{◌≡◌, ◌≤◌, ◌<◌, [], false, �
 ghost use Rattle.spf_ast.specs.View.{condition as seen_condition};
 ghost use Rattle.spf_code_lowering.specs.Adding.{AddsCondition, Spares, comparison};
 ghost use Rattle.spf_code_lowering.specs.Flat.{nodes_set};
-ghost use Rattle.spf_code_lowering.specs.Lowering.{Wrote, ToldIn};
+ghost use Rattle.spf_code_lowering.specs.Lowering.{HaveCodes, Wrote, ToldIn};
 
 use crate::expression::{Scope, add, hold};
 use crate::jump::add_choice;
@@ -22,6 +22,7 @@ fn compare(
     right: &Expr,
     out: &mut Vec<Node>,
 ) -> Result<(), AllocError>
+    requires codes { HaveCodes scope.now }
     requires own { scope.now.own ≤ free }
     ensures wrote { AddsCondition scope.now line free (comparison test left.now right.now)
         out.old out.new result }
@@ -61,6 +62,7 @@ pub(crate) fn tell(
     cond: &Cond,
     out: &mut Vec<Node>,
 ) -> Result<(), AllocError>
+    requires codes { HaveCodes scope.now }
     requires own { scope.now.own ≤ free }
     ensures wrote { AddsCondition scope.now line free (seen_condition cond.now)
         out.old out.new result }
@@ -99,6 +101,7 @@ pub(crate) fn code_telling(
     free: u32,
     cond: &Cond,
 ) -> Result<Vec<Node>, AllocError>
+    requires codes { HaveCodes scope.now }
     requires own { scope.now.own ≤ free }
     ensures told { (calls : ℕ → ℕ) → IfOk result
         (λ v. Wrote [] v.items (ToldIn scope.now calls line free (seen_condition cond.now))) }

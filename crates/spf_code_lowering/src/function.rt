@@ -1,6 +1,6 @@
 //! Lowering of functions.
 
-ghost use Rattle.std.specs.Prelude.{◌≡◌, ℕ, length, map, IfOk};
+ghost use Rattle.std.specs.Prelude.{◌≡◌, ◌≤◌, ℕ, length, map, IfOk};
 ghost use Rattle.spf_ast.specs.View.{function as seen_function};
 ghost use Rattle.spf_code_lowering.specs.Adding.{LowersFunction};
 ghost use Rattle.spf_code_lowering.specs.Lowering.{AreCodesOf};
@@ -22,13 +22,17 @@ fn slot_count(source: &Function) -> Result<u32, AllocError>
     Ok(source.slots.len() as u32)
 }
 
-/// Lowers a function that may call those before this index among these.
+/// Lowers a function that may call those before this index among these, whose code is given.
 pub fn function(
     alloc: Global,
     functions: &[Function],
+    codes: &[FunctionCode],
     index: usize,
     source: &Function,
 ) -> Result<FunctionCode, AllocError>
+    requires all { index ≤ length codes.now }
+    requires codes { (calls : ℕ → ℕ) → AreCodesOf (map seen_function functions.now) calls
+        codes.now }
     ensures slots { IfOk result (λ f. f.slots ≡ length (seen_function source.now).slots) }
     ensures code { (calls : ℕ → ℕ) → IfOk result (LowersFunction functions.now index source.now
         calls) }
@@ -38,6 +42,7 @@ pub fn function(
     let scope = Scope {
         alloc,
         functions,
+        codes,
         below: index,
         own,
     };
@@ -68,7 +73,7 @@ pub fn functions(alloc: Global, sources: &[Function]) -> Result<Vec<FunctionCode
 {
     let mut codes = Vec::new(alloc);
     for index in 0..sources.len() {
-        let code = function(alloc, sources, index, &sources[index])?;
+        let code = function(alloc, sources, codes.as_slice(), index, &sources[index])?;
         codes.push(code)?;
     }
     Ok(codes)

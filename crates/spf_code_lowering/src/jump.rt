@@ -8,7 +8,7 @@ use spf_code::node::{Choice, Node, unless};
 use std::alloc::AllocError;
 
 /// Appends these instructions.
-fn append(more: Vec<Node>, out: &mut Vec<Node>) -> Result<(), AllocError>
+pub(crate) fn append(more: Vec<Node>, out: &mut Vec<Node>) -> Result<(), AllocError>
     ensures appended { IfOk result (λ _. out.new.items ≡ out.old.items ++ more.items) }
 {
     let mut more = more;

@@ -10,6 +10,7 @@ mod choice;
 mod condition;
 mod expression;
 pub mod function;
+mod inline;
 mod jump;
 pub mod program;
 mod statement;

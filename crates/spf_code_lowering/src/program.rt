@@ -10,7 +10,7 @@ ghost use Rattle.spf_code_lowering.specs.Adding.{LowersRow, LowersExpression, Lo
 ghost use Rattle.spf_code_lowering.specs.Adding.{LowersGuesses, LowersFold, LowersPair};
 ghost use Rattle.spf_code_lowering.specs.Adding.{LowersConstruct, LowersConstructs};
 ghost use Rattle.spf_code_lowering.specs.Adding.{LowersStatements};
-ghost use Rattle.spf_code_lowering.specs.Lowering.{IsCodeOfProgram, SetsWhatIsChanged, SetsNoSlot};
+ghost use Rattle.spf_code_lowering.specs.Lowering.{HaveCodes, IsCodeOfProgram, SetsWhatIsChanged, SetsNoSlot};
 ghost use Rattle.spf_code_lowering.specs.Lowering.{RunIn, BlockIn};
 
 use crate::expression::{Scope, count_of, end_list, hold, pass};
@@ -39,6 +39,7 @@ fn row_code(
     line: u32,
     row: &[Expr],
 ) -> Result<RowCode, AllocError>
+    requires codes { HaveCodes scope.now }
     ensures code { (calls : ℕ → ℕ) → IfOk result (LowersRow scope.now calls statements.now line
         row.now) }
     ensures sets { IfOk result (λ v. SetsWhatIsChanged scope.now.own (seen_block statements.now)
@@ -56,6 +57,7 @@ fn row_code(
 
 /// Returns the code of an expression.
 fn expression_code(scope: &Scope, line: u32, value: &Expr) -> Result<ValueCode, AllocError>
+    requires codes { HaveCodes scope.now }
     ensures code { (calls : ℕ → ℕ) → IfOk result (LowersExpression scope.now calls line value.now) }
     ensures sets { IfOk result (λ v. SetsNoSlot scope.now.own (code v.nodes.items)) }
 {
@@ -91,6 +93,7 @@ fn no_row(alloc: Global) -> RowCode
 
 /// Returns the code of a guess. One that is supplied needs none.
 fn guess_code(scope: &Scope, line: u32, predict: &Predict) -> Result<ValueCode, AllocError>
+    requires codes { HaveCodes scope.now }
     ensures code { (calls : ℕ → ℕ) → IfOk result (LowersGuess scope.now calls line predict.now) }
     ensures sets { IfOk result (λ v. SetsNoSlot scope.now.own (code v.nodes.items)) }
 {
@@ -102,6 +105,7 @@ fn guess_code(scope: &Scope, line: u32, predict: &Predict) -> Result<ValueCode, 
 
 /// Returns the code of the guesses of a row's parts.
 fn guess_codes(scope: &Scope, line: u32, predict: &[Predict]) -> Result<Vec<ValueCode>, AllocError>
+    requires codes { HaveCodes scope.now }
     ensures codes { (calls : ℕ → ℕ) → IfOk result (λ v. LowersGuesses scope.now calls line
         predict.now v.items) }
 {
@@ -114,6 +118,7 @@ fn guess_codes(scope: &Scope, line: u32, predict: &[Predict]) -> Result<Vec<Valu
 
 /// Returns the code of a fold's parts.
 fn fold_code(scope: &Scope, line: u32, fold: &Fold) -> Result<ConstructCode, AllocError>
+    requires codes { HaveCodes scope.now }
     ensures code { (calls : ℕ → ℕ) → IfOk result (LowersFold scope.now calls line fold.now) }
 {
     let header = HeaderCode {
@@ -133,6 +138,7 @@ fn fold_code(scope: &Scope, line: u32, fold: &Fold) -> Result<ConstructCode, All
 
 /// Returns the code of statements.
 fn block_code(scope: &Scope, statements: &[Stmt]) -> Result<Vec<Node>, AllocError>
+    requires codes { HaveCodes scope.now }
     ensures code { (calls : ℕ → ℕ) → IfOk result
         (λ k. BlockIn scope.now calls (seen_block statements.now) (code k.items)) }
     ensures sets { IfOk result (λ k. SetsWhatIsChanged scope.now.own (seen_block statements.now)
@@ -145,6 +151,7 @@ fn block_code(scope: &Scope, statements: &[Stmt]) -> Result<Vec<Node>, AllocErro
 
 /// Returns the code of a pair's parts.
 fn pair_code(scope: &Scope, line: u32, pair: &Pair) -> Result<ConstructCode, AllocError>
+    requires codes { HaveCodes scope.now }
     ensures code { (calls : ℕ → ℕ) → IfOk result (LowersPair scope.now calls line pair.now) }
 {
     let header = HeaderCode {
@@ -165,6 +172,7 @@ fn pair_code(scope: &Scope, line: u32, pair: &Pair) -> Result<ConstructCode, All
 
 /// Returns the code of a top construct's parts.
 fn construct_code(scope: &Scope, construct: TopConstruct) -> Result<ConstructCode, AllocError>
+    requires codes { HaveCodes scope.now }
     ensures code { (calls : ℕ → ℕ) → IfOk result (LowersConstruct scope.now calls (seen_construct
         construct.entry)) }
 {
@@ -176,6 +184,7 @@ fn construct_code(scope: &Scope, construct: TopConstruct) -> Result<ConstructCod
 
 /// Returns the code of each top construct among these statements.
 fn construct_codes(scope: &Scope, main: &[Stmt]) -> Result<Vec<ConstructCode>, AllocError>
+    requires codes { HaveCodes scope.now }
     ensures codes { (calls : ℕ → ℕ) → IfOk result (λ codes. LowersConstructs scope.now calls
         main.now codes.items) }
 {
@@ -191,6 +200,7 @@ fn construct_codes(scope: &Scope, main: &[Stmt]) -> Result<Vec<ConstructCode>, A
 
 /// Returns the code of one statement.
 fn statement_code(scope: &Scope, stmt: &Stmt) -> Result<Vec<Node>, AllocError>
+    requires codes { HaveCodes scope.now }
     ensures code { (calls : ℕ → ℕ) → IfOk result
         (λ k. RunIn scope.now calls stmt.now.line (seen_statement stmt.now.kind) (code k.items)) }
 {
@@ -202,6 +212,7 @@ fn statement_code(scope: &Scope, stmt: &Stmt) -> Result<Vec<Node>, AllocError>
 
 /// Returns the code of each of these statements.
 fn statement_codes(scope: &Scope, main: &[Stmt]) -> Result<Vec<Vec<Node>>, AllocError>
+    requires codes { HaveCodes scope.now }
     ensures codes { (calls : ℕ → ℕ) → IfOk result (λ codes. LowersStatements scope.now calls
         main.now codes.items) }
 {
@@ -227,6 +238,7 @@ pub fn lower(alloc: Global, program: &Program) -> Result<ProgramCode, AllocError
     let scope = Scope {
         alloc,
         functions: &program.functions,
+        codes: functions.as_slice(),
         below: program.functions.len(),
         own: slot_count(program.slots.len())?,
     };

@@ -40,7 +40,7 @@ use Rattle.spf_exec.specs.declared.pieces.Header as code_header
 use Rattle.spf_exec.specs.declared.pieces.Pause.{Pause}
 use Rattle.spf_exec.specs.declared.tables.Arity.{Arity}
 use Rattle.spf_exec.specs.Pieces.{RunState, run_state, Advanced, HeaderDone, IsHeaderAnswer, header_result}
-use Rattle.spf_exec.specs.Sources.{callable_of, construct_needs, RunsAs, GivesAs, reads_row, wholly}
+use Rattle.spf_exec.specs.Sources.{callees_of, construct_needs, RunsAs, GivesAs, reads_row, wholly}
 use Rattle.spf_exec.specs.Tables.{IsAnswer, arguments_at}
 
 -- ---- programs and instances
@@ -116,33 +116,33 @@ construct_room i construct = slot_count i + construct_needs (rooms_in i) constru
 
 -- the code gives the words of a row
 abbrev pub RowCodeIn : InstanceValue → ℕ → Arguments → RowCode → Type 0
-RowCodeIn i line words k = IsRowCode (callable_of (program_of i)) (rooms_in i) (slot_count i) end line words k
+RowCodeIn i line words k = IsRowCode (callees_of (program_of i)) (rooms_in i) (slot_count i) end line words k
 
 -- the code gives the value of an expression
 abbrev pub ExpressionCodeIn : InstanceValue → ℕ → Expression → ValueCode → Type 0
-ExpressionCodeIn i line value k = IsExpressionCode (callable_of (program_of i)) (rooms_in i) (slot_count i) line value k
+ExpressionCodeIn i line value k = IsExpressionCode (callees_of (program_of i)) (rooms_in i) (slot_count i) line value k
 
 -- the code gives the guess of a predictor
 abbrev pub GuessCodeIn : InstanceValue → ℕ → Predictor → ValueCode → Type 0
-GuessCodeIn i line predict k = IsGuessCode (callable_of (program_of i)) (rooms_in i) (slot_count i) line predict k
+GuessCodeIn i line predict k = IsGuessCode (callees_of (program_of i)) (rooms_in i) (slot_count i) line predict k
 
 -- each code gives the guess of its predictor
 abbrev pub GuessCodesIn : InstanceValue → ℕ → List Predictor → List ValueCode → Type 0
-GuessCodesIn i line predict ks = AreGuessCodes (callable_of (program_of i)) (rooms_in i) (slot_count i) line predict ks
+GuessCodesIn i line predict ks = AreGuessCodes (callees_of (program_of i)) (rooms_in i) (slot_count i) line predict ks
 
 -- the code is that of a construct's parts
 abbrev pub ConstructCodeIn : InstanceValue → Construct → ConstructCode → Type 0
-ConstructCodeIn i construct k = IsConstructCode (callable_of (program_of i)) (rooms_in i) (slot_count i) construct k
+ConstructCodeIn i construct k = IsConstructCode (callees_of (program_of i)) (rooms_in i) (slot_count i) construct k
 
 -- the code is that of a fold's parts
 abbrev pub FoldCodeIn : InstanceValue → ℕ → code_fold.Fold → ConstructCode → Type 0
 FoldCodeIn i line f k =
-    IsFoldCode (callable_of (program_of i)) (rooms_in i) (slot_count i) line (fold_head f) (seen_block (out-Fold f).body.items) k
+    IsFoldCode (callees_of (program_of i)) (rooms_in i) (slot_count i) line (fold_head f) (seen_block (out-Fold f).body.items) k
 
 -- the code is that of a pair's parts
 abbrev pub PairCodeIn : InstanceValue → ℕ → code_pair.Pair → ConstructCode → Type 0
 PairCodeIn i line f k =
-    IsPairCode (callable_of (program_of i)) (rooms_in i) (slot_count i) line (pair_head f)
+    IsPairCode (callees_of (program_of i)) (rooms_in i) (slot_count i) line (pair_head f)
     (seen_block (out-Pair f).producer.items) (seen_block (out-Pair f).consumer.items) k
 
 -- each slot of `main` that a part neither declares nor assigns has the same word in both lists of registers

@@ -1,13 +1,13 @@
 -- An instance whose functions have other tables.
 use Rattle.std.proofs.Common.{◌≡◌, ◌⊎◌, inl, inr, ℕ, zero, suc, ◌<◌, List, [], ◌∷◌, length, Some, refl, sym, ap, ◌∙◌, subst}
 use Rattle.std.specs.Prelude.{slice_get, slice_set}
-use Rattle.spf_ast.specs.Meaning.{call_before, callable_before}
+use Rattle.spf_ast.specs.Meaning.{call_before}
 use Rattle.spf_ast.specs.Program.{extents_of}
 use Rattle.spf_ast.specs.Syntax.{Program, Function}
 use Rattle.spf_code.specs.declared.function.FunctionCode.{FunctionCode}
 use Rattle.spf_code.specs.declared.program.ProgramCode.{ProgramCode}
 use Rattle.spf_code.specs.NodeView.{code}
-use Rattle.spf_code_lowering.specs.Lowering.{IsCodeOf}
+use Rattle.spf_code_lowering.specs.Lowering.{callees_before, IsCodeOf}
 use Rattle.spf_code_lowering.specs.Tables.{HasAnswers}
 use Rattle.spf_exec_instance.specs.Instance.{IsInstance}
 use Rattle.spf_exec_instance.specs.Layout.{LayoutValue}
@@ -58,10 +58,10 @@ other-tables p input l old new size f k changed i at set main constructs slots c
 }
   where
     of-changed : (calls : ℕ → ℕ) (j : ℕ) (c : FunctionCode) (g : Function) → j ≡ f → c ≡ changed
-        → (k.slots ≡ length g.slots) × IsCodeOf (callable_before p.functions f) calls g (code k.code.items) k.register
-        → (c.slots ≡ length g.slots) × IsCodeOf (callable_before p.functions j) calls g (code c.code.items) c.register
+        → (k.slots ≡ length g.slots) × IsCodeOf (callees_before p.functions f) calls g (code k.code.items) k.register
+        → (c.slots ≡ length g.slots) × IsCodeOf (callees_before p.functions j) calls g (code c.code.items) c.register
     of-changed calls j c g e d h = (
       ap (λ (x : FunctionCode). x.slots) d ∙ slots ∙ h.0,
-      subst (λ n. IsCodeOf (callable_before p.functions n) calls g (code c.code.items) c.register) (sym e)
-          (subst (λ (x : FunctionCode). IsCodeOf (callable_before p.functions f) calls g (code x.code.items) x.register) (sym d) (rw (code_is, register) h.1)),
+      subst (λ n. IsCodeOf (callees_before p.functions n) calls g (code c.code.items) c.register) (sym e)
+          (subst (λ (x : FunctionCode). IsCodeOf (callees_before p.functions f) calls g (code x.code.items) x.register) (sym d) (rw (code_is, register) h.1)),
     )

@@ -6,7 +6,7 @@ use Rattle.spf_code.specs.declared.node.Node.TheVariants as v
 use Rattle.spf_code.specs.Code.{only, ◌then◌}
 use Rattle.spf_code.specs.NodeView.{node}
 use Rattle.spf_code_lowering.proofs.Lowering.{then-then, more, finish}
-use Rattle.spf_code_lowering.specs.Lowering.{callable_in, HeldIn, ToldIn}
+use Rattle.spf_code_lowering.specs.Lowering.{callees_in, HeldIn, ToldIn}
 use Rattle.spf_code_lowering.proofs.Telling.{comparison_told, number_comparison_told}
 use Rattle.spf_code_lowering.proofs.Spared.{fewer, both-spared, finished, less-differs}
 use Rattle.spf_code_lowering.proofs.condition.compare.Goals as goal
@@ -21,7 +21,7 @@ returns-in-Number-clause-wrote c = λ calls.
     let e : IfOk c.add.result (λ u. c.add.new.out.items ≡ c.hold.new.out.items ++ v.CompareWith c.args.test c.args.free r c.in-Number.n ∷ []) = search rules in
     rw c.in-Number.is
     (finish c.add.result _ _ _ (v.CompareWith c.args.test c.args.free r c.in-Number.n) (HeldIn s calls c.args.line c.args.free next r a) Q refl (c.in_ok-first.ensures.wrote calls) e
-    (λ made p. number_comparison_told (callable_in s) calls c.args.line s.own c.args.free next r c.args.test a c.in-Number.n made p))
+    (λ made p. number_comparison_told (callees_in s) calls c.args.line s.own c.args.free next r c.args.test a c.in-Number.n made p))
 
 pub returns-clause-wrote : goal.returns-clause-wrote
 returns-clause-wrote c = λ calls.
@@ -36,7 +36,7 @@ returns-clause-wrote c = λ calls.
     let made_so_far = more (λ made. ToldIn s calls c.args.line c.args.free (Compare c.args.test a b) (made then only (node x)))
     (c.in_ok-first.ensures.wrote calls) (c.in_ok-second.ensures.wrote calls)
     (λ m k p w. subst (ToldIn s calls c.args.line c.args.free (Compare c.args.test a b)) (sym (then-then m k (only (node x))))
-    (comparison_told (callable_in s) calls c.args.line s.own c.args.free between next r q c.args.test a b m k c.in_ok-first.ensures.next.1 p w)) in
+    (comparison_told (callees_in s) calls c.args.line s.own c.args.free between next r q c.args.test a b m k c.in_ok-first.ensures.next.1 p w)) in
     finish c.add-2.result _ _ _ x (λ made. ToldIn s calls c.args.line c.args.free (Compare c.args.test a b) (made then only (node x))) (ToldIn s calls c.args.line c.args.free (Compare c.args.test a b)) refl made_so_far c.add-2.ensures.appended (λ made p. p)
 
 pub returns-in-Number-clause-spares : goal.returns-in-Number-clause-spares

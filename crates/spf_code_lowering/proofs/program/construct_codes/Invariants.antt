@@ -1,12 +1,12 @@
 use Rattle.std.proofs.Common.{drop, ℕ}
 use Rattle.spf_ast.specs.Construct.{constructs_in}
 use Rattle.spf_ast.specs.View.{block}
-use Rattle.spf_code_lowering.specs.Lowering.{callable_in}
+use Rattle.spf_code_lowering.specs.Lowering.{callees_in}
 use Rattle.spf_code_lowering.proofs.Parts.{ConstructsSoFar}
 use Rattle.spf_code_lowering.proofs.program.construct_codes.Given as goal
 
 -- with the codes of the constructs that are left, these are the codes of all of them
 abbrev pub invariant-loop-stmt : goal.invariant-loop-stmt
 invariant-loop-stmt l = record {
-  codes : (calls : ℕ → ℕ) → ConstructsSoFar (callable_in l.scope) calls l.scope.own (constructs_in (block l.main)) (constructs_in (block (drop l.stmt-index l.main))) l.codes.items;
+  codes : (calls : ℕ → ℕ) → ConstructsSoFar (callees_in l.scope) calls l.scope.own (constructs_in (block l.main)) (constructs_in (block (drop l.stmt-index l.main))) l.codes.items;
 }

@@ -8,16 +8,16 @@ use Rattle.spf_ast.specs.View.{expression, condition, statement, block, fold_hea
 use Rattle.spf_ast.specs.Syntax.{Let, Assign, Fail, If, For, While, Fold, Pair, Break, on_line}
 use Rattle.spf_ast.proofs.Views.{statement-if, statement-for, statement-while, statement-fold, statement-pair}
 use Rattle.spf_code.specs.declared.node.Node.TheVariants as v
-use Rattle.spf_code.specs.Code.{Code, stop, only, ◌then◌, Fold as code_fold, node_sets, code_sets}
+use Rattle.spf_code.specs.Code.{Code, stop, only, ◌then◌, node_sets, code_sets}
 use Rattle.spf_code.specs.NodeView.{node, code}
 use Rattle.spf_code_lowering.specs.Computes.{copies}
-use Rattle.spf_code_lowering.specs.Lowering.{SetsNone, IsLeft, AreLeft, callable_in, HeldIn, PassedIn, ToldIn, RunIn, BlockIn}
-use Rattle.spf_code_lowering.proofs.Lowering.{nothing, then-then, one_as, more, mapped, as_well, finish, alone}
+use Rattle.spf_code_lowering.specs.Lowering.{SetsNone, IsLeft, AreLeft, callees_in, HeldIn, ToldIn, RunIn, BlockIn}
+use Rattle.spf_code_lowering.proofs.Lowering.{nothing, then-then, more, mapped, as_well, finish, alone}
 use Rattle.spf_code.proofs.NodeViews.{node-while, node-fold}
-use Rattle.spf_code_lowering.specs.Flat.{DoesSame}
 use Rattle.spf_code_lowering.proofs.Flat.{ended-sets}
-use Rattle.spf_code_lowering.proofs.Same.{block-too, told-too, does-same, whole, blocks-same}
-use Rattle.spf_code_lowering.proofs.Running.{then-stop, no_block, block_run, assign_run, loop_run, while_run, fold_run, pair_run, fail_run, break_run}
+use Rattle.spf_code_lowering.proofs.Same.{block-too, told-too, whole}
+use Rattle.spf_code_lowering.proofs.Folds.{BlocksIn, fold_made}
+use Rattle.spf_code_lowering.proofs.Running.{then-stop, no_block, block_run, assign_run, loop_run, while_run, pair_run, fail_run, break_run}
 use Rattle.spf_code_lowering.proofs.Weight.{statement_weight, stmts_weight, weight_at}
 use Rattle.spf_code_lowering.proofs.Spared.{same-spared, fewer, both-spared, one-more, finished, alone-spared, none-set, either, let-changes, assign-changes, if-changes, written-elsewhere, for-changes, fold-changes, pair-changes, in-statement}
 use Rattle.spf_code_lowering.proofs.statement.+statement.Goals as goal
@@ -61,40 +61,27 @@ choose-returns-clause-wrote t c = λ calls.
 pub fold-returns-clause-wrote : goal.fold-returns-clause-wrote
 fold-returns-clause-wrote t c = λ calls.
     let s = c.args.scope.now in
-    let line = c.args.line in
     let head = fold_head c.args.fold.now in
     let all = block (out-Fold c.args.fold.now).body.items in
     let row = copies s.own head.carried s.own in
     let between = c.in_ok-low.low.next in
     let r = c.in_ok-low.low.register in
-    let next = c.in_ok-high.high.next in
-    let q = c.in_ok-high.high.register in
-    let whole_block = c.in_ok-list.list in
     let counter = c.counter_of-counter.result in
-    let x = v.Fold counter r q whole_block line in
     let wide : c.in_ok-free.free ≡ s.own + length head.carried = c.in_ok-free.ensures {u = tt} ∙ ap (λ n. s.own + n) (c.in_ok-count_of.ensures {u = tt} ∙ ap length c.deref.ensures.value) in
     let few = c.in_ok-low.ensures.next.1 in
+    let near : between ≤ s.own + length head.carried + 1 = omega (arith, few, wide) in
     let bodies = more (λ made. (body : Code) × (made ≡ (row then body)) × BlockIn s calls all body)
     (rw (c.new-one_block.ensures.items, c.deref-2.ensures.value) at c.in_ok-copy_row.ensures.wrote) (rw c.deref-3.ensures.value at c.in_ok-append.ensures.wrote calls)
     (λ m k e b. (k, ap (λ m. m then k) e, b)) in
-    let blocks = (more (λ made. (body : Code) × (value : Code) × (made ≡ (row then (body then value))) × BlockIn s calls all body × PassedIn s calls head.next_line s.own head.next value)
-    bodies (rw c.deref-4.ensures.value at c.in_ok-pass.ensures.wrote calls)
-    (λ m k p w. (p.0, k, ap (λ m. m then k) p.1 ∙ then-then row p.0 k, p.2, w))) in
-    let is = blocks.asked in
-    let whole_code = row then (is.0 then is.1) in
-    let y = code_fold counter r q whole_code line in
-    let same = subst (λ z. DoesSame (only y) (only z)) (sym (node-fold counter r q whole_block line))
-    (blocks-same counter r q line whole_code (code whole_block.items) (subst (λ k. DoesSame k (code whole_block.items)) is.2 (does-same c.pass.new.out.items whole_block.items _ (c.in_ok-list.ensures {u = tt}) blocks))) in
-    let R = RunIn s calls line (Fold head all) in
-    let two = more (λ made. (k : Code) → HeldIn s calls line between next q head.high k → R (made then (k then (only y then row))))
-    (rw c.deref-5.ensures.value at c.in_ok-pass-2.ensures.wrote calls) (c.in_ok-low.ensures.wrote calls)
-    (λ m k p w. λ l z. subst R (sym (then-then m k (l then (only y then row))))
-    (fold_run s calls line between next r q counter head all m k l is.0 is.1 (omega (arith, few, wide)) c.counter_of-counter.ensures.written
-    (subst (λ n. (counter < s.own) ⊎ (n ≤ counter)) wide c.counter_of-counter.ensures.apart) (subst (λ n. counter ≤ n) wide c.counter_of-counter.ensures.there) p (subst (λ n. HeldIn s calls line n between r head.low k) wide w) z is.3 is.4)) in
-    let three = more (λ made. R (made then (only y then row))) two (c.in_ok-high.ensures.wrote calls) (λ m k p w. subst R (sym (then-then m k (only y then row))) (p k w)) in
-    let four = more (λ made. R (made then row)) three (one_as _ _ x y (λ made. made ≡ only y) refl same (c.in_ok-add.ensures {u = tt}).appended refl)
-    (λ m k p e. subst (λ z. R ((m then z) then row)) (sym e) (subst R (sym (then-then m (only y) row)) p)) in
-    mapped c.copy_row-2.result (rw c.deref-6.ensures.value at c.copy_row-2.ensures.wrote) (λ u w. more R four w (λ m k p e. subst (λ z. R (m then z)) (sym e) p))
+    let blocks = more (BlocksIn s calls head all) bodies (rw c.deref-4.ensures.value at c.in_ok-pass.ensures.wrote calls)
+    (λ m k p w. (p.0, k, ap (λ m. m then k) p.1 ∙ then-then row p.0 k, p.2, w)) in
+    mapped c.copy_row-2.result (rw c.deref-6.ensures.value at c.copy_row-2.ensures.wrote) (λ u copied.
+    fold_made s calls c.args.line between c.in_ok-high.high.next r c.in_ok-high.high.register counter head all c.pass.new.out.items c.in_ok-list.list _ _ _ _ _ _
+    near c.counter_of-counter.ensures.written (subst (λ n. (counter < s.own) ⊎ (n ≤ counter)) wide c.counter_of-counter.ensures.apart) (subst (λ n. counter ≤ n) wide c.counter_of-counter.ensures.there)
+    (c.in_ok-list.ensures {u = tt}) blocks
+    (rw c.deref-5.ensures.value at c.in_ok-pass-2.ensures.wrote calls)
+    (as_well (HeldIn s calls c.args.line (s.own + length head.carried) between r head.low) (c.in_ok-low.ensures.wrote calls) (λ made w. subst (λ n. HeldIn s calls c.args.line n between r head.low made) wide w))
+    (c.in_ok-high.ensures.wrote calls) (c.in_ok-add.ensures {u = tt}).appended copied)
 
 pub pair-returns-clause-wrote : goal.pair-returns-clause-wrote
 pair-returns-clause-wrote t c = λ calls.
@@ -126,7 +113,7 @@ for_loop-returns-clause-wrote t c = λ calls.
     let R = RunIn s calls c.args.line (For c.args.slot a b body) in
     let made_so_far = more (λ made. R (made then only (node x))) (c.in_ok-first.ensures.wrote calls) (c.in_ok-last.ensures.wrote calls)
     (λ m k p w. subst R (sym (then-then m k (only (node x)))) (subst (λ y. R (m then (k then only y))) (sym c.iterations.ensures.node)
-    (loop_run s calls c.args.line between next r q c.args.slot counter a b body m k (code c.in_ok-list.list.items) c.in_ok-first.ensures.next.1 c.register_of-counter.ensures.written c.register_of-counter.ensures.there p w (whole nodes.items c.in_ok-list.list.items (BlockIn s calls body) (block-too (callable_in s) calls s.own body) (c.in_ok-list.ensures {u = tt}) (c.in_ok-nodes.ensures.runs calls))))) in
+    (loop_run s calls c.args.line between next r q c.args.slot counter a b body m k (code c.in_ok-list.list.items) c.in_ok-first.ensures.next.1 c.register_of-counter.ensures.written c.register_of-counter.ensures.there p w (whole nodes.items c.in_ok-list.list.items (BlockIn s calls body) (block-too (callees_in s) calls s.own body) (c.in_ok-list.ensures {u = tt}) (c.in_ok-nodes.ensures.runs calls))))) in
     finish c.add.result _ _ _ x (λ made. R (made then only (node x))) R c.iterations.ensures.way made_so_far c.add.ensures.appended (λ made p. p)
 
 pub while_loop-returns-clause-wrote : goal.while_loop-returns-clause-wrote
@@ -140,8 +127,8 @@ while_loop-returns-clause-wrote t c = λ calls.
     alone c.add.result _ _ (v.While s.own c.args.most c.in_ok-test_list.test_list c.in_ok-list.list c.args.line) R refl c.add.ensures.appended
     (subst (λ y. R (only y)) (sym (node-while s.own c.args.most c.in_ok-test_list.test_list c.in_ok-list.list c.args.line))
     (while_run s calls c.args.line c.args.most test body (code c.in_ok-test_list.test_list.items) (code c.in_ok-list.list.items)
-    (whole asked.items c.in_ok-test_list.test_list.items (ToldIn s calls c.args.line s.own test) (told-too (callable_in s) calls c.args.line s.own s.own test) (c.in_ok-test_list.ensures {u = tt}) (c.in_ok-asked.ensures.told calls))
-    (whole nodes.items c.in_ok-list.list.items (BlockIn s calls body) (block-too (callable_in s) calls s.own body) (c.in_ok-list.ensures {u = tt}) (c.in_ok-nodes.ensures.runs calls))))
+    (whole asked.items c.in_ok-test_list.test_list.items (ToldIn s calls c.args.line s.own test) (told-too (callees_in s) calls c.args.line s.own s.own test) (c.in_ok-test_list.ensures {u = tt}) (c.in_ok-asked.ensures.told calls))
+    (whole nodes.items c.in_ok-list.list.items (BlockIn s calls body) (block-too (callees_in s) calls s.own body) (c.in_ok-list.ensures {u = tt}) (c.in_ok-nodes.ensures.runs calls))))
 
 pub statement-returns-in-Assign-clause-wrote : goal.statement-returns-in-Assign-clause-wrote
 statement-returns-in-Assign-clause-wrote t c = λ calls.
@@ -188,7 +175,7 @@ append-statement-requires t c =
     let m : t ≡ 3 * stmts_weight c.args.statements.now + 1 = sym c.decreases in
     let w = weight_at c.args.statements.now c.loop-stmt.stmt-index c.stmt-item.result c.loop-stmt-test.true c.stmt-item.is in
     let k : 3 * statement_weight (statement c.stmt-item.result.kind) + 3 < t = omega (arith, m, w) in
-    (k, tt)
+    (k, c.requires.codes)
 
 pub statement-choose-requires : goal.statement-choose-requires
 statement-choose-requires t c =
@@ -197,7 +184,7 @@ statement-choose-requires t c =
     let d = ap stmts_weight c.deref.ensures.value in
     let f = ap stmts_weight c.deref-in-If.ensures.value in
     let k : 3 * (stmts_weight c.deref.result.now + stmts_weight c.deref-in-If.result.now) + 3 < t = omega (arith, m, e, d, f) in
-    (k, tt)
+    (k, c.requires.codes)
 
 pub statement-for_loop-requires : goal.statement-for_loop-requires
 statement-for_loop-requires t c =
@@ -205,7 +192,7 @@ statement-for_loop-requires t c =
     let e = ap (λ k. statement_weight (statement k)) c.in-For.is ∙ ap statement_weight (statement-for c.in-For.slot c.in-For.low c.in-For.high c.in-For.body) in
     let d = ap stmts_weight c.deref-in-For.ensures.value in
     let k : 3 * stmts_weight c.deref-in-For.result.now + 3 < t = omega (arith, m, e, d) in
-    (k, tt)
+    (k, c.requires.codes)
 
 pub statement-while_loop-requires : goal.statement-while_loop-requires
 statement-while_loop-requires t c =
@@ -213,7 +200,7 @@ statement-while_loop-requires t c =
     let e = ap (λ k. statement_weight (statement k)) c.in-While.is ∙ ap statement_weight (statement-while c.in-While.test c.in-While.most c.in-While.body) in
     let d = ap stmts_weight c.deref-in-While.ensures.value in
     let k : 3 * stmts_weight c.deref-in-While.result.now + 3 < t = omega (arith, m, e, d) in
-    (k, tt)
+    (k, c.requires.codes)
 
 pub statement-fold-requires : goal.statement-fold-requires
 statement-fold-requires t c =
@@ -221,7 +208,7 @@ statement-fold-requires t c =
     let e = ap (λ k. statement_weight (statement k)) c.in-Fold.is ∙ ap statement_weight (statement-fold c.in-Fold.parts) in
     let d = ap (λ f. stmts_weight (out-Fold f).body.items) c.deref-in-Fold.ensures in
     let k : 3 * stmts_weight (out-Fold c.deref-in-Fold.result.now).body.items + 3 < t = omega (arith, m, e, d) in
-    (k, tt)
+    (k, c.requires.codes)
 
 pub statement-pair-requires : goal.statement-pair-requires
 statement-pair-requires t c =
@@ -229,7 +216,7 @@ statement-pair-requires t c =
     let e = ap (λ k. statement_weight (statement k)) c.in-Pair.is ∙ ap statement_weight (statement-pair c.in-Pair.parts) in
     let d = ap (λ f. stmts_weight (out-Pair f).producer.items + stmts_weight (out-Pair f).consumer.items) c.deref-in-Pair.ensures in
     let k : 3 * (stmts_weight (out-Pair c.deref-in-Pair.result.now).producer.items + stmts_weight (out-Pair c.deref-in-Pair.result.now).consumer.items) + 3 < t = omega (arith, m, e, d) in
-    (k, tt)
+    (k, c.requires.codes)
 
 -- ---- the registers that are set
 

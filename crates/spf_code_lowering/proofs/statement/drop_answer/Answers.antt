@@ -1,4 +1,4 @@
-use Rattle.spf_code_lowering.specs.Lowering.{IsLeft, callable_in, ComputedIn, RunIn}
+use Rattle.spf_code_lowering.specs.Lowering.{IsLeft, callees_in, ComputedIn, RunIn}
 use Rattle.std.proofs.Common.{◌≡◌, ◌+◌, subst, arith}
 use Rattle.spf_ast.specs.View.{arguments}
 use Rattle.spf_ast.specs.Syntax.{Call, Do}
@@ -14,7 +14,7 @@ returns-clause-wrote c = λ calls.
     let n : c.in_ok-next.next ≡ s.own + 1 = c.in_ok-next.ensures {u = tt} in
     mapped c.call.result (c.call.ensures.wrote calls) (λ u w. as_well (RunIn s calls c.args.line (Do c.args.function given)) w
     (λ made p. call_run s calls c.args.line (s.own + 1) s.own c.args.function given made
-    (value_held (callable_in s) calls c.args.line s.own s.own (Call c.args.function given) made (omega arith) (subst (λ k. ComputedIn s calls c.args.line k s.own (Call c.args.function given) made) n p))))
+    (value_held (callees_in s) calls c.args.line s.own s.own (Call c.args.function given) made (omega arith) (subst (λ k. ComputedIn s calls c.args.line k s.own (Call c.args.function given) made) n p))))
 
 pub returns-clause-spares : goal.returns-clause-spares
 returns-clause-spares c =

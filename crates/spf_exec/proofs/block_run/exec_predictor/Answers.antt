@@ -8,7 +8,7 @@ use Rattle.spf_exec_instance.specs.Instance.{program_of}
 use Rattle.spf_exec_memory.specs.declared.memory.Halt.TheVariants as h
 use Rattle.spf_exec_memory.specs.declared.quiet.ReadOnly.{ReadOnly}
 use Rattle.spf_exec_memory.specs.QuietMemory.{full_output}
-use Rattle.spf_exec.specs.Sources.{callable_of}
+use Rattle.spf_exec.specs.Sources.{callees_of}
 use Rattle.spf_exec.proofs.Rooms.{room_at}
 use Rattle.spf_exec.proofs.Sources.{construct_at}
 use Rattle.spf_exec.proofs.BlockRuns.{guess_answer}
@@ -18,7 +18,7 @@ use Rattle.spf_exec.proofs.block_run.exec_predictor.Goals as goal
 pub index-code-requires : goal.index-code-requires
 index-code-requires c =
     let p = program_of c.args.instance.now in
-    let found = construct_at (callable_of p) (rooms p) (length p.slots) (constructs_in p.main) c.code.result.now.constructs.items c.args.index (construct c.args.construct) (c.code.ensures.code.constructs (rooms p)) c.requires.construct in
+    let found = construct_at (callees_of p) (rooms p) (length p.slots) (constructs_in p.main) c.code.result.now.constructs.items c.args.index (construct c.args.construct) (c.code.ensures.code.constructs (rooms p)) c.requires.construct in
     let long : c.code.result.now.constructs.len ≡ length c.code.result.now.constructs.items = search rules in
     let inside = found.0 in
     omega (arith, inside, long)
@@ -26,7 +26,7 @@ index-code-requires c =
 pub perform_guess_at-requires-clause-code : goal.perform_guess_at-requires-clause-code
 perform_guess_at-requires-clause-code c =
     let p = program_of c.args.instance.now in
-    let found = construct_at (callable_of p) (rooms p) (length p.slots) (constructs_in p.main) c.code.result.now.constructs.items c.args.index (construct c.args.construct) (c.code.ensures.code.constructs (rooms p)) c.requires.construct in
+    let found = construct_at (callees_of p) (rooms p) (length p.slots) (constructs_in p.main) c.code.result.now.constructs.items c.args.index (construct c.args.construct) (c.code.ensures.code.constructs (rooms p)) c.requires.construct in
     found.1 _ c.index-code.ensures
 
 pub perform_guess_at-requires-clause-room : goal.perform_guess_at-requires-clause-room

@@ -1,4 +1,4 @@
-use Rattle.std.proofs.Common.{rules, ◌≡◌, ◌+◌, ◌≤◌, max, length, w64, sym, subst, arith, ap, ◌∙◌}
+use Rattle.std.proofs.Common.{rules, ◌+◌, max, length, w64, sym, subst, arith, ap, ◌∙◌}
 use Rattle.std.proofs.lemmas.Int.{to_z-of_z}
 use mir.Val.{SFits}
 use Rattle.spf_ast.specs.declared.syntax.Fold.{out-Fold}

@@ -1,4 +1,4 @@
-use Rattle.std.proofs.Common.{◌≡◌, length, w64, ap, ◌∙◌}
+use Rattle.std.proofs.Common.{length, w64, ap, ◌∙◌}
 use Rattle.std.specs.Prelude.{slice_get}
 use Rattle.std.proofs.lemmas.Int.{to_z-of_z}
 use Rattle.spf_ast.specs.declared.syntax.Fold.{out-Fold}

@@ -1,4 +1,4 @@
-use Rattle.std.proofs.Common.{◌≡◌, ◌+◌, ◌≤◌, max, length, sym, subst, arith, ap, ◌∙◌}
+use Rattle.std.proofs.Common.{◌+◌, max, length, sym, subst, arith, ap, ◌∙◌}
 use Rattle.spf_ast.specs.Carried.{Carried, IsWidth}
 use Rattle.spf_ast.specs.declared.syntax.Pair.{out-Pair}
 use Rattle.spf_ast.specs.View.{pair_head, block}
@@ -9,10 +9,11 @@ use Rattle.spf_code.specs.Code.{code_sets}
 use Rattle.spf_code.specs.NodeView.{code}
 use Rattle.spf_code_lowering.specs.Lowering.{block_changes}
 use Rattle.spf_code_lowering.proofs.Fitted.{block_fits}
+use Rattle.spf_code_lowering.proofs.Settings.{have_room}
 use Rattle.spf_exec_instance.specs.Frame.{main_slots}
 use Rattle.spf_exec_instance.specs.Instance.{program_of}
 use Rattle.spf_exec_memory.proofs.Steps.{along, at_once, then_value, exit_halt}
-use Rattle.spf_exec.specs.Sources.{callable_of, wholly, block_row}
+use Rattle.spf_exec.specs.Sources.{callees_of, wholly, block_row}
 use Rattle.spf_exec.proofs.Fitting.{row_fits}
 use Rattle.spf_exec.proofs.Leaving.{producer-leaves, consumer-leaves}
 use Rattle.spf_exec.proofs.Prefixes.{take_carried}
@@ -127,4 +128,4 @@ run-requires-clause-fits g c =
     let p = program_of c.args.instance.now in
     let b = block (out-Pair c.args.pair.now).consumer.items in
     rw c.deref-in-Consumer.ensures.value
-    (block_fits (callable_of p) (rooms p) (length p.slots) (length c.set_carried.new.slots) b (code c.args.code.now.consumer.items) c.requires.code.takes (omega (arith, c.requires.room, c.set_carried.auto.slots)))
+    (block_fits (callees_of p) (rooms p) (length p.slots) (length c.set_carried.new.slots) b (code c.args.code.now.consumer.items) (have_room p.functions (length p.functions)) c.requires.code.takes (omega (arith, c.requires.room, c.set_carried.auto.slots)))

@@ -1,6 +1,3 @@
-use Rattle.std.proofs.Common.{subst}
-use Rattle.spf_ast.specs.ConstructView.{construct_on}
-use Rattle.spf_exec.specs.Sources.{ConstructIsOrderly}
 use Rattle.spf_exec.proofs.block_run.perform_part.Goals as goal
 
 pub returns-in-Pair-clause-performs : goal.returns-in-Pair-clause-performs

@@ -3,7 +3,7 @@ use Rattle.spf_ast.specs.Construct.{constructs_in}
 use Rattle.spf_ast.specs.ConstructView.{construct}
 use Rattle.spf_code_registers.specs.Registers.{rooms}
 use Rattle.spf_exec_instance.specs.Instance.{program_of}
-use Rattle.spf_exec.specs.Sources.{callable_of}
+use Rattle.spf_exec.specs.Sources.{callees_of}
 use Rattle.spf_exec.proofs.Rooms.{room_at}
 use Rattle.spf_exec.proofs.Sources.{construct_at, orderly_construct}
 use Rattle.spf_exec.proofs.block_run.run_part.Goals as goal
@@ -11,7 +11,7 @@ use Rattle.spf_exec.proofs.block_run.run_part.Goals as goal
 pub index-code-requires : goal.index-code-requires
 index-code-requires g c =
     let p = program_of c.args.instance.now in
-    let found = construct_at (callable_of p) (rooms p) (length p.slots) (constructs_in p.main) c.code.result.now.constructs.items c.args.block.now.index (construct c.args.block.now.construct) (c.code.ensures.code.constructs (rooms p)) c.requires.construct in
+    let found = construct_at (callees_of p) (rooms p) (length p.slots) (constructs_in p.main) c.code.result.now.constructs.items c.args.block.now.index (construct c.args.block.now.construct) (c.code.ensures.code.constructs (rooms p)) c.requires.construct in
     let long : c.code.result.now.constructs.len ≡ length c.code.result.now.constructs.items = search rules in
     let inside = found.0 in
     omega (arith, inside, long)
@@ -19,7 +19,7 @@ index-code-requires g c =
 pub perform_part-requires-clause-code : goal.perform_part-requires-clause-code
 perform_part-requires-clause-code g c =
     let p = program_of c.args.instance.now in
-    let found = construct_at (callable_of p) (rooms p) (length p.slots) (constructs_in p.main) c.code.result.now.constructs.items c.args.block.now.index (construct c.args.block.now.construct) (c.code.ensures.code.constructs (rooms p)) c.requires.construct in
+    let found = construct_at (callees_of p) (rooms p) (length p.slots) (constructs_in p.main) c.code.result.now.constructs.items c.args.block.now.index (construct c.args.block.now.construct) (c.code.ensures.code.constructs (rooms p)) c.requires.construct in
     found.1 _ c.index-code.ensures
 
 pub perform_part-requires-clause-orderly : goal.perform_part-requires-clause-orderly

@@ -1,4 +1,4 @@
-use Rattle.std.proofs.Common.{◌≡◌, ◌+◌, max, length, refl, sym, subst, arith}
+use Rattle.std.proofs.Common.{◌+◌, max, length, refl, sym, subst, arith}
 use Rattle.spf_ast.specs.Carried.{IsWidth}
 use Rattle.spf_ast.specs.Syntax.{end}
 use Rattle.spf_ast.specs.Meaning.{arguments_mean}

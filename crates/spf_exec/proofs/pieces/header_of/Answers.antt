@@ -6,7 +6,7 @@ use Rattle.spf_ast.specs.View.{pair_head}
 use Rattle.spf_code_registers.specs.Registers.{rooms, block_needs}
 use Rattle.spf_code_lowering.specs.Lowering.{IsConstructCode}
 use Rattle.spf_exec_instance.specs.Instance.{program_of}
-use Rattle.spf_exec.specs.Sources.{callable_of, construct_needs, ConstructIsOrderly}
+use Rattle.spf_exec.specs.Sources.{callees_of, construct_needs, ConstructIsOrderly}
 use Rattle.spf_exec.proofs.Rooms.{room_at}
 use Rattle.spf_exec.proofs.Sources.{construct_at, orderly_construct}
 use Rattle.spf_exec.proofs.pieces.header_of.Goals as goal
@@ -14,7 +14,7 @@ use Rattle.spf_exec.proofs.pieces.header_of.Goals as goal
 pub index-code-requires : goal.index-code-requires
 index-code-requires c =
     let p = program_of c.args.instance.now in
-    let found = construct_at (callable_of p) (rooms p) (length p.slots) (constructs_in p.main) c.code.result.now.constructs.items c.args.index (construct c.args.construct) (c.code.ensures.code.constructs (rooms p)) c.requires.construct in
+    let found = construct_at (callees_of p) (rooms p) (length p.slots) (constructs_in p.main) c.code.result.now.constructs.items c.args.index (construct c.args.construct) (c.code.ensures.code.constructs (rooms p)) c.requires.construct in
     let long : c.code.result.now.constructs.len ≡ length c.code.result.now.constructs.items = search rules in
     let inside = found.0 in
     omega (arith, inside, long)
@@ -22,8 +22,8 @@ index-code-requires c =
 pub fold_header-requires-clause-code : goal.fold_header-requires-clause-code
 fold_header-requires-clause-code c =
     let p = program_of c.args.instance.now in
-    let found = construct_at (callable_of p) (rooms p) (length p.slots) (constructs_in p.main) c.code.result.now.constructs.items c.args.index (construct c.args.construct) (c.code.ensures.code.constructs (rooms p)) c.requires.construct in
-    subst (λ k. IsConstructCode (callable_of p) (rooms p) (length p.slots) (construct_on c.args.construct.line k) c.index-code.result.now) c.in-Fold.is (found.1 _ c.index-code.ensures)
+    let found = construct_at (callees_of p) (rooms p) (length p.slots) (constructs_in p.main) c.code.result.now.constructs.items c.args.index (construct c.args.construct) (c.code.ensures.code.constructs (rooms p)) c.requires.construct in
+    subst (λ k. IsConstructCode (callees_of p) (rooms p) (length p.slots) (construct_on c.args.construct.line k) c.index-code.result.now) c.in-Fold.is (found.1 _ c.index-code.ensures)
 
 pub fold_header-requires-clause-width : goal.fold_header-requires-clause-width
 fold_header-requires-clause-width c =

@@ -5,10 +5,11 @@ use Rattle.spf_ast.specs.View.{statement}
 use Rattle.spf_code_registers.specs.Registers.{rooms, statement_needs}
 use Rattle.spf_code.specs.NodeView.{code}
 use Rattle.spf_code_lowering.proofs.Fitted.{run_fits}
+use Rattle.spf_code_lowering.proofs.Settings.{have_room}
 use Rattle.spf_exec_instance.specs.Instance.{program_of}
 use Rattle.spf_exec_memory.proofs.Steps.{along, exit_halt, steps}
 use Rattle.spf_exec_memory.proofs.Turns.{still}
-use Rattle.spf_exec.specs.Sources.{callable_of}
+use Rattle.spf_exec.specs.Sources.{callees_of}
 use Rattle.spf_exec.proofs.Rooms.{statement_room}
 use Rattle.spf_exec.proofs.Sources.{between, next_between, orderly_at, whole-then, runs_statement, statement_at}
 use Rattle.spf_exec.proofs.plain_run.perform_statements.Goals as goal
@@ -22,7 +23,7 @@ index-requires g c =
     let xs = c.args.instance.now.source.main.items in
     let i = c.loop-index.index in
     let less : i < length xs = omega (arith, c.loop-index-test.true, c.requires.within) in
-    let here = statement_at (callable_of p) (rooms p) own xs c.code-code.result.now.main.items i (c.code-code.ensures.code.main (rooms p)) less in
+    let here = statement_at (callees_of p) (rooms p) own xs c.code-code.result.now.main.items i (c.code-code.ensures.code.main (rooms p)) less in
     let x = here.statement_is in
     let inside = here.inside in
     let long : c.code-code.result.now.main.len ≡ length c.code-code.result.now.main.items = search rules in
@@ -37,7 +38,7 @@ returns-in_err-run-clause-performs g c =
     let xs = c.args.instance.now.source.main.items in
     let i = c.loop-index.index in
     let less : i < length xs = omega (arith, c.loop-index-test.true, c.requires.within) in
-    let here = statement_at (callable_of p) (rooms p) own xs c.code-code.result.now.main.items i (c.code-code.ensures.code.main (rooms p)) less in
+    let here = statement_at (callees_of p) (rooms p) own xs c.code-code.result.now.main.items i (c.code-code.ensures.code.main (rooms p)) less in
     let x = here.statement_is in
     let form = statement_means env x.line (statement x.kind) in
     let rest = main_means env (between xs (i + 1) c.args.to) in
@@ -58,7 +59,7 @@ loop-index-preserved g c =
     let xs = c.args.instance.now.source.main.items in
     let i = c.loop-index.index in
     let less : i < length xs = omega (arith, c.loop-index-test.true, c.requires.within) in
-    let here = statement_at (callable_of p) (rooms p) own xs c.code-code.result.now.main.items i (c.code-code.ensures.code.main (rooms p)) less in
+    let here = statement_at (callees_of p) (rooms p) own xs c.code-code.result.now.main.items i (c.code-code.ensures.code.main (rooms p)) less in
     let x = here.statement_is in
     let form = statement_means env x.line (statement x.kind) in
     let rest = main_means env (between xs (i + 1) c.args.to) in
@@ -81,8 +82,8 @@ run-requires-clause-fits g c =
     let xs = c.args.instance.now.source.main.items in
     let i = c.loop-index.index in
     let less : i < length xs = omega (arith, c.loop-index-test.true, c.requires.within) in
-    let here = statement_at (callable_of p) (rooms p) own xs c.code-code.result.now.main.items i (c.code-code.ensures.code.main (rooms p)) less in
+    let here = statement_at (callees_of p) (rooms p) own xs c.code-code.result.now.main.items i (c.code-code.ensures.code.main (rooms p)) less in
     let x = here.statement_is in
     let room = statement_room (rooms p) xs i x here.there in
     let wide : own + statement_needs (rooms p) (statement x.kind) ≤ length c.loop-index.registers = omega (arith, room, c.requires.frame, c.loop-index.invariant.count) in
-    rw c.deref.ensures.value (run_fits (callable_of p) (rooms p) x.line own (length c.loop-index.registers) (statement x.kind) (code c.index.result.now.items) (here.coded c.index.result.now c.index.ensures) wide)
+    rw c.deref.ensures.value (run_fits (callees_of p) (rooms p) x.line own (length c.loop-index.registers) (statement x.kind) (code c.index.result.now.items) (have_room p.functions (length p.functions)) (here.coded c.index.result.now c.index.ensures) wide)

@@ -1,4 +1,4 @@
-use Rattle.std.proofs.Common.{rules, ◌≡◌, ◌∙◌, arith, refl, length, ap, w64}
+use Rattle.std.proofs.Common.{rules, ◌≡◌, ◌∙◌, arith, refl, length, ap}
 use Rattle.spf_ast.specs.ConstructView.{construct}
 use Rattle.spf_ast.specs.Construct.{carried_of}
 use Rattle.spf_exec_instance.specs.Frame.{main_slots}
