@@ -10,9 +10,8 @@ ghost use Rattle.spf_cli_answers.specs.Answering.{AnswersWith, IsLeftUnrun};
 ghost use Rattle.spf_cli_answers.specs.Answering.{seen_answer};
 ghost use Rattle.spf_cli_answers.specs.Following.{ToldAllOf, ToldFirst, Untold, given_by};
 
-use crate::answer::{Answer, Exit};
+use crate::answer::{Answer, Exit, accept, read};
 use crate::context::Context;
-use crate::programs::read_accepted;
 use spf_cli_words::Options;
 use spf_guess::Predictor;
 use spf_ticket_gate::Gate;
@@ -44,7 +43,8 @@ impl<'a, R: Threads + Wait + Sync, G: Gate + Sync> Context<'a, R, G> {
     {
         // Law: a program has one verdict and one explanation.
         crate::laws::rules_say_one_thing();
-        let checked = read_accepted(self.alloc, text)?;
+        let program = read(self.alloc, text)?;
+        let checked = accept(self.alloc, program)?;
         let options = Options {
             workers: Some(workers),
             stats: true,

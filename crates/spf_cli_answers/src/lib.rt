@@ -10,7 +10,6 @@ mod context;
 mod decoding;
 pub mod laws;
 mod message;
-mod programs;
 mod reading;
 mod replaying;
 mod reply;

@@ -20,8 +20,6 @@ pub mod Telling
 pub mod Same
 pub mod Spared
 pub mod Running
-pub mod Decisions
-pub mod Wanted
 pub mod Choices
 pub mod Programs
 pub mod Parts

@@ -1,6 +1,5 @@
 pub mod Adding
 pub mod Computes
-pub mod Decision
 pub mod Flat
 pub mod Lowering
 pub mod Shifted

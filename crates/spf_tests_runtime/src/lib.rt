@@ -11,8 +11,6 @@ mod gated;
 #[cfg(test)]
 mod hosts;
 #[cfg(test)]
-mod jobs;
-#[cfg(test)]
 mod outcomes;
 #[cfg(test)]
 mod own_threads;
