@@ -10,6 +10,7 @@ use Rattle.spf_exec_instance.specs.declared.layout.RunError.TheVariants as run_e
 use Rattle.spf_exec_instance.specs.declared.layout.RunError.TheVariants.{TooManyCells}
 use Rattle.spf_check.specs.Accepting.{IsAccepted}
 use Rattle.spf_cli_answers.specs.Laws.{RuleLaws}
+use Rattle.spf_cli_answers.specs.Logs.{IsTextExit}
 use Rattle.spf_cli_words.specs.Only.{IsOnly}
 use Rattle.spf_cli_answers.specs.Course.{Wanted, Course, Ends}
 use Rattle.spf_cli_answers.specs.Whole.{Read, CheckedBy}
@@ -29,16 +30,24 @@ use Rattle.spf_cli_words.specs.Command.{Options}
 use Rattle.spf_cli_answers.proofs.Steps.{only_unread, read_says, only_accepted, only_refused, answers_with}
 
 -- the text is refused
-pub text_left : (text : List ℕ) (next : Program → Course) (left : Exit) → IsReadExit text left → AnswersWith (IsOnly (Read text next [])) (Err left)
+text_left : (text : List ℕ) (next : Program → Course) (left : Exit) → IsReadExit text left → AnswersWith (IsOnly (Read text next [])) (Err left)
 text_left text next (Answered a) h = only_unread text next (seen_answer a) h.0 h.1 h.2
 text_left text next NoMemory h = tt
 
 -- the rules refuse the program
-pub rules_left : RuleLaws → (text : List ℕ) (p : Program) (next : Program → Course) (left : Exit) → IsOnly (IsTextVerdict text) (Says p) → IsRuleExit p left
+rules_left : RuleLaws → (text : List ℕ) (p : Program) (next : Program → Course) (left : Exit) → IsOnly (IsTextVerdict text) (Says p) → IsRuleExit p left
     → AnswersWith (IsOnly (Read text (λ q. CheckedBy q (next q)) [])) (Err left)
 rules_left laws text p next (Answered a) v h =
     read_says text p (λ q. CheckedBy q (next q)) (seen_answer a) [] v (only_refused laws p (next p) (seen_answer a) h.0 h.1 h.2 h.3 h.4)
 rules_left laws text p next NoMemory v h = tt
+
+-- the text says no program that the rules accept
+pub unaccepted_left : RuleLaws → (text : List ℕ) (next : Program → Course) (left : Exit) → IsTextExit text left
+    → AnswersWith (IsOnly (Read text (λ q. CheckedBy q (next q)) [])) (Err left)
+unaccepted_left laws text next left h = elim h [
+  | inl x ↦ text_left text (λ q. CheckedBy q (next q)) left x
+  | inr x ↦ rules_left laws text x.0 next left x.1 x.2
+]
 
 -- the program is run
 pub text_run : RuleLaws → (text : List ℕ) (p : Program) (next : Program → Wanted) (r : Result made.Answer Exit) → IsOnly (IsTextVerdict text) (Says p)

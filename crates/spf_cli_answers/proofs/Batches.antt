@@ -1,5 +1,5 @@
 -- The steps to a batch that can begin.
-use Rattle.std.specs.Prelude.{Some, None, Result, Ok, Err}
+use Rattle.std.specs.Prelude.{Some, None, Result, Ok, Err, IfOk, IfErr}
 use Rattle.std.proofs.Common.{◌≡◌, ℕ, List, [], ◌∷◌, ◌++◌, append_assoc, map, string_bytes, refl, sym, ap, ◌∙◌, subst, inl, inr}
 use Rattle.spf_ast.specs.Syntax.{Program}
 use Rattle.spf_ast.specs.Construct.{constructs_in}
@@ -19,14 +19,15 @@ use Rattle.spf_cli_answers.specs.Batched.{RunsFiles}
 use Rattle.spf_cli_answers.specs.Course.{Wanted, Is, Course, FetchesOr, Fetches}
 use Rattle.spf_cli_answers.specs.Laws.{RuleLaws}
 use Rattle.spf_cli_answers.specs.Reading.{Says, IsTextVerdict}
-use Rattle.spf_cli_answers.specs.Replying.{LeadsTo, CanRunFiles, IsNoList, IsListExit, IsReply, RepliesWith, reply_of}
+use Rattle.spf_cli_answers.specs.Replying.{LeadsTo, CanRunFiles, CanBegin, IsHostExit, IsNoList, IsListExit, IsReply, RepliesWith, reply_of, batch_reply_of}
 use Rattle.spf_cli_answers.specs.Whole.{Handed, WithText, Read, CheckedBy, WithNames, Batches, WholeOf, Whole, max_list}
 use Rattle.spf_cli_answers.specs.declared.answer.Answer as made
+use Rattle.spf_cli_answers.specs.declared.batch.Batch as made_batch
 use Rattle.spf_cli_answers.specs.declared.reply.Reply.{Reply}
 use Rattle.spf_cli_answers.specs.declared.reply.Reply.TheVariants as reply
 use Rattle.spf_cli_answers.specs.declared.answer.Exit.{Exit}
 use Rattle.spf_cli_answers.specs.declared.answer.Exit.TheVariants.{Answered, NoMemory}
-use Rattle.spf_cli_answers.proofs.Steps.{answers_fetch, fetch_left, followed_end, only_same, asked_words}
+use Rattle.spf_cli_answers.proofs.Steps.{answers_with, answers_fetch, fetch_left, followed_end, only_same, asked_words}
 
 -- ---- from a course to its rest
 
@@ -56,6 +57,11 @@ ready_by given course next p names old mid new fetches made on back r = record {
     back = λ more a h. r.leads.back more a (back (r.leads.fetches ++ more) a (subst (λ all. course all a) (append_assoc fetches r.leads.fetches more) h));
   };
 }
+
+-- what leads on from what is left of a course leads on from the course
+pub ready_on : (given : Handed) (course next : Course) (p : Program) (names : List (List ℕ)) (old mid new : FilesState) → LeadsTo course next old mid
+    → CanRunFiles given next p names mid new → CanRunFiles given course p names old new
+ready_on given course next p names old mid new l r = ready_by given course next p names old mid new l.fetches l.made l.on l.back r
 
 pub ready_fetch : (given : Handed) (left : FetchError → Wanted) (name : List ℕ) (limit : ℕ) (next : List ℕ → Course) (content : List ℕ) (p : Program) (names : List (List ℕ)) (old mid new : FilesState)
     → AreMade old mid (record { name = name; limit = limit; gave = Ok content } ∷ []) → CanRunFiles given (next content) p names mid new → CanRunFiles given (FetchesOr left name limit next) p names old new
@@ -124,6 +130,12 @@ pub host_left : (given : Handed) (p : Program) (names : List (List ℕ)) (host :
 host_left given p names host state a some e =
     subst (λ m. IsFollowed (Batches given p names m) state state a) (sym some) (followed_end (Is (host_missing host)) state a (only_same a (host_missing host) e))
 
+-- a host is missing, and there is the answer to that
+pub hosts_left : (given : Handed) (p : Program) (names : List (List ℕ)) (state : FilesState) (left : Exit) → IsHostExit (missing_host given.count (constructs_in p.main)) left
+    → AnswersWith (IsFollowed (Batches given p names (missing_host given.count (constructs_in p.main))) state state) (Err left)
+hosts_left given p names state (Answered a) h = host_left given p names h.0 state (seen_answer a) h.1 h.2
+hosts_left given p names state NoMemory h = tt
+
 -- a list that is names leads on
 pub followed_names : ListsHaveOneVerdict → (list : List ℕ) (names : List (List ℕ)) (next : List (List ℕ) → Course) (old new : FilesState) (a : Answer) → AreNames list names → IsFollowed (next names) old new a → IsFollowed (WithNames list next) old new a
 followed_names laws list names next old new a are h = record { fetches = h.fetches; made = h.made; only = record { is = inl (names, are, h.only.is); only = λ b x. other b x } }
@@ -134,6 +146,9 @@ followed_names laws list names next old new a are h = record { fetches = h.fetch
       | inr z ↦ absurd (laws.apart list names z.0 are z.1)
     ]
 
+pub answers_names : ListsHaveOneVerdict → (list : List ℕ) (names : List (List ℕ)) (next : List (List ℕ) → Course) (old new : FilesState) (r : Result made.Answer Exit) → AreNames list names → AnswersWith (IsFollowed (next names) old new) r → AnswersWith (IsFollowed (WithNames list next) old new) r
+answers_names laws list names next old new r are h = answers_with (IsFollowed (WithNames list next) old new) (IsFollowed (next names) old new) r h (λ a. followed_names laws list names next old new a are)
+
 -- ---- replies
 
 -- a reply that is an answer
@@ -143,6 +158,16 @@ replied_so given course old new answer r e h = subst (RepliesWith given course o
     by : (x : Result made.Answer Exit) → AnswersWith (IsFollowed course old new) x → RepliesWith given course old new (reply_of x)
     by (Ok a) h = h
     by (Err left) h = h
+
+-- a reply that is a batch
+pub begun_so : (given : Handed) (course : Course) (old new : FilesState) (batch : Result made_batch.Batch Exit) (r : Result Reply Exit) → r ≡ batch_reply_of batch
+    → IfOk batch (CanBegin given course old new) → IfErr batch (λ left. AnswersWith (IsFollowed course old new) (Err left)) → RepliesWith given course old new r
+begun_so given course old new batch r e ready left = subst (RepliesWith given course old new) (sym e) (by batch ready left)
+  where
+    by : (x : Result made_batch.Batch Exit) → IfOk x (CanBegin given course old new) → IfErr x (λ left. AnswersWith (IsFollowed course old new) (Err left))
+        → RepliesWith given course old new (batch_reply_of x)
+    by (Ok b) ready left = ready
+    by (Err exit) ready left = left
 
 -- words that ask for a command lead to what that leads to
 pub asked_reply : (given : Handed) (words : List (List ℕ)) (command : Command) (old new : FilesState) (r : Reply) → IsOnly (Asks words) command → IsReply given (WholeOf given command) old new r → IsReply given (Whole given words) old new r

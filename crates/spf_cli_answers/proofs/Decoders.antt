@@ -24,7 +24,7 @@ no_hosts f xs P e h = subst (λ ys. P (handed (map f ys))) e h
 
 -- ---- HUF1
 
-only_huf1 : Huf1HasOneVerdict → (file : List ℕ) (next : Course) (a : Answer) (fetches : List Fetch) → IsHuf1 file → IsOnly (next fetches) a → IsOnly (WithHuf1 file next fetches) a
+pub only_huf1 : Huf1HasOneVerdict → (file : List ℕ) (next : Course) (a : Answer) (fetches : List Fetch) → IsHuf1 file → IsOnly (next fetches) a → IsOnly (WithHuf1 file next fetches) a
 only_huf1 laws file next a fetches huf1 h = record { is = inl (huf1, h.is); only = λ b x. other b x }
   where
     other : (b : Answer) → WithHuf1 file next fetches b → b ≡ a
@@ -33,16 +33,9 @@ only_huf1 laws file next a fetches huf1 h = record { is = inl (huf1, h.is); only
       | inr z ↦ absurd (laws.apart file z.0 huf1 z.1)
     ]
 
-pub answers_huf1 : Huf1HasOneVerdict → (file : List ℕ) (next : Course) (old new : FilesState) (r : Result made.Answer Exit) → IsHuf1 file → AnswersWith (IsFollowed next old new) r → AnswersWith (IsFollowed (WithHuf1 file next) old new) r
-answers_huf1 laws file next old new r huf1 h = answers_as next (WithHuf1 file next) old new r (λ a fetches. only_huf1 laws file next a fetches huf1) h
-
 -- a file that isn't HUF1
-pub huf1_left : Huf1HasOneVerdict → (file : List ℕ) (next : Course) (offset : ℕ) (state : FilesState) (a : Answer) → IsNoHuf1At file offset → a ≡ not_huf1 offset → IsFollowed (WithHuf1 file next) state state a
-huf1_left laws file next offset state a none e = record {
-  fetches = [];
-  made = made_none state;
-  only = record { is = inr (offset, none, e); only = λ b x. other b x };
-}
+pub only_no_huf1 : Huf1HasOneVerdict → (file : List ℕ) (next : Course) (offset : ℕ) (a : Answer) → IsNoHuf1At file offset → a ≡ not_huf1 offset → IsOnly (WithHuf1 file next []) a
+only_no_huf1 laws file next offset a none e = record { is = inr (offset, none, e); only = λ b x. other b x }
   where
     other : (b : Answer) → WithHuf1 file next [] b → b ≡ a
     other b x = elim x [

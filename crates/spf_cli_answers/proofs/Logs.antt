@@ -32,11 +32,11 @@ use Rattle.spf_replay_sim.specs.declared.simulation.Simulated.{Simulated}
 use Rattle.spf_replay_walk.specs.Judging.{seen_log}
 use Rattle.spf_cli_words.specs.Only.{IsOnly}
 use Rattle.spf_cli_answers.specs.Answer.{Answer, end_status, trap_lines, too_many_steps, not_a_log, simulated, judged}
-use Rattle.spf_cli_answers.specs.Answering.{seen_answer, IsFetchExit, IsReadExit, IsRuleExit, IsFollowed, AnswersWith}
+use Rattle.spf_cli_answers.specs.Answering.{seen_answer, IsFetchExit, IsRuleExit, IsFollowed, AnswersWith}
 use Rattle.spf_cli_answers.specs.Message.{stats_line}
 use Rattle.spf_cli_answers.specs.Course.{Course, Fetches}
 use Rattle.spf_cli_answers.specs.Laws.{RuleLaws}
-use Rattle.spf_cli_answers.specs.Logs.{IsFetchedAccepted, IsTextExit, IsNoneAccepted, IsLogExit, IsNoLog}
+use Rattle.spf_cli_answers.specs.Logs.{IsAcceptedText, IsFetchedAccepted, IsTextExit, IsNoneAccepted, IsLogExit, IsNoLog}
 use Rattle.spf_cli_answers.specs.Reading.{Says, IsTextVerdict}
 use Rattle.spf_cli_answers.specs.Replying.{LeadsTo}
 use Rattle.spf_cli_answers.specs.Whole.{AcceptedIn, Read, CheckedBy, WithText, WithLog, Drawn, Ruled, max_program, max_log}
@@ -91,24 +91,30 @@ accepted_left laws name next old new (Answered a) h =
     ]
 accepted_left laws name next old new NoMemory h = tt
 
+-- a text says a program that the rules accept
+pub accepted_text : (text : List ℕ) (parsed : code_program.Program) (r : Result code_program.Program Exit) → IsOnly (IsTextVerdict text) (Says (program parsed))
+    → IfOk r (λ checked. checked ≡ parsed) → IfOk r (λ checked. IsAccepted (program parsed)) → IfOk r (λ checked. IsAcceptedText text (program checked))
+accepted_text text parsed (Ok checked) says same accepted = subst (λ q. IsAcceptedText text (program q)) (sym same) (says, accepted)
+accepted_text text parsed (Err left) says same accepted = tt
+
+-- it says one that they refuse
+pub refused_text : (text : List ℕ) (p : Program) (r : Result code_program.Program Exit) → IsOnly (IsTextVerdict text) (Says p) → IfErr r (IsRuleExit p) → IfErr r (IsTextExit text)
+refused_text text p (Ok checked) says h = tt
+refused_text text p (Err left) says h = inr (p, says, h)
+
 -- a program that was fetched, read and accepted
-pub is_accepted : (old new : FilesState) (name text : List ℕ) (parsed : code_program.Program) (r : Result code_program.Program Exit)
-    → AreMade old new (record { name = name; limit = max_program; gave = Ok text } ∷ []) → IsOnly (IsTextVerdict text) (Says (program parsed))
-    → IfOk r (λ checked. checked ≡ parsed) → IfOk r (λ checked. IsAccepted (program parsed)) → IfOk r (λ checked. IsFetchedAccepted old new name (program checked))
-is_accepted old new name text parsed (Ok checked) made says same accepted = subst (λ q. IsFetchedAccepted old new name (program q)) (sym same) (text, made, says, accepted)
-is_accepted old new name text parsed (Err left) made says same accepted = tt
+pub is_accepted : (old new : FilesState) (name text : List ℕ) (r : Result code_program.Program Exit)
+    → AreMade old new (record { name = name; limit = max_program; gave = Ok text } ∷ []) → IfOk r (λ checked. IsAcceptedText text (program checked))
+    → IfOk r (λ checked. IsFetchedAccepted old new name (program checked))
+is_accepted old new name text (Ok checked) made h = (text, made, h.0, h.1)
+is_accepted old new name text (Err left) made h = tt
 
--- one that the rules refuse
-pub none_accepted : (old new : FilesState) (name text : List ℕ) (p : Program) (r : Result code_program.Program Exit)
-    → AreMade old new (record { name = name; limit = max_program; gave = Ok text } ∷ []) → IsOnly (IsTextVerdict text) (Says p) → IfErr r (IsRuleExit p) → IfErr r (IsNoneAccepted old new name)
-none_accepted old new name text p (Ok checked) made says h = tt
-none_accepted old new name text p (Err (Answered a)) made says h = inr (text, made, inr (p, says, h))
-none_accepted old new name text p (Err NoMemory) made says h = tt
-
--- a text that says none
-pub none_said : (old new : FilesState) (name text : List ℕ) (left : Exit) → AreMade old new (record { name = name; limit = max_program; gave = Ok text } ∷ []) → IsReadExit text left → IsNoneAccepted old new name left
-none_said old new name text (Answered a) made h = inr (text, made, inl h)
-none_said old new name text NoMemory made h = tt
+-- a text without one
+pub none_accepted : (old new : FilesState) (name text : List ℕ) (r : Result code_program.Program Exit)
+    → AreMade old new (record { name = name; limit = max_program; gave = Ok text } ∷ []) → IfErr r (IsTextExit text) → IfErr r (IsNoneAccepted old new name)
+none_accepted old new name text (Ok checked) made h = tt
+none_accepted old new name text (Err (Answered a)) made h = inr (text, made, h)
+none_accepted old new name text (Err NoMemory) made h = tt
 
 -- a file that can't be fetched
 pub none_fetched : (old new : FilesState) (name : List ℕ) (left : Exit) → IsFetchExit old new name max_program left → IsNoneAccepted old new name left

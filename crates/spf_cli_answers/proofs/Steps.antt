@@ -172,6 +172,11 @@ followed_end wanted state a h = record { fetches = []; made = made_none state; o
 pub answers_end : (wanted : Wanted) (state : FilesState) (r : Result made.Answer Exit) → AnswersWith (IsOnly wanted) r → AnswersWith (IsFollowed (Ends wanted) state state) r
 answers_end wanted state r h = answers_with (IsFollowed (Ends wanted) state state) (IsOnly wanted) r h (followed_end wanted state)
 
+-- the one answer to a course that fetches nothing
+pub answers_here : (course : Course) (state : FilesState) (r : Result made.Answer Exit) → AnswersWith (IsOnly (course [])) r → AnswersWith (IsFollowed course state state) r
+answers_here course state r h =
+    answers_with (IsFollowed course state state) (IsOnly (course [])) r h (λ a only. record { fetches = []; made = made_none state; only = only })
+
 -- a file was fetched, and its content led on
 pub followed_fetch : (name : List ℕ) (limit : ℕ) (next : List ℕ → Course) (content : List ℕ) (old mid new : FilesState) (a : Answer)
     → AreMade old mid (record { name = name; limit = limit; gave = Ok content } ∷ []) → IsFollowed (next content) mid new a → IsFollowed (Fetches name limit next) old new a

@@ -32,7 +32,10 @@ use Rattle.spf_cli_answers.specs.Reading.{Says, IsTextVerdict}
 use Rattle.spf_cli_answers.specs.Replying.{CanBegin, IsReply, RepliesWith}
 use Rattle.spf_cli_answers.specs.Status.{status_number}
 use Rattle.spf_batch.specs.Batch.{max_input}
-use Rattle.spf_cli_answers.specs.Whole.{Handed, handed, Whole, WholeOf, Runs, RunsOn, Replays, Lexing}
+use Rattle.spf_apps_formats.specs.declared.generate.Kind.{Kind}
+use Rattle.spf_apps_formats.specs.Draws.{IsGenerated}
+use Rattle.spf_apps_formats.specs.Laws.{AreBytes}
+use Rattle.spf_cli_answers.specs.Whole.{Handed, handed, Whole, WholeOf, Allowed, Runs, RunsOn, Drawn, Ruled, Replays, WithLog, WithHuf1, Unhuffing, Lexing, demo_input, max_log}
 use Rattle.spf_cli_answers.specs.declared.answer.Answer.{Answer}
 use Rattle.spf_cli_answers.specs.declared.answer.Exit.{Exit}
 use Rattle.spf_cli_answers.specs.declared.batch.Batch.{Batch}
@@ -82,6 +85,11 @@ abbrev pub FollowsRun : {Box : Type 0} → (Box → Answers) → List Box → Op
 FollowsRun answers boxes options input p old new =
     AnswersWith (IsFollowed (RunsOn (seen_options options) (given_by answers boxes) input (program p)) old new)
 
+-- a program was run on the file of an input, with these predictors, where it may be run
+abbrev pub FollowsAllowedRun : {Box : Type 0} → (Box → Answers) → List Box → Options → List ℕ → checked.Program → FilesState → FilesState → Result Answer Exit → Type 0
+FollowsAllowedRun answers boxes options input p old new =
+    AnswersWith (IsFollowed (Allowed options.plain (program p) (RunsOn (seen_options options) (given_by answers boxes) input (program p))) old new)
+
 -- a program was run on the file of an input, whatever predictors are supplied
 abbrev pub FollowsPlainRun : Options → List ℕ → Program → FilesState → FilesState → Result Answer Exit → Type 0
 FollowsPlainRun options input p old new result =
@@ -92,6 +100,16 @@ abbrev pub FollowsLexing : DecodeOptions → List ℕ → List ℕ → ℕ → �
 FollowsLexing options input machine states classes old new =
     AnswersWith (IsFollowed (Fetches input max_input (λ content.
     Ends (Lexing (seen_decode_options options) machine states classes content))) old new)
+
+-- a log is checked against the runs of a program, over the files of an input and of the log
+abbrev pub ReplaysOn : Handed → List ℕ → List ℕ → Program → Course
+ReplaysOn given input log p =
+    Fetches input max_input (λ content. Fetches log max_log (λ file. WithLog file (λ sections. Ends (Replays given p content sections))))
+
+-- a log was checked against the runs of a checked program, with these predictors
+abbrev pub FollowsReplay : {Box : Type 0} → (Box → Answers) → List Box → List ℕ → List ℕ → checked.Program → FilesState → FilesState → Result Answer Exit → Type 0
+FollowsReplay answers boxes input log p old new =
+    AnswersWith (IsFollowed (ReplaysOn (given_by answers boxes) input log (program p)) old new)
 
 -- the course of the words was followed to its answer, or to a batch
 abbrev pub IsReplyTo : Handed → List (String Global) → FilesState → FilesState → Reply → Type 0
@@ -114,6 +132,26 @@ AnswersRun options given p input = AnswersWith (IsOnly (Runs options given p inp
 -- the answer is the only one to a log that is checked, unless memory ran out
 abbrev pub AnswersReplay : Handed → Program → List ℕ → List (List logged.Step) → Result Answer Exit → Type 0
 AnswersReplay given p input log = AnswersWith (IsOnly (Replays given p input log))
+
+-- the answer is the only one to the content of a file that should be HUF1, unless memory ran out
+abbrev pub AnswersUnhuffing : DecodeOptions → List ℕ → Result Answer Exit → Type 0
+AnswersUnhuffing options file =
+    AnswersWith (IsOnly (WithHuf1 file (Ends (Unhuffing (seen_decode_options options) file)) []))
+
+-- the input of a demo, for some file that a seed and a size generate
+abbrev pub IsDemoInput : Kind → ℕ → ℕ → List ℕ → Type 0
+IsDemoInput decoder seed size input =
+    (file : List ℕ) × AreBytes file × IsGenerated decoder seed size file × (input ≡ demo_input decoder file)
+
+-- the answer is the only one to an instance that is simulated, with these predictors, unless memory ran out
+abbrev pub AnswersDrawn : {Box : Type 0} → (Box → Answers) → List Box → InstanceValue → ℕ → Result Answer Exit → Type 0
+AnswersDrawn answers boxes instance seed =
+    AnswersWith (IsOnly (Drawn (supplied answers boxes) (program_of instance) instance.input seed))
+
+-- the answer is the only one to a log that is checked against the runs of an instance, unless memory ran out
+abbrev pub AnswersRuled : {Box : Type 0} → (Box → Answers) → List Box → InstanceValue → List (List logged.Step) → Result Answer Exit → Type 0
+AnswersRuled answers boxes instance log =
+    AnswersWith (IsOnly (Ruled (supplied answers boxes) (program_of instance) instance.input log))
 
 -- the answer of an instance that was run
 abbrev pub ran_there : Options → InstanceValue → Outcome → Stats → said.Answer

@@ -16,6 +16,10 @@ use Rattle.spf_cli_answers.specs.declared.answer.Exit.TheVariants.{Answered, NoM
 
 -- ---- programs
 
+-- the text says this program, which the rules accept
+abbrev pub IsAcceptedText : List ℕ → Program → Type 0
+IsAcceptedText text p = IsOnly (IsTextVerdict text) (Says p) × IsAccepted p
+
 -- the file of this name was fetched, and says this program, which the rules accept
 abbrev pub IsFetchedAccepted : FilesState → FilesState → List ℕ → Program → Type 0
 IsFetchedAccepted old new name p =

@@ -1,12 +1,12 @@
 -- What the words of a command line lead to: an answer, or a batch that can begin.
-use Rattle.std.specs.Prelude.{◌≡◌, ◌⊎◌, ℕ, List, [], ◌∷◌, ◌++◌, map, string_bytes, None, Result, Ok, Err}
+use Rattle.std.specs.Prelude.{◌≡◌, ◌⊎◌, ℕ, List, [], ◌∷◌, ◌++◌, map, string_bytes, Option, Some, None, Result, Ok, Err}
 use Rattle.spf_ast.specs.Syntax.{Program}
 use Rattle.spf_ast.specs.Construct.{constructs_in}
 use Rattle.spf_ast.specs.View.{program}
 use Rattle.spf_guess.specs.Missing.{missing_host}
 use Rattle.spf_edge.specs.Fetches.{FilesState, Fetch, AreMade}
 use Rattle.spf_batch_lists.specs.Lists.{AreNames, IsBadAt}
-use Rattle.spf_cli_answers.specs.Answer.{Answer, not_a_name}
+use Rattle.spf_cli_answers.specs.Answer.{Answer, host_missing, not_a_name}
 use Rattle.spf_cli_answers.specs.Answering.{seen_answer, IsFollowed, AnswersWith, IsFetchExit}
 use Rattle.spf_cli_answers.specs.Batched.{RunsFiles}
 use Rattle.spf_cli_answers.specs.Course.{Course}
@@ -49,10 +49,22 @@ abbrev pub reply_of : Result made.Answer Exit → Result Reply Exit
 reply_of (Ok a) = Ok (reply.Answer a)
 reply_of (Err left) = Err left
 
+-- a batch as a reply
+abbrev pub batch_reply_of : Result Batch Exit → Result Reply Exit
+batch_reply_of (Ok b) = Ok (reply.Batch b)
+batch_reply_of (Err left) = Err left
+
 -- the reply is a batch
 abbrev pub IsBatch : Reply → Type 0
 IsBatch (reply.Answer a) = ⊥
 IsBatch (reply.Batch b) = Unit {0}
+
+-- ---- hosts
+
+-- a host is missing, and there is the answer to that, or memory ran out
+abbrev pub IsHostExit : Option ℕ → Exit → Type 0
+IsHostExit missing (Answered a) = (host : ℕ) × (missing ≡ Some host) × (seen_answer a ≡ host_missing host)
+IsHostExit missing NoMemory = Unit {0}
 
 -- ---- lists
 

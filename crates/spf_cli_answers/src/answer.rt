@@ -1,10 +1,13 @@
 //! What the program answers, before any of it is put on a sink.
 
 ghost use Rattle.std.specs.Prelude.{◌≡◌, ◌≤◌, ◌<◌, ◌++◌, ◌∷◌, [], IfOk, IfErr, map};
-ghost use Rattle.std.specs.Prelude.{string_bytes, true, false};
+ghost use Rattle.std.specs.Prelude.{string_bytes, length, true, false};
 ghost use Rattle.spf_ast_lemmas.specs.Limits.{max_workers};
 ghost use Rattle.spf_ast.specs.View.{program as seen_program, array as seen_array};
-ghost use Rattle.spf_ast.specs.Program.{extents_from, seen_outcome};
+ghost use Rattle.spf_ast.specs.Program.{extents_from, outcome as outcome_of, seen_outcome};
+ghost use Rattle.spf_ast.specs.Silence.{FunctionsAreSilent};
+ghost use Rattle.spf_exec_instance.specs.Instance.{program_of};
+ghost use Rattle.spf_guess_statistics.specs.Statistics.{none};
 ghost use Rattle.spf_ast.specs.Lawful.{IsLawful};
 ghost use Rattle.spf_cli_answers.specs.Message.{array_lines};
 ghost use Rattle.spf_cli_words.specs.Command.{Check as check_command};
@@ -14,7 +17,7 @@ ghost use Rattle.spf_cli_answers.specs.Reading.{IsTextVerdict, Says};
 ghost use Rattle.spf_check.specs.Accepting.{IsAccepted};
 ghost use Rattle.spf_cli_answers.specs.Answer.{refused as refused_answer};
 ghost use Rattle.spf_cli_answers.specs.Answer.{not_understood as not_understood_answer};
-ghost use Rattle.spf_cli_answers.specs.Answer.{accepted as accepted_answer};
+ghost use Rattle.spf_cli_answers.specs.Answer.{asked, accepted as accepted_answer};
 ghost use Rattle.spf_cli_answers.specs.Answer.{rule_refused as refused_by_rule, file_failed};
 ghost use Rattle.spf_cli_answers.specs.Answer.{too_many_cells, host_missing, stats_lines};
 ghost use Rattle.spf_cli_words.specs.Asked.{seen_command, seen_options};
@@ -26,7 +29,8 @@ ghost use Rattle.spf_cli_answers.specs.Answering.{IsAnswerToError, IsRuleExit, I
 ghost use Rattle.spf_cli_answers.specs.Replying.{IsBatch};
 ghost use Rattle.spf_cli_answers.specs.Answering.{AnswersWith, IsLeftUnrun};
 ghost use Rattle.spf_cli_answers.specs.Following.{Adds, AnswersRun, Follows, FollowsPlainRun};
-ghost use Rattle.spf_cli_answers.specs.Following.{FollowsRun, FollowsWith, IsFetched, IsReplyTo};
+ghost use Rattle.spf_cli_answers.specs.Following.{FollowsAllowedRun, FollowsRun, FollowsWith};
+ghost use Rattle.spf_cli_answers.specs.Following.{IsFetched, IsReplyTo};
 ghost use Rattle.spf_cli_answers.specs.Following.{RepliesTo, ToldAll, ToldFirst, Untold};
 ghost use Rattle.spf_cli_answers.specs.Following.{given_by, ran_there, run_of};
 
@@ -35,9 +39,10 @@ use crate::message::{
     array_line, failed_line, host_line, long_line, rule_line, stats_line, too_many_line, trap_line,
     words_line,
 };
+use crate::programs::fetch_accepted;
 use crate::reading::{Unread, read_program, refusal_line};
 use crate::replaying::{replay_files, sim_files};
-use crate::reply::{Reply, reply_with};
+use crate::reply::{Reply, reply_with, reply_with_batch};
 use crate::status::Status;
 use crate::texts::{build_file, show_file};
 use spf_ast::outcome::Outcome;
@@ -49,7 +54,7 @@ use spf_check::rule::{CheckError, Refusal};
 use spf_cli_words::{Command, Options, WordsError, read_words};
 use spf_edge::{FetchError, Files};
 use spf_engine::error::EngineError;
-use spf_engine::run::run_whole;
+use spf_engine::run::{RunReport, run_whole};
 use spf_exec::plain_run;
 use spf_exec::tables::fill_tables;
 use spf_exec_instance::arrays::max_cells_of;
@@ -268,6 +273,30 @@ fn push_arrays(
     Ok(())
 }
 
+/// Adds the lines of an instance's cells, where they are asked for.
+fn push_cells(
+    alloc: Global,
+    messages: &mut Vec<Vec<u8>>,
+    options: Options,
+    instance: &Instance,
+    cells: &[i64],
+) -> Result<(), AllocError>
+    ensures { IfOk result (λ _. Adds messages.old.items messages.new.items (asked options.cells
+        (array_lines (length instance.now.input) (program_of instance.now).arrays cells.now))) }
+{
+    if options.cells {
+        push_arrays(
+            alloc,
+            messages,
+            &instance.program().arrays,
+            instance.layout().extents(),
+            instance.input().len() as u64,
+            cells,
+        )?;
+    }
+    Ok(())
+}
+
 /// The answer of a run that ended so.
 fn answer_of_run(
     alloc: Global,
@@ -283,16 +312,7 @@ fn answer_of_run(
     match outcome {
         Outcome::Done { cells, output } => {
             push_stats(alloc, &mut messages, options, stats)?;
-            if options.cells {
-                push_arrays(
-                    alloc,
-                    &mut messages,
-                    &instance.program().arrays,
-                    instance.layout().extents(),
-                    instance.input().len() as u64,
-                    &cells,
-                )?;
-            }
+            push_cells(alloc, &mut messages, options, instance, &cells)?;
             Ok(Answer {
                 status: Status::Done,
                 output,
@@ -309,6 +329,19 @@ fn answer_of_run(
             })
         }
     }
+}
+
+/// The answer of a run by blocks that came to its end.
+fn answer_of_blocks(
+    alloc: Global,
+    options: Options,
+    run: (Instance, RunReport),
+) -> Result<Answer, AllocError>
+    ensures { IfOk result (λ a. seen_answer a
+        ≡ ran_there options run.entry.0 (seen_outcome run.entry.1.outcome) run.entry.1.stats) }
+{
+    let (instance, report) = run;
+    answer_of_run(alloc, options, &instance, report.outcome, report.stats)
 }
 
 /// The answer where the arrays of a program have too many cells, or memory runs out.
@@ -359,6 +392,21 @@ pub(crate) fn answer_of_error(
     }
 }
 
+/// The answer of an instance that is run by the plain meaning.
+fn answer_plainly(
+    alloc: Global,
+    options: Options,
+    mut instance: Instance,
+) -> Result<Answer, AllocError>
+    requires { FunctionsAreSilent (program_of instance).functions }
+    ensures { IfOk result (λ a. seen_answer a ≡ ran_there options instance.entry
+        (outcome_of (program_of instance.entry) instance.entry.input) none) }
+{
+    fill_tables(alloc, &mut instance)?;
+    let outcome = plain_run::run_instance(alloc, &instance)?;
+    answer_of_run(alloc, options, &instance, outcome, Stats::none())
+}
+
 /// The answer of a run by the plain meaning.
 fn run_plainly(
     alloc: Global,
@@ -374,13 +422,10 @@ fn run_plainly(
     // Laws: no `break` of a lawful program leaves `main` or a part, and no function of it emits.
     spf_ast::laws::breaks_stay_in_their_loops();
     spf_ast::laws::lawful_programs_are_quiet_and_small();
-    let mut instance = match Instance::make(alloc, program, input) {
-        Ok(instance) => instance,
-        Err(error) => return Err(not_run(alloc, program, error)),
-    };
-    fill_tables(alloc, &mut instance)?;
-    let outcome = plain_run::run_instance(alloc, &instance)?;
-    Ok(answer_of_run(alloc, options, &instance, outcome, Stats::none())?)
+    match Instance::make(alloc, program, input) {
+        Ok(instance) => Ok(answer_plainly(alloc, options, instance)?),
+        Err(error) => Err(not_run(alloc, program, error)),
+    }
 }
 
 /// How many workers run the blocks: as many as the words say, otherwise 4.
@@ -414,9 +459,7 @@ fn check_file<F: Files>(alloc: Global, program: &str, files: &mut F) -> Result<A
 {
     // Law: a program has one verdict and one explanation.
     crate::laws::rules_say_one_thing();
-    let text = fetch(alloc, files, program, MAX_PROGRAM)?;
-    let parsed = read(alloc, &text)?;
-    accept(alloc, parsed)?;
+    fetch_accepted(alloc, program, files)?;
     Ok(answer_accepted(alloc)?)
 }
 
@@ -471,13 +514,12 @@ impl<'a, R: Threads + Wait + Sync, G: Gate + Sync> Context<'a, R, G> {
             → Untold answer hosts.old.items hosts.new.items) result }
     {
         let workers = worker_count(options.workers);
-        let (instance, report) = match run_whole(
+        match run_whole(
             self.rt, self.alloc, checked, input, workers, hosts, self.gate,
         ) {
-            Ok(run) => run,
-            Err(error) => return answer_of_error(self.alloc, checked.program(), error),
-        };
-        Ok(answer_of_run(self.alloc, options, &instance, report.outcome, report.stats)?)
+            Ok(run) => Ok(answer_of_blocks(self.alloc, options, run)?),
+            Err(error) => answer_of_error(self.alloc, checked.program(), error),
+        }
     }
 
     /// The answer of `run` over an accepted program, on the file of an input.
@@ -498,6 +540,29 @@ impl<'a, R: Threads + Wait + Sync, G: Gate + Sync> Context<'a, R, G> {
         self.run_by_blocks(options, checked, &content, hosts)
     }
 
+    /// The answer of `run` with a program, on the file of an input.
+    fn run_parsed<F: Files>(
+        &self,
+        program: Program,
+        input: &str,
+        options: Options,
+        files: &mut F,
+        hosts: &mut Vec<Box<dyn Predictor>>,
+    ) -> Result<Answer, Exit>
+        requires lawful { IsLawful (seen_program program) }
+        requires workers { IsUpTo max_workers options.workers }
+        ensures { FollowsAllowedRun answer hosts.old.items options input.now program
+            (F.state files.old) (F.state files.new) result }
+    {
+        // Law: a program has one verdict and one explanation.
+        crate::laws::rules_say_one_thing();
+        if options.plain {
+            return run_plainly_on(self.alloc, &program, input, options, files);
+        }
+        let checked = accept(self.alloc, program)?;
+        self.run_by_blocks_on(&checked, input, options, files, hosts)
+    }
+
     /// The answer of `run` over two files.
     fn run_files<F: Files>(
         &self,
@@ -511,15 +576,9 @@ impl<'a, R: Threads + Wait + Sync, G: Gate + Sync> Context<'a, R, G> {
         ensures { FollowsWith answer hosts.old.items (run_of program.now input.now options)
             (F.state files.old) (F.state files.new) result }
     {
-        // Law: a program has one verdict and one explanation.
-        crate::laws::rules_say_one_thing();
         let text = fetch(self.alloc, files, program, MAX_PROGRAM)?;
         let parsed = read(self.alloc, &text)?;
-        if options.plain {
-            return run_plainly_on(self.alloc, &parsed, input, options, files);
-        }
-        let checked = accept(self.alloc, parsed)?;
-        self.run_by_blocks_on(&checked, input, options, files, hosts)
+        self.run_parsed(parsed, input, options, files, hosts)
     }
 
     /// The reply to a command.
@@ -572,8 +631,7 @@ impl<'a, R: Threads + Wait + Sync, G: Gate + Sync> Context<'a, R, G> {
                 workers,
             } => {
                 let count = hosts.len() as u64;
-                let batch = self.read_batch(program, list, workers, count, files)?;
-                Ok(Reply::Batch(batch))
+                reply_with_batch(self.read_batch(program, list, workers, count, files))
             }
             Command::Demo {
                 kind,

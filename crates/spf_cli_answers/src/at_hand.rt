@@ -10,8 +10,9 @@ ghost use Rattle.spf_cli_answers.specs.Answering.{AnswersWith, IsLeftUnrun};
 ghost use Rattle.spf_cli_answers.specs.Answering.{seen_answer};
 ghost use Rattle.spf_cli_answers.specs.Following.{ToldAllOf, ToldFirst, Untold, given_by};
 
-use crate::answer::{Answer, Exit, accept, read};
+use crate::answer::{Answer, Exit};
 use crate::context::Context;
+use crate::programs::read_accepted;
 use spf_cli_words::Options;
 use spf_guess::Predictor;
 use spf_ticket_gate::Gate;
@@ -43,8 +44,7 @@ impl<'a, R: Threads + Wait + Sync, G: Gate + Sync> Context<'a, R, G> {
     {
         // Law: a program has one verdict and one explanation.
         crate::laws::rules_say_one_thing();
-        let program = read(self.alloc, text)?;
-        let checked = accept(self.alloc, program)?;
+        let checked = read_accepted(self.alloc, text)?;
         let options = Options {
             workers: Some(workers),
             stats: true,

@@ -1,24 +1,28 @@
 //! The command `batch`: what comes before its first file, and how it ends.
 
 ghost use Rattle.std.specs.Prelude.{◌≡◌, ◌∷◌, [], map, string_bytes, IfOk, IfErr};
-ghost use Rattle.std.specs.Prelude.{MatchResult};
+ghost use Rattle.std.specs.Prelude.{MatchResult, None};
+ghost use Rattle.spf_ast.specs.Construct.{constructs_in};
+ghost use Rattle.spf_ast.specs.View.{program as seen_program};
+ghost use Rattle.spf_guess.specs.Missing.{missing_host};
 ghost use Rattle.spf_ast_lemmas.specs.Limits.{max_workers};
 ghost use Rattle.spf_batch_lists.specs.Lists.{AreNames};
 ghost use Rattle.spf_cli_words.specs.Command.{Batch as batch_command, IsUpTo};
 ghost use Rattle.spf_cli_answers.specs.Answer.{not_a_name as not_a_name_answer};
 ghost use Rattle.spf_cli_answers.specs.Answering.{lines_of, seen_answer};
 ghost use Rattle.spf_cli_answers.specs.Ending.{BreaksWith, NamesOneOf};
-ghost use Rattle.spf_cli_answers.specs.Replying.{IsList, IsListExit, IsNoList};
+ghost use Rattle.spf_cli_answers.specs.Message.{files_line as files_line_of};
+ghost use Rattle.spf_cli_answers.specs.Replying.{IsHostExit, IsList, IsListExit, IsNoList};
 ghost use Rattle.spf_cli_answers.specs.Status.{status_number};
 ghost use Rattle.spf_cli_answers.specs.Following.{BatchAnswers, BatchBegins, IsEndingOf};
 
-use crate::answer::{
-    Answer, Exit, MAX_INPUT, MAX_PROGRAM, accept, fetch, read, refuse, without_host, worker_count,
-};
+use crate::answer::{Answer, Exit, MAX_INPUT, fetch, refuse, without_host, worker_count};
 use crate::batch::Batch;
 use crate::context::Context;
 use crate::message::{failed_line, files_line, host_line, long_line, not_name_line, too_many_line};
+use crate::programs::fetch_accepted;
 use crate::status::Status;
+use spf_ast::syntax::Program;
 use spf_batch::{BatchError, Totals};
 use spf_batch_lists::{ListError, read_names};
 use spf_edge::Files;
@@ -70,6 +74,19 @@ fn fetch_names<F: Files>(alloc: Global, list: &str, files: &mut F) -> Result<Vec
     names_of(alloc, &content)
 }
 
+/// Looks whether the hosts of a program are supplied, where they are this many.
+fn all_supplied(alloc: Global, program: &Program, hosts: u64) -> Result<(), Exit>
+    ensures all { IfOk result
+        (λ _. missing_host hosts (constructs_in (seen_program program.now).main) ≡ None) }
+    ensures left { IfErr result
+        (IsHostExit (missing_host hosts (constructs_in (seen_program program.now).main))) }
+{
+    match first_missing(program, hosts) {
+        Some(host) => Err(Exit::Answered(without_host(alloc, host)?)),
+        None => Ok(()),
+    }
+}
+
 /// One line, as messages.
 fn one_line(alloc: Global, line: String) -> Result<Vec<Vec<u8>>, AllocError>
     ensures { IfOk result (λ messages. lines_of messages.items ≡ string_bytes line ∷ []) }
@@ -77,6 +94,19 @@ fn one_line(alloc: Global, line: String) -> Result<Vec<Vec<u8>>, AllocError>
     let mut messages = Vec::new(alloc);
     messages.push(line.into_bytes())?;
     Ok(messages)
+}
+
+/// The ending of a batch whose files all have their answers.
+fn all_answered(alloc: Global, totals: Totals) -> Result<Ending, AllocError>
+    ensures status { IfOk result (λ ending. status_number ending.status ≡ 0) }
+    ensures lines { IfOk result (λ ending. lines_of ending.messages.items
+        ≡ files_line_of totals.files totals.stats ∷ []) }
+{
+    let line = files_line(alloc, totals.files, totals.stats)?;
+    Ok(Ending {
+        status: Status::Done,
+        messages: one_line(alloc, line)?,
+    })
 }
 
 impl<'a, R: Threads + Wait + Sync, G: Gate + Sync> Context<'a, R, G> {
@@ -98,13 +128,9 @@ impl<'a, R: Threads + Wait + Sync, G: Gate + Sync> Context<'a, R, G> {
         // Laws: a program has one verdict, and a list is names or has a first bad line.
         crate::laws::rules_say_one_thing();
         spf_batch_lists::laws::lists_have_one_verdict();
-        let text = fetch(self.alloc, files, program, MAX_PROGRAM)?;
-        let parsed = read(self.alloc, &text)?;
-        let checked = accept(self.alloc, parsed)?;
+        let checked = fetch_accepted(self.alloc, program, files)?;
         let names = fetch_names(self.alloc, list, files)?;
-        if let Some(host) = first_missing(checked.program(), hosts) {
-            return Err(Exit::Answered(without_host(self.alloc, host)?));
-        }
+        all_supplied(self.alloc, checked.program(), hosts)?;
         Ok(Batch {
             checked,
             names,
@@ -126,7 +152,7 @@ impl Batch {
             (λ status. BreaksWith came (status_number status)) }
     {
         let (status, line) = match came {
-            Ok(totals) => (Status::Done, files_line(alloc, totals.files, totals.stats)?),
+            Ok(totals) => return Ok(all_answered(alloc, totals)?),
             Err(BatchError::Fetch { place }) => {
                 let name = &self.names[place as usize];
                 (Status::FileFailed, failed_line(alloc, name)?)

@@ -22,7 +22,8 @@ ghost use Rattle.spf_cli_answers.specs.Whole.{Decodes, Demonstrates, RunsTo, dem
 ghost use Rattle.spf_cli_answers.specs.Whole.{demo_input, by_blocks, handed, block_of};
 ghost use Rattle.spf_cli_answers.specs.Whole.{run_options as run_options_of};
 ghost use Rattle.spf_cli_answers.specs.Answering.{seen_answer, AnswersWith};
-ghost use Rattle.spf_cli_answers.specs.Following.{Follows, FollowsLexing};
+ghost use Rattle.spf_cli_answers.specs.Following.{AnswersUnhuffing, Follows, FollowsLexing};
+ghost use Rattle.spf_cli_answers.specs.Following.{IsDemoInput};
 
 use crate::answer::{Answer, Exit, MAX_INPUT, answer_of_error, fetch, refuse};
 use crate::context::Context;
@@ -155,6 +156,16 @@ fn whole_input(alloc: Global, kind: Kind, file: Vec<u8>) -> Result<Vec<u8>, Allo
     }
 }
 
+/// The input of a demo that a seed and a size generate.
+fn generated_input(alloc: Global, kind: Kind, seed: u64, size: u64) -> Result<Vec<u8>, AllocError>
+    requires some { 1 ≤ size }
+    requires few { size ≤ 1000000 }
+    ensures { IfOk result (λ input. IsDemoInput kind seed size input.items) }
+{
+    let file = generate(alloc, kind, seed, size)?;
+    whole_input(alloc, kind, file)
+}
+
 impl<'a, R: Threads + Wait + Sync, G: Gate + Sync> Context<'a, R, G> {
     /// The answer of a decoder's program over an input.
     fn decode(&self, options: DecodeOptions, program: Program, input: &[u8]) -> Result<Answer, Exit>
@@ -189,6 +200,22 @@ impl<'a, R: Threads + Wait + Sync, G: Gate + Sync> Context<'a, R, G> {
         self.decode(options, program, &content)
     }
 
+    /// The answer of `unhuff` over the content of a file.
+    fn unhuff(&self, options: DecodeOptions, file: &[u8]) -> Result<Answer, Exit>
+        requires numbers { HasDecodeNumbers (seen_decode_options options) }
+        ensures { AnswersUnhuffing options file.now result }
+    {
+        // Law: a file is of its format, or refused at one offset.
+        spf_apps_formats::laws::files_have_one_verdict();
+        // Law: a decoder's run answers what its format says.
+        crate::laws::decoders_keep_their_formats();
+        if let Err(offset) = huf1_check(file) {
+            return Ok(not_huf1(self.alloc, offset)?);
+        }
+        let program = huffman(self.alloc, block_size(options))?;
+        self.decode(options, program, file)
+    }
+
     /// The answer of `unhuff` over a file.
     pub(crate) fn unhuff_file<F: Files>(
         &self,
@@ -200,16 +227,8 @@ impl<'a, R: Threads + Wait + Sync, G: Gate + Sync> Context<'a, R, G> {
         ensures { Follows (unhuff_command input.now (seen_decode_options options))
             (F.state files.old) (F.state files.new) result }
     {
-        // Law: a file is of its format, or refused at one offset.
-        spf_apps_formats::laws::files_have_one_verdict();
-        // Law: a decoder's run answers what its format says.
-        crate::laws::decoders_keep_their_formats();
         let content = fetch(self.alloc, files, input, MAX_INPUT)?;
-        if let Err(offset) = huf1_check(&content) {
-            return Ok(not_huf1(self.alloc, offset)?);
-        }
-        let program = huffman(self.alloc, block_size(options))?;
-        self.decode(options, program, &content)
+        self.unhuff(options, &content)
     }
 
     /// The answer of `lex` with a machine, on the file of an input.
@@ -288,8 +307,7 @@ impl<'a, R: Threads + Wait + Sync, G: Gate + Sync> Context<'a, R, G> {
         spf_apps_formats::laws::each_demo_input_is_generated_once();
         let program = demo_decoder(self.alloc, kind)?;
         let checked = accept_built_in(self.alloc, program)?;
-        let file = generate(self.alloc, kind, seed, size)?;
-        let input = whole_input(self.alloc, kind, file)?;
+        let input = generated_input(self.alloc, kind, seed, size)?;
         self.demonstrate(&checked, &input, workers)
     }
 }

@@ -10,6 +10,7 @@ mod context;
 mod decoding;
 pub mod laws;
 mod message;
+mod programs;
 mod reading;
 mod replaying;
 mod reply;

@@ -4,6 +4,7 @@ ghost use Rattle.std.specs.Prelude.{◌≡◌, ◌++◌, codes, IfOk, map, strin
 ghost use Rattle.std.specs.Fmt.{signed_decimal};
 ghost use Rattle.spf_ast.specs.View.{name as seen_name, array as seen_array};
 ghost use Rattle.spf_check.specs.Text.{perhaps_range};
+ghost use Rattle.spf_batch.specs.Text.{kind_name as kind_name_of};
 ghost use Rattle.spf_cli_answers.specs.Message.{trap_line as trap_line_of};
 ghost use Rattle.spf_cli_answers.specs.Message.{words_line as words_line_of};
 ghost use Rattle.spf_cli_answers.specs.Message.{failed_line as failed_line_of};
@@ -36,22 +37,30 @@ use spf_replay::verdict::Verdict;
 use spf_types::TypeFault;
 use std::alloc::{AllocError, Global};
 
+/// The name of a kind of trap.
+fn kind_name(alloc: Global, kind: TrapKind) -> Result<String, AllocError>
+    ensures { IfOk result (λ name. string_bytes name ≡ kind_name_of kind) }
+{
+    match kind {
+        TrapKind::Overflow => String::from_str(alloc, "overflow"),
+        TrapKind::DivZero => String::from_str(alloc, "divide-by-zero"),
+        TrapKind::Index => String::from_str(alloc, "index"),
+        TrapKind::Shift => String::from_str(alloc, "shift"),
+        TrapKind::Range => String::from_str(alloc, "range"),
+        TrapKind::Turns => String::from_str(alloc, "turns"),
+        TrapKind::Emit => String::from_str(alloc, "emit"),
+        TrapKind::Blocks => String::from_str(alloc, "blocks"),
+        TrapKind::Fail(number) => format!(in alloc; "fail {number}"),
+    }
+}
+
 /// `trap KIND line N`.
 pub(crate) fn trap_line(alloc: Global, trap: Trap) -> Result<String, AllocError>
     ensures { IfOk result (λ text. string_bytes text ≡ trap_line_of trap) }
 {
+    let kind = kind_name(alloc, trap.kind)?;
     let line = trap.line;
-    match trap.kind {
-        TrapKind::Overflow => format!(in alloc; "trap overflow line {line}\n"),
-        TrapKind::DivZero => format!(in alloc; "trap divide-by-zero line {line}\n"),
-        TrapKind::Index => format!(in alloc; "trap index line {line}\n"),
-        TrapKind::Shift => format!(in alloc; "trap shift line {line}\n"),
-        TrapKind::Range => format!(in alloc; "trap range line {line}\n"),
-        TrapKind::Turns => format!(in alloc; "trap turns line {line}\n"),
-        TrapKind::Emit => format!(in alloc; "trap emit line {line}\n"),
-        TrapKind::Blocks => format!(in alloc; "trap blocks line {line}\n"),
-        TrapKind::Fail(number) => format!(in alloc; "trap fail {number} line {line}\n"),
-    }
+    format!(in alloc; "trap {kind} line {line}\n")
 }
 
 /// `words not understood`.

@@ -18,7 +18,7 @@ use spf_types::{TypeError, TypeFault, resolve};
 use std::alloc::{AllocError, Global};
 
 /// Why a text has no lawful program: a fault at a byte, or one of names, kinds or sizes on a line.
-#[derive(Clone, Copy, Debug)]
+#[derive(Clone, Copy)]
 pub(crate) enum TextRefusal {
     TextTooLong { at: usize },
     BadByte { at: usize },
@@ -29,7 +29,7 @@ pub(crate) enum TextRefusal {
 }
 
 /// Why there is no program of a text.
-#[derive(Clone, Copy, Debug)]
+#[derive(Clone, Copy)]
 pub(crate) enum Unread {
     Refused(TextRefusal),
     NoMemory,

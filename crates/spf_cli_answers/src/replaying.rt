@@ -1,8 +1,11 @@
 //! The answers of `sim` and `replay`: logs of runs.
 
-ghost use Rattle.std.specs.Prelude.{◌≡◌, ◌++◌, IfOk, IfErr};
+ghost use Rattle.std.specs.Prelude.{◌≡◌, ◌++◌, IfOk, IfErr, None, length};
+ghost use Rattle.spf_ast.specs.Construct.{constructs_in};
 ghost use Rattle.spf_ast.specs.View.{program as seen_program};
 ghost use Rattle.spf_ast.specs.Program.{seen_outcome};
+ghost use Rattle.spf_exec_instance.specs.Instance.{program_of};
+ghost use Rattle.spf_guess.specs.Missing.{missing_host};
 ghost use Rattle.spf_replay_log.specs.Log.{IsLog, sections_of};
 ghost use Rattle.spf_replay_sim.specs.Drawing.{AreOfFewBlocks};
 ghost use Rattle.spf_cli_words.specs.Command.{Sim as sim, Replay as replay};
@@ -12,22 +15,22 @@ ghost use Rattle.spf_cli_answers.specs.Answer.{too_many_steps as too_many_steps_
 ghost use Rattle.spf_cli_answers.specs.Answer.{end_status, trap_lines};
 ghost use Rattle.spf_cli_answers.specs.Answer.{judged as judged_answer};
 ghost use Rattle.spf_cli_answers.specs.Answering.{lines_of, seen_answer, AnswersWith};
-ghost use Rattle.spf_cli_answers.specs.Logs.{IsFetchedAccepted, IsNoneAccepted};
 ghost use Rattle.spf_cli_answers.specs.Logs.{IsLogExit, IsReadLog, IsNoLog};
 ghost use Rattle.spf_cli_answers.specs.Status.{status_number};
 ghost use Rattle.spf_cli_answers.specs.Whole.{Simulates};
-ghost use Rattle.spf_cli_answers.specs.Following.{AnswersReplay, FollowsWith, given_by};
+ghost use Rattle.spf_cli_answers.specs.Following.{AnswersDrawn, AnswersReplay, AnswersRuled};
+ghost use Rattle.spf_cli_answers.specs.Following.{FollowsReplay, FollowsWith, given_by};
 ghost use Rattle.spf_cli_answers.specs.Following.{simulated_so};
 
-use crate::answer::{
-    Answer, Exit, MAX_INPUT, MAX_PROGRAM, accept, answer_of_error, fetch, push_line, read, refuse,
-};
+use crate::answer::{Answer, Exit, MAX_INPUT, answer_of_error, fetch, push_line, refuse};
 use crate::message::{not_log_line, stats_line, steps_line, trap_line, verdict_line};
+use crate::programs::fetch_accepted;
 use crate::status::Status;
 use spf_ast::outcome::Outcome;
 use spf_check::checked::Checked;
 use spf_edge::Files;
 use spf_engine::run::set_up;
+use spf_exec_instance::instance::Instance;
 use spf_guess::Predictor;
 use spf_replay::verdict::Verdict;
 use spf_replay::{LogError, Step, read_log, write_log};
@@ -81,6 +84,27 @@ fn too_many_steps(alloc: Global) -> Result<Answer, AllocError>
     refuse(alloc, Status::OverLimit, steps_line(alloc)?)
 }
 
+/// The answer of a simulation of an instance.
+fn simulate_on(
+    alloc: Global,
+    checked: &Checked,
+    instance: &Instance,
+    seed: u64,
+    hosts: &mut Vec<Box<dyn Predictor>>,
+) -> Result<Answer, Exit>
+    requires program { program_of instance.now ≡ seen_program checked.now }
+    requires hosts { missing_host (length hosts.old.items)
+        (constructs_in (program_of instance.now).main) ≡ None }
+    ensures { AnswersDrawn answer hosts.old.items instance.now seed result }
+{
+    // Law: a run has exactly one schedule from each seed.
+    spf_replay::laws::each_run_has_one_schedule();
+    match simulate_instance(alloc, checked, instance, hosts, seed)? {
+        Some(made) => Ok(answer_of_simulation(alloc, &made)?),
+        None => Ok(too_many_steps(alloc)?),
+    }
+}
+
 /// The answer of a simulation of an accepted program on an input.
 fn simulate(
     alloc: Global,
@@ -92,15 +116,9 @@ fn simulate(
     ensures { AnswersWith (IsOnly (Simulates (given_by answer hosts.old.items) seed
         (seen_program checked.now) input.now)) result }
 {
-    // Law: a run has exactly one schedule from each seed.
-    spf_replay::laws::each_run_has_one_schedule();
-    let instance = match set_up(alloc, checked, input, hosts.len() as u64) {
-        Ok(instance) => instance,
-        Err(error) => return answer_of_error(alloc, checked.program(), error),
-    };
-    match simulate_instance(alloc, checked, &instance, hosts, seed)? {
-        Some(made) => Ok(answer_of_simulation(alloc, &made)?),
-        None => Ok(too_many_steps(alloc)?),
+    match set_up(alloc, checked, input, hosts.len() as u64) {
+        Ok(instance) => simulate_on(alloc, checked, &instance, seed, hosts),
+        Err(error) => answer_of_error(alloc, checked.program(), error),
     }
 }
 
@@ -148,6 +166,25 @@ fn answer_of_verdict(alloc: Global, verdict: Verdict) -> Result<Answer, AllocErr
     })
 }
 
+/// The answer to a log that is checked against the runs of an instance.
+fn judge_on(
+    alloc: Global,
+    checked: &Checked,
+    instance: &Instance,
+    log: &[Vec<Step>],
+    hosts: &mut Vec<Box<dyn Predictor>>,
+) -> Result<Answer, Exit>
+    requires program { program_of instance.now ≡ seen_program checked.now }
+    requires hosts { missing_host (length hosts.old.items)
+        (constructs_in (program_of instance.now).main) ≡ None }
+    ensures { AnswersRuled answer hosts.old.items instance.now (sections_of log.now) result }
+{
+    // Law: a log has one verdict.
+    spf_replay::verdict::verdicts_are_exact();
+    let verdict = replay_instance(alloc, checked, instance, hosts, log)?;
+    Ok(answer_of_verdict(alloc, verdict)?)
+}
+
 /// The answer to a log that is checked against the runs of an accepted program on an input.
 fn judge(
     alloc: Global,
@@ -159,25 +196,10 @@ fn judge(
     ensures { AnswersReplay (given_by answer hosts.old.items) (seen_program checked.now) input.now
         (sections_of log.now) result }
 {
-    // Law: a log has one verdict.
-    spf_replay::verdict::verdicts_are_exact();
-    let instance = match set_up(alloc, checked, input, hosts.len() as u64) {
-        Ok(instance) => instance,
-        Err(error) => return answer_of_error(alloc, checked.program(), error),
-    };
-    let verdict = replay_instance(alloc, checked, &instance, hosts, log)?;
-    Ok(answer_of_verdict(alloc, verdict)?)
-}
-
-/// The program in a file, where the rules accept it.
-fn fetch_accepted<F: Files>(alloc: Global, name: &str, files: &mut F) -> Result<Checked, Exit>
-    ensures program { IfOk result (λ checked. IsFetchedAccepted (F.state files.old)
-        (F.state files.new) name.now (seen_program checked)) }
-    ensures left { IfErr result (IsNoneAccepted (F.state files.old) (F.state files.new) name.now) }
-{
-    let text = fetch(alloc, files, name, MAX_PROGRAM)?;
-    let parsed = read(alloc, &text)?;
-    accept(alloc, parsed)
+    match set_up(alloc, checked, input, hosts.len() as u64) {
+        Ok(instance) => judge_on(alloc, checked, &instance, log, hosts),
+        Err(error) => answer_of_error(alloc, checked.program(), error),
+    }
 }
 
 /// The answer of `sim` over two files.
@@ -199,6 +221,25 @@ pub(crate) fn sim_files<F: Files>(
     simulate(alloc, &checked, &content, seed, hosts)
 }
 
+/// The answer of `replay` with an accepted program, over the files of an input and of a log.
+fn replay_on<F: Files>(
+    alloc: Global,
+    checked: &Checked,
+    input: &str,
+    log: &str,
+    files: &mut F,
+    hosts: &mut Vec<Box<dyn Predictor>>,
+) -> Result<Answer, Exit>
+    ensures { FollowsReplay answer hosts.old.items input.now log.now checked.now
+        (F.state files.old) (F.state files.new) result }
+{
+    // Law: bytes are one log at most, and break at one offset at most.
+    spf_replay_log::laws::bytes_have_one_reading();
+    let content = fetch(alloc, files, input, MAX_INPUT)?;
+    let sections = fetch_log(alloc, log, files)?;
+    judge(alloc, checked, &content, &sections, hosts)
+}
+
 /// The answer of `replay` over three files.
 pub(crate) fn replay_files<F: Files>(
     alloc: Global,
@@ -213,10 +254,6 @@ pub(crate) fn replay_files<F: Files>(
 {
     // Law: a program has one verdict and one explanation.
     crate::laws::rules_say_one_thing();
-    // Law: bytes are one log at most, and break at one offset at most.
-    spf_replay_log::laws::bytes_have_one_reading();
     let checked = fetch_accepted(alloc, program, files)?;
-    let content = fetch(alloc, files, input, MAX_INPUT)?;
-    let sections = fetch_log(alloc, log, files)?;
-    judge(alloc, &checked, &content, &sections, hosts)
+    replay_on(alloc, &checked, input, log, files, hosts)
 }

@@ -20,6 +20,8 @@ pub mod Telling
 pub mod Same
 pub mod Spared
 pub mod Running
+pub mod Decisions
+pub mod Wanted
 pub mod Choices
 pub mod Programs
 pub mod Parts

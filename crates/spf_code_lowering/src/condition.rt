@@ -1,4 +1,4 @@
-//! Lowering of conditions.
+//! Lowering of conditions to registers, as a loop asks them.
 
 ghost use Rattle.std.specs.Prelude.{◌≡◌, ◌≤◌, ◌<◌, [], false, ℕ, IfOk};
 ghost use Rattle.spf_ast.specs.View.{condition as seen_condition};
@@ -55,7 +55,7 @@ fn compare(
 /// Appends the code that has the register `free` say whether a condition holds: 1 where it does,
 /// otherwise 0.
 #[cycle(condition)]
-pub(crate) fn tell(
+fn tell(
     scope: &Scope,
     line: u32,
     free: u32,

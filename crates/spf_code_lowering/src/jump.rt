@@ -2,6 +2,7 @@
 
 ghost use Rattle.std.specs.Prelude.{◌≡◌, ◌++◌, IfOk};
 ghost use Rattle.spf_code_lowering.specs.Adding.{AddsJumps, Spares, NeitherSets};
+ghost use Rattle.spf_code_lowering.specs.Decision.{two_blocks, until_other};
 
 use crate::expression::{add, after, count_of};
 use spf_code::node::{Choice, Node, unless};
@@ -15,6 +16,37 @@ pub(crate) fn append(more: Vec<Node>, out: &mut Vec<Node>) -> Result<(), AllocEr
     out.append(&mut more)
 }
 
+/// How many instructions of two blocks come before those of the second one: those of the first one,
+/// and the jump at its end.
+pub(crate) fn until(one: &[Node], other: &[Node]) -> Result<u32, AllocError>
+    ensures { IfOk result (λ n. n ≡ until_other one.now other.now) }
+{
+    let count = count_of(one)?;
+    if other.is_empty() {
+        return Ok(count);
+    }
+    after(count)
+}
+
+/// Appends the code of a block, and then that of another one. Where there is any, a jump at the end
+/// of the first leaves it out.
+pub(crate) fn add_blocks(
+    one: Vec<Node>,
+    other: Vec<Node>,
+    out: &mut Vec<Node>,
+) -> Result<(), AllocError>
+    ensures appended { IfOk result (λ _. out.new.items ≡ out.old.items ++ two_blocks one.items
+        other.items) }
+{
+    if other.is_empty() {
+        return append(one, out);
+    }
+    let left_out = count_of(&other)?;
+    append(one, out)?;
+    add(out, Node::Jump { count: left_out })?;
+    append(other, out)
+}
+
 /// Appends the code of one block where a choice holds, and of another one where it doesn't. An
 /// instruction leaves out the first block, and a jump at its end the second one.
 pub(crate) fn add_choice(
@@ -26,15 +58,7 @@ pub(crate) fn add_choice(
     ensures wrote { AddsJumps choice one other out.old out.new result }
     ensures spares { Spares (NeitherSets one other) out.old out.new result }
 {
-    let past = count_of(&one)?;
-    if other.is_empty() {
-        add(out, unless(choice, past))?;
-        return append(one, out);
-    }
-    let behind = after(past)?;
-    let left_out = count_of(&other)?;
-    add(out, unless(choice, behind))?;
-    append(one, out)?;
-    add(out, Node::Jump { count: left_out })?;
-    append(other, out)
+    let past_one = until(&one, &other)?;
+    add(out, unless(choice, past_one))?;
+    add_blocks(one, other, out)
 }

@@ -20,7 +20,8 @@ pub fn close_crew(crew: Crew, mates: Vec<Mate>) -> (Chain, Cells)
     ensures site { result.0.site ≡ crew.setting.site }
     ensures own { result.1 ≡ chain_cells result.0 }
     ensures up { IsSpeculativeRunOf result.0 (joined result.0.site.blocks (log_in result.0.homes)) }
-    ensures down { IsSpeculativeRunOf result.0 (joined_down result.0.site.blocks (log_in result.0.homes)) }
+    ensures down { IsSpeculativeRunOf result.0
+        (joined_down result.0.site.blocks (log_in result.0.homes)) }
 {
     // Law: logs that are joined block by block are a merging of them.
     spf_speculation::laws::speculative_runs_exist();

@@ -70,8 +70,8 @@ impl<'a, R: Threads + Wait + Sync, G: Gate + Sync> Runner<'a, R, G> {
         Ok(blocks.write_back(run.cells_mut()))
     }
 
-    /// StepsPast the construct that stands next, whose header is done, and adds to the account what it
-    /// counted and recorded.
+    /// Steps past the construct that stands next, whose header is done, and adds to the account what
+    /// it counted and recorded.
     pub(crate) fn pass(
         &self,
         construct: TopConstruct,
@@ -88,7 +88,8 @@ impl<'a, R: Threads + Wait + Sync, G: Gate + Sync> Runner<'a, R, G> {
             (length self.now.instance.now.input) run.old }
         requires ready { IsReadyAt (program_of self.now.instance.now) number
             (seen_construct construct) header.now run.old }
-        requires few { CountsAreBounded (program_of self.now.instance.now) run.old account.old.stats }
+        requires few { CountsAreBounded (program_of self.now.instance.now)
+            run.old account.old.stats }
         ensures steps { IfOk result (λ s. TakesStepAt answer self.now.instance.now
             construct.entry header.now run.old account.old hosts.old
             s run.new account.new hosts.new) }

@@ -41,11 +41,12 @@ impl<'a, R: Threads + Wait + Sync, G: Gate + Sync> Runner<'a, R, G> {
             (constructs_in (program_of self.now.instance.now).main) ≡ None }
         requires run { IsStateOf (program_of self.now.instance.now)
             (length self.now.instance.now.input) run.old }
-        requires few { CountsAreBounded (program_of self.now.instance.now) run.old account.old.stats }
+        requires few { CountsAreBounded (program_of self.now.instance.now)
+            run.old account.old.stats }
         ensures steps { IfOk result (λ s. TakesStep answer self.now.instance.now
             run.old account.old hosts.old s run.new account.new hosts.new) }
-        ensures told_first { IfErr result (λ why. StopsWithoutMemory answer self.now.instance.now run.old
-            hosts.old hosts.new) }
+        ensures told_first { IfErr result (λ why. StopsWithoutMemory answer
+            self.now.instance.now run.old hosts.old hosts.new) }
         ensures count { length hosts.new.items ≡ length hosts.old.items }
         ensures run { IsStateOf (program_of self.now.instance.now)
             (length self.now.instance.now.input) run.new }

@@ -178,8 +178,8 @@ fn advance_from<'a>(
     requires within { place ≤ length instance.now.source.main.items }
     requires passed { HasPassed instance.now place passed }
     requires few_constructs { length (constructs_in (program_of instance.now).main) < 2 ^ 32 }
-    ensures advanced { IfOk result
-        (AdvancedTo instance.now (run_state frame.old memory.old place passed) frame.new memory.new) }
+    ensures advanced { IfOk result (AdvancedTo instance.now
+        (run_state frame.old memory.old place passed) frame.new memory.new) }
     ensures place { IfOk result (λ r. r.0 ≤ length instance.now.source.main.items) }
     ensures passed { IfOk result (λ r. HasPassed instance.now r.0 passed) }
     ensures cells { length memory.new.cells.items ≡ length memory.old.cells.items }

@@ -261,8 +261,8 @@ impl<'a> Walker<'a> {
         ensures steps { IfOk result (λ s. TakesStep V.has_visited answer
             self.now.instance.now run.old visitor.old stats.old hosts.old.items
             s run.new visitor.new stats.new hosts.new.items) }
-        ensures told_first { IfErr result (λ why. StopsWithoutMemory answer self.now.instance.now run.old
-            hosts.old hosts.new) }
+        ensures told_first { IfErr result (λ why. StopsWithoutMemory answer
+            self.now.instance.now run.old hosts.old hosts.new) }
         ensures count { length hosts.new.items ≡ length hosts.old.items }
         ensures run { OnOk result (IsStateOf (program_of self.now.instance.now)
             (length self.now.instance.now.input) run.new) }

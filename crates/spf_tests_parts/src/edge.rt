@@ -1,6 +1,7 @@
 //! That the calls succeed with memory at hand, and what they do to the machine's files and streams.
 use spf_edge::{
-    FetchError, Files, MemFiles, MemSink, PutError, RealFiles, RealSink, Sink, StandardStream,
+    FetchError, Files, MemFiles, MemSink, PutError, PutMade, RealFiles, RealSink, Sink,
+    StandardStream,
 };
 use spf_ticket_gate::{Barrier, Gate, Open, Place};
 use std::alloc::{AllocError, Global};
@@ -12,7 +13,7 @@ use std::{fs, io};
 /// Three files, two of which have one name.
 fn three_files(alloc: Global) -> Result<Vec<(String, Vec<u8>)>, AllocError> {
     let mut entries = Vec::new(alloc);
-    for (name, content) in [("a", "one"), ("b", ""), ("a", "other")] {
+    for (name, content) in &[("a", "one"), ("b", ""), ("a", "other")] {
         entries.push((
             String::from_str(alloc, name)?,
             content.as_bytes().to_vec(alloc)?,
@@ -41,67 +42,88 @@ fn follow<R: Abort, F: Files>(rt: &R, files: &mut F, alloc: Global, fetches: &[F
     }
 }
 
-/// Returns whether names are those of a text, with a space between any two.
-fn are_named(text: &str, names: &[String]) -> bool {
+/// The three files in memory. Calls 1 and 4 fail.
+fn memory_files(alloc: Global) -> Result<MemFiles, AllocError> {
+    let failing = [1, 4].to_vec(alloc)?;
+    Ok(MemFiles::make(three_files(alloc)?, failing))
+}
+
+/// Returns whether the fetched names are those of a text, with a space between any two.
+fn have_fetched(files: &MemFiles, text: &str) -> bool {
+    let names = files.fetches().unwrap_or(&[]);
     text.split(' ').eq(names.iter().map(|name| name.as_str()))
 }
 
+/// Fetches of the three files.
+const MEMORY_FETCHES: [Fetch<'static>; 7] = [
+    ("a", 3, Ok("one")),
+    ("a", 3, Err(FetchError::Failed)),
+    ("c", 3, Err(FetchError::Missing)),
+    ("a", 2, Err(FetchError::TooLong)),
+    // a missing name doesn't fail, and still counts as a call
+    ("c", 3, Err(FetchError::Missing)),
+    ("b", 0, Ok("")),
+    ("a", 9, Ok("one")),
+];
+
 #[test]
 fn files_in_memory_answer_by_number(rt: HostRuntime) -> Result<(), Fail> {
-    let alloc = rt.alloc();
-    let failing = [1, 4].to_vec(alloc)?;
-    let mut files = MemFiles::make(three_files(alloc)?, failing);
-    let fetches = [
-        ("a", 3, Ok("one")),
-        ("a", 3, Err(FetchError::Failed)),
-        ("c", 3, Err(FetchError::Missing)),
-        ("a", 2, Err(FetchError::TooLong)),
-        // a missing name doesn't fail, and still counts as a call
-        ("c", 3, Err(FetchError::Missing)),
-        ("b", 0, Ok("")),
-        ("a", 9, Ok("one")),
-    ];
-    follow(&rt, &mut files, alloc, &fetches);
-    let fetches = files.fetches().unwrap_or(&[]);
-    assert!(rt; are_named("a a c a c b a", fetches));
+    let mut files = memory_files(rt.alloc())?;
+    follow(&rt, &mut files, rt.alloc(), &MEMORY_FETCHES);
+    assert!(rt; have_fetched(&files, "a a c a c b a"));
     Ok(())
 }
 
+/// A piece, how it is to be put, and the bytes that the sink is to have afterwards.
+type Put<'a> = (&'a str, Result<(), PutError>, &'a str);
+
+/// Returns whether a piece is put as it is to be.
+fn is_put(sink: &mut MemSink, put: Put) -> bool {
+    let (piece, wanted, taken) = put;
+    sink.put(piece.as_bytes()) == wanted && sink.bytes() == taken.as_bytes()
+}
+
+/// Returns whether these numbers are those of the puts: for each the length of its piece, and 10
+/// more where the piece was put whole.
+fn are_counted(puts: &[PutMade], numbers: &[u64]) -> bool {
+    puts.len() == numbers.len()
+        && puts.iter().zip(numbers).all(|(put, number)| put.piece.len() as u64
+            + u64::from(put.whole) * 10
+            == *number)
+}
+
+/// Puts on a sink where puts 1 and 3 fail, and keep two bytes.
+const PUTS: [Put<'static>; 5] = [
+    ("abc", Ok(()), "abc"),
+    ("def", Err(PutError::Failed), "abcde"),
+    ("", Ok(()), "abcde"),
+    ("f", Err(PutError::Failed), "abcdef"),
+    ("ghi", Ok(()), "abcdefghi"),
+];
+
 #[test]
 fn a_sink_in_memory_fails_by_number(rt: HostRuntime) -> Result<(), Fail> {
-    let failing = [1, 3].to_vec(rt.alloc())?;
-    let mut sink = MemSink::make(failing, 2);
-    let rows = [
-        ("abc", Ok(()), "abc"),
-        ("def", Err(PutError::Failed), "abcde"),
-        ("", Ok(()), "abcde"),
-        ("f", Err(PutError::Failed), "abcdef"),
-        ("ghi", Ok(()), "abcdefghi"),
-    ];
-    for (piece, want, taken) in rows {
-        let got = sink.put(piece.as_bytes());
-        assert_eq!(rt; got, want, "at {piece}");
-        assert!(rt; sink.bytes() == taken.as_bytes(), "at {piece}");
+    let mut sink = MemSink::make([1, 3].to_vec(rt.alloc())?, 2);
+    for (number, row) in PUTS.iter().enumerate() {
+        assert!(rt; is_put(&mut sink, *row), "put {number}");
     }
-    let puts = sink
-        .puts()
-        .iter()
-        .map(|put| put.piece.len() as u64 + u64::from(put.whole) * 10);
-    assert!(rt; puts.eq([13, 3, 10, 1, 13]));
+    assert!(rt; are_counted(sink.puts(), &[13, 3, 10, 1, 13]));
     Ok(())
 }
+
+/// Fetches of a file of the machine, and of one that isn't there.
+const MACHINE_FETCHES: [Fetch<'static>; 4] = [
+    ("spf_edge_four", 4, Ok("four")),
+    ("spf_edge_four", u64::MAX, Ok("four")),
+    ("spf_edge_four", 3, Err(FetchError::TooLong)),
+    ("spf_edge_none", 4, Err(FetchError::Failed)),
+];
 
 #[test]
 fn a_file_of_the_machine_is_read(rt: HostRuntime) -> Result<(), Fail> {
     fs::write(&rt, "spf_edge_four", b"four".as_slice())?;
     let mut files = RealFiles::make(&rt);
-    let fetches = [
-        ("spf_edge_four", 4, Ok("four")),
-        ("spf_edge_four", u64::MAX, Ok("four")),
-        ("spf_edge_four", 3, Err(FetchError::TooLong)),
-        ("spf_edge_none", 4, Err(FetchError::Failed)),
-    ];
-    follow(&rt, &mut files, rt.alloc(), &fetches);
+    follow(&rt, &mut files, rt.alloc(), &MACHINE_FETCHES);
     fs::remove_file(&rt, "spf_edge_four")?;
     Ok(())
 }
@@ -129,24 +151,16 @@ fn streams_take_what_is_put(rt: HostRuntime) {
     let mut output = RealSink::make(StandardStream::Output(rt.stdout()));
     let mut error = RealSink::make(StandardStream::Error(rt.stderr()));
     let mut narrow = RealSink::make(Narrow { room: 3 });
-    assert_eq!(rt;
-        [
-            output.put(b"to standard output\n"),
-            error.put(b"to standard error\n"),
-            narrow.put(b"ab"),
-            narrow.put(b"cd"),
-            narrow.put(b"e"),
-            narrow.put(b""),
-        ],
-        [
-            Ok(()),
-            Ok(()),
-            Ok(()),
-            Err(PutError::Failed),
-            Err(PutError::Failed),
-            Ok(()),
-        ]
-    );
+    let puts = [
+        output.put(b"to standard output\n"),
+        error.put(b"to standard error\n"),
+        narrow.put(b"ab"),
+        narrow.put(b"cd"),
+        narrow.put(b"e"),
+        narrow.put(b""),
+    ];
+    let failed = Err(PutError::Failed);
+    assert!(rt; puts == [Ok(()), Ok(()), Ok(()), failed, failed, Ok(())]);
 }
 
 // The ends of attempts at a gate, one after another: block, attempt and place.
@@ -156,42 +170,41 @@ fn pass<G: Gate + Sync>(gate: &G, ends: &[(u64, u64, Place)]) {
     }
 }
 
+/// Two first attempts, which begin before one ends.
+const ENDS: [(u64, u64, Place); 4] = [
+    (0, 1, Place::Begin),
+    (1, 1, Place::Begin),
+    (0, 1, Place::End),
+    (1, 1, Place::End),
+];
+
 #[test]
 fn a_barrier_is_met_where_all_first_attempts_begin_before_one_ends(rt: HostRuntime) {
-    let ends = [
-        (0, 1, Place::Begin),
-        (1, 1, Place::Begin),
-        (0, 1, Place::End),
-        (1, 1, Place::End),
-    ];
     let two = Barrier::make(2, 10);
-    pass(&two, &ends[..1]);
+    pass(&two, &ENDS[..1]);
     let early = two.have_met();
-    pass(&two, &ends[1..]);
+    pass(&two, &ENDS[1..]);
     let three = Barrier::make(3, 10);
-    pass(&three, &ends);
+    pass(&three, &ENDS);
     pass(&three, &[(2, 1, Place::Begin), (2, 1, Place::End)]);
-    pass(&Open, &ends);
-    assert_eq!(rt;
-        [early, two.have_met(), three.have_met()],
-        [false, true, false]
-    );
+    pass(&Open, &ENDS);
+    assert!(rt; !early && two.have_met() && !three.have_met());
 }
+
+/// A first attempt, with second attempts and one of a block that the barrier doesn't count.
+const OTHERS: [(u64, u64, Place); 5] = [
+    (0, 1, Place::Begin),
+    (0, 2, Place::Begin),
+    (2, 1, Place::Begin),
+    (0, 2, Place::End),
+    (2, 1, Place::End),
+];
 
 #[test]
 fn a_barrier_counts_first_attempts_of_its_blocks_alone(rt: HostRuntime) {
     let barrier = Barrier::make(2, 10);
-    pass(
-        &barrier,
-        &[
-            (0, 1, Place::Begin),
-            (0, 2, Place::Begin),
-            (2, 1, Place::Begin),
-            (0, 2, Place::End),
-            (2, 1, Place::End),
-        ],
-    );
+    pass(&barrier, &OTHERS);
     let early = barrier.have_met();
     pass(&barrier, &[(1, 1, Place::Begin)]);
-    assert_eq!(rt; [early, barrier.have_met()], [false, true]);
+    assert!(rt; !early && barrier.have_met());
 }

@@ -27,45 +27,51 @@ fn header_with(alloc: Global, words: &[(u8, u8)]) -> Result<Vec<u8>, AllocError>
     Ok(file)
 }
 
+/// Files, and where their signatures are wrong.
+const SIGNATURES: [(&[u8], u64); 6] = [
+    (b"", 0),
+    (b"HUF", 3),
+    (b"HUF1", 4),
+    (b"HUF2", 3),
+    (b"huf1", 0),
+    (b"HuF", 1),
+];
+
 #[test]
 fn a_wrong_signature_is_found_at_its_first_byte(rt: HostRuntime) {
-    let cases: [(&[u8], u64); 6] = [
-        (b"", 0),
-        (b"HUF", 3),
-        (b"HUF1", 4),
-        (b"HUF2", 3),
-        (b"huf1", 0),
-        (b"HuF", 1),
-    ];
-    for (file, offset) in cases {
-        assert_eq!(rt; huf1_check(file), Err(offset), "for {file:?}");
+    for (file, offset) in &SIGNATURES {
+        assert!(rt; huf1_check(file) == Err(*offset), "for {file:?}");
     }
 }
 
-/// What the check says of the first bytes of a header with these lengths.
-fn verdict(alloc: Global, words: &[(u8, u8)], count: usize) -> Result<Result<(), u64>, AllocError> {
-    let file = header_with(alloc, words)?;
-    Ok(huf1_check(file.get(..count).unwrap_or(&[])))
+/// Lengths, how many bytes of their header are checked, and what the check is to say.
+type Header<'a> = (&'a [(u8, u8)], usize, Result<(), u64>);
+
+/// Returns whether the check says what it is to say of the first bytes of a header.
+fn is_verdict(alloc: Global, header: Header) -> bool {
+    let (words, count, wanted) = header;
+    match header_with(alloc, words) {
+        Ok(file) => huf1_check(file.get(..count).unwrap_or(&[])) == wanted,
+        Err(_) => false,
+    }
 }
+
+/// Headers with right and wrong lengths.
+const HEADERS: [Header<'static>; 8] = [
+    (&[], 264, Ok(())),
+    (&[(65, 1), (66, 2), (67, 2)], 264, Ok(())),
+    (&[(65, 1), (66, 1), (67, 1)], 264, Err(71)),
+    (&[(0, 15), (255, 15)], 264, Ok(())),
+    (&[(9, 1), (10, 1), (200, 15)], 264, Err(204)),
+    (&[(9, 1), (10, 1), (11, 1), (255, 16)], 264, Err(259)),
+    (&[(0, 255)], 264, Err(4)),
+    (&[], 263, Err(263)),
+];
 
 #[test]
 fn lengths_over_15_come_before_those_without_room(rt: HostRuntime) {
-    let cases: [(&[(u8, u8)], usize, Result<(), u64>); 8] = [
-        (&[], 264, Ok(())),
-        (&[(65, 1), (66, 2), (67, 2)], 264, Ok(())),
-        (&[(65, 1), (66, 1), (67, 1)], 264, Err(71)),
-        (&[(0, 15), (255, 15)], 264, Ok(())),
-        (&[(9, 1), (10, 1), (200, 15)], 264, Err(204)),
-        (&[(9, 1), (10, 1), (11, 1), (255, 16)], 264, Err(259)),
-        (&[(0, 255)], 264, Err(4)),
-        (&[], 263, Err(263)),
-    ];
-    for (words, count, wanted) in cases {
-        assert_eq!(rt;
-            verdict(rt.alloc(), words, count),
-            Ok(wanted),
-            "for {words:?}"
-        );
+    for (number, header) in HEADERS.iter().enumerate() {
+        assert!(rt; is_verdict(rt.alloc(), *header), "header {number}");
     }
 }
 
@@ -103,14 +109,9 @@ fn symbols_are_encoded_by_canonical_words(rt: HostRuntime) {
         (b'H', 4),
     ];
     let coded = [0b0100_1110, 0b0101_1100, 0b0111_0111, 0b1000_0000];
-    assert_eq!(rt;
-        [
-            is_encoded(alloc, &three, b"ABACAB", 266, &[0, 0, 0, 6, 0x4d, 0x00]),
-            is_encoded(alloc, &eight, b"ABCDEFGH", 268, &coded),
-            is_encoded(alloc, &eight, b"", 264, &[]),
-        ],
-        [true; 3]
-    );
+    assert!(rt; is_encoded(alloc, &three, b"ABACAB", 266, &[0, 0, 0, 6, 0x4d, 0x00]));
+    assert!(rt; is_encoded(alloc, &eight, b"ABCDEFGH", 268, &coded));
+    assert!(rt; is_encoded(alloc, &eight, b"", 264, &[]));
 }
 
 /// Why symbols are not encoded with these lengths.
@@ -124,37 +125,34 @@ fn refusal(alloc: Global, words: &[(u8, u8)], symbols: &[u8]) -> Option<EncodeEr
 fn lengths_are_refused_before_symbols(rt: HostRuntime) {
     let alloc = rt.alloc();
     // three words of one bit, and a symbol without a word
-    assert_eq!(rt;
-        [
-            refusal(alloc, &[(65, 1), (66, 1), (67, 1)], b"D"),
-            refusal(alloc, &[(65, 1), (66, 1)], b"ABDC"),
-        ],
-        [
-            Some(EncodeError::BadLengths { place: 71 }),
-            Some(EncodeError::NoCode { at: 2 }),
-        ]
-    );
+    let lengths = refusal(alloc, &[(65, 1), (66, 1), (67, 1)], b"D");
+    assert!(rt; lengths == Some(EncodeError::BadLengths { place: 71 }));
+    let symbol = refusal(alloc, &[(65, 1), (66, 1)], b"ABDC");
+    assert!(rt; symbol == Some(EncodeError::NoCode { at: 2 }));
+}
+
+/// Returns whether these are the bytes of the toy machine, as far as its document says them.
+fn is_toy_machine(machine: &[u8]) -> bool {
+    // An `x` in a gap begins a word; a star in a comment may end it.
+    machine.len() == 334
+        && machine.get(6 + 0x78) == Some(&1)
+        && machine.get(264) == Some(&1)
+        && machine.get(265) == Some(&1)
+        && machine.ends_with(&[0, 0, 5, 0])
+}
+
+/// Returns whether a file is this machine and then the text `a+b`.
+fn is_input(file: &[u8], machine: &[u8]) -> bool {
+    file.len() == 337 && file.starts_with(machine) && file.ends_with(b"a+b")
 }
 
 #[test]
 fn the_toy_machine_is_a_machine(rt: HostRuntime) -> Result<(), Fail> {
-    let alloc = rt.alloc();
-    let machine = toy_machine(alloc)?;
-    let input = lex_input(alloc, &machine, b"a+b")?;
-    assert_eq!(rt; lex1_check(&machine), Ok((6, 6)));
-    assert_eq!(rt; [machine.len(), input.len()], [334, 337]);
-    // An `x` in a gap begins a word; a star in a comment may end it.
-    assert_eq!(rt;
-        [
-            machine.get(6 + 0x78) == Some(&1),
-            machine.get(264) == Some(&1),
-            machine.get(265) == Some(&1),
-            machine.ends_with(&[0, 0, 5, 0]),
-            input.starts_with(&machine),
-            input.ends_with(b"a+b"),
-        ],
-        [true; 6]
-    );
+    let machine = toy_machine(rt.alloc())?;
+    assert!(rt; lex1_check(&machine) == Ok((6, 6)));
+    assert!(rt; is_toy_machine(&machine));
+    let input = lex_input(rt.alloc(), &machine, b"a+b")?;
+    assert!(rt; is_input(&input, &machine));
     Ok(())
 }
 
@@ -174,36 +172,34 @@ fn check_changed(
     Ok(lex1_check(file.get(..count).unwrap_or(&[])))
 }
 
+/// Which byte is set to what, how many bytes there are, and the offset of the fault.
+const CHANGES: [(usize, u8, usize, u64); 18] = [
+    (1, 0, 334, 1),
+    (4, 0, 334, 4),
+    (4, 65, 334, 4),
+    (5, 0, 334, 5),
+    (5, 65, 334, 5),
+    (5, 7, 334, 334),
+    (5, 5, 334, 322),
+    (6, 6, 334, 6),
+    (332, 6, 334, 332),
+    // A wrong length comes before a wrong class.
+    (261, 9, 334, 261),
+    (261, 9, 335, 334),
+    (261, 9, 0, 0),
+    (261, 9, 3, 3),
+    (261, 9, 4, 4),
+    (261, 9, 5, 5),
+    (261, 9, 6, 6),
+    (261, 9, 262, 262),
+    (261, 9, 333, 333),
+];
+
 #[test]
 fn a_machine_is_refused_at_what_is_wrong_first(rt: HostRuntime) {
-    // Which byte is set to what, how many bytes there are, and the offset of the fault.
-    let cases: [(usize, u8, usize, u64); 18] = [
-        (1, 0, 334, 1),
-        (4, 0, 334, 4),
-        (4, 65, 334, 4),
-        (5, 0, 334, 5),
-        (5, 65, 334, 5),
-        (5, 7, 334, 334),
-        (5, 5, 334, 322),
-        (6, 6, 334, 6),
-        (332, 6, 334, 332),
-        // A wrong length comes before a wrong class.
-        (261, 9, 334, 261),
-        (261, 9, 335, 334),
-        (261, 9, 0, 0),
-        (261, 9, 3, 3),
-        (261, 9, 4, 4),
-        (261, 9, 5, 5),
-        (261, 9, 6, 6),
-        (261, 9, 262, 262),
-        (261, 9, 333, 333),
-    ];
-    for (at, byte, count, offset) in cases {
-        assert_eq!(rt;
-            check_changed(rt.alloc(), at, byte, count),
-            Ok(Err(offset)),
-            "byte {at} of {count} is {byte}"
-        );
+    for &(at, byte, count, offset) in &CHANGES {
+        let found = check_changed(rt.alloc(), at, byte, count);
+        assert!(rt; found == Ok(Err(offset)), "byte {at} of {count} is {byte}");
     }
 }
 
@@ -218,22 +214,26 @@ fn is_drawn(alloc: Global, kind: Kind, seed: u64, size: u64, wanted: &[u8]) -> b
 }
 
 #[test]
-fn inputs_are_drawn_from_their_seed(rt: HostRuntime) -> Result<(), Fail> {
+fn inputs_are_drawn_from_their_seed(rt: HostRuntime) {
     let alloc = rt.alloc();
-    let long = generate(alloc, Kind::Unpack, 0, 65)?;
-    let coded = generate(alloc, Kind::Unhuff, 0, 20)?;
-    assert_eq!(rt;
-        [
-            is_drawn(alloc, Kind::Lex, 0, 2, b"1b"),
-            is_drawn(alloc, Kind::Lex, 7, 24, b"/+cccha g*hgbb\"e\"h 1bc/e"),
-            is_drawn(alloc, Kind::Unpack, 3, 2, &[3, 247, 135, 148, 105]),
-            is_drawn(alloc, Kind::Unpack, 2, 1, &[196, 85]),
-            long.len() == 65,
-            coded.starts_with(b"HUF1\x01\x02\x03\x04\x04\x00"),
-            coded.ends_with(&[0, 0, 0, 20, 226, 142, 57, 171, 0]),
-            huf1_check(&coded) == Ok(()),
-        ],
-        [true; 8]
-    );
+    assert!(rt; is_drawn(alloc, Kind::Lex, 0, 2, b"1b"));
+    assert!(rt; is_drawn(alloc, Kind::Lex, 7, 24, b"/+cccha g*hgbb\"e\"h 1bc/e"));
+    assert!(rt; is_drawn(alloc, Kind::Unpack, 3, 2, &[3, 247, 135, 148, 105]));
+    assert!(rt; is_drawn(alloc, Kind::Unpack, 2, 1, &[196, 85]));
+}
+
+/// Returns whether these are the bytes of the coded input of 20 symbols.
+fn is_coded(file: &[u8]) -> bool {
+    file.starts_with(b"HUF1\x01\x02\x03\x04\x04\x00")
+        && file.ends_with(&[0, 0, 0, 20, 226, 142, 57, 171, 0])
+        && huf1_check(file) == Ok(())
+}
+
+#[test]
+fn longer_inputs_have_their_size_and_their_ends(rt: HostRuntime) -> Result<(), Fail> {
+    let coded = generate(rt.alloc(), Kind::Unhuff, 0, 20)?;
+    assert!(rt; is_coded(&coded));
+    let long = generate(rt.alloc(), Kind::Unpack, 0, 65)?;
+    assert!(rt; long.len() == 65);
     Ok(())
 }

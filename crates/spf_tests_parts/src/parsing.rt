@@ -1,6 +1,12 @@
 //! Where texts that end too early go wrong.
 
 use spf_parse::{ParseError, parse};
+use std::alloc::Global;
+
+/// Returns whether a text goes wrong at its end, which is at this byte.
+fn goes_wrong(alloc: Global, text: &[u8], at: usize) -> bool {
+    parse(alloc, text).err() == Some(ParseError::Unexpected { at })
+}
 
 #[test]
 fn ends_too_early_behind_each_token(rt: HostRuntime) {
@@ -14,10 +20,7 @@ fn ends_too_early_behind_each_token(rt: HostRuntime) {
     for (at, byte) in text.bytes().enumerate() {
         if byte == b' ' {
             let front = text.as_bytes().get(..at).unwrap_or(&[]);
-            assert_eq!(rt;
-                parse(rt.alloc(), front).err(),
-                Some(ParseError::Unexpected { at })
-            );
+            assert!(rt; goes_wrong(rt.alloc(), front, at), "at {at}");
         }
     }
 }

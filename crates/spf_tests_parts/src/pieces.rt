@@ -4,6 +4,7 @@ ghost use Rattle.std.specs.Prelude.{◌<◌, ◌^◌, length, IfOk};
 ghost use Rattle.spf_ast.specs.View.{program as seen_program};
 ghost use Rattle.spf_ast.specs.GoingOn.{IsOrderly};
 ghost use Rattle.spf_ast.specs.Construct.{constructs_in};
+ghost use Rattle.spf_exec_instance.specs.Instance.{program_of};
 
 use spf_ast::outcome::Outcome;
 use spf_ast::syntax::Program;
@@ -14,7 +15,7 @@ use spf_exec_instance::instance::Instance;
 use spf_exec_instance::layout::RunError;
 use spf_parse::parse;
 use spf_types::resolve;
-use std::alloc::Global;
+use std::alloc::{AllocError, Global};
 use std::test::Fail;
 
 /// The program of a text, which can be run.
@@ -50,32 +51,61 @@ fn a_program_is_run_whole(rt: HostRuntime) -> Result<(), Fail> {
     Ok(())
 }
 
+/// Returns whether the program of a text is not run, since it has this many cells.
+fn has_too_many_cells(alloc: Global, text: &str, count: u128) -> Result<bool, Fail> {
+    let program = program_of(alloc, text.as_bytes())?;
+    let error = run_plain(alloc, &program, &[]).err();
+    Ok(error == Some(RunError::TooManyCells { count }))
+}
+
+/// Programs, and how many cells they have.
+const WIDE: [(&str, u128); 2] = [
+    ("array a[4194305]; main { }", 4_194_305),
+    ("version 2; array a[16777217]; main { }", 16_777_217),
+];
+
 #[test]
 fn a_program_with_a_cell_too_many_is_not_run(rt: HostRuntime) -> Result<(), Fail> {
-    let alloc = rt.alloc();
-    let rows: [(&str, u128); 2] = [
-        ("array a[4194305]; main { }", 4_194_305),
-        ("version 2; array a[16777217]; main { }", 16_777_217),
-    ];
-    for (text, count) in rows {
-        let program = program_of(alloc, text.as_bytes())?;
-        let error = run_plain(alloc, &program, &[]).err();
-        assert_eq!(rt; error, Some(RunError::TooManyCells { count }));
+    for (text, count) in &WIDE {
+        assert!(rt;
+            has_too_many_cells(rt.alloc(), text, *count)?,
+            "{count} cells"
+        );
     }
     Ok(())
 }
 
+/// Whether a run's first piece is its last one, how many cells it leaves, and its output.
+fn first_piece(alloc: Global, instance: &Instance) -> Result<(bool, usize, Vec<u8>), AllocError>
+    requires few { length (constructs_in (program_of instance.now).main) < 2 ^ 32 }
+{
+    let mut run = Run::start(alloc, instance)?;
+    let is_last = matches!(run.advance(instance)?, Pause::Finished);
+    let (cells, output) = run.finish();
+    Ok((is_last, cells.len(), output))
+}
+
 #[test]
 fn a_run_in_pieces_comes_to_its_end(rt: HostRuntime) -> Result<(), Fail> {
-    let alloc = rt.alloc();
-    let program = program_of(alloc, b"main { emit 65; }")?;
-    let instance = Instance::make(alloc, &program, &[])?;
-    let mut frame = Frame::make(alloc, &instance)?;
+    let program = program_of(rt.alloc(), b"main { emit 65; }")?;
+    let instance = Instance::make(rt.alloc(), &program, &[])?;
+    let (is_last, cells, output) = first_piece(rt.alloc(), &instance)?;
+    assert!(rt; is_last && cells == 0 && output.as_slice() == [65].as_slice());
+    Ok(())
+}
+
+/// Makes a frame equal to a copy of it.
+fn restore_copy(alloc: Global, instance: &Instance) -> Result<(), AllocError> {
+    let mut frame = Frame::make(alloc, instance)?;
     let copy = frame.copy(alloc)?;
     frame.restore(&copy);
-    let mut run = Run::start(alloc, &instance)?;
-    assert!(rt; matches!(run.advance(&instance)?, Pause::Finished));
-    let (cells, output) = run.finish();
-    assert_eq!(rt; (cells.len(), output.as_slice()), (0, [65].as_slice()));
+    Ok(())
+}
+
+#[test]
+fn a_frame_is_copied_and_restored(rt: HostRuntime) -> Result<(), Fail> {
+    let program = program_of(rt.alloc(), b"main { let a = 1; }")?;
+    let instance = Instance::make(rt.alloc(), &program, &[])?;
+    assert!(rt; restore_copy(rt.alloc(), &instance).is_ok());
     Ok(())
 }

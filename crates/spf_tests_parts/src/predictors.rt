@@ -20,9 +20,25 @@ fn guesses<P: Predictor>(predictor: &mut P) -> [i64; 3] {
 fn follow<R: Abort, P: Predictor>(rt: &R, predictor: &mut P, rows: &[(i64, i64, [i64; 3])]) {
     for (block, real, wanted) in rows {
         predictor.tell(*block, *real);
-        assert_eq!(rt; guesses(predictor), *wanted, "after {block}, {real}");
+        assert!(rt; guesses(predictor) == *wanted, "after {block}, {real}");
     }
 }
+
+/// What a `Fixed` of -7 is told.
+const FIXED: [(i64, i64, [i64; 3]); 4] = [
+    (3, 4, [-7; 3]),
+    (3, -2, [-7; 3]),
+    (3, 0, [-7; 3]),
+    (3, 9, [-7; 3]),
+];
+
+/// What a `Last` is told.
+const LAST: [(i64, i64, [i64; 3]); 4] = [
+    (3, 4, [4; 3]),
+    (3, -2, [-2; 3]),
+    (3, 0, [0; 3]),
+    (3, 9, [9; 3]),
+];
 
 /// What a `Most` for two values is told: the smallest of the values that were told most often is
 /// guessed; 9 has no room.
@@ -55,27 +71,9 @@ fn each_kind_answers_by_its_rule(rt: HostRuntime) -> Result<(), Fail> {
     let mut last = Last::make();
     let mut most = Most::make(rt.alloc(), 2)?;
     let mut table = Table::make(rt.alloc(), 2)?;
-    assert_eq!(rt; [fixed.guess(3), last.guess(3), most.guess(0)], [-7, 0, 0]);
-    follow(
-        &rt,
-        &mut fixed,
-        &[
-            (3, 4, [-7; 3]),
-            (3, -2, [-7; 3]),
-            (3, 0, [-7; 3]),
-            (3, 9, [-7; 3]),
-        ],
-    );
-    follow(
-        &rt,
-        &mut last,
-        &[
-            (3, 4, [4; 3]),
-            (3, -2, [-2; 3]),
-            (3, 0, [0; 3]),
-            (3, 9, [9; 3]),
-        ],
-    );
+    assert!(rt; [fixed.guess(3), last.guess(3), most.guess(0)] == [-7, 0, 0]);
+    follow(&rt, &mut fixed, &FIXED);
+    follow(&rt, &mut last, &LAST);
     follow(&rt, &mut most, &MOST);
     follow(&rt, &mut table, &TABLE);
     Ok(())
@@ -121,16 +119,13 @@ fn hosts_in_a_list_are_asked_and_told_by_their_numbers(rt: HostRuntime) -> Resul
     tell(&mut hosts, 2, 1, 3);
     let before = ask(&mut hosts, 0, 9);
     tell(&mut hosts, 0, 4, 8);
-    assert_eq!(rt;
-        [
-            before,
-            ask(&mut hosts, 0, 9),
-            ask(&mut hosts, 1, 5),
-            ask(&mut hosts, 1, 6),
-            ask(&mut hosts, 1, 7),
-            ask(&mut hosts, 2, 7),
-        ],
-        [5, 8, 50, 60, 0, 1]
-    );
+    let after = [
+        ask(&mut hosts, 0, 9),
+        ask(&mut hosts, 1, 5),
+        ask(&mut hosts, 1, 6),
+        ask(&mut hosts, 1, 7),
+        ask(&mut hosts, 2, 7),
+    ];
+    assert!(rt; before == 5 && after == [8, 50, 60, 0, 1]);
     Ok(())
 }

@@ -92,10 +92,10 @@ fn is_right_product(row: &str) -> Option<bool> {
 #[test]
 fn bounds_are_computed(rt: HostRuntime) {
     for row in SUMS.lines() {
-        assert_eq!(rt; is_right_sum(row), Some(true), "sums: {row}");
+        assert!(rt; is_right_sum(row) == Some(true), "sums: {row}");
     }
     for row in PRODUCTS.lines() {
-        assert_eq!(rt; is_right_product(row), Some(true), "products: {row}");
+        assert!(rt; is_right_product(row) == Some(true), "products: {row}");
     }
 }
 
@@ -107,14 +107,15 @@ fn numbers_and_negatives(rt: HostRuntime) {
         (EDGE + 1, Bound::Unknown, Bound::Unknown),
         (-EDGE - 1, Bound::Unknown, Bound::Unknown),
     ];
-    for (n, bound, negative) in rows {
+    for &(n, bound, negative) in &rows {
         let number = Bound::number(n);
-        assert_eq!(rt; [number, number.negate()], [bound, negative]);
+        assert!(rt;
+            [number, number.negate()] == [bound, negative],
+            "number {n}"
+        );
     }
-    assert_eq!(rt;
-        [bound(3, -1, 2).negate(), bound(0, i64::MIN, 0).negate()],
-        [bound(-3, -2, 1), Bound::Unknown]
-    );
+    assert!(rt; bound(3, -1, 2).negate() == bound(-3, -2, 1));
+    assert!(rt; bound(0, i64::MIN, 0).negate() == Bound::Unknown);
 }
 
 fn affine(array: u32, factor: i64, from: i64, to: i64) -> Range {
@@ -165,10 +166,9 @@ fn meeting(
     Ok(list.meeting(&others))
 }
 
-#[test]
-fn lists_are_in_normal_form(rt: HostRuntime) -> Result<(), Fail> {
-    let alloc = rt.alloc();
-    let ranges = [
+/// Ranges of two arrays, out of order, some of them empty, doubled or next to each other.
+fn mixed_ranges() -> [Range; 10] {
+    [
         affine(1, 1, 0, 1),
         affine(0, 2, 4, 4),
         affine(0, 1, 5, 6),
@@ -179,8 +179,12 @@ fn lists_are_in_normal_form(rt: HostRuntime) -> Result<(), Fail> {
         affine(0, 1, i64::MAX, i64::MAX),
         affine(0, 1, i64::MIN, i64::MIN),
         Range::Whole { array: 1 },
-    ];
-    let want = [
+    ]
+}
+
+/// Their normal form.
+fn normal_ranges() -> [Range; 7] {
+    [
         affine(0, 1, i64::MIN, i64::MIN),
         affine(0, 1, 0, 3),
         affine(0, 1, 5, 6),
@@ -188,53 +192,62 @@ fn lists_are_in_normal_form(rt: HostRuntime) -> Result<(), Fail> {
         affine(0, 2, 4, 4),
         Range::Whole { array: 1 },
         affine(1, 1, 0, 1),
+    ]
+}
+
+#[test]
+fn lists_are_in_normal_form(rt: HostRuntime) -> Result<(), Fail> {
+    let list = list_of(rt.alloc(), &mixed_ranges())?;
+    assert!(rt; list.ranges() == normal_ranges().as_slice());
+    let touched = [list.touches(1), list.touches(2)];
+    let covered = [
+        list.covers(&affine(0, 1, 1, 3)),
+        list.covers(&affine(0, 1, 3, 5)),
+        list.covers(&affine(7, 7, 1, 0)),
     ];
-    let list = list_of(alloc, &ranges)?;
-    let joined = join_of(alloc, &ranges, &[affine(0, 1, 4, 4), affine(2, 0, 0, 0)])?;
-    assert_eq!(rt; list.ranges(), want.as_slice());
-    assert_eq!(rt; joined.ranges().get(1), Some(&affine(0, 1, 0, 6)));
-    assert_eq!(rt;
-        [
-            list.touches(1),
-            list.touches(2),
-            joined.touches(2),
-            list.covers(&affine(0, 1, 1, 3)),
-            list.covers(&affine(0, 1, 3, 5)),
-            joined.covers(&affine(0, 1, 3, 5)),
-            joined.covers(&Range::Whole { array: 1 }),
-            list.covers(&affine(7, 7, 1, 0)),
-        ],
-        [true, false, true, true, false, true, false, true]
-    );
+    assert!(rt; touched == [true, false] && covered == [true, false, true]);
     Ok(())
 }
 
 #[test]
-fn common_parts_and_breaks(rt: HostRuntime) -> Result<(), Fail> {
+fn a_join_is_in_normal_form(rt: HostRuntime) -> Result<(), Fail> {
+    let others = [affine(0, 1, 4, 4), affine(2, 0, 0, 0)];
+    let joined = join_of(rt.alloc(), &mixed_ranges(), &others)?;
+    assert!(rt; joined.ranges().get(1) == Some(&affine(0, 1, 0, 6)));
+    assert!(rt; joined.touches(2) && joined.covers(&affine(0, 1, 3, 5)));
+    assert!(rt; !joined.covers(&Range::Whole { array: 1 }));
+    Ok(())
+}
+
+#[test]
+fn common_parts(rt: HostRuntime) -> Result<(), Fail> {
+    let both = common_part(rt.alloc(), &[affine(0, 1, 0, 3)], &[affine(0, 1, 2, 5)])?;
+    assert!(rt; both.ranges() == [affine(0, 1, 2, 3)].as_slice());
+    Ok(())
+}
+
+#[test]
+fn ranges_that_break_and_ranges_that_meet(rt: HostRuntime) {
     let alloc = rt.alloc();
-    let both = common_part(alloc, &[affine(0, 1, 0, 3)], &[affine(0, 1, 2, 5)])?;
-    assert_eq!(rt; both.ranges(), [affine(0, 1, 2, 3)].as_slice());
     let still = [affine(0, 0, 0, 1), affine(0, 0, 3, 4)];
     let other = [affine(0, 0, 2, 2), affine(1, 1, 0, 0)];
-    assert_eq!(rt;
-        [
-            find_unseparated(alloc, &[affine(0, 1, 0, 1)]),
-            find_unseparated(alloc, &[affine(0, 2, 0, 1)]),
-            find_unseparated(alloc, &still),
-            meeting(alloc, &still, &other, &[]),
-            meeting(alloc, &other, &still, &[]),
-            meeting(alloc, &still, &other, &[affine(0, 0, 4, 9)]),
-        ],
-        [
-            Ok(Some(affine(0, 1, 0, 1))),
-            Ok(None),
-            Ok(Some(affine(0, 0, 0, 1))),
-            Ok(None),
-            Ok(None),
-            Ok(Some(affine(0, 0, 3, 4))),
-        ]
-    );
-    Ok(())
+    let found = [
+        find_unseparated(alloc, &[affine(0, 1, 0, 1)]),
+        find_unseparated(alloc, &[affine(0, 2, 0, 1)]),
+        find_unseparated(alloc, &still),
+        meeting(alloc, &still, &other, &[]),
+        meeting(alloc, &other, &still, &[]),
+        meeting(alloc, &still, &other, &[affine(0, 0, 4, 9)]),
+    ];
+    let wanted = [
+        Ok(Some(affine(0, 1, 0, 1))),
+        Ok(None),
+        Ok(Some(affine(0, 0, 0, 1))),
+        Ok(None),
+        Ok(None),
+        Ok(Some(affine(0, 0, 3, 4))),
+    ];
+    assert!(rt; found == wanted);
 }
 
 /// The first three spans of two ranges at block k.
@@ -275,18 +288,17 @@ fn spans_are_clipped_and_joined(rt: HostRuntime) {
     };
     let whole = Range::Whole { array: 1 };
     let extents = [(10, 3), (5, 4)];
-    assert_eq!(rt;
-        [
-            spans_of_two(alloc, pair, pair, &extents, 1),
-            spans_of_two(alloc, pair, pair, &extents, -1),
-            spans_of_two(alloc, pair, whole, &extents, 0),
-            spans_of_two(alloc, pair, whole, &extents, i64::MIN),
-        ],
-        [
-            Ok([span(12, 13), None, None]),
-            Ok([None; 3]),
-            Ok([span(5, 9), span(10, 12), None]),
-            Ok([span(5, 9), None, None]),
-        ]
-    );
+    let spans = [
+        spans_of_two(alloc, pair, pair, &extents, 1),
+        spans_of_two(alloc, pair, pair, &extents, -1),
+        spans_of_two(alloc, pair, whole, &extents, 0),
+        spans_of_two(alloc, pair, whole, &extents, i64::MIN),
+    ];
+    let wanted = [
+        Ok([span(12, 13), None, None]),
+        Ok([None; 3]),
+        Ok([span(5, 9), span(10, 12), None]),
+        Ok([span(5, 9), None, None]),
+    ];
+    assert!(rt; spans == wanted);
 }

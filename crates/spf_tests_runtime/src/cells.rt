@@ -3,11 +3,12 @@
 ghost use Rattle.std.specs.Prelude.{◌≡◌, ◌+◌, ◌<◌, ◌≤◌, [], ◌∷◌, All, IfOk, length, pos};
 ghost use Rattle.std.specs.List.{Contains};
 ghost use Rattle.spf_cells.specs.Spans.{Covers};
-ghost use Rattle.spf_cells.specs.Finish.{AreAllLanes};
+ghost use Rattle.spf_cells.specs.Finish.{AreAllLanes, IsFinish};
 ghost use Rattle.spf_cells.specs.Made.{spans_in, new_warden, new_lane};
 ghost use Rattle.spf_tests_runtime.specs.Examples.{two_blocks_spans, four_blocks_spans};
 ghost use Rattle.spf_tests_runtime.specs.Examples.{mixed_spans, AreSameLanes};
 ghost use Rattle.spf_cells.specs.Values.{IsSameLane, spans_of, content_at, logged, IsWardenOf};
+ghost use Rattle.spf_cells.specs.Values.{IsLaneOf};
 ghost use Rattle.spf_cells.specs.declared.view.LogEntry.TheVariants.{Load, Store, Turn};
 
 use spf_cells::cells::Cells;
@@ -53,6 +54,28 @@ pub(crate) fn two_lanes(alloc: Global) -> Result<(Cells, Warden, Lane, Lane), Al
     Ok((cells, warden, one, two))
 }
 
+/// Takes over both lanes of two blocks, and writes their cells back.
+pub(crate) fn finish_both(
+    alloc: Global,
+    cells: Cells,
+    warden: Warden,
+    one: Lane,
+    two: Lane,
+    into: &mut [i64],
+) -> Result<Trace, AllocError>
+    requires warden { IsWardenOf cells warden × (warden.view.taken ≡ []) }
+    requires one { IsLaneOf cells one × (one.block ≡ 0) }
+    requires two { IsLaneOf cells two × (two.block ≡ 1) }
+    requires blocks { length cells.setting.plan ≡ 2 }
+    requires size { length into.old ≡ length cells.setting.entry }
+    ensures { IfOk result (λ r. IsFinish cells (one ∷ two ∷ []) r into.old into.new) }
+{
+    let mut lanes = Vec::new(alloc);
+    lanes.push(one)?;
+    lanes.push(two)?;
+    Ok(cells.finish(warden, lanes, into))
+}
+
 /// The steps of the worked example on one thread: what the load and both polls gave.
 fn step_both(cells: &Cells, warden: &mut Warden, one: &mut Lane, two: &mut Lane) -> (i64, u64, u64)
     requires one { (one.old.table ≡ cells.now.table) × Covers (spans_of one.old) 0 }
@@ -83,10 +106,8 @@ fn worked_example(alloc: Global, into: &mut [i64]) -> Result<((i64, u64, u64), T
 {
     let (cells, mut warden, mut one, mut two) = two_lanes(alloc)?;
     let found = step_both(&cells, &mut warden, &mut one, &mut two);
-    let mut lanes = Vec::new(alloc);
-    lanes.push(one)?;
-    lanes.push(two)?;
-    Ok((found, cells.finish(warden, lanes, into)))
+    let trace = finish_both(alloc, cells, warden, one, two, into)?;
+    Ok((found, trace))
 }
 
 #[test]
@@ -128,11 +149,8 @@ fn two_lanes_in_threads(rt: HostRuntime) -> Result<(), Fail> {
     let found = both(&rt, &cells, &mut one, &mut two);
     warden.raise(&cells, 1, 1);
     let turns = poll_both(&rt, &cells, &mut one, &mut two);
-    let mut lanes = Vec::new(rt.alloc());
-    lanes.push(one)?;
-    lanes.push(two)?;
     let mut into = [5, 5, 5, 5];
-    let _trace = cells.finish(warden, lanes, &mut into);
+    let _trace = finish_both(rt.alloc(), cells, warden, one, two, &mut into)?;
     assert!(rt; found == 4 && turns == (0, 1) && into == [9, 2, 5, 4]);
     Ok(())
 }
@@ -200,21 +218,36 @@ fn store_and_load(cells: &Cells, lane: &mut Lane, values: &[(u64, i64)]) -> [i64
     found
 }
 
+/// Which cells both lanes have.
+fn mixed_cells(alloc: Global) -> Result<([bool; 9], [bool; 9]), AllocError> {
+    let (_cells, _warden, one, two) = mixed_lanes(alloc)?;
+    Ok((cells_held(&one), cells_held(&two)))
+}
+
 #[test]
 fn spans_out_of_order(rt: HostRuntime) -> Result<(), Fail> {
-    let (cells, warden, mut one, mut two) = mixed_lanes(rt.alloc())?;
-    assert!(rt; cells_held(&one) == [true, true, false, true, false, false, true, true, false]);
-    assert!(rt; cells_held(&two) == [false, false, true, false, true, true, false, false, false]);
+    let (one, two) = mixed_cells(rt.alloc())?;
+    assert!(rt; one == [true, true, false, true, false, false, true, true, false]);
+    assert!(rt; two == [false, false, true, false, true, true, false, false, false]);
+    Ok(())
+}
+
+/// Has both lanes store and load: what each found, and the memory afterwards.
+fn store_in_both(alloc: Global) -> Result<[[i64; 8]; 3], AllocError> {
+    let (cells, warden, mut one, mut two) = mixed_lanes(alloc)?;
     let values = [(7, 97), (2, 92), (0, 90), (5, 95), (3, 93)];
     let first = store_and_load(&cells, &mut one, &values);
     let second = store_and_load(&cells, &mut two, &values);
+    let mut into = [5; 8];
+    let _trace = finish_both(alloc, cells, warden, one, two, &mut into)?;
+    Ok([first, second, into])
+}
+
+#[test]
+fn stores_to_spans_out_of_order(rt: HostRuntime) -> Result<(), Fail> {
+    let [first, second, into] = store_in_both(rt.alloc())?;
     assert!(rt; first == [90, 10, -1, 93, -1, -1, 60, 97]);
     assert!(rt; second == [-1, -1, 92, -1, 40, 95, -1, -1]);
-    let mut lanes = Vec::new(rt.alloc());
-    lanes.push(one)?;
-    lanes.push(two)?;
-    let mut into = [5; 8];
-    let _trace = cells.finish(warden, lanes, &mut into);
     assert!(rt; into == [90, 10, 92, 93, 40, 95, 60, 97]);
     Ok(())
 }

@@ -18,6 +18,7 @@ ghost use Rattle.spf_tests_runtime.specs.CountingFold.{counting_fold as fold_of_
 ghost use Rattle.spf_tests_runtime.specs.CountingFold.{counting_entry, counting_setting, no_cells};
 ghost use Rattle.spf_tests_runtime.specs.CountingFold.{five_turns};
 
+use crate::threads::attempt_meanwhile;
 use spf_ast::construct::find_construct;
 use spf_ast::row::Row;
 use spf_ast::syntax::{Expr, Fold, Name, Predict, Program, Stmt, StmtKind};
@@ -33,6 +34,7 @@ use spf_ticket::ticket::{Report, Ticket};
 use spf_ticket_gate::Open;
 use std::alloc::{AllocError, Global};
 use std::test::Fail;
+use std::thread::Threads;
 
 fn name(alloc: Global, byte: u8) -> Result<Name, AllocError>
     ensures { IfOk result (λ n. n.bytes.items ≡ byte ∷ []) }
@@ -93,6 +95,17 @@ fn counting_fold(alloc: Global) -> Result<StmtKind, AllocError>
     Ok(StmtKind::Fold(Box::new(alloc, fold)?))
 }
 
+/// The names of the slots: `s`, `k` and `i`.
+fn names(alloc: Global) -> Result<Vec<Name>, AllocError>
+    ensures { IfOk result (λ v. map (λ n. n.bytes.items) v.items ≡ counting.slots) }
+{
+    let mut slots = Vec::new(alloc);
+    slots.push(name(alloc, b's')?)?;
+    slots.push(name(alloc, b'k')?)?;
+    slots.push(name(alloc, b'i')?)?;
+    Ok(slots)
+}
+
 /// The fold, and then `emit s;`.
 pub(crate) fn counting(alloc: Global) -> Result<Program, AllocError>
     ensures version { IfOk result (λ p. (seen_program p).version ≡ 1) }
@@ -111,15 +124,11 @@ pub(crate) fn counting(alloc: Global) -> Result<Program, AllocError>
         line: 1,
         kind: StmtKind::Emit(Expr::Local(0)),
     })?;
-    let mut slots = Vec::new(alloc);
-    slots.push(name(alloc, b's')?)?;
-    slots.push(name(alloc, b'k')?)?;
-    slots.push(name(alloc, b'i')?)?;
     Ok(Program {
         version: 1,
         arrays: Vec::new(alloc),
         functions: Vec::new(alloc),
-        slots,
+        slots: names(alloc)?,
         main,
     })
 }
@@ -181,42 +190,87 @@ fn first_attempt(cells: &Cells, job: &Job, lane: Lane, frame: Frame) -> Report
     attempt(cells, job, Ticket::make(1, 1, Row::one(5), lane, frame))
 }
 
-/// Both attempts of block 1, the second one at 1, where the first one was raised or not: how they
-/// ended.
-fn both_attempts(alloc: Global, raised: bool) -> Result<Option<(Stop, Stop)>, AllocError> {
-    let program = counting(alloc)?;
-    let Ok(instance) = Instance::make(alloc, &program, &[]) else {
-        return Ok(None);
-    };
-    let Some(construct) = find_construct(&program.main, 0) else {
-        return Ok(None);
-    };
-    let job = Job {
-        instance: &instance,
-        construct,
-        index: 0,
-        entry: &[],
-    };
-    let frame = Frame::make(alloc, &instance)?;
+/// Both attempts of this job's block 1 on fresh cells, the second one at 1, where the first one was
+/// raised or not: how they ended.
+fn attempt_both(alloc: Global, job: &Job, raised: bool) -> Result<(Stop, Stop), AllocError>
+    requires program { program_of job.now.instance.now ≡ counting }
+    requires input { job.now.instance.now.input ≡ [] }
+    requires construct { seen_construct job.now.construct ≡ fold_of_counting }
+    requires index { job.now.index ≡ 0 }
+    requires entry { job.now.entry.now ≡ [] }
+{
+    let frame = Frame::make(alloc, job.instance)?;
     let (cells, mut warden, lane) = lane_of_block_one(alloc)?;
     if raised {
         warden.raise(&cells, 1, 1);
     }
-    let first = first_attempt(&cells, &job, lane, frame);
-    let second = attempt(&cells, &job, first.ticket.again(Row::one(1)));
-    Ok(Some((first.stop, second.stop)))
+    let first = first_attempt(&cells, job, lane, frame);
+    let second = attempt(&cells, job, first.ticket.again(Row::one(1)));
+    Ok((first.stop, second.stop))
+}
+
+/// When the flag of block 1 is raised.
+#[derive(Clone, Copy)]
+pub(crate) enum Raised {
+    Never,
+    /// Before the first attempt.
+    Before,
+    /// In a thread of its own, while a first attempt runs that would take minutes.
+    Meanwhile,
+}
+
+/// Both attempts of block 1 of the counting program's fold: how they ended.
+fn attempt_fold<R: Threads + Sync>(
+    rt: &R,
+    alloc: Global,
+    program: &Program,
+    instance: &Instance,
+    raised: Raised,
+) -> Result<Option<(Stop, Stop)>, AllocError>
+    requires program { seen_program program.now ≡ counting }
+    requires instance { program_of instance.now ≡ counting }
+    requires input { instance.now.input ≡ [] }
+{
+    let Some(construct) = find_construct(&program.main, 0) else {
+        return Ok(None);
+    };
+    let job = Job {
+        instance,
+        construct,
+        index: 0,
+        entry: &[],
+    };
+    let stops = match raised {
+        Raised::Never => attempt_both(alloc, &job, false),
+        Raised::Before => attempt_both(alloc, &job, true),
+        Raised::Meanwhile => attempt_meanwhile(rt, alloc, &job),
+    };
+    Ok(Some(stops?))
+}
+
+/// Both attempts of the counting program's block 1: how they ended.
+pub(crate) fn both_attempts<R: Threads + Sync>(
+    rt: &R,
+    alloc: Global,
+    raised: Raised,
+) -> Result<Option<(Stop, Stop)>, AllocError> {
+    let program = counting(alloc)?;
+    let Ok(instance) = Instance::make(alloc, &program, &[]) else {
+        return Ok(None);
+    };
+    attempt_fold(rt, alloc, &program, &instance, raised)
 }
 
 #[test]
 fn an_attempt_that_is_not_raised_makes_all_its_turns(rt: HostRuntime) -> Result<(), Fail> {
-    let stops = both_attempts(rt.alloc(), false)?;
+    let stops = both_attempts(&rt, rt.alloc(), Raised::Never)?;
     assert!(rt; stops == Some((Stop::Ended(Row::one(1)), Stop::Ended(Row::one(1)))));
     Ok(())
 }
 
 #[test]
 fn a_flag_of_one_stops_a_first_attempt_alone(rt: HostRuntime) -> Result<(), Fail> {
-    let stops = both_attempts(rt.alloc(), true)?;
+    let stops = both_attempts(&rt, rt.alloc(), Raised::Before)?;
     assert!(rt; stops == Some((Stop::Cancelled { seen: 1 }, Stop::Ended(Row::one(1)))));
     Ok(())
 }

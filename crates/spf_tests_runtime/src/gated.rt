@@ -4,7 +4,7 @@ ghost use Rattle.spf_cells.specs.Spans.{Covers};
 ghost use Rattle.spf_cells.specs.Values.{spans_of, logged};
 ghost use Rattle.spf_cells.specs.declared.view.LogEntry.TheVariants.{Store};
 
-use crate::cells::two_lanes;
+use crate::cells::{finish_both, two_lanes};
 use spf_cells::cells::Cells;
 use spf_cells::lane::Lane;
 use spf_ticket_gate::{Barrier, Gate, Open, Place};
@@ -60,11 +60,8 @@ fn run_gated<R: Threads + Sync, G: Gate + Sync>(
 ) -> Result<[i64; 4], Fail> {
     let (cells, warden, mut one, mut two) = two_lanes(alloc)?;
     attempt_both(rt, gate, &cells, &mut one, &mut two);
-    let mut lanes = Vec::new(alloc);
-    lanes.push(one)?;
-    lanes.push(two)?;
     let mut into = [1, 2, 3, 4];
-    let _trace = cells.finish(warden, lanes, &mut into);
+    let _trace = finish_both(alloc, cells, warden, one, two, &mut into)?;
     Ok(into)
 }
 

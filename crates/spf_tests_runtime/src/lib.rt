@@ -11,6 +11,8 @@ mod gated;
 #[cfg(test)]
 mod hosts;
 #[cfg(test)]
+mod jobs;
+#[cfg(test)]
 mod outcomes;
 #[cfg(test)]
 mod own_threads;

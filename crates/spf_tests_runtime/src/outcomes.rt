@@ -4,127 +4,89 @@ use crate::programs::{
     gave, no_attempts, run,
 };
 use spf_ast::outcome::Outcome;
+use std::alloc::Global;
+use std::sync::Wait;
 use std::sync::atomic::Ordering;
 use std::test::Fail;
+use std::thread::Threads;
 
 /// Numbers of workers: one alone, two, more than blocks, and the greatest.
 const WORKERS: [u64; 4] = [1, 2, 8, 64];
 
-#[test]
-fn mispredicted_blocks_are_attempted_twice(rt: HostRuntime) -> Result<(), Fail> {
-    for workers in WORKERS {
-        let attempts = no_attempts();
-        let mut hosts = Vec::new(rt.alloc());
-        let report = run(&rt, rt.alloc(), DOUBLING, workers, &mut hosts, &attempts)?;
-        assert!(rt; gave(&report.outcome, &[32]));
-        assert!(rt; report.stats == counts(5, 0, 4, 0));
-        assert!(rt; report.traces.len() == 1);
-        assert!(rt; attempts.first.load(Ordering::SeqCst) == 5);
-        assert!(rt; attempts.second.load(Ordering::SeqCst) == 4);
-    }
-    Ok(())
+/// A program of one construct, its output, and how many blocks it has, how many right guesses and
+/// how many wrong ones.
+type Row<'a> = (&'a [u8], &'a [u8], u64, u64, u64);
+
+const ROWS: [Row<'static>; 8] = [
+    // mispredicted blocks are attempted twice
+    (DOUBLING, &[32], 5, 0, 4),
+    // blocks with right guesses are attempted once
+    (GUESSED, &[32], 5, 4, 0),
+    // a wrong attempt leaves no cell behind
+    (SCATTERED, &[7, 0, 0, 7, 7, 0], 3, 1, 1),
+    // a pair has two blocks
+    (PAIR, &[9], 2, 0, 1),
+    // a guess is right where all parts are
+    (SUMS, &[5, 8], 5, 1, 3),
+    (HALF_GUESSED, &[5, 8], 5, 2, 2),
+    // a consumer runs again where one part is wrong
+    (PAIR_OF_WORDS, &[3, 2], 2, 0, 1),
+    // a loop that breaks off leaves the other cells
+    (BREAKING, &[1, 0, 0, 0], 2, 0, 1),
+];
+
+/// Returns whether a program's run on this many workers comes to what its row says, where each
+/// block is attempted once, and once more where its guess was wrong.
+fn comes_to<R: Threads + Wait + Sync>(
+    rt: &R,
+    alloc: Global,
+    row: &Row,
+    workers: u64,
+) -> Result<bool, Fail> {
+    let (text, output, blocks, hits, misses) = *row;
+    let attempts = no_attempts();
+    let mut hosts = Vec::new(alloc);
+    let report = run(rt, alloc, text, workers, &mut hosts, &attempts)?;
+    Ok(
+        gave(&report.outcome, output)
+            && report.stats == counts(blocks, hits, misses, 0)
+            && report.traces.len() == 1
+            && attempts.first.load(Ordering::SeqCst) == blocks
+            && attempts.second.load(Ordering::SeqCst) == misses,
+    )
 }
 
 #[test]
-fn blocks_with_right_guesses_are_attempted_once(rt: HostRuntime) -> Result<(), Fail> {
-    for workers in WORKERS {
-        let attempts = no_attempts();
-        let mut hosts = Vec::new(rt.alloc());
-        let report = run(&rt, rt.alloc(), GUESSED, workers, &mut hosts, &attempts)?;
-        assert!(rt; gave(&report.outcome, &[32]));
-        assert!(rt; report.stats == counts(5, 4, 0, 0));
-        assert!(rt; attempts.first.load(Ordering::SeqCst) == 5);
-        assert!(rt; attempts.second.load(Ordering::SeqCst) == 0);
-    }
-    Ok(())
-}
-
-#[test]
-fn a_wrong_attempt_leaves_no_cell_behind(rt: HostRuntime) -> Result<(), Fail> {
-    for workers in WORKERS {
-        let attempts = no_attempts();
-        let mut hosts = Vec::new(rt.alloc());
-        let report = run(&rt, rt.alloc(), SCATTERED, workers, &mut hosts, &attempts)?;
-        assert!(rt; gave(&report.outcome, &[7, 0, 0, 7, 7, 0]));
-        assert!(rt; report.stats == counts(3, 1, 1, 0));
-        assert!(rt; attempts.second.load(Ordering::SeqCst) == 1);
-    }
-    Ok(())
-}
-
-#[test]
-fn a_pair_has_two_blocks(rt: HostRuntime) -> Result<(), Fail> {
-    for workers in WORKERS {
-        let attempts = no_attempts();
-        let mut hosts = Vec::new(rt.alloc());
-        let report = run(&rt, rt.alloc(), PAIR, workers, &mut hosts, &attempts)?;
-        assert!(rt; gave(&report.outcome, &[9]));
-        assert!(rt; report.stats == counts(2, 0, 1, 0));
-        assert!(rt; attempts.first.load(Ordering::SeqCst) == 2);
-        assert!(rt; attempts.second.load(Ordering::SeqCst) == 1);
-    }
-    Ok(())
-}
-
-#[test]
-fn a_guess_is_right_where_all_parts_are(rt: HostRuntime) -> Result<(), Fail> {
-    let rows: [(&[u8], u64, u64); 2] = [(SUMS, 1, 3), (HALF_GUESSED, 2, 2)];
-    for (text, hits, misses) in rows {
-        for workers in WORKERS {
-            let attempts = no_attempts();
-            let mut hosts = Vec::new(rt.alloc());
-            let report = run(&rt, rt.alloc(), text, workers, &mut hosts, &attempts)?;
-            assert!(rt; gave(&report.outcome, &[5, 8]));
-            assert!(rt; report.stats == counts(5, hits, misses, 0));
-            assert!(rt; attempts.second.load(Ordering::SeqCst) == misses);
+fn any_number_of_workers_gives_the_plain_outcome(rt: HostRuntime) -> Result<(), Fail> {
+    for (number, row) in ROWS.iter().enumerate() {
+        for &workers in &WORKERS {
+            let right = comes_to(&rt, rt.alloc(), row, workers)?;
+            assert!(rt; right, "row {number} on {workers} workers");
         }
     }
     Ok(())
 }
 
-#[test]
-fn a_consumer_runs_again_where_one_part_is_wrong(rt: HostRuntime) -> Result<(), Fail> {
-    for workers in WORKERS {
-        let attempts = no_attempts();
-        let mut hosts = Vec::new(rt.alloc());
-        let report = run(
-            &rt,
-            rt.alloc(),
-            PAIR_OF_WORDS,
-            workers,
-            &mut hosts,
-            &attempts,
-        )?;
-        assert!(rt; gave(&report.outcome, &[3, 2]));
-        assert!(rt; report.stats == counts(2, 0, 1, 0));
-        assert!(rt; attempts.second.load(Ordering::SeqCst) == 1);
+/// Returns whether a run ended with a trap in line 1.
+fn is_trapped(outcome: &Outcome) -> bool {
+    match outcome {
+        Outcome::Trapped { trap, .. } => trap.line == 1,
+        Outcome::Done { .. } => false,
     }
-    Ok(())
 }
 
-#[test]
-fn a_loop_that_breaks_off_leaves_the_other_cells(rt: HostRuntime) -> Result<(), Fail> {
-    for workers in WORKERS {
-        let attempts = no_attempts();
-        let mut hosts = Vec::new(rt.alloc());
-        let report = run(&rt, rt.alloc(), BREAKING, workers, &mut hosts, &attempts)?;
-        assert!(rt; gave(&report.outcome, &[1, 0, 0, 0]));
-        assert!(rt; report.stats == counts(2, 0, 1, 0));
-    }
-    Ok(())
+/// Returns whether the first block of `TRAPS` traps on this many workers, and is counted.
+fn is_counted<R: Threads + Wait + Sync>(rt: &R, alloc: Global, workers: u64) -> Result<bool, Fail> {
+    let attempts = no_attempts();
+    let mut hosts = Vec::new(alloc);
+    let report = run(rt, alloc, TRAPS, workers, &mut hosts, &attempts)?;
+    Ok(is_trapped(&report.outcome) && report.stats == counts(1, 0, 0, 0))
 }
 
 #[test]
 fn a_trap_is_counted_with_its_block(rt: HostRuntime) -> Result<(), Fail> {
-    for workers in WORKERS {
-        let attempts = no_attempts();
-        let mut hosts = Vec::new(rt.alloc());
-        let report = run(&rt, rt.alloc(), TRAPS, workers, &mut hosts, &attempts)?;
-        match report.outcome {
-            Outcome::Trapped { trap, .. } => assert!(rt; trap.line == 1),
-            Outcome::Done { .. } => return Err(Fail::new("no trap")),
-        }
-        assert!(rt; report.stats == counts(1, 0, 0, 0));
+    for &workers in &WORKERS {
+        assert!(rt; is_counted(&rt, rt.alloc(), workers)?, "{workers} workers");
     }
     Ok(())
 }

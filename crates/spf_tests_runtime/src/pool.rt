@@ -248,29 +248,22 @@ const OWN_FIRST: [(Call, u64); 14] = [
 #[test]
 fn hands_answer_in_turn(rt: HostRuntime) {
     let alloc = rt.alloc();
-    assert_eq!(rt;
-        [
-            first_wrong(alloc, &[3], &ALONE),
-            first_wrong(alloc, &[3, 0], &THIEF),
-            first_wrong(alloc, &[2, 3, 0], &OWN_FIRST),
-        ],
-        [Ok(None), Ok(None), Ok(None)]
+    assert!(rt; first_wrong(alloc, &[3], &ALONE) == Ok(None), "alone");
+    assert!(rt; first_wrong(alloc, &[3, 0], &THIEF) == Ok(None), "a thief");
+    assert!(rt;
+        first_wrong(alloc, &[2, 3, 0], &OWN_FIRST) == Ok(None),
+        "own first"
     );
 }
 
 #[test]
 fn four_threads_take_each_item_once(rt: HostRuntime) {
     let alloc = rt.alloc();
-    assert_eq!(rt;
-        [
-            // the items of one deque; the other hands can give none
-            in_four(&rt, alloc, [8192, 0, 0, 0], 8192, 0),
-            // each gives and takes; the last 8 items of each come back to it
-            in_four(&rt, alloc, [8192; 4], 0, 8200),
-        ],
-        [
-            Ok((4, (8192, 8192 * 8191 / 2), [(0, 1000); 4])),
-            Ok((4, (4 * 8192, 4 * (8200 * 8199 / 2 - 28)), [(8, 1000); 4])),
-        ]
-    );
+    // the items of one deque; the other hands can give none
+    let one = in_four(&rt, alloc, [8192, 0, 0, 0], 8192, 0);
+    assert!(rt; one == Ok((4, (8192, 8192 * 8191 / 2), [(0, 1000); 4])));
+    // each gives and takes; the last 8 items of each come back to it
+    let each = in_four(&rt, alloc, [8192; 4], 0, 8200);
+    let all = (4 * 8192, 4 * (8200 * 8199 / 2 - 28));
+    assert!(rt; each == Ok((4, all, [(8, 1000); 4])));
 }

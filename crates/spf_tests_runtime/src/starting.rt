@@ -1,5 +1,6 @@
 //! Chains of folds that programs have as their first construct, from their texts.
-ghost use Rattle.std.specs.Prelude.{◌≡◌, ℕ, IfOk, IsTrue, MatchOption, Some, length, slice_get};
+ghost use Rattle.std.specs.Prelude.{◌≡◌, ◌≤◌, ℕ, IfOk, IsTrue, MatchOption, Some, length};
+ghost use Rattle.std.specs.Prelude.{slice_get};
 ghost use Rattle.spf_ast.specs.View.{program as seen_program};
 ghost use Rattle.spf_ast.specs.Construct.{constructs_in};
 ghost use Rattle.spf_ast.specs.ConstructView.{construct as seen_construct};
@@ -52,6 +53,45 @@ fn guesses_of(alloc: Global, values: &[i64]) -> Result<Vec<Guess>, AllocError>
     Ok(guesses)
 }
 
+/// Starts the chain of the job's construct, which may have any number of blocks, at this value and
+/// these guesses.
+fn start_fold(
+    alloc: Global,
+    checked: &Checked,
+    job: &Job,
+    first: i64,
+    guesses: &[Guess],
+) -> Result<Started, Fail>
+    requires program { program_of job.now.instance.now ≡ seen_program checked.now }
+    requires construct { slice_get (constructs_in (program_of job.now.instance.now).main)
+        job.now.index ≡ Some (seen_construct job.now.construct) }
+    requires entry { length job.now.entry.now
+        ≡ cell_count_of (program_of job.now.instance.now) (length job.now.instance.now.input) }
+    requires fold { (n : ℕ) → AreBlocksOf (seen_construct job.now.construct) n }
+    requires few { length guesses.now ≤ 4000 }
+    ensures started { IfOk result (λ r. IsStarted r.0.site r.0 r.1 r.2.items) }
+    ensures entry { IfOk result (λ r. IsJobOf (entry_at r.0.site) job.now) }
+    ensures size { IfOk result (λ r. length r.0.site.memory ≡ length job.now.entry.now) }
+{
+    let header = Header {
+        low: 0,
+        blocks: guesses.len() as u64 + 1,
+        start: Row::one(first),
+    };
+    let frame = Frame::make(alloc, job.instance)?;
+    let started = Chain::start(
+        alloc,
+        checked,
+        job.instance,
+        job.index,
+        header,
+        &frame,
+        job.entry,
+        guesses,
+    )?;
+    Ok(started)
+}
+
 /// Starts the chain of the job's construct: a fold over rows of one word, which begins at this one
 /// and has one more block than guesses.
 pub(crate) fn start(
@@ -78,21 +118,5 @@ pub(crate) fn start(
         return Err(Fail::new("no fold"));
     }
     let guesses = guesses_of(alloc, values)?;
-    let header = Header {
-        low: 0,
-        blocks: guesses.len() as u64 + 1,
-        start: Row::one(first),
-    };
-    let frame = Frame::make(alloc, job.instance)?;
-    let started = Chain::start(
-        alloc,
-        checked,
-        job.instance,
-        job.index,
-        header,
-        &frame,
-        job.entry,
-        guesses.as_slice(),
-    )?;
-    Ok(started)
+    start_fold(alloc, checked, job, first, guesses.as_slice())
 }

@@ -8,14 +8,12 @@ ghost use Rattle.spf_cells.specs.Values.{IsWardenOf};
 ghost use Rattle.spf_tests_runtime.specs.CountingFold.{counting, counting_fold as fold_of_counting};
 ghost use Rattle.spf_tests_runtime.specs.CountingFold.{counting_setting};
 
-use crate::counting::{attempt, counting, lane_of_block_one};
-use spf_ast::construct::find_construct;
+use crate::counting::{Raised, attempt, both_attempts, lane_of_block_one};
 use spf_ast::row::Row;
 use spf_cells::cells::Cells;
 use spf_cells::warden::Warden;
 use spf_exec::frame::Frame;
 use spf_exec::stop::Stop;
-use spf_exec_instance::instance::Instance;
 use spf_ticket::run::Job;
 use spf_ticket::ticket::Ticket;
 use std::alloc::{AllocError, Global};
@@ -74,35 +72,29 @@ fn raised_meanwhile<R: Threads + Sync>(
     stops
 }
 
-/// A first attempt of block 1 that would take minutes and is raised meanwhile, and then the second
-/// one, at 1: how they ended.
-fn both_attempts<R: Threads + Sync>(
+/// A first attempt of this job's block 1 on fresh cells, which would take minutes and is raised
+/// meanwhile, and then the second one, at 1: how they ended.
+pub(crate) fn attempt_meanwhile<R: Threads + Sync>(
     rt: &R,
     alloc: Global,
-) -> Result<Option<(Stop, Stop)>, AllocError> {
-    let program = counting(alloc)?;
-    let Ok(instance) = Instance::make(alloc, &program, &[]) else {
-        return Ok(None);
-    };
-    let Some(construct) = find_construct(&program.main, 0) else {
-        return Ok(None);
-    };
-    let job = Job {
-        instance: &instance,
-        construct,
-        index: 0,
-        entry: &[],
-    };
-    let frame = Frame::make(alloc, &instance)?;
+    job: &Job,
+) -> Result<(Stop, Stop), AllocError>
+    requires program { program_of job.now.instance.now ≡ counting }
+    requires input { job.now.instance.now.input ≡ [] }
+    requires construct { seen_construct job.now.construct ≡ fold_of_counting }
+    requires index { job.now.index ≡ 0 }
+    requires entry { job.now.entry.now ≡ [] }
+{
+    let frame = Frame::make(alloc, job.instance)?;
     let (cells, mut warden, lane) = lane_of_block_one(alloc)?;
     let ticket = Ticket::make(1, 1, Row::one(LONG), lane, frame);
-    Ok(Some(raised_meanwhile(rt, &cells, &job, &mut warden, ticket)))
+    Ok(raised_meanwhile(rt, &cells, job, &mut warden, ticket))
 }
 
 #[test]
 fn an_attempt_is_cancelled_that_is_raised_meanwhile(rt: HostRuntime) -> Result<(), Fail> {
     for _ in 0..20 {
-        let stops = both_attempts(&rt, rt.alloc())?;
+        let stops = both_attempts(&rt, rt.alloc(), Raised::Meanwhile)?;
         assert!(rt; stops == Some((Stop::Cancelled { seen: 1 }, Stop::Ended(Row::one(1)))));
     }
     Ok(())

@@ -8,15 +8,13 @@ ghost use Rattle.spf_ast.specs.Program.{cell_count_of};
 ghost use Rattle.spf_crew.specs.Mates.{IsMateOf};
 ghost use Rattle.spf_exec_instance.specs.Instance.{program_of};
 
-use crate::programs::accept;
+use crate::jobs::{Task, comes_right};
 use crate::starting::start;
-use spf_ast::construct::find_construct;
 use spf_check::checked::Checked;
 use spf_crew::attempt::{Attempter, GatedJob};
 use spf_crew::crew::Crew;
 use spf_crew::mate::Mate;
 use spf_crew::turn::{Turn, Why};
-use spf_exec_instance::instance::Instance;
 use spf_ticket::run::Job;
 use spf_ticket_gate::Open;
 use std::alloc::{AllocError, Global};
@@ -71,20 +69,20 @@ fn answers<A: Attempter>(
     Ok(answers)
 }
 
-/// What two mates answer that take turns in this order over the blocks of a job.
-fn turns_over(
+/// Returns whether two mates that take turns over the blocks of a job answer as their row says.
+pub(crate) fn answer_right(
     alloc: Global,
     checked: &Checked,
     job: Job,
-    guesses: &[i64],
-    order: &[usize],
-) -> Result<Vec<u64>, Fail>
+    row: &Row,
+) -> Result<bool, Fail>
     requires program { program_of job.instance.now ≡ seen_program checked.now }
     requires construct { slice_get (constructs_in (program_of job.instance.now).main) job.index
         ≡ Some (seen_construct job.construct) }
     requires entry { length job.entry.now
         ≡ cell_count_of (program_of job.instance.now) (length job.instance.now.input) }
 {
+    let (guesses, order, wanted) = *row;
     let (chain, cells, tickets) = start(alloc, checked, &job, 1, guesses)?;
     let (crew, mut mates) = Crew::make(alloc, chain, cells, tickets, 2)?;
     let attempter = GatedJob {
@@ -95,67 +93,49 @@ fn turns_over(
         gate: &Open,
     };
     let answers = answers(alloc, &crew, &attempter, mates.as_mut_slice(), order)?;
-    Ok(answers)
+    Ok(answers.as_slice() == wanted)
 }
 
-/// What two mates answer over `DOUBLING`'s blocks, of which the later ones begin at these guesses.
-fn turns(alloc: Global, guesses: &[i64], order: &[usize]) -> Result<Vec<u64>, Fail> {
-    let checked = accept(alloc, DOUBLING)?;
-    let program = checked.program();
-    // Law: no `break` of a lawful program leaves `main` or a part.
-    spf_ast::laws::breaks_stay_in_their_loops();
-    let Ok(instance) = Instance::make(alloc, program, &[]) else {
-        return Err(Fail::new("no instance"));
-    };
-    let Some(construct) = find_construct(&program.main, 0) else {
-        return Err(Fail::new("no construct"));
-    };
-    let entry = vec![in alloc; 0i64; instance.layout().cells() as usize]?;
-    let job = Job {
-        instance: &instance,
-        construct,
-        index: 0,
-        entry: entry.as_slice(),
-    };
-    turns_over(alloc, &checked, job, guesses, order)
-}
+/// The guesses at which the later blocks begin, the order in which mates take turns, and their
+/// answers.
+pub(crate) type Row<'a> = (&'a [i64], &'a [usize], &'a [u64]);
 
-#[test]
-fn one_mate_does_all_where_the_guesses_are_right(rt: HostRuntime) -> Result<(), Fail> {
-    let order = [0, 0, 0, 0, 0, 0, 0, 0, 0, 0, 0, 1];
-    let answers = turns(rt.alloc(), &[2, 4, 8, 16], &order)?;
-    assert!(rt; answers.as_slice() == [1, 1, 1, 1, 1, 1, 1, 1, 1, 1, 4, 4].as_slice());
-    Ok(())
-}
+const RIGHT: &[i64] = &[2, 4, 8, 16];
 
-#[test]
-fn one_mate_runs_each_block_again_where_its_guess_is_wrong(rt: HostRuntime) -> Result<(), Fail> {
-    let order = [0, 0, 0, 0, 0, 0, 0, 0, 0, 0, 0, 0, 0, 0, 0, 0, 0, 0, 0, 1];
-    let answers = turns(rt.alloc(), &[1, 2, 3, 4], &order)?;
-    let wanted = [1, 1, 1, 1, 1, 1, 1, 1, 1, 1, 1, 1, 1, 1, 1, 1, 1, 1, 4, 4];
-    assert!(rt; answers.as_slice() == wanted.as_slice());
-    Ok(())
-}
+const ROWS: [Row<'static>; 5] = [
+    // one mate does all where the guesses are right
+    (
+        RIGHT,
+        &[0, 0, 0, 0, 0, 0, 0, 0, 0, 0, 0, 1],
+        &[1, 1, 1, 1, 1, 1, 1, 1, 1, 1, 4, 4],
+    ),
+    // one mate runs each block again where its guess is wrong
+    (
+        &[1, 2, 3, 4],
+        &[0, 0, 0, 0, 0, 0, 0, 0, 0, 0, 0, 0, 0, 0, 0, 0, 0, 0, 0, 1],
+        &[1, 1, 1, 1, 1, 1, 1, 1, 1, 1, 1, 1, 1, 1, 1, 1, 1, 1, 4, 4],
+    ),
+    // a mate keeps its report once where the chain was taken
+    (RIGHT, &[0, 1, 0, 1, 1], &[1, 1, 1, 102, 1]),
+    // a mate steals all tickets
+    (
+        RIGHT,
+        &[1, 1, 1, 1, 1, 1, 1, 1, 1, 1, 1, 0],
+        &[1, 1, 1, 1, 1, 1, 1, 1, 1, 1, 4, 4],
+    ),
+    // a mate steals the tickets that the other leaves
+    (
+        RIGHT,
+        &[0, 1, 1, 1, 1, 1, 1, 1, 1, 1, 0, 0, 0, 1],
+        &[1, 1, 1, 1, 1, 1, 1, 1, 1, 2, 108, 1, 4, 4],
+    ),
+];
 
 #[test]
-fn a_mate_keeps_its_report_once_where_the_chain_was_taken(rt: HostRuntime) -> Result<(), Fail> {
-    let answers = turns(rt.alloc(), &[2, 4, 8, 16], &[0, 1, 0, 1, 1])?;
-    assert!(rt; answers.as_slice() == [1, 1, 1, 102, 1].as_slice());
-    Ok(())
-}
-
-#[test]
-fn a_mate_steals_all_tickets(rt: HostRuntime) -> Result<(), Fail> {
-    let order = [1, 1, 1, 1, 1, 1, 1, 1, 1, 1, 1, 0];
-    let answers = turns(rt.alloc(), &[2, 4, 8, 16], &order)?;
-    assert!(rt; answers.as_slice() == [1, 1, 1, 1, 1, 1, 1, 1, 1, 1, 4, 4].as_slice());
-    Ok(())
-}
-
-#[test]
-fn a_mate_steals_the_tickets_that_the_other_leaves(rt: HostRuntime) -> Result<(), Fail> {
-    let order = [0, 1, 1, 1, 1, 1, 1, 1, 1, 1, 0, 0, 0, 1];
-    let answers = turns(rt.alloc(), &[2, 4, 8, 16], &order)?;
-    assert!(rt; answers.as_slice() == [1, 1, 1, 1, 1, 1, 1, 1, 1, 2, 108, 1, 4, 4].as_slice());
+fn mates_answer_in_turn(rt: HostRuntime) -> Result<(), Fail> {
+    for (number, row) in ROWS.iter().enumerate() {
+        let right = comes_right(&rt, rt.alloc(), DOUBLING, Task::Turns(row))?;
+        assert!(rt; right, "row {number}");
+    }
     Ok(())
 }

@@ -12,17 +12,15 @@ ghost use Rattle.spf_speculation_entry.specs.Sites.{entry_at};
 ghost use Rattle.spf_exec_instance.specs.Instance.{program_of};
 ghost use Rattle.spf_ticket.specs.Tickets.{IsJobOf};
 
+use crate::jobs::{Task, comes_right};
 use crate::own_threads::run_on_threads;
-use crate::programs::accept;
 use crate::starting::{Started, start};
-use spf_ast::construct::find_construct;
 use spf_ast::row::Row;
 use spf_cells::cells::Cells;
 use spf_chain::block::Settled;
 use spf_chain::chain::Chain;
 use spf_check::checked::Checked;
 use spf_crew_threads::workers::Workers;
-use spf_exec_instance::instance::Instance;
 use spf_ticket::run::Job;
 use spf_ticket_gate::Open;
 use std::alloc::{AllocError, Global};
@@ -46,8 +44,8 @@ const MANY: &[u8] =
         t = (t * 5 + i) % 1009; } next t; } emit s & 255; }";
 
 /// A program's first construct, which carries rows of one word, and what it comes to.
-#[derive(Drop)]
-struct Case<'a> {
+#[derive(Clone, Copy)]
+pub(crate) struct Case<'a> {
     text: &'a [u8],
     /// The value at which block 0 begins.
     first: i64,
@@ -74,7 +72,7 @@ impl Came {
 
 /// What takes the turns of a crew's mates.
 #[derive(Clone, Copy)]
-enum By {
+pub(crate) enum By {
     Driver,
     OwnThreads,
 }
@@ -84,16 +82,22 @@ fn word_of(row: Row) -> i64 {
     row.part(0)
 }
 
+/// The values at which a chain's blocks began.
+fn values_at_blocks(alloc: Global, chain: &Chain) -> Result<Vec<i64>, AllocError> {
+    let mut values = Vec::new(alloc);
+    for validated in chain.history() {
+        values.push(word_of(validated.row))?;
+    }
+    Ok(values)
+}
+
 /// What an ended chain came to, with its cells.
 fn finish(alloc: Global, chain: Chain, cells: Cells, size: usize) -> Result<Came, AllocError>
     requires ended { HasEnded chain }
     requires own { cells ≡ chain_cells chain }
     requires size { size ≡ length chain.site.memory }
 {
-    let mut values = Vec::new(alloc);
-    for validated in chain.history() {
-        values.push(word_of(validated.row))?;
-    }
+    let mut values = values_at_blocks(alloc, &chain)?;
     let mut memory = vec![in alloc; 0i64; size]?;
     let (settled, _trace) = chain.finish(cells, memory.as_mut_slice());
     match settled {
@@ -130,8 +134,8 @@ fn attempt_all<R: Threads + Wait + Sync>(
     }
 }
 
-/// What a job's construct came to, run by `workers` workers.
-fn run_over<R: Threads + Wait + Sync>(
+/// Returns whether a job's construct comes to what its case says, run by `workers` workers.
+pub(crate) fn comes_to<R: Threads + Wait + Sync>(
     rt: &R,
     alloc: Global,
     checked: &Checked,
@@ -139,48 +143,20 @@ fn run_over<R: Threads + Wait + Sync>(
     case: &Case,
     workers: u64,
     by: By,
-) -> Result<Came, Fail>
+) -> Result<bool, Fail>
     requires program { program_of job.instance.now ≡ seen_program checked.now }
     requires construct { slice_get (constructs_in (program_of job.instance.now).main) job.index
         ≡ Some (seen_construct job.construct) }
     requires entry { length job.entry.now
         ≡ cell_count_of (program_of job.instance.now) (length job.instance.now.input) }
-    requires workers { (0 < workers) × (workers ≤ max_workers) }
 {
-    let started = start(alloc, checked, &job, case.first, case.guesses)?;
-    let (chain, cells) = attempt_all(rt, alloc, started, workers, job, by)?;
-    Ok(finish(alloc, chain, cells, job.entry.len())?)
-}
-
-/// What a case's construct came to, run by `workers` workers.
-fn run<R: Threads + Wait + Sync>(
-    rt: &R,
-    alloc: Global,
-    case: &Case,
-    workers: u64,
-    by: By,
-) -> Result<Came, Fail> {
     if workers == 0 || workers > 64 {
         return Err(Fail::new("a number of workers"));
     }
-    let checked = accept(alloc, case.text)?;
-    let program = checked.program();
-    // Law: no `break` of a lawful program leaves `main` or a part.
-    spf_ast::laws::breaks_stay_in_their_loops();
-    let Ok(instance) = Instance::make(alloc, program, &[]) else {
-        return Err(Fail::new("no instance"));
-    };
-    let Some(construct) = find_construct(&program.main, 0) else {
-        return Err(Fail::new("no construct"));
-    };
-    let entry = vec![in alloc; 0i64; instance.layout().cells() as usize]?;
-    let job = Job {
-        instance: &instance,
-        construct,
-        index: 0,
-        entry: entry.as_slice(),
-    };
-    run_over(rt, alloc, &checked, job, case, workers, by)
+    let started = start(alloc, checked, &job, case.first, case.guesses)?;
+    let (chain, cells) = attempt_all(rt, alloc, started, workers, job, by)?;
+    let came = finish(alloc, chain, cells, job.entry.len())?;
+    Ok(came.is_wanted(case))
 }
 
 /// The carried value after a block of `MANY`.
@@ -204,9 +180,17 @@ fn values_of(alloc: Global, blocks: usize) -> Result<Vec<i64>, AllocError> {
     Ok(values)
 }
 
+/// How many workers run a construct, and what takes their turns.
+const CREWS: [(u64, By); 5] = [
+    (1, By::Driver),
+    (2, By::Driver),
+    (4, By::Driver),
+    (8, By::Driver),
+    (4, By::OwnThreads),
+];
+
 #[test]
 fn any_number_of_workers_gives_the_plain_values(rt: HostRuntime) -> Result<(), Fail> {
-    let many = values_of(rt.alloc(), 600)?;
     let cases = [
         Case {
             text: SCATTERED,
@@ -222,26 +206,35 @@ fn any_number_of_workers_gives_the_plain_values(rt: HostRuntime) -> Result<(), F
             values: &[0, 0],
             memory: &[],
         },
-        Case {
-            text: MANY,
-            first: 1,
-            guesses: &[0; 599],
-            values: many.as_slice(),
-            memory: &[],
-        },
-    ];
-    let crews = [
-        (1, By::Driver),
-        (2, By::Driver),
-        (4, By::Driver),
-        (8, By::Driver),
-        (4, By::OwnThreads),
     ];
     for case in &cases {
-        for (workers, by) in crews {
-            let came = run(&rt, rt.alloc(), case, workers, by)?;
-            assert!(rt; came.is_wanted(case));
+        for &(workers, by) in &CREWS {
+            let task = Task::Run(case, workers, by);
+            assert!(rt;
+                comes_right(&rt, rt.alloc(), case.text, task)?,
+                "{workers} workers"
+            );
         }
+    }
+    Ok(())
+}
+
+#[test]
+fn any_number_of_workers_gives_the_values_of_many_blocks(rt: HostRuntime) -> Result<(), Fail> {
+    let values = values_of(rt.alloc(), 600)?;
+    let many = Case {
+        text: MANY,
+        first: 1,
+        guesses: &[0; 599],
+        values: values.as_slice(),
+        memory: &[],
+    };
+    for &(workers, by) in &CREWS {
+        let task = Task::Run(&many, workers, by);
+        assert!(rt;
+            comes_right(&rt, rt.alloc(), MANY, task)?,
+            "{workers} workers"
+        );
     }
     Ok(())
 }

@@ -5,17 +5,14 @@ use Rattle.spf_ast.specs.Syntax.{Program}
 use Rattle.spf_ast.specs.View.{program as seen_program}
 use Rattle.spf_ast.specs.Program.{cell_count_of, max_cells}
 use Rattle.spf_ast.specs.Construct.{constructs_in}
+use Rattle.spf_exec_instance.specs.Instance.{program_of}
 use Rattle.spf_guess.specs.Missing.{missing_host}
 use Rattle.spf_engine.specs.Errors.{IsMissing}
 use Rattle.spf_replay_log.specs.Log.{sections_of}
-use Rattle.spf_replay.specs.Expecting.{expected}
-use Rattle.spf_replay.specs.Verdicts.{IsVerdict}
-use Rattle.spf_replay_walk.specs.Judging.{seen_log}
 use Rattle.spf_cli_words.specs.Only.{IsOnly}
-use Rattle.spf_cli_answers.specs.Answering.{seen_answer, IsAnswerToError}
+use Rattle.spf_cli_answers.specs.Answering.{IsAnswerToError}
 use Rattle.spf_cli_answers.specs.Whole.{Handed, handed, Ruled, Replays}
 use Rattle.spf_cli_answers.proofs.Steps.{not_above, started_done, started_left, answers_with}
-use Rattle.spf_cli_answers.proofs.Logs.{ruled_so}
 use Rattle.spf_cli_answers.proofs.replaying.judge.Goals as goal
 
 pub returns-in-Err : goal.returns-in-Err
@@ -30,15 +27,16 @@ returns-in-Err g c =
     (λ a says. started_left (missing_host given.count (constructs_in p.main)) p c.args.input.now (Ruled given.hosts p c.args.input.now (sections_of c.args.log.now)) c.in-Err.error a (λ over. c.in-Err.ensures.too_many over) missing
     (subst (λ q. IsAnswerToError (seen_program q) c.in-Err.error a) c.program.ensures.program says))
 
-pub returns : goal.returns
-returns g c =
+pub returns-in-Ok : goal.returns-in-Ok
+returns-in-Ok g c =
     let p = seen_program c.args.checked.now in
+    let made = c.in-Ok.instance in
     let given : Handed = handed (map (λ h. (goal.Predictor-dyn g (h.vtable, h.value)).answer h.value) c.args.hosts.now.items) in
     let len : length c.args.hosts.now.items ≡ c.len.result = search rules in
     let count : c.len.result ≡ given.count = sym (length-map c.args.hosts.now.items (λ h. (goal.Predictor-dyn g (h.vtable, h.value)).answer h.value) ∙ len) in
     let complete : missing_host given.count (constructs_in p.main) ≡ None = subst (λ n. missing_host n (constructs_in p.main) ≡ None) count c.in-Ok.ensures.complete in
     let few : max_cells p < cell_count_of p (length c.args.input.now) → ⊥ = not_above (cell_count_of p (length c.args.input.now)) (max_cells p) c.in-Ok.ensures.few in
-    let verdict : IsVerdict (expected given.hosts p c.args.input.now) (seen_log c.args.log.now) c.in_ok-verdict.verdict =
-    subst (λ (x : Program × List ℕ). IsVerdict (expected given.hosts x.0 x.1) (seen_log c.args.log.now) c.in_ok-verdict.verdict) (λ i. (c.in-Ok.ensures.program i, c.in-Ok.ensures.input i)) c.in_ok-verdict.ensures.verdict in
-    started_done (missing_host given.count (constructs_in p.main)) p c.args.input.now (Ruled given.hosts p c.args.input.now (sections_of c.args.log.now)) (seen_answer c.in_ok-answer_of_verdict.field-0) few complete
-    (ruled_so c.verdicts_are_exact.ensures.one given.hosts p c.args.input.now (sections_of c.args.log.now) c.in_ok-verdict.verdict (seen_answer c.in_ok-answer_of_verdict.field-0) verdict c.in_ok-answer_of_verdict.ensures)
+    let log = sections_of c.args.log.now in
+    answers_with (IsOnly (Replays given p c.args.input.now log)) (IsOnly (Ruled given.hosts (program_of made) made.input log)) c.judge_on.result c.judge_on.ensures
+    (λ a only. started_done (missing_host given.count (constructs_in p.main)) p c.args.input.now (Ruled given.hosts p c.args.input.now log) a few complete
+    (subst (λ (x : Program × List ℕ). IsOnly (Ruled given.hosts x.0 x.1 log) a) (λ i. (c.in-Ok.ensures.program i, c.in-Ok.ensures.input i)) only))

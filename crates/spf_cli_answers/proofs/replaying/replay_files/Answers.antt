@@ -1,76 +1,25 @@
-use Rattle.std.specs.Prelude.{Err}
-use Rattle.std.proofs.Common.{List, map, subst}
+use Rattle.std.proofs.Common.{map}
 use Rattle.std.proofs.lemmas.Result.{err_from_is_err_and}
 use Rattle.spf_ast.specs.Syntax.{Program}
 use Rattle.spf_ast.specs.View.{program}
-use Rattle.spf_replay_log.specs.declared.log.Step.{Step}
-use Rattle.spf_replay_log.specs.Log.{sections_of}
-use Rattle.spf_cli_words.specs.Only.{IsOnly}
-use Rattle.spf_cli_answers.specs.Answering.{AnswersWith}
-use Rattle.spf_cli_answers.specs.Course.{Ends, Fetches}
-use Rattle.spf_batch.specs.Batch.{max_input}
-use Rattle.spf_cli_answers.specs.Whole.{Handed, handed, AcceptedIn, WithLog, Replays, max_log}
-use Rattle.spf_cli_answers.proofs.Steps.{answers_fetch, fetch_left, answers_end}
-use Rattle.spf_cli_answers.proofs.Logs.{LogLaws, answers_on, answers_log, accepted_leads, accepted_left, no_log_left}
+use Rattle.spf_cli_answers.specs.Following.{ReplaysOn}
+use Rattle.spf_cli_answers.specs.Whole.{handed, AcceptedIn}
+use Rattle.spf_cli_answers.proofs.Logs.{answers_on, accepted_leads, accepted_left}
 use Rattle.spf_cli_answers.proofs.replaying.replay_files.Goals as goal
 
 pub returns-in_err-checked : goal.returns-in_err-checked
 returns-in_err-checked g c =
     let q = err_from_is_err_and c.from_residual.result c.from_residual.ensures.1 in
-    let given : Handed = handed (map (λ h. (goal.Predictor-dyn g (h.vtable, h.value)).answer h.value) c.args.hosts.now.items) in
-    rw (q.1, q.2) (accepted_left c.rules_say_one_thing.ensures c.args.program.now (λ (p : Program). Fetches c.args.input.now max_input (λ x. Fetches c.args.log.now max_log (λ file. WithLog file (λ sections. Ends (Replays given p x sections))))) _ _ c.in_err-checked.field-0.0 c.in_err-checked.ensures.left)
-
-pub returns-in_err-content : goal.returns-in_err-content
-returns-in_err-content g c =
-    let q = err_from_is_err_and c.from_residual-in_err-content.result c.from_residual-in_err-content.ensures.1 in
-    let old = g.F.Files.state c.args.files.now in
-    let mid = g.F.Files.state c.fetch_accepted.new.files in
-    let new = g.F.Files.state c.fetch.new.files in
-    let given : Handed = handed (map (λ h. (goal.Predictor-dyn g (h.vtable, h.value)).answer h.value) c.args.hosts.now.items) in
-    let next = λ (p : Program). Fetches c.args.input.now max_input (λ x. Fetches c.args.log.now max_log (λ file. WithLog file (λ sections. Ends (Replays given p x sections)))) in
-    let p = program c.in_ok-checked.checked in
-    let left = c.in_err-content.field-0.0 in
-    rw (q.1, q.2)
-    (answers_on (AcceptedIn c.args.program.now next) (next p) old mid new (Err left) (accepted_leads c.rules_say_one_thing.ensures c.args.program.now next p old mid c.in_ok-checked.ensures.program)
-    (fetch_left c.args.input.now max_input (λ x. Fetches c.args.log.now max_log (λ file. WithLog file (λ sections. Ends (Replays given p x sections)))) mid new left c.in_err-content.ensures.left))
-
-pub returns-in_err-sections : goal.returns-in_err-sections
-returns-in_err-sections g c =
-    let q = err_from_is_err_and c.from_residual-in_err-sections.result c.from_residual-in_err-sections.ensures.1 in
-    let old = g.F.Files.state c.args.files.now in
-    let mid = g.F.Files.state c.fetch_accepted.new.files in
-    let after = g.F.Files.state c.fetch.new.files in
-    let new = g.F.Files.state c.fetch_log.new.files in
-    let given : Handed = handed (map (λ h. (goal.Predictor-dyn g (h.vtable, h.value)).answer h.value) c.args.hosts.now.items) in
-    let next = λ (p : Program). Fetches c.args.input.now max_input (λ x. Fetches c.args.log.now max_log (λ file. WithLog file (λ sections. Ends (Replays given p x sections)))) in
-    let laws : LogLaws = record { one = c.bytes_have_one_reading.ensures.one; none = c.bytes_have_one_reading.ensures.none; offset = c.bytes_have_one_reading.ensures.offset } in
-    let p = program c.in_ok-checked.checked in
-    let content = c.in_ok-content.content.items in
-    let left = c.in_err-sections.field-0.0 in
-    rw (q.1, q.2)
-    (answers_on (AcceptedIn c.args.program.now next) (next p) old mid new (Err left) (accepted_leads c.rules_say_one_thing.ensures c.args.program.now next p old mid c.in_ok-checked.ensures.program)
-    (answers_fetch c.args.input.now max_input (λ x. Fetches c.args.log.now max_log (λ file. WithLog file (λ sections. Ends (Replays given p x sections)))) content mid after new (Err left) c.in_ok-content.ensures.content
-    (no_log_left laws c.args.log.now (λ sections. Ends (Replays given p content sections)) after new left c.in_err-sections.ensures.left)))
+    let given = handed (map (λ h. (goal.Predictor-dyn g (h.vtable, h.value)).answer h.value) c.args.hosts.now.items) in
+    rw (q.1, q.2) (accepted_left c.rules_say_one_thing.ensures c.args.program.now (λ (p : Program). ReplaysOn given c.args.input.now c.args.log.now p) _ _ c.in_err-checked.field-0.0 c.in_err-checked.ensures.left)
 
 pub returns : goal.returns
 returns g c =
     let old = g.F.Files.state c.args.files.now in
     let mid = g.F.Files.state c.fetch_accepted.new.files in
-    let after = g.F.Files.state c.fetch.new.files in
-    let new = g.F.Files.state c.fetch_log.new.files in
-    let given : Handed = handed (map (λ h. (goal.Predictor-dyn g (h.vtable, h.value)).answer h.value) c.args.hosts.now.items) in
-    let next = λ (p : Program). Fetches c.args.input.now max_input (λ x. Fetches c.args.log.now max_log (λ file. WithLog file (λ sections. Ends (Replays given p x sections)))) in
-    let laws : LogLaws = record { one = c.bytes_have_one_reading.ensures.one; none = c.bytes_have_one_reading.ensures.none; offset = c.bytes_have_one_reading.ensures.offset } in
+    let new = g.F.Files.state c.replay_on.new.files in
+    let given = handed (map (λ h. (goal.Predictor-dyn g (h.vtable, h.value)).answer h.value) c.args.hosts.now.items) in
+    let next = λ (p : Program). ReplaysOn given c.args.input.now c.args.log.now p in
     let p = program c.in_ok-checked.checked in
-    let content = c.in_ok-content.content.items in
-    let sections = sections_of c.in_ok-sections.sections.items in
-    let log = c.in_ok-sections.ensures.log in
-    let r = c.judge.result in
-    let rest = λ (x : List (List Step)). Ends (Replays given p content x) in
-    let said = subst (λ x. AnswersWith (IsOnly (Replays given p content (sections_of x))) r) c.deref-2.ensures.value
-    (subst (λ x. AnswersWith (IsOnly (Replays given p x (sections_of c.deref-2.result.now))) r) c.deref.ensures.value c.judge.ensures) in
-    answers_on (AcceptedIn c.args.program.now next) (next p) old mid new r (accepted_leads c.rules_say_one_thing.ensures c.args.program.now next p old mid c.in_ok-checked.ensures.program)
-    (answers_fetch c.args.input.now max_input (λ x. Fetches c.args.log.now max_log (λ file. WithLog file (λ sections. Ends (Replays given p x sections)))) content mid after new r c.in_ok-content.ensures.content
-    (answers_fetch c.args.log.now max_log (λ file. WithLog file rest) log.0 after new new r log.1
-    (answers_log laws log.0 sections rest new new r log.2
-    (answers_end (Replays given p content sections) new r said))))
+    answers_on (AcceptedIn c.args.program.now next) (next p) old mid new c.replay_on.result
+    (accepted_leads c.rules_say_one_thing.ensures c.args.program.now next p old mid c.in_ok-checked.ensures.program) c.replay_on.ensures

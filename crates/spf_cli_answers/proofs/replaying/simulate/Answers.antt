@@ -1,6 +1,6 @@
 use Rattle.std.proofs.Common.{rules, ◌≡◌, ◌<◌, ◌≤◌, ℕ, List, subst, length, ◌∙◌, sym, map}
 use Rattle.std.proofs.lemmas.List.{length-map}
-use Rattle.std.specs.Prelude.{Some, None}
+use Rattle.std.specs.Prelude.{None}
 use Rattle.spf_ast.specs.Syntax.{Program}
 use Rattle.spf_ast.specs.View.{program as seen_program}
 use Rattle.spf_ast.specs.Program.{cell_count_of, max_cells}
@@ -8,13 +8,10 @@ use Rattle.spf_ast.specs.Construct.{constructs_in}
 use Rattle.spf_exec_instance.specs.Instance.{program_of}
 use Rattle.spf_guess.specs.Missing.{missing_host}
 use Rattle.spf_engine.specs.Errors.{IsMissing}
-use Rattle.spf_replay_sim.specs.Drawing.{HasTooManySteps}
-use Rattle.spf_replay_sim.specs.Simulating.{ComesTo}
 use Rattle.spf_cli_words.specs.Only.{IsOnly}
-use Rattle.spf_cli_answers.specs.Answering.{seen_answer, IsAnswerToError}
+use Rattle.spf_cli_answers.specs.Answering.{IsAnswerToError}
 use Rattle.spf_cli_answers.specs.Whole.{Handed, handed, Drawn, Simulates}
 use Rattle.spf_cli_answers.proofs.Steps.{not_above, started_done, started_left, answers_with}
-use Rattle.spf_cli_answers.proofs.Logs.{drawn_by, too_long_so}
 use Rattle.spf_cli_answers.proofs.replaying.simulate.Goals as goal
 
 pub returns-in-Err : goal.returns-in-Err
@@ -29,30 +26,15 @@ returns-in-Err g c =
     (λ a says. started_left (missing_host given.count (constructs_in p.main)) p c.args.input.now (Drawn given.hosts p c.args.input.now c.args.seed) c.in-Err.error a (λ over. c.in-Err.ensures.too_many over) missing
     (subst (λ q. IsAnswerToError (seen_program q) c.in-Err.error a) c.program.ensures.program says))
 
-pub returns-in-Some : goal.returns-in-Some
-returns-in-Some g c =
+pub returns-in-Ok : goal.returns-in-Ok
+returns-in-Ok g c =
     let p = seen_program c.args.checked.now in
+    let made = c.in-Ok.instance in
     let given : Handed = handed (map (λ h. (goal.Predictor-dyn g (h.vtable, h.value)).answer h.value) c.args.hosts.now.items) in
     let len : length c.args.hosts.now.items ≡ c.len.result = search rules in
     let count : c.len.result ≡ given.count = sym (length-map c.args.hosts.now.items (λ h. (goal.Predictor-dyn g (h.vtable, h.value)).answer h.value) ∙ len) in
     let complete : missing_host given.count (constructs_in p.main) ≡ None = subst (λ n. missing_host n (constructs_in p.main) ≡ None) count c.in-Ok.ensures.complete in
     let few : max_cells p < cell_count_of p (length c.args.input.now) → ⊥ = not_above (cell_count_of p (length c.args.input.now)) (max_cells p) c.in-Ok.ensures.few in
-    let came : ComesTo given.hosts (program_of c.in-Ok.instance) c.in-Ok.instance.input c.args.seed (Some c.in-Some.made) = subst (ComesTo given.hosts (program_of c.in-Ok.instance) c.in-Ok.instance.input c.args.seed) c.in-Some.is c.in_ok-made.ensures.simulated in
-    let a = seen_answer c.in_ok-answer_of_simulation-in-Some.field-0 in
-    started_done (missing_host given.count (constructs_in p.main)) p c.args.input.now (Drawn given.hosts p c.args.input.now c.args.seed) a few complete
-    (drawn_by c.each_run_has_one_schedule.ensures.one given.hosts p (program_of c.in-Ok.instance) c.args.input.now c.in-Ok.instance.input c.args.seed c.in-Some.made a c.in-Ok.ensures.program c.in-Ok.ensures.input came c.in_ok-answer_of_simulation-in-Some.ensures)
-
-pub returns : goal.returns
-returns g c =
-    let p = seen_program c.args.checked.now in
-    let given : Handed = handed (map (λ h. (goal.Predictor-dyn g (h.vtable, h.value)).answer h.value) c.args.hosts.now.items) in
-    let len : length c.args.hosts.now.items ≡ c.len.result = search rules in
-    let count : c.len.result ≡ given.count = sym (length-map c.args.hosts.now.items (λ h. (goal.Predictor-dyn g (h.vtable, h.value)).answer h.value) ∙ len) in
-    let complete : missing_host given.count (constructs_in p.main) ≡ None = subst (λ n. missing_host n (constructs_in p.main) ≡ None) count c.in-Ok.ensures.complete in
-    let few : max_cells p < cell_count_of p (length c.args.input.now) → ⊥ = not_above (cell_count_of p (length c.args.input.now)) (max_cells p) c.in-Ok.ensures.few in
-    let came : ComesTo given.hosts (program_of c.in-Ok.instance) c.in-Ok.instance.input c.args.seed None = subst (ComesTo given.hosts (program_of c.in-Ok.instance) c.in-Ok.instance.input c.args.seed) c.in-None.is c.in_ok-made.ensures.simulated in
-    let long : HasTooManySteps given.hosts p c.args.input.now c.args.seed =
-    subst (λ (x : Program × List ℕ). HasTooManySteps given.hosts x.0 x.1 c.args.seed) (λ i. (c.in-Ok.ensures.program i, c.in-Ok.ensures.input i)) came in
-    let a = seen_answer c.in_ok-too_many_steps-in-None.field-0 in
-    started_done (missing_host given.count (constructs_in p.main)) p c.args.input.now (Drawn given.hosts p c.args.input.now c.args.seed) a few complete
-    (too_long_so given.hosts p c.args.input.now c.args.seed a long c.in_ok-too_many_steps-in-None.ensures)
+    answers_with (IsOnly (Simulates given c.args.seed p c.args.input.now)) (IsOnly (Drawn given.hosts (program_of made) made.input c.args.seed)) c.simulate_on.result c.simulate_on.ensures
+    (λ a only. started_done (missing_host given.count (constructs_in p.main)) p c.args.input.now (Drawn given.hosts p c.args.input.now c.args.seed) a few complete
+    (subst (λ (x : Program × List ℕ). IsOnly (Drawn given.hosts x.0 x.1 c.args.seed) a) (λ i. (c.in-Ok.ensures.program i, c.in-Ok.ensures.input i)) only))

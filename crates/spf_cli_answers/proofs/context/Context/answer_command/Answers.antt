@@ -1,9 +1,8 @@
 use Rattle.std.proofs.Common.{rules, ◌≡◌, length, map, ◌∙◌}
 use Rattle.std.proofs.lemmas.List.{length-map}
-use Rattle.std.proofs.lemmas.Result.{err_from_is_err_and}
 use Rattle.spf_cli_answers.specs.Whole.{handed, Demonstrates}
 use Rattle.spf_cli_answers.proofs.Steps.{answers_end}
-use Rattle.spf_cli_answers.proofs.Batches.{replied_so}
+use Rattle.spf_cli_answers.proofs.Batches.{replied_so, begun_so}
 use Rattle.spf_cli_answers.proofs.context.Context.answer_command.Goals as goal
 
 pub returns-in-Run-clause-reply : goal.returns-in-Run-clause-reply
@@ -58,16 +57,12 @@ pub returns-in-Replay-clause-reply : goal.returns-in-Replay-clause-reply
 returns-in-Replay-clause-reply g c =
     rw c.in-Replay.is (replied_so (handed (map (λ h. (goal.Predictor-dyn g (h.vtable, h.value)).answer h.value) c.args.hosts.now.items)) _ _ _ c.replay_files.result c.reply_with-in-Replay.result c.reply_with-in-Replay.ensures.reply c.replay_files.ensures)
 
-pub returns-in_err-batch-in-Batch-clause-reply : goal.returns-in_err-batch-in-Batch-clause-reply
-returns-in_err-batch-in-Batch-clause-reply g c =
+pub returns-in-Batch-clause-reply : goal.returns-in-Batch-clause-reply
+returns-in-Batch-clause-reply g c =
+    let given = (handed (map (λ h. (goal.Predictor-dyn g (h.vtable, h.value)).answer h.value) c.args.hosts.now.items)) in
     let len : length c.args.hosts.now.items ≡ c.len-count.result = search rules in
-    let q = err_from_is_err_and c.from_residual.result c.from_residual.ensures.1 in
-    rw c.in-Batch.is (rw (q.1, q.2) (c.in_err-batch-in-Batch.ensures.left (handed (map (λ h. (goal.Predictor-dyn g (h.vtable, h.value)).answer h.value) c.args.hosts.now.items)) (length-map c.args.hosts.now.items _ ∙ len)))
-
-pub returns-in_ok-batch-in-Batch-clause-reply : goal.returns-in_ok-batch-in-Batch-clause-reply
-returns-in_ok-batch-in-Batch-clause-reply g c =
-    let len : length c.args.hosts.now.items ≡ c.len-count.result = search rules in
-    rw c.in-Batch.is (c.in_ok-batch-in-Batch.ensures.ready (handed (map (λ h. (goal.Predictor-dyn g (h.vtable, h.value)).answer h.value) c.args.hosts.now.items)) (length-map c.args.hosts.now.items _ ∙ len))
+    let counted = length-map c.args.hosts.now.items _ ∙ len in
+    rw c.in-Batch.is (begun_so given _ _ _ c.read_batch.result c.reply_with_batch.result c.reply_with_batch.ensures (c.read_batch.ensures.ready given counted) (c.read_batch.ensures.left given counted))
 
 pub returns-in-Demo-clause-reply : goal.returns-in-Demo-clause-reply
 returns-in-Demo-clause-reply g c =

@@ -40,8 +40,8 @@ returns-in-Err-clause-told g c = unfinished_told _ (seen_program c.program.resul
 pub returns-in-Err-clause-unrun : goal.returns-in-Err-clause-unrun
 returns-in-Err-clause-unrun g c = unfinished_untold _ _ (seen_program c.program.result.now) c.in-Err.error _ c.answer_of_error.ensures c.in-Err.ensures.untold
 
-pub returns-clause-answer : goal.returns-clause-answer
-returns-clause-answer g c =
+pub returns-in_ok-answer_of_blocks-in-Ok-clause-answer : goal.returns-in_ok-answer_of_blocks-in-Ok-clause-answer
+returns-in_ok-answer_of_blocks-in-Ok-clause-answer g c =
     let options = seen_options c.args.options in
     let p = seen_program c.args.checked.now in
     let given : Handed = handed (map (λ h. (goal.Predictor-dyn g (h.vtable, h.value)).answer h.value) c.args.hosts.now.items) in
@@ -53,13 +53,13 @@ returns-clause-answer g c =
     c.in-Ok.ensures.statistics ∙ ap (λ b. if b then none else (tally given.hosts p c.args.input.now).stats) (sym c.requires.blocks) in
     let few : max_cells p < cell_count_of p (length c.args.input.now) → ⊥ = λ many. c.in-Ok.ensures.too_many many in
     run_done (ran options p (length c.args.input.now)) options given p c.args.input.now _ few asked
-    (c.in_ok-answer_of_run.ensures ∙ (λ i. ran options (c.in-Ok.ensures.program i) (length (c.in-Ok.ensures.input i)) (c.in-Ok.ensures.outcome i) (stats i)))
+    (c.in_ok-answer_of_blocks-in-Ok.ensures ∙ (λ i. ran options (c.in-Ok.ensures.program i) (length (c.in-Ok.ensures.input i)) (c.in-Ok.ensures.outcome i) (stats i)))
 
-pub returns-in_err-answer_of_run-clause-told_first : goal.returns-in_err-answer_of_run-clause-told_first
-returns-in_err-answer_of_run-clause-told_first g c = told_all _ _ _ _ c.in-Ok.ensures.told
+pub returns-in_err-answer_of_blocks-in-Ok-clause-told_first : goal.returns-in_err-answer_of_blocks-in-Ok-clause-told_first
+returns-in_err-answer_of_blocks-in-Ok-clause-told_first g c = told_all _ _ _ _ c.in-Ok.ensures.told
 
-pub returns-clause-told_first : goal.returns-clause-told_first
-returns-clause-told_first g c = told_all _ _ _ _ c.in-Ok.ensures.told
+pub returns-in_ok-answer_of_blocks-in-Ok-clause-told_first : goal.returns-in_ok-answer_of_blocks-in-Ok-clause-told_first
+returns-in_ok-answer_of_blocks-in-Ok-clause-told_first g c = told_all _ _ _ _ c.in-Ok.ensures.told
 
-pub returns-clause-told : goal.returns-clause-told
-returns-clause-told g c e = c.in-Ok.ensures.told
+pub returns-in_ok-answer_of_blocks-in-Ok-clause-told : goal.returns-in_ok-answer_of_blocks-in-Ok-clause-told
+returns-in_ok-answer_of_blocks-in-Ok-clause-told g c e = c.in-Ok.ensures.told
