@@ -22,7 +22,7 @@ use Rattle.spf_exec_memory.specs.declared.memory.Halt.{Halt}
 use Rattle.spf_exec_memory.specs.declared.memory.Halt.TheVariants as h
 use Rattle.spf_exec.specs.declared.pieces.Header as code_header
 use Rattle.spf_exec.specs.Pieces.{header_result}
-use Rattle.spf_exec_memory.specs.Performs.{Performs, performed_as, IsDecided, LackIsAllowed}
+use Rattle.spf_exec_memory.specs.Performs.{Performs, performed_as, IsDecided, LackIsAllowed, LacksMemory}
 use Rattle.spf_exec_memory.specs.QuietMemory.{LeadsQuietly}
 use Rattle.spf_exec_memory.specs.ReadMemory.{LeadsUnstored, IsReadOf}
 use Rattle.spf_exec.specs.BlockRuns.{PerformsOver}
@@ -58,10 +58,18 @@ same_output (Ended (Trapped t o) es) full out own (Err h.Broken) d rest p = cc
 same_output (Stopped n es) full out own (Err h.Broken) d rest p = cc
 same_output Misfit full out own (Err h.Broken) d rest p = refl
 
+-- a memory that never lacks memory
+never_lacks : {A : Type 0} (r : Result A Halt) → LackIsAllowed ⊥ r → LacksMemory r → ⊥
+never_lacks (Ok v) allowed u = u
+never_lacks (Err (h.Trapped t)) allowed u = u
+never_lacks (Err (h.Cancelled n)) allowed u = u
+never_lacks (Err h.NoMemory) allowed u = allowed
+never_lacks (Err h.Broken) allowed u = u
+
 -- a form that leaves the output alone, performed with one output, is performed with any other
-with_any_output : {M A : Type 0} {leads : List Event → M → M → Type 0} {stop : M → Option ℕ} {may_lack : Type 0} (form : Meaning A) → LeavesOutput form → (slots : List ℤ) (full out : List ℕ) {own : List ℤ} {a b : M} {r : Result A Halt}
-    → Performs leads stop may_lack (form (record { slots = slots; output = full })) a b r (record { slots = own; output = full })
-    → Performs leads stop may_lack (form (record { slots = slots; output = out })) a b r (record { slots = own; output = out })
+with_any_output : {M A : Type 0} {leads : List Event → M → M → Type 0} {stop : M → Option ℕ} (form : Meaning A) → LeavesOutput form → (slots : List ℤ) (full out : List ℕ) {own : List ℤ} {a b : M} {r : Result A Halt}
+    → Performs leads stop ⊥ (form (record { slots = slots; output = full })) a b r (record { slots = own; output = full })
+    → Performs leads stop ⊥ (form (record { slots = slots; output = out })) a b r (record { slots = own; output = out })
 with_any_output {stop = stop} form l slots full out {own = own} {a = a} {r = r} p = record {
   events = p.events;
   led = p.led;
@@ -75,12 +83,13 @@ with_any_output {stop = stop} form l slots full out {own = own} {a = a} {r = r} 
       ap (λ t. perform every_cell [] (stop a) t es) (l.same slots out)
       ∙ perform-bind every_cell [] (stop a) silent (λ e. Answer (with_output out e)) es
       ∙ same_output x full out own r d rest all;
+  unfinished = λ u. absurd (never_lacks r p.lacking u);
 }
 
 -- what a memory does that emits nothing, the memory does that is lent to it
 unquiet : {S M N A : Type 0} {leads : List Event → M → M → Type 0} {stop : M → Option ℕ} {output : M → List ℕ} {lent : S → M} {fixed : S → N} {may_lack : Type 0} {t : Interaction (Ending A)} {a b : S} {r : Result A Halt} {s : State}
     → Performs (LeadsQuietly leads output lent fixed) (λ m. stop (lent m)) may_lack t a b r s → Performs leads stop may_lack t (lent a) (lent b) r s
-unquiet p = record { events = p.events; led = p.led.led; lacking = p.lacking; performed = p.performed }
+unquiet p = record { events = p.events; led = p.led.led; lacking = p.lacking; performed = p.performed; unfinished = p.unfinished }
 
 -- a part that holds no `emit` leaves the output alone
 part_leaves : (p : Program) (input : List ℕ) (c : Construct) (part : Part) (n : ℤ) (v : Carried) → PartIsSilent c part → FunctionsAreSilent p.functions → LeavesOutput (part_means (environment_of p input) c part n v)

@@ -1,3 +1,4 @@
+pub mod Growing
 pub mod Sources
 pub mod Fitting
 pub mod Rooms

@@ -39,7 +39,7 @@ use Rattle.spf_exec.specs.declared.block_run.BlockRun as code_block
 use Rattle.spf_exec.specs.declared.pieces.Header as code_header
 use Rattle.spf_exec.specs.declared.pieces.Pause.{Pause}
 use Rattle.spf_exec.specs.declared.tables.Arity.{Arity}
-use Rattle.spf_exec.specs.Pieces.{RunState, run_state, Advanced, HeaderDone, IsHeaderAnswer, header_result}
+use Rattle.spf_exec.specs.Pieces.{RunState, run_state, Advanced, IsCutShort, HeaderDone, IsHeaderAnswer, header_result}
 use Rattle.spf_exec.specs.Sources.{callees_of, construct_needs, RunsAs, GivesAs, reads_row, wholly}
 use Rattle.spf_exec.specs.Tables.{IsAnswer, arguments_at}
 
@@ -218,6 +218,10 @@ RunsBetween i from to registers after before later result =
 -- a run that stood here advanced to this place, and paused so
 abbrev pub AdvancedTo : InstanceValue → RunState → List ℤ → Plain → ℕ × Pause → Type 0
 AdvancedTo i before frame memory r = Advanced (program_of i) i.input before (run_state frame memory r.0 before.passed) r.1
+
+-- a run that stood here lacked memory before it advanced to a construct
+abbrev pub LeftShort : InstanceValue → RunState → List ℤ → Plain → Type 0
+LeftShort i before frame memory = IsCutShort (program_of i) i.input before (run_state frame memory before.place before.passed)
 
 -- what the header of a fold asks of the memory
 abbrev pub header_asks : InstanceValue → ℕ → code_fold.Fold → List ℤ → Plain → Interaction (Ending Header)

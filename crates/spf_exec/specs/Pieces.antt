@@ -12,6 +12,7 @@ use Rattle.spf_ast.specs.ConstructView.{construct as seen_construct}
 use Rattle.spf_ast.specs.Pieces.{statement_count, rest_from, before_construct, from_construct, construct_first}
 use Rattle.spf_exec_instance.specs.Frame.{frame_size, main_slots}
 use Rattle.spf_exec_memory.specs.declared.memory.Halt.{Halt}
+use Rattle.spf_exec_memory.specs.Growing.{IsPrefix, output_of}
 use Rattle.spf_exec_memory.specs.declared.plain.Plain.{Plain}
 use Rattle.spf_exec.specs.declared.pieces.Header as code_header
 use Rattle.spf_exec.specs.declared.pieces.Pause.{Pause}
@@ -84,6 +85,11 @@ Advanced p input before after (pause.AtConstruct number construct) = ReachesCons
 Advanced p input before after pause.Finished = IsFinished p input before after
 Advanced p input before after (pause.Trapped trap) =
     TrapsIn p (main_means (environment_of p input) (before_construct (ahead p before))) before after trap
+
+-- memory ran out before the next construct: the output is a prefix of what it would have been there
+abbrev pub IsCutShort : Program → List ℕ → RunState → RunState → Type 0
+IsCutShort p input before after =
+    IsPrefix after.output (output_of (plainly (main_means (environment_of p input) (before_construct (ahead p before))) (moment_of p before)))
 
 -- a header, as contracts see it
 abbrev pub seen_header : code_header.Header → Header

@@ -2,7 +2,7 @@
 //! settled by whoever runs it.
 
 ghost use Rattle.std.specs.Prelude.{◌≡◌, ◌+◌, ◌<◌, ◌≤◌, ◌^◌, ◌+ℤ◌, ◌≤ℤ◌, length, pos, drop};
-ghost use Rattle.std.specs.Prelude.{take, slice_get, Some, IfOk, MatchOption};
+ghost use Rattle.std.specs.Prelude.{take, slice_get, Some, IfOk, IfErr, MatchOption};
 ghost use Rattle.std.specs.Borrow.{Lends, Array, sem, i64 as word};
 ghost use Rattle.spf_exec.specs.contracts.pieces.Run.{the_row};
 ghost use Rattle.spf_exec.specs.declared.pieces.Pause.TheVariants.{AtConstruct, Finished};
@@ -20,12 +20,12 @@ ghost use Rattle.spf_exec_instance.specs.Instance.{program_of};
 ghost use Rattle.spf_exec_memory.specs.Performs.{IsDecided};
 ghost use Rattle.spf_exec.specs.Pieces.{RunState, IsStateOf, refilled, IsInitial, Advanced};
 ghost use Rattle.spf_exec.specs.Pieces.{header_result, run_state, HeaderDone};
-ghost use Rattle.spf_exec.specs.Pieces.{IsSettled, ahead};
+ghost use Rattle.spf_exec.specs.Pieces.{IsSettled, IsCutShort, ahead};
 ghost use Rattle.spf_code_lowering.specs.Adding.{fold_statement};
 ghost use Rattle.spf_exec.specs.Instances.{HasPassed, fold_at, from_first};
 ghost use Rattle.spf_exec.specs.Instances.{StandsFirst, statement_room, FoldCodeIn, PerformsIn};
 ghost use Rattle.spf_exec.specs.Instances.{RunsBetween, AdvancedTo, header_cells, HeaderEnds};
-ghost use Rattle.spf_exec.specs.Instances.{HeaderAnswers, HeaderDoneAnywhere};
+ghost use Rattle.spf_exec.specs.Instances.{HeaderAnswers, HeaderDoneAnywhere, LeftShort};
 
 use crate::entry;
 use crate::frame::Frame;
@@ -179,6 +179,8 @@ fn advance_from<'a>(
     requires passed { HasPassed instance.now place passed }
     requires few_constructs { length (constructs_in (program_of instance.now).main) < 2 ^ 32 }
     ensures advanced { IfOk result (AdvancedTo instance.now
+        (run_state frame.old memory.old place passed) frame.new memory.new) }
+    ensures cut_short { IfErr result (λ why. LeftShort instance.now
         (run_state frame.old memory.old place passed) frame.new memory.new) }
     ensures place { IfOk result (λ r. r.0 ≤ length instance.now.source.main.items) }
     ensures passed { IfOk result (λ r. HasPassed instance.now r.0 passed) }
@@ -384,12 +386,14 @@ impl Run {
     ///
     /// # Errors
     ///
-    /// `AllocError` where there is no memory for the output.
+    /// `AllocError` where there is no memory for the output, which is a prefix of the whole then.
     pub fn advance<'a>(&mut self, instance: &Instance<'a>) -> Result<Pause<'a>, AllocError>
         requires run { IsStateOf (program_of instance.now) (length instance.now.input) self.old }
         requires few_constructs { length (constructs_in (program_of instance.now).main) < 2 ^ 32 }
         ensures advanced { IfOk result (λ pause.
             Advanced (program_of instance.now) instance.now.input self.old self.new pause) }
+        ensures cut_short { IfErr result (λ why.
+            IsCutShort (program_of instance.now) instance.now.input self.old self.new) }
         ensures run { IsStateOf (program_of instance.now) (length instance.now.input) self.new }
     {
         let (place, pause) = advance_from(

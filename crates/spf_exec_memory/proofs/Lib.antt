@@ -1,3 +1,4 @@
+pub mod Growing
 pub mod Steps
 pub mod Turns
 pub mod Leaving

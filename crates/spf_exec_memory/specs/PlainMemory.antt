@@ -9,6 +9,7 @@ use Rattle.std.specs.Prelude.{Result, Ok, Err}
 use Rattle.spf_exec_memory.specs.declared.memory.Halt.{Halt}
 use Rattle.spf_exec_memory.specs.declared.memory.Halt.TheVariants as halt
 use Rattle.std.proofs.Math.ListN.{length-set}
+use Rattle.spf_exec_memory.specs.Growing.{IsPrefix, output_of}
 use Rattle.spf_exec_memory.specs.MemoryLaws.{Laws}
 
 -- the events are consistent with the first memory, nothing was polled, and they make the second of it
@@ -40,11 +41,11 @@ after_length (Turn n ∷ es) m = after_length es m
 pub plain_keeps : (es : List Event) (m n : List ℤ) → LeadsPlainly es m n → length n ≡ length m
 plain_keeps es m n p = ap length p.made ∙ after_length es m
 
--- On a memory of its own a form ends as its tree does from these cells, with the cells after its stores. Nothing is said where the output lacked memory.
+-- On a memory of its own a form ends as its tree does from these cells, with the cells after its stores. Where the output lacked memory, it is a prefix of the whole output.
 abbrev pub IsPlainOutcome : {A : Type 0} → Result A Halt → Interaction (Ending A) → List ℤ → List ℤ → State → Type 0
 IsPlainOutcome (Ok value) tree before cells end = (plain_answer tree before ≡ Value value end) × (cells ≡ plain_memory tree before)
 IsPlainOutcome (Err (halt.Trapped trap)) tree before cells end =
     (plain_answer tree before ≡ Trapped trap end.output) × (cells ≡ plain_memory tree before)
 IsPlainOutcome (Err (halt.Cancelled seen)) tree before cells end = ⊥
-IsPlainOutcome (Err halt.NoMemory) tree before cells end = Unit {0}
+IsPlainOutcome (Err halt.NoMemory) tree before cells end = IsPrefix end.output (output_of (plain_answer tree before))
 IsPlainOutcome (Err halt.Broken) tree before cells end = ⊥

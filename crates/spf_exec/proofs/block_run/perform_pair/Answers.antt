@@ -12,6 +12,7 @@ use Rattle.spf_code_lowering.proofs.Fitted.{block_fits}
 use Rattle.spf_code_lowering.proofs.Settings.{have_room}
 use Rattle.spf_exec_instance.specs.Frame.{main_slots}
 use Rattle.spf_exec_instance.specs.Instance.{program_of}
+use Rattle.spf_exec_memory.proofs.Growing.{gives-adds}
 use Rattle.spf_exec_memory.proofs.Steps.{along, at_once, then_value, exit_halt}
 use Rattle.spf_exec.specs.Sources.{callees_of, wholly, block_row}
 use Rattle.spf_exec.proofs.Fitting.{row_fits}
@@ -55,7 +56,7 @@ returns-in_err-run-in-Consumer-clause-performs g c =
     let env = environment_of p c.args.instance.now.input in
     let carried = rw (c.deref.ensures.value, c.words.ensures) at c.set_carried.ensures in
     let slots = ap (main_slots p) carried ∙ take_carried own head.carried c.args.block.now.value c.args.registers.now in
-    rw c.in-Consumer.is (λ number. along (whole-then (block_means env b) (gives {A = Carried} c.args.block.now.value)) (exit_halt _ c.from_residual.ensures.1 (from_slots (wholly (block_means env b)) slots
+    rw c.in-Consumer.is (λ number. along (whole-then (block_means env b) (gives {A = Carried} c.args.block.now.value)) (exit_halt _ (λ u. gives-adds c.args.block.now.value) c.from_residual.ensures.1 (from_slots (wholly (block_means env b)) slots
     (rw c.deref-in-Consumer.ensures.value at c.in_err-run-in-Consumer.ensures.performs (own + block_needs (rooms p) b) (block_means env b)
     (runs_block p c.args.instance.now.input b (code c.args.code.now.consumer.items) c.requires.orderly.4 c.requires.code.takes) (omega (arith, c.requires.room, c.set_carried.auto.slots))))))
 

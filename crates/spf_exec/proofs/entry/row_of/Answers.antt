@@ -9,6 +9,7 @@ use Rattle.spf_exec_memory.proofs.Steps.{at_once, then_value, exit_halt}
 use Rattle.spf_exec_instructions.specs.Instructions.{setting}
 use Rattle.spf_exec_machine.specs.Machine.{whole_means}
 use Rattle.spf_code.specs.NodeView.{code}
+use Rattle.spf_exec.proofs.Growing.{row-adds}
 use Rattle.spf_exec.proofs.Sources.{answer-performed}
 use Rattle.spf_exec.proofs.entry.row_of.Goals as goal
 
@@ -21,7 +22,7 @@ returns-in_err-perform-clause-performs g c = λ room form gives wide.
     let here = setting context (length context.functions.now) in
     answer-performed (length p.slots) (length c.args.registers.now) ((whole_means here (code c.args.code.now.nodes.items) >> reads_row c.args.code.now.register c.args.code.now.width) registers) (form slots)
     (gives here c.context_of-context.ensures.fits registers slots (record { slots = refl; output = refl }) wide)
-    (exit_halt _ c.from_residual.ensures.1 (rw c.deref.ensures.value at c.in_err-perform.ensures.performs))
+    (exit_halt (λ _. reads_row c.args.code.now.register c.args.code.now.width) (λ u. row-adds c.args.code.now.register c.args.code.now.width) c.from_residual.ensures.1 (rw c.deref.ensures.value at c.in_err-perform.ensures.performs))
 
 pub returns-clause-performs : goal.returns-clause-performs
 returns-clause-performs g c = λ room form gives wide.

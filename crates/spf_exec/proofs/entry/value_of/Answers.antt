@@ -6,6 +6,7 @@ use Rattle.spf_code_registers.specs.Registers.{rooms}
 use Rattle.spf_exec_instance.specs.Instance.{program_of}
 use Rattle.spf_exec_instance.specs.Frame.{main_slots}
 use Rattle.spf_exec_memory.specs.Performs.{state}
+use Rattle.spf_exec_memory.proofs.Growing.{reads-add}
 use Rattle.spf_exec_memory.proofs.Steps.{at_once, then_value, exit_halt}
 use Rattle.spf_exec_instructions.specs.Instructions.{setting}
 use Rattle.spf_exec_machine.specs.Machine.{whole_means}
@@ -22,7 +23,7 @@ returns-in_err-perform-clause-performs g c = λ room form gives wide.
     let here = setting context (length context.functions.now) in
     answer-performed (length p.slots) (length c.args.registers.now) ((whole_means here (code c.args.code.now.nodes.items) >> reads c.args.code.now.register) registers) (form slots)
     (gives here c.context_of-context.ensures.fits registers slots (record { slots = refl; output = refl }) wide)
-    (exit_halt _ c.from_residual.ensures.1 (rw c.deref.ensures.value at c.in_err-perform.ensures.performs))
+    (exit_halt (λ _. reads c.args.code.now.register) (λ u. reads-add c.args.code.now.register) c.from_residual.ensures.1 (rw c.deref.ensures.value at c.in_err-perform.ensures.performs))
 
 pub returns-clause-performs : goal.returns-clause-performs
 returns-clause-performs g c = λ room form gives wide.

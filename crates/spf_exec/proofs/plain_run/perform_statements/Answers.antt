@@ -10,6 +10,7 @@ use Rattle.spf_exec_instance.specs.Instance.{program_of}
 use Rattle.spf_exec_memory.proofs.Steps.{along, exit_halt, steps}
 use Rattle.spf_exec_memory.proofs.Turns.{still}
 use Rattle.spf_exec.specs.Sources.{callees_of}
+use Rattle.spf_exec.proofs.Growing.{main-adds}
 use Rattle.spf_exec.proofs.Rooms.{statement_room}
 use Rattle.spf_exec.proofs.Sources.{between, next_between, orderly_at, whole-then, runs_statement, statement_at}
 use Rattle.spf_exec.proofs.plain_run.perform_statements.Goals as goal
@@ -48,7 +49,7 @@ returns-in_err-run-clause-performs g c =
     let room = statement_room (rooms p) xs i x here.there in
     let wide : own + statement_needs (rooms p) (statement x.kind) ≤ length c.loop-index.registers = omega (arith, room, c.requires.frame, c.loop-index.invariant.count) in
     c.loop-index.invariant.goes.with _ _ _
-    (along next (exit_halt _ c.from_residual.ensures.1 (rw c.deref.ensures.value at c.in_err-run.ensures.performs (own + statement_needs (rooms p) (statement x.kind)) form runs wide)))
+    (along next (exit_halt _ (λ u. main-adds p input (between xs (i + 1) c.args.to)) c.from_residual.ensures.1 (rw c.deref.ensures.value at c.in_err-run.ensures.performs (own + statement_needs (rooms p) (statement x.kind)) form runs wide)))
 
 pub loop-index-preserved : goal.loop-index-preserved
 loop-index-preserved g c =
